@@ -268,7 +268,7 @@ synced sum s cache after old new w now stood goes is size is_ready =
       goes = gone.0;
       same = gone.1;
       durable = all_durable sum now after new (stand sum now after new gone.0.stand)
-          (subst (λ (p : ℕ). KeepsAll sum p (bytes_of now new) new) (sym gone.0.same.page_size) (subst (λ (l : List ℕ). KeepsAll sum P l new) (sym same) goes.durable));
+          (subst (λ (p : ℕ). KeepsAll sum p (bytes_of now new) new) (sym gone.0.same.page_size) (subst (λ (l : List ℕ). KeepsAll sum P l new) (sym same) (goes.durable (stand sum s cache old stood).ready.sound)));
     }
 
 -- all bytes are durable, or are once the sync completed: so are all items
@@ -293,7 +293,7 @@ begun sum s cache after old new w started now items goes is size is_ready =
       same = gone.1;
       sync = ap (λ (v : WriterState). v.sync) is ∙ goes.state;
       covers = started_for sum now after new started gone.0.stand
-          (subst (λ (P : ℕ). Starts sum P (bytes_of now new) new started) (sym gone.0.same.page_size) (subst (λ (l : List ℕ). Starts sum s.writer.page_size l new started) (sym same) goes.starts));
+          (subst (λ (P : ℕ). Starts sum P (bytes_of now new) new started) (sym gone.0.same.page_size) (subst (λ (l : List ℕ). Starts sum s.writer.page_size l new started) (sym same) (goes.starts (stand sum s cache old items).ready.sound)));
     }
 
 -- nothing is pending once it was waited for

@@ -53,8 +53,8 @@ made sum s cache after old new w t now items goes is size is_ready =
     record {
       goes = gone.0;
       same = gone.1;
-      snapshot = over_items sum t s.size held after new stood.some stood.whole long goes.stands;
-      over = ap (λ (l : List ℕ). Rattle.items.specs.Items.items s.size l) goes.stands.tail.is;
+      snapshot = over_items sum t s.size held after new stood.some stood.whole long (goes.stands stood.ready.sound);
+      over = ap (λ (l : List ℕ). Rattle.items.specs.Items.items s.size l) (goes.stands stood.ready.sound).tail.is;
       size = refl;
       id = ap (λ (u : Tail). u.id) goes.tail ∙ own;
       below = omega (arith, pages);
@@ -99,7 +99,7 @@ began sum s buffer_size cache after old new w replay now items goes is size is_r
     let long : size_of replay.tail ≡ length held = ap (λ (x : ReplayState). size_of x.tail) goes.replay ∙ goes.holds.size ∙ ap length (goes.holds.content ∙ append-nil held) in
     let start : replay.position ≡ 0 = ap (λ (x : ReplayState). x.position) goes.replay in
     let at : replay.position ≡ 0 * s.size = omega (arith, start) in
-    let found = along_items sum r held 0 new stood.some stood.whole long at goes.gives in
+    let found = along_items sum r held 0 new stood.some stood.whole long at (goes.gives stood.ready.sound) in
     record {
       goes = gone.0;
       same = gone.1;

@@ -264,7 +264,7 @@ read_items sum s cache after old new items looked fresh can =
 -- the pages of sound items are full
 pages_full : (sum : List ℕ → ℕ) (s : ItemsState) (d : Disk) → IsSound sum s.writer d → HasFullPages sum (tail_of s.writer) d
 unfolding IsSound
-pages_full sum s d sound = sound.stands.full
+pages_full sum s d sound = sound.full
 
 -- so a snapshot may stand on them
 pub stands_on : (sum : List ℕ → ℕ) (s : ItemsState) (cache : CacheState) (life : Life) → AreItems sum s cache life → StandsOn sum (tail_of s.writer) (bytes_of s life) cache life.present

@@ -17,7 +17,7 @@ use Rattle.crash.proofs.Promise.{keeps_less, keeps_same, keeps_settle}
 use Rattle.crash.specs.Kept.{AllKeep, AllOnly, Through}
 use Rattle.crash.specs.Stays.{KeepsAllFloors, LeavesOnly, KeepsAll}
 use Rattle.crash.specs.Looks.{Looked, looked_start}
-use Rattle.writer_state.specs.Sound.{LeavesItsContent, content}
+use Rattle.writer_state.specs.Sound.{IsSound, LeavesItsContent, content}
 use Rattle.writer_state.specs.WriterState.{WriterState}
 use Rattle.crash.specs.Moments.{through_start, through_then, through_joins, through_end}
 use Rattle.paged_read.specs.Hand.{HandState, kept_with}
@@ -236,16 +236,16 @@ after_append own before bytes short small whole =
     ([], sym (append-nil (records own (before ++ frame own bytes)) ∙ records-append own before (frame own bytes) whole ∙ ap (λ rs. records own before ++ rs) (records-frame own bytes (omega arith) small)))
 
 -- a commit
-pub committed : (sum own : List ℕ → ℕ) (w : WriterState) (after : CacheState) (old new : Life) (now : WriterState) → IsWhole (content w old.present.readable) → IsReady sum now after new → SyncAllGoes sum w old new (Ok now)
+pub committed : (sum own : List ℕ → ℕ) (w : WriterState) (after : CacheState) (old new : Life) (now : WriterState) → IsSound sum w old.present → IsWhole (content w old.present.readable) → IsReady sum now after new → SyncAllGoes sum w old new (Ok now)
     → IsCommitted sum own w after old new now
-committed sum own w after old new now whole ready goes =
+committed sum own w after old new now sound whole ready goes =
     let same : content now new.present.readable ≡ content w old.present.readable = goes.holds.content ∙ append-nil (content w old.present.readable) in
     record {
       journal = is_journal sum now after new (held_on sum w old [] now after new goes.holds ready) (subst (λ (l : List ℕ). IsWhole l) (sym same) whole);
       holds = same;
       same = goes.holds.same;
       all = subst (λ (P : ℕ). CommitsAll sum own P (content now new.present.readable) new.present) (sym goes.holds.same.page_size)
-          (subst (λ (l : List ℕ). CommitsAll sum own w.page_size l new.present) (sym same) (commits_all sum own w.page_size (content w old.present.readable) new.present goes.durable));
+          (subst (λ (l : List ℕ). CommitsAll sum own w.page_size l new.present) (sym same) (commits_all sum own w.page_size (content w old.present.readable) new.present (goes.durable sound)));
     }
 
 pub not_committed : (sum own : List ℕ → ℕ) (w : WriterState) (after : CacheState) (old new : Life) (e : Error) → SyncAllGoes sum w old new (Err e) → CommitGoes sum own w after old new (Err e)
@@ -282,10 +282,10 @@ append_gives sum own w bytes after old new (Ok r) is = is.journal
 append_gives sum own w bytes after old new (Err e) is = tt
 
 -- a commit, by its answer
-pub commit_goes : (sum own : List ℕ → ℕ) (w : WriterState) (after : CacheState) (old new : Life) (result : Result WriterState Error) → IsWhole (content w old.present.readable)
+pub commit_goes : (sum own : List ℕ → ℕ) (w : WriterState) (after : CacheState) (old new : Life) (result : Result WriterState Error) → IsSound sum w old.present → IsWhole (content w old.present.readable)
     → SyncAllGoes sum w old new result → IfOk result (λ now. IsReady sum now after new) → CommitGoes sum own w after old new result
-commit_goes sum own w after old new (Ok now) whole goes ready = committed sum own w after old new now whole ready goes
-commit_goes sum own w after old new (Err e) whole goes ready = not_committed sum own w after old new e goes
+commit_goes sum own w after old new (Ok now) sound whole goes ready = committed sum own w after old new now sound whole ready goes
+commit_goes sum own w after old new (Err e) sound whole goes ready = not_committed sum own w after old new e goes
 
 pub commit_gives : (sum own : List ℕ → ℕ) (w : WriterState) (after : CacheState) (old new : Life) (result : Result WriterState Error) → CommitGoes sum own w after old new result → IfOk result (λ now. IsJournal sum now after new)
 commit_gives sum own w after old new (Ok now) is = is.journal

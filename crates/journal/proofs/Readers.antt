@@ -303,7 +303,7 @@ looked_records sum own cache old new looked = λ w journal.
 -- the pages of a sound writer's blob are full
 pages_full : (sum : List ℕ → ℕ) (w : WriterState) (d : Disk) → IsSound sum w d → HasFullPages sum (tail_of w) d
 unfolding IsSound
-pages_full sum w d sound = sound.stands.full
+pages_full sum w d sound = sound.full
 
 -- the pages of a writer between two calls can be read
 pub opened_writer : (sum : List ℕ → ℕ) (w : WriterState) (cache : CacheState) (life : Life) → IsBetweenCalls sum w cache life → IsOpen sum (tail_of w) cache life
@@ -451,13 +451,13 @@ not_some (Some bytes) is = cc
 
 -- ---- a reader that was made
 
-pub reader_made : (sum own : List ℕ → ℕ) (w : WriterState) (after : CacheState) (old new : Life) (now : WriterState) (t : Tail) → IsWhole (content w old.present.readable) → SnapshotGoes sum w after old new (Ok (now, t)) → IsReady sum now after new
+pub reader_made : (sum own : List ℕ → ℕ) (w : WriterState) (after : CacheState) (old new : Life) (now : WriterState) (t : Tail) → IsSound sum w old.present → IsWhole (content w old.present.readable) → SnapshotGoes sum w after old new (Ok (now, t)) → IsReady sum now after new
     → HasReader sum own w after old new now (record { tail = t; offset = 0 })
-reader_made sum own w after old new now t whole goes ready =
+reader_made sum own w after old new now t sound whole goes ready =
     let held = content w old.present.readable in
     let holds = goes.holds in
     let same : content now new.present.readable ≡ held = holds.content ∙ append-nil held in
-    let over : told t new.present.readable ≡ held = goes.stands.tail.is in
+    let over : told t new.present.readable ≡ held = (goes.stands sound).tail.is in
     let long : size_of t ≡ length (told t new.present.readable) =
     ap (λ (u : Tail). size_of u) goes.tail ∙ holds.size ∙ ap length same ∙ sym (ap length over) in
     record {
@@ -465,7 +465,7 @@ reader_made sum own w after old new now t whole goes ready =
       holds = same;
       same = holds.same;
       reader = is_reader sum (record { tail = t; offset = 0 }) after new
-          (record { stands = subst (λ (l : List ℕ). StandsOn sum t l after new.present) (sym over) goes.stands; size = long });
+          (record { stands = subst (λ (l : List ℕ). StandsOn sum t l after new.present) (sym over) (goes.stands sound); size = long });
       id = ap (λ (u : Tail). u.id) goes.tail ∙ holds.same.id;
       below = (let pages : t.full_pages ≡ now.full_pages = ap (λ (u : Tail). u.full_pages) goes.tail in omega arith);
       over = over;

@@ -9,29 +9,30 @@ use Rattle.disk.specs.declared.error.Error.TheVariants.{ReadFailed, WriteFailed,
 use Rattle.disk.proofs.Logs.{grows_same}
 use Rattle.writer_state.specs.WriterState.{WriterState}
 use Rattle.writer_state.specs.declared.sync_state.SyncState.{SyncState}
-use Rattle.writer_state.specs.Sound.{IsSound, content}
+use Rattle.writer_state.specs.Sound.{IsConsistent, content}
 use Rattle.crash.specs.Stays.{StaysThrough}
 use Rattle.writer_state.proofs.FlushLaws.{longer_content}
 use Rattle.crash.proofs.Moments.{stays_through_start, stays_through_longer}
-use Rattle.paged.proofs.Flushes.{begins, size_is_length, goes_on_same}
-use Rattle.writer_state.proofs.Soundness.{longer_sound}
+use Rattle.paged.proofs.Flushes.{begins, size_holds, goes_on_same}
+use Rattle.writer_state.proofs.Soundness.{longer_consistent}
 use Rattle.page.specs.Tip.{Tip, TryAppendGoes}
 use Rattle.page.specs.declared.slot.ActiveChecksum.{ActiveChecksum}
 use Rattle.paged.specs.Writer.{FitsBlob, IsWriter}
 use Rattle.paged.proofs.Sizes.{size_fits}
 use Rattle.paged.specs.Flush.{answered, has_work}
 use Rattle.paged.specs.Reads.{size_of}
-use Rattle.paged.specs.Calls.{GoesOn, Refuses, Flushes, Appends, Buffers, BuffersAll, TryAppends, BuffersOver, KeepsSound, KeepsPages}
+use Rattle.paged.specs.Calls.{CarriesOn, Refuses, Flushes, AppendsOver, Buffers, BuffersAll, TryAppends, KeepsPages}
 
 -- bytes are buffered, and what is written then leaves the content
-pub append_goes : (sum : List ℕ → ℕ) (w v now : WriterState) (old new : Life) (bytes : List ℕ) → IsSound sum w old.present → v ≡ record w { tip = w.tip ++ bytes }
-    → GoesOn sum v old [] now new → GoesOn sum w old bytes now new
-unfolding IsSound
+pub append_goes : (sum : List ℕ → ℕ) (w v now : WriterState) (old new : Life) (bytes : List ℕ) → IsConsistent sum w old.present → v ≡ record w { tip = w.tip ++ bytes }
+    → CarriesOn sum v old [] now new → CarriesOn sum w old bytes now new
+unfolding IsConsistent
 append_goes sum w v now old new bytes sound is goes =
-    let h : GoesOn sum (record w { tip = w.tip ++ bytes }) old [] now new = subst (λ v. GoesOn sum v old [] now new) is goes in
+    let h : CarriesOn sum (record w { tip = w.tip ++ bytes }) old [] now new = subst (λ v. CarriesOn sum v old [] now new) is goes in
     let longer = append-nil (content (record w { tip = w.tip ++ bytes }) old.present.readable) ∙ longer_content sum w old.present sound.stands bytes in
     record {
-      sound = h.sound;
+      holds = h.holds;
+      intact = h.intact;
       content = h.content ∙ longer;
       size = h.size;
       only = h.only;
@@ -42,22 +43,22 @@ append_goes sum w v now old new bytes sound is goes =
     }
 
 -- or is refused
-pub append_refused : (sum : List ℕ → ℕ) (w v : WriterState) (old new : Life) (bytes : List ℕ) (e : Error) → IsSound sum w old.present → v ≡ record w { tip = w.tip ++ bytes }
+pub append_refused : (sum : List ℕ → ℕ) (w v : WriterState) (old new : Life) (bytes : List ℕ) (e : Error) → IsConsistent sum w old.present → v ≡ record w { tip = w.tip ++ bytes }
     → Refuses sum v (content v old.present.readable) old new e → Refuses sum w (content w old.present.readable ++ bytes) old new e
-unfolding IsSound
+unfolding IsConsistent
 append_refused sum w v old new bytes e sound is refused =
     let h : Refuses sum (record w { tip = w.tip ++ bytes }) (content (record w { tip = w.tip ++ bytes }) old.present.readable) old new e = subst (λ (v : WriterState). Refuses sum v (content v old.present.readable) old new e) is refused in
     record { cause = h.cause; log = h.log; stays = subst (λ c. StaysThrough sum w.page_size c old new) (longer_content sum w old.present sound.stands bytes) h.stays }
 
 -- memory is refused before the device is asked
-pub append_unasked : (sum : List ℕ → ℕ) (w : WriterState) (life : Life) (bytes : List ℕ) → IsSound sum w life.present → StaysThrough sum w.page_size (content w life.present.readable ++ bytes) life life
-unfolding IsSound
+pub append_unasked : (sum : List ℕ → ℕ) (w : WriterState) (life : Life) (bytes : List ℕ) → IsConsistent sum w life.present → StaysThrough sum w.page_size (content w life.present.readable ++ bytes) life life
+unfolding IsConsistent
 append_unasked sum w life bytes sound =
     stays_through_longer sum w.page_size (content w life.present.readable) (content w life.present.readable ++ bytes) life life (begins (content w life.present.readable) bytes)
     (stays_through_start sum w.page_size (content w life.present.readable) life sound.truthful sound.vouched)
 
 -- bytes that weren't buffered
-pub append_unbuffered : (sum : List ℕ → ℕ) (w now : WriterState) (life : Life) (bytes : List ℕ) (e : Error) → IsSound sum w life.present → Buffers w bytes now (Err e) → Appends sum w bytes life life (Err e)
+pub append_unbuffered : (sum : List ℕ → ℕ) (w now : WriterState) (life : Life) (bytes : List ℕ) (e : Error) → IsConsistent sum w life.present → Buffers w bytes now (Err e) → AppendsOver sum w bytes life life (Err e)
 append_unbuffered sum w now life bytes OffsetOverflow sound goes = (refl, goes.0)
 append_unbuffered sum w now life bytes OutOfMemory sound goes = record { cause = tt; stays = append_unasked sum w life bytes sound; log = grows_same life.present life.present refl }
 append_unbuffered sum w now life bytes ReadFailed sound goes = absurd goes
@@ -87,7 +88,7 @@ over_work v room over =
     ap (λ (b : Bool). b || (false && (not (length v.tip % v.page_size == 0) && not (length v.tip % v.page_size == kept_len v.flushed)))) full
 
 -- an append whose flush is refused
-pub append_fails : (sum : List ℕ → ℕ) (w : WriterState) (bytes : List ℕ) (old new : Life) (e : Error) → Refuses sum w (content w old.present.readable ++ bytes) old new e → Appends sum w bytes old new (Err e)
+pub append_fails : (sum : List ℕ → ℕ) (w : WriterState) (bytes : List ℕ) (old new : Life) (e : Error) → Refuses sum w (content w old.present.readable ++ bytes) old new e → AppendsOver sum w bytes old new (Err e)
 append_fails sum w bytes old new ReadFailed refused = refused
 append_fails sum w bytes old new WriteFailed refused = refused
 append_fails sum w bytes old new ResizeFailed refused = refused
@@ -99,36 +100,16 @@ append_fails sum w bytes old new OutOfMemory refused = refused
 append_fails sum w bytes old new IdsExhausted refused = refused
 
 -- an append that flushes, whatever the flush answers
-pub append_flushed : (sum : List ℕ → ℕ) (w v now : WriterState) (old new : Life) (bytes : List ℕ) (result : Result (Unit {0}) Error) → IsSound sum w old.present → v ≡ record w { tip = w.tip ++ bytes }
-    → Flushes sum v old new (answered now result) → Appends sum w bytes old new (answered (now, size_of w) result)
-append_flushed sum w v now old new bytes (Ok done) sound is flushes = (size_is_length sum w old sound, append_goes sum w v now old new bytes sound is flushes)
+pub append_flushed : (sum : List ℕ → ℕ) (w v now : WriterState) (old new : Life) (bytes : List ℕ) (result : Result (Unit {0}) Error) → IsConsistent sum w old.present → v ≡ record w { tip = w.tip ++ bytes }
+    → Flushes sum v old new (answered now result) → AppendsOver sum w bytes old new (answered (now, size_of w) result)
+append_flushed sum w v now old new bytes (Ok done) sound is flushes = (size_holds sum w old sound, append_goes sum w v now old new bytes sound is flushes)
 append_flushed sum w v now old new bytes (Err e) sound is refused = append_fails sum w bytes old new e (append_refused sum w v old new bytes e sound is refused)
 
 -- bytes that are buffered are an append
-pub buffered_goes : (sum : List ℕ → ℕ) (w now : WriterState) (bytes : List ℕ) (life : Life) → IsSound sum w life.present → now ≡ record w { tip = w.tip ++ bytes } → GoesOn sum w life bytes now life
-unfolding IsSound
+pub buffered_goes : (sum : List ℕ → ℕ) (w now : WriterState) (bytes : List ℕ) (life : Life) → IsConsistent sum w life.present → now ≡ record w { tip = w.tip ++ bytes } → CarriesOn sum w life bytes now life
+unfolding IsConsistent
 buffered_goes sum w now bytes life sound is =
-    append_goes sum w now now life life bytes sound is (goes_on_same sum now life (subst (λ (v : WriterState). IsSound sum v life.present) (sym is) (longer_sound sum w life.present sound bytes)))
-
--- over any blob
-pub buffers_over : (sum : List ℕ → ℕ) (w now : WriterState) (bytes : List ℕ) (result : Result (Option ℕ) Error) → TryAppends w bytes now result → BuffersOver sum w bytes now result
-buffers_over sum w now bytes (Ok (Some at)) tries = λ life sound. (tries.2 ∙ size_is_length sum w life sound, buffered_goes sum w now bytes life sound tries.3)
-buffers_over sum w now bytes (Ok None) tries = tt
-buffers_over sum w now bytes (Err e) tries = tt
-
--- whatever it answers, the writer is sound where it was
-pub keeps_sound : (sum : List ℕ → ℕ) (w now : WriterState) (bytes : List ℕ) (result : Result (Option ℕ) Error) → TryAppends w bytes now result → KeepsSound sum w now
-keeps_sound sum w now bytes (Ok (Some at)) tries = λ d sound. (buffered_goes sum w now bytes (record { present = d; past = [] }) sound tries.3).sound
-keeps_sound sum w now bytes (Ok None) tries = λ d sound. subst (λ (v : WriterState). IsSound sum v d) (sym tries.2) sound
-keeps_sound sum w now bytes (Err OffsetOverflow) tries = λ d sound. subst (λ (v : WriterState). IsSound sum v d) (sym tries.1) sound
-keeps_sound sum w now bytes (Err OutOfMemory) tries = λ d sound. subst (λ (v : WriterState). IsSound sum v d) (sym tries.2) sound
-keeps_sound sum w now bytes (Err ReadFailed) tries = absurd tries
-keeps_sound sum w now bytes (Err WriteFailed) tries = absurd tries
-keeps_sound sum w now bytes (Err ResizeFailed) tries = absurd tries
-keeps_sound sum w now bytes (Err SyncFailed) tries = absurd tries
-keeps_sound sum w now bytes (Err InvalidChecksum) tries = absurd tries
-keeps_sound sum w now bytes (Err BlobInsufficientLength) tries = absurd tries
-keeps_sound sum w now bytes (Err IdsExhausted) tries = absurd tries
+    append_goes sum w now now life life bytes sound is (goes_on_same sum now life (subst (λ (v : WriterState). IsConsistent sum v life.present) (sym is) (longer_consistent sum w life.present sound bytes)))
 
 -- whatever it answers, the pages below the tip stay the same
 pub keeps_pages : (w now : WriterState) (bytes : List ℕ) (result : Result (Option ℕ) Error) → TryAppends w bytes now result → KeepsPages w now

@@ -21,6 +21,7 @@ use Rattle.paged_read.specs.Tail.{CanRead}
 use Rattle.paged_read.proofs.Outliving.{others_stay}
 use Rattle.paged.proofs.Caching.{puts_only, fresh_law, reads_after, page_of_front}
 use Rattle.crash.specs.Moments.{through_end}
+use Rattle.paged.proofs.Over.{goes_over}
 use Rattle.paged.proofs.Shortened.{sound_working}
 use Rattle.paged.proofs.Truncating.{SyncsWritten}
 
@@ -99,7 +100,7 @@ written_reads sum w m old mid cache after stands written same idle puts = by_wor
     by_work true work =
         let sound = sound_working sum w old.present stands work in
         reads_after {A = WriterState} sum (λ v. v) w [] w.tip old mid cache after m same
-        (sym (append-nil w.tip)) (written.syncs sound).0 puts
+        (sym (append-nil w.tip)) (goes_over sum w m [] old mid (written.syncs sound).0) puts
     by_work false none = λ can.
         let is : m ≡ synced w = written.state none in
         subst (λ (c : CacheState). CanRead (tail_of m) c mid.present) (sym (idle none))

@@ -16,13 +16,13 @@ use Rattle.cache.specs.Pages.{CachesOnly, IsTrueFor, IsFresh, page_of_content}
 use Rattle.cache.proofs.CacheLaws.{put_weakly, put_all_settings, puts_one_more, puts_all_true, puts_all_caches, fresh_stays, longer_true}
 use Rattle.writer_state.specs.WriterState.{WriterState}
 use Rattle.writer_state.specs.declared.sync_state.SyncState.{SyncState}
-use Rattle.writer_state.specs.Sound.{content, IsSound}
+use Rattle.writer_state.specs.Sound.{content, IsConsistent}
 use Rattle.crash.specs.Contents.{stored}
 use Rattle.crash.proofs.Pages.{length-stored}
 use Rattle.paged.proofs.Footers.{length-pages}
 use Rattle.paged.proofs.Bypass.{direct_pages, length-whole, pages_of_whole}
-use Rattle.paged.proofs.There.{sound_has_pages}
-use Rattle.paged.specs.Calls.{GoesOn, Settles, waited, TryAppends}
+use Rattle.paged.proofs.There.{consistent_has_pages}
+use Rattle.paged.specs.Calls.{CarriesOn, Settles, waited, TryAppends}
 use Rattle.disk.specs.declared.error.Error.TheVariants.{OffsetOverflow, OutOfMemory, ReadFailed, WriteFailed, ResizeFailed, SyncFailed, InvalidChecksum, BlobInsufficientLength, IdsExhausted}
 use Rattle.paged.specs.Flush.{carried, synced, answered, full_in}
 use Rattle.paged.specs.Direct.{IsDirect, buffering}
@@ -316,7 +316,7 @@ puts_true id from P to front bytes all held old new size is begins same p true_o
 
 -- reads go on where a writer does
 pub reads_on : (sum : List ℕ → ℕ) (w now : WriterState) (more : List ℕ) (old new : Life)
-    (cache after : CacheState) → cache.page_size ≡ w.page_size → GoesOn sum w old more now new
+    (cache after : CacheState) → cache.page_size ≡ w.page_size → CarriesOn sum w old more now new
     → now.full_pages * (now.page_size + 12) ≤ length new.present.readable
     → PutsUpTo w.id w.full_pages w.page_size (w.tip ++ more) now.full_pages cache after
     → ReadsOn w now cache after old new
@@ -405,10 +405,10 @@ settled_nothing sum w now bytes cache old new (Err e) refused = refused_nothing 
 
 -- the bytes that are put after a tip that was filled
 pub filled_pages : (sum : List ℕ → ℕ) (w m : WriterState) (first : List ℕ) (old mid : Life)
-    → IsSound sum w old.present → GoesOn sum w old first m mid → m.tip ≡ []
+    → IsConsistent sum w old.present → CarriesOn sum w old first m mid → m.tip ≡ []
     → m.full_pages * w.page_size ≡ w.full_pages * w.page_size + length (w.tip ++ first)
 filled_pages sum w m first old mid sound goes empty =
-    let there = sound_has_pages sum w old sound in
+    let there = consistent_has_pages sum w old sound in
     let P : ℕ = w.page_size in
     let size : m.full_pages * P ≡ m.full_pages * m.page_size =
     ap (λ (Q : ℕ). m.full_pages * Q) (sym goes.same.page_size) in
@@ -427,14 +427,14 @@ filled_pages sum w m first old mid sound goes empty =
 -- ---- what a public call owes
 
 pub only_law : (sum : List ℕ → ℕ) (w : WriterState) (more bytes : List ℕ) (old : Life)
-    (cache after : CacheState) (to : ℕ) → IsSound sum w old.present
+    (cache after : CacheState) (to : ℕ) → IsConsistent sum w old.present
     → cache.page_size ≡ w.page_size → bytes ≡ w.tip ++ more
     → PutsUpTo w.id w.full_pages w.page_size bytes to cache after
     → CachesOnly w.id w.full_pages (content w old.present.readable ++ more) cache after
 only_law sum w more bytes old cache after to sound same is puts =
     let P : ℕ = w.page_size in
     let front : List ℕ = stored P w.full_pages old.present.readable in
-    let there = sound_has_pages sum w old sound in
+    let there = consistent_has_pages sum w old sound in
     puts_only w.id w.full_pages P to front bytes (content w old.present.readable ++ more) cache after
     (length-stored P w.full_pages old.present.readable there)
     (append_assoc front w.tip more ∙ ap (λ l. front ++ l) (sym is)) same puts
@@ -442,7 +442,7 @@ only_law sum w more bytes old cache after to sound same is puts =
 -- whatever it answers, it puts pages of the content alone
 pub caches_law : {A : Type 0} (sum : List ℕ → ℕ) (writer : A → WriterState) (w : WriterState)
     (more bytes : List ℕ) (old : Life) (cache after : CacheState) (result : Result A Error)
-    → IsSound sum w old.present → cache.page_size ≡ w.page_size → bytes ≡ w.tip ++ more
+    → IsConsistent sum w old.present → cache.page_size ≡ w.page_size → bytes ≡ w.tip ++ more
     → Caches writer w bytes cache after result
     → CachesOnly w.id w.full_pages (content w old.present.readable ++ more) cache after
 caches_law sum writer w more bytes old cache after (Ok a) sound same is puts =
@@ -452,7 +452,7 @@ caches_law sum writer w more bytes old cache after (Err e) sound same is (to, pu
 
 -- the same, of a call that appends nothing
 pub caches_law_same : {A : Type 0} (sum : List ℕ → ℕ) (writer : A → WriterState) (w : WriterState)
-    (old : Life) (cache after : CacheState) (result : Result A Error) → IsSound sum w old.present
+    (old : Life) (cache after : CacheState) (result : Result A Error) → IsConsistent sum w old.present
     → cache.page_size ≡ w.page_size → Caches writer w w.tip cache after result
     → CachesOnly w.id w.full_pages (content w old.present.readable) cache after
 caches_law_same sum writer w old cache after result sound same puts =
@@ -470,18 +470,18 @@ fresh_law id from all cache after only given fresh =
 pub reads_after : {A : Type 0} (sum : List ℕ → ℕ) (writer : A → WriterState) (w : WriterState)
     (more bytes : List ℕ) (old new : Life) (cache after : CacheState) (a : A)
     → cache.page_size ≡ w.page_size → bytes ≡ w.tip ++ more
-    → GoesOn sum w old more (writer a) new → Caches {A = A} writer w bytes cache after (Ok a)
+    → CarriesOn sum w old more (writer a) new → Caches {A = A} writer w bytes cache after (Ok a)
     → ReadsOn w (writer a) cache after old new
 reads_after sum writer w more bytes old new cache after a same is goes puts =
     reads_on sum w (writer a) more old new cache after same goes
-    (sound_has_pages sum (writer a) new goes.sound)
+    (consistent_has_pages sum (writer a) new goes.holds)
     (subst (λ (b : List ℕ). PutsUpTo w.id w.full_pages w.page_size b (writer a).full_pages cache after)
     is puts)
 
 -- pages that go past the tip, after those that filled it
 pub direct_joined : {A : Type 0} (sum : List ℕ → ℕ) (w m now : WriterState) (first rest bytes : List ℕ)
     (old mid : Life) (cache between after : CacheState) (result : Result A Error)
-    → IsSound sum w old.present → GoesOn sum w old first m mid → m.tip ≡ []
+    → IsConsistent sum w old.present → CarriesOn sum w old first m mid → m.tip ≡ []
     → cache.page_size ≡ w.page_size → first ++ rest ≡ bytes
     → PutsUpTo w.id w.full_pages w.page_size (w.tip ++ first) m.full_pages cache between
     → CachesTo m now rest between after result

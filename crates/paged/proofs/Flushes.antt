@@ -10,42 +10,46 @@ use Rattle.disk.specs.declared.error.Error.TheVariants.{OffsetOverflow, SyncFail
 use Rattle.writer_state.specs.WriterState.{WriterState, after_write}
 use Rattle.writer_state.specs.declared.sync_state.SyncState.{SyncState}
 use Rattle.writer_state.specs.declared.sync_state.SyncState.TheVariants.{Clean, Dirty, Pending}
-use Rattle.writer_state.specs.Sound.{IsSound, CanWrite, content, guard_slot, MayFlush}
+use Rattle.writer_state.specs.Sound.{IsConsistent, IsIntact, IsSound, CanWrite, content, guard_slot, MayFlush}
 use Rattle.crash.specs.Started.{AllSettled}
 use Rattle.crash.specs.Stays.{StaysThrough}
 use Rattle.crash.proofs.BuiltLaws.{IsSmall}
 use Rattle.writer_state.proofs.FlushLaws.{flushed_fits, flush_settled, tip_reach, length-content}
 use Rattle.crash.proofs.Moments.{stays_through_start, stays_through_joins}
-use Rattle.writer_state.proofs.Soundness.{carry_sound, sound_leaves}
-use Rattle.writer_state.proofs.CallLaws.{sync_stays, sync_sound, sync_content, write_stays, write_sound, durable_write_sound, write_content}
+use Rattle.writer_state.proofs.Soundness.{carry_consistent, consistent_leaves, intact_still, sound_holds_together}
+use Rattle.writer_state.proofs.CallLaws.{sync_stays, sync_consistent, sync_content, write_stays, write_consistent, durable_write_consistent, write_content, write_intact}
 use Rattle.disk.proofs.Logs.{grows_same, grows_once, grows_joins}
 use Rattle.paged.proofs.Flushing.{length-rest}
 use Rattle.paged.proofs.Causes.{write_cause, sync_cause, cause_later, sync_asks, write_grows, sync_grows}
 use Rattle.paged.specs.Flush.{full_in, rest_of, has_work, carried, synced, written, offset_of, flush_bytes, answered}
-use Rattle.paged.specs.Calls.{AsksAtMost, settle_calls, sync_calls, HoldsWithin, HadFailed, CallCause, IsSameWriter, GoesOn, Refuses, Flushes, Syncs, Settles, IsSettled, IsWritten, WaitsForNone}
+use Rattle.paged.specs.Calls.{AsksAtMost, settle_calls, sync_calls, HoldsWithin, HadFailed, CallCause, IsSameWriter, CarriesOn, Refuses, Flushes, SyncsOver, Settles, IsSettled, IsWritten, WaitsForNone}
 
 -- a content is the beginning of a longer one
 pub begins : (xs ys : List ℕ) → xs ≡ take (length xs) (xs ++ ys)
 begins xs ys = sym (take_at xs ys (length xs) refl)
 
--- the size of a sound writer is the length of its content
+-- the size of a writer is the length of its content
+pub size_holds : (sum : List ℕ → ℕ) (w : WriterState) (life : Life) → IsConsistent sum w life.present → w.full_pages * w.page_size + length w.tip ≡ length (content w life.present.readable)
+unfolding IsConsistent
+size_holds sum w life sound = sym (length-content w life.present.readable ((tip_reach sum w.page_size w.full_pages w.tip life.present.readable w.flushed sound.stands.tip_page).0))
+
 pub size_is_length : (sum : List ℕ → ℕ) (w : WriterState) (life : Life) → IsSound sum w life.present → w.full_pages * w.page_size + length w.tip ≡ length (content w life.present.readable)
-unfolding IsSound
-size_is_length sum w life sound = sym (length-content w life.present.readable ((tip_reach sum w.page_size w.full_pages w.tip life.present.readable w.flushed sound.stands.tip_page).0))
+size_is_length sum w life sound = size_holds sum w life (sound_holds_together sum w life.present sound)
 
 -- promises over a content are promises over that content and no bytes more
 pub stays_nil : (sum : List ℕ → ℕ) (P : ℕ) (content : List ℕ) (old new : Life) → StaysThrough sum P content old new → StaysThrough sum P (content ++ []) old new
 stays_nil sum P content old new stays = subst (λ c. StaysThrough sum P c old new) (sym (append-nil content)) stays
 
 -- a flush of the full pages, and of the rest where asked, by a writer whose durable slot is up to date
-pub flush_goes : (sum : List ℕ → ℕ) (w now : WriterState) (rest : Bool) (old new : Life) (result : Result (Unit {0}) Error) → IsSmall sum → IsSound sum w old.present
+pub flush_goes : (sum : List ℕ → ℕ) (w now : WriterState) (rest : Bool) (old new : Life) (result : Result (Unit {0}) Error) → IsSmall sum → IsConsistent sum w old.present
     → MayFlush w.sync w.flushed w.durable → CanWrite w.page_size w.tip (full_in w) rest → WriteGoes (offset_of w) (flush_bytes sum w rest) false old new result
     → OnOk result (now ≡ after_write sum w (full_in w) rest) → (IsErrOf result OffsetOverflow → ⊥) → Flushes sum w old new (answered now result)
-unfolding IsSound
+unfolding IsConsistent
 flush_goes sum w now rest old new (Ok done) small sound is can goes state fits = record {
-  sound = subst (λ n. IsSound sum n new.present) (sym state) (write_sound sum w old new (full_in w) rest (flush_bytes sum w rest) small sound is can refl tt goes);
-  size = size_is_length sum now new (subst (λ n. IsSound sum n new.present) (sym state) (write_sound sum w old new (full_in w) rest (flush_bytes sum w rest) small sound is can refl tt goes));
-  only = sound_leaves sum now new.present (subst (λ n. IsSound sum n new.present) (sym state) (write_sound sum w old new (full_in w) rest (flush_bytes sum w rest) small sound is can refl tt goes));
+  holds = subst (λ n. IsConsistent sum n new.present) (sym state) (write_consistent sum w old new (full_in w) rest (flush_bytes sum w rest) small sound is can refl tt goes);
+  size = size_holds sum now new (subst (λ n. IsConsistent sum n new.present) (sym state) (write_consistent sum w old new (full_in w) rest (flush_bytes sum w rest) small sound is can refl tt goes));
+  only = consistent_leaves sum now new.present (subst (λ n. IsConsistent sum n new.present) (sym state) (write_consistent sum w old new (full_in w) rest (flush_bytes sum w rest) small sound is can refl tt goes));
+  intact = λ full. subst (λ n. IsIntact sum n new.present) (sym state) (write_intact sum w old new (full_in w) rest (flush_bytes sum w rest) small sound is can refl false tt goes full);
   content = ap (λ n. content n new.present.readable) state ∙ write_content sum w old new (full_in w) rest (flush_bytes sum w rest) small sound is can refl false tt goes ∙ sym (append-nil (content w old.present.readable));
   same = subst (λ n. IsSameWriter w n) (sym state) (record { page_size = refl; id = refl; capacity = refl; full_pages = omega arith });
   log = grows_once (WriteAt (offset_of w) (length (flush_bytes sum w rest)) false) false old.present new.present (ap (λ l. l.present.log) goes.1 ∙ ap (λ e. e.log) goes.2.rest);
@@ -59,27 +63,28 @@ flush_goes sum w now rest old new (Err e) small sound is can goes state fits = r
 }
 
 -- going on from a writer whose durable slot was brought up to date is going on from the writer
-carried_goes_on : (sum : List ℕ → ℕ) (w now : WriterState) (old new : Life) → GoesOn sum (carried w) old [] now new → GoesOn sum w old [] now new
-carried_goes_on sum w now old new h = record { sound = h.sound; content = h.content; size = h.size; only = h.only; same = record { page_size = h.same.page_size; id = h.same.id; capacity = h.same.capacity; full_pages = h.same.full_pages }; log = h.log; stays = h.stays; waits = h.waits }
+carried_goes_on : (sum : List ℕ → ℕ) (w now : WriterState) (old new : Life) → CarriesOn sum (carried w) old [] now new → CarriesOn sum w old [] now new
+carried_goes_on sum w now old new h = record { holds = h.holds; intact = h.intact; content = h.content; size = h.size; only = h.only; same = record { page_size = h.same.page_size; id = h.same.id; capacity = h.same.capacity; full_pages = h.same.full_pages }; log = h.log; stays = h.stays; waits = h.waits }
 
 flushes_carried : (sum : List ℕ → ℕ) (w : WriterState) (old new : Life) (result : Result WriterState Error) → Flushes sum (carried w) old new result → Flushes sum w old new result
 flushes_carried sum w old new (Ok now) h = carried_goes_on sum w now old new h
 flushes_carried sum w old new (Err e) h = record { cause = h.cause; stays = h.stays; log = h.log }
 
 -- a flush by a writer whose durable slot was brought up to date
-pub flush_call : (sum : List ℕ → ℕ) (w v now : WriterState) (rest : Bool) (old new : Life) (result : Result (Unit {0}) Error) → IsSmall sum → IsSound sum w old.present → MayFlush w.sync w.flushed (guard_slot w.sync w.flushed w.durable) → v ≡ carried w
+pub flush_call : (sum : List ℕ → ℕ) (w v now : WriterState) (rest : Bool) (old new : Life) (result : Result (Unit {0}) Error) → IsSmall sum → IsConsistent sum w old.present → MayFlush w.sync w.flushed (guard_slot w.sync w.flushed w.durable) → v ≡ carried w
     → CanWrite v.page_size v.tip (full_in v) rest → WriteGoes (offset_of v) (flush_bytes sum v rest) false old new result
     → OnOk result (now ≡ after_write sum v (full_in v) rest) → (IsErrOf result OffsetOverflow → ⊥) → Flushes sum w old new (answered now result)
-unfolding IsSound
+unfolding IsConsistent
 flush_call sum w v now rest old new result small sound ready is =
     subst (λ v. CanWrite v.page_size v.tip (full_in v) rest → WriteGoes (offset_of v) (flush_bytes sum v rest) false old new result
     → OnOk result (now ≡ after_write sum v (full_in v) rest) → (IsErrOf result OffsetOverflow → ⊥) → Flushes sum w old new (answered now result)) (sym is)
-    (λ can goes state fits. flushes_carried sum w old new (answered now result) (flush_goes sum (carried w) now rest old new result small (carry_sound sum w old.present sound) ready can goes state fits))
+    (λ can goes state fits. flushes_carried sum w old new (answered now result) (flush_goes sum (carried w) now rest old new result small (carry_consistent sum w old.present sound) ready can goes state fits))
 
 -- one call after another
-pub goes_on_more : (sum : List ℕ → ℕ) (w m n : WriterState) (old mid new : Life) → GoesOn sum w old [] m mid → GoesOn sum m mid [] n new → GoesOn sum w old [] n new
+pub goes_on_more : (sum : List ℕ → ℕ) (w m n : WriterState) (old mid new : Life) → CarriesOn sum w old [] m mid → CarriesOn sum m mid [] n new → CarriesOn sum w old [] n new
 goes_on_more sum w m n old mid new first second = record {
-  sound = second.sound;
+  holds = second.holds;
+  intact = λ full. second.intact (first.intact full);
   size = second.size;
   only = second.only;
   content = second.content ∙ append-nil (content m mid.present.readable) ∙ first.content;
@@ -92,7 +97,7 @@ goes_on_more sum w m n old mid new first second = record {
 }
 
 -- a refusal of the later call is one of both
-pub refuses_more : (sum : List ℕ → ℕ) (w m : WriterState) (old mid new : Life) (e : Error) → GoesOn sum w old [] m mid → Refuses sum m (content m mid.present.readable) mid new e
+pub refuses_more : (sum : List ℕ → ℕ) (w m : WriterState) (old mid new : Life) (e : Error) → CarriesOn sum w old [] m mid → Refuses sum m (content m mid.present.readable) mid new e
     → Refuses sum w (content w old.present.readable) old new e
 refuses_more sum w m old mid new e first second = record {
   cause = cause_later w.sync m.sync old mid new e first.log second.log first.waits second.cause;
@@ -107,12 +112,13 @@ pub has_waited : (s : SyncState) (life : Life) → HadFailed s life.present → 
 has_waited s life had = inr had
 
 -- no call at all
-pub goes_on_same : (sum : List ℕ → ℕ) (w : WriterState) (life : Life) → IsSound sum w life.present → GoesOn sum w life [] w life
-unfolding IsSound
+pub goes_on_same : (sum : List ℕ → ℕ) (w : WriterState) (life : Life) → IsConsistent sum w life.present → CarriesOn sum w life [] w life
+unfolding IsConsistent
 goes_on_same sum w life sound = record {
-  sound = sound;
-  size = size_is_length sum w life sound;
-  only = sound_leaves sum w life.present sound;
+  holds = sound;
+  intact = λ full. full;
+  size = size_holds sum w life sound;
+  only = consistent_leaves sum w life.present sound;
   content = sym (append-nil (content w life.present.readable));
   same = record { page_size = refl; id = refl; capacity = refl; full_pages = omega arith };
   log = grows_same life.present life.present refl;
@@ -121,12 +127,13 @@ goes_on_same sum w life sound = record {
 }
 
 -- a sync of the blob
-settle_ok : (sum : List ℕ → ℕ) (w now : WriterState) (old new : Life) → IsSmall sum → IsSound sum w old.present → SyncGoes old new (Ok tt) → now ≡ synced w → GoesOn sum w old [] now new
-unfolding IsSound
+settle_ok : (sum : List ℕ → ℕ) (w now : WriterState) (old new : Life) → IsSmall sum → IsConsistent sum w old.present → SyncGoes old new (Ok tt) → now ≡ synced w → CarriesOn sum w old [] now new
+unfolding IsConsistent
 settle_ok sum w now old new small sound goes state = record {
-  sound = subst (λ n. IsSound sum n new.present) (sym state) (sync_sound sum w old sound new tt small goes);
-  size = size_is_length sum now new (subst (λ n. IsSound sum n new.present) (sym state) (sync_sound sum w old sound new tt small goes));
-  only = sound_leaves sum now new.present (subst (λ n. IsSound sum n new.present) (sym state) (sync_sound sum w old sound new tt small goes));
+  holds = subst (λ n. IsConsistent sum n new.present) (sym state) (sync_consistent sum w old sound new tt small goes);
+  size = size_holds sum now new (subst (λ n. IsConsistent sum n new.present) (sym state) (sync_consistent sum w old sound new tt small goes));
+  only = consistent_leaves sum now new.present (subst (λ n. IsConsistent sum n new.present) (sym state) (sync_consistent sum w old sound new tt small goes));
+  intact = λ full. subst (λ n. IsIntact sum n new.present) (sym state) (intact_still sum w old.present new.present (ap (λ (l : Life). l.present.readable) goes) full);
   content = ap (λ n. content n new.present.readable) state ∙ sync_content sum w old sound new tt goes ∙ sym (append-nil (content w old.present.readable));
   same = subst (λ n. IsSameWriter w n) (sym state) (record { page_size = refl; id = refl; capacity = refl; full_pages = omega arith });
   log = grows_once SyncAll false old.present new.present (ap (λ l. l.present.log) goes);
@@ -134,14 +141,14 @@ settle_ok sum w now old new small sound goes state = record {
   waits = λ had. absurd (subst (λ (n : WriterState). HadFailed n.sync new.present) state had);
 }
 
-pub settle_goes : (sum : List ℕ → ℕ) (w now : WriterState) (old new : Life) (result : Result (Unit {0}) Error) → IsSmall sum → IsSound sum w old.present → SyncGoes old new result
+pub settle_goes : (sum : List ℕ → ℕ) (w now : WriterState) (old new : Life) (result : Result (Unit {0}) Error) → IsSmall sum → IsConsistent sum w old.present → SyncGoes old new result
     → OnOk result (now ≡ synced w) → Settles sum w old new (answered now result)
-unfolding IsSound
+unfolding IsConsistent
 settle_goes sum w now old new (Ok done) small sound goes state = (settle_ok sum w now old new small sound goes state, state)
 settle_goes sum w now old new (Err e) small sound goes state = record { cause = sync_cause w.sync old new e goes; stays = sync_stays sum w old sound new (Err e) goes; log = sync_grows old new (Err e) goes }
 
 -- a clean writer has nothing to settle
-pub settled_already : (sum : List ℕ → ℕ) (w : WriterState) (life : Life) → IsSound sum w life.present → w.sync ≡ Clean → Settles sum w life life (Ok w)
+pub settled_already : (sum : List ℕ → ℕ) (w : WriterState) (life : Life) → IsConsistent sum w life.present → w.sync ≡ Clean → Settles sum w life life (Ok w)
 settled_already sum w life sound clean = (goes_on_same sum w life sound, ap (λ s. record w { sync = s }) clean)
 
 -- what is left after the full pages is written as it is, or there is nothing left
@@ -158,16 +165,17 @@ settled_after sum w true some is = record {
 }
 
 -- a write that is durable at once
-sync_durably : (sum : List ℕ → ℕ) (w now : WriterState) (rest : Bool) (old new : Life) (result : Result (Unit {0}) Error) → IsSmall sum → IsSound sum w old.present
+sync_durably : (sum : List ℕ → ℕ) (w now : WriterState) (rest : Bool) (old new : Life) (result : Result (Unit {0}) Error) → IsSmall sum → IsConsistent sum w old.present
     → MayFlush w.sync w.flushed w.durable → rest ≡ not (length w.tip % w.page_size == 0) → CanWrite w.page_size w.tip (full_in w) rest
     → WriteGoes (offset_of w) (flush_bytes sum w rest) true old new result
-    → OnOk result (now ≡ synced (after_write sum w (full_in w) rest)) → (IsErrOf result OffsetOverflow → ⊥) → Syncs sum w old new (answered now result)
-unfolding IsSound
+    → OnOk result (now ≡ synced (after_write sum w (full_in w) rest)) → (IsErrOf result OffsetOverflow → ⊥) → SyncsOver sum w old new (answered now result)
+unfolding IsConsistent
 sync_durably sum w now rest old new (Ok done) small sound is rests can goes state fits = (
   record {
-    sound = subst (λ n. IsSound sum n new.present) (sym state) (durable_write_sound sum w old new (full_in w) rest (flush_bytes sum w rest) small sound is can refl tt goes);
-    size = size_is_length sum now new (subst (λ n. IsSound sum n new.present) (sym state) (durable_write_sound sum w old new (full_in w) rest (flush_bytes sum w rest) small sound is can refl tt goes));
-    only = sound_leaves sum now new.present (subst (λ n. IsSound sum n new.present) (sym state) (durable_write_sound sum w old new (full_in w) rest (flush_bytes sum w rest) small sound is can refl tt goes));
+    holds = subst (λ n. IsConsistent sum n new.present) (sym state) (durable_write_consistent sum w old new (full_in w) rest (flush_bytes sum w rest) small sound is can refl tt goes);
+    size = size_holds sum now new (subst (λ n. IsConsistent sum n new.present) (sym state) (durable_write_consistent sum w old new (full_in w) rest (flush_bytes sum w rest) small sound is can refl tt goes));
+    only = consistent_leaves sum now new.present (subst (λ n. IsConsistent sum n new.present) (sym state) (durable_write_consistent sum w old new (full_in w) rest (flush_bytes sum w rest) small sound is can refl tt goes));
+    intact = λ full. subst (λ n. IsIntact sum n new.present) (sym state) (write_intact sum w old new (full_in w) rest (flush_bytes sum w rest) small sound is can refl true tt goes full);
     content = ap (λ n. content n new.present.readable) state ∙ write_content sum w old new (full_in w) rest (flush_bytes sum w rest) small sound is can refl true tt goes ∙ sym (append-nil (content w old.present.readable));
     same = subst (λ n. IsSameWriter w n) (sym state) (record { page_size = refl; id = refl; capacity = refl; full_pages = omega arith });
     log = grows_once (WriteAt (offset_of w) (length (flush_bytes sum w rest)) true) false old.present new.present (ap (λ l. l.present.log) goes.1 ∙ ap (λ e. e.log) goes.2.rest);
@@ -182,27 +190,27 @@ sync_durably sum w now rest old new (Err e) small sound is rests can goes state 
   log = write_grows (offset_of w) (flush_bytes sum w rest) true old new (Err e) goes;
 }
 
-syncs_carried : (sum : List ℕ → ℕ) (w : WriterState) (old new : Life) (result : Result WriterState Error) → Syncs sum (carried w) old new result → Syncs sum w old new result
+syncs_carried : (sum : List ℕ → ℕ) (w : WriterState) (old new : Life) (result : Result WriterState Error) → SyncsOver sum (carried w) old new result → SyncsOver sum w old new result
 syncs_carried sum w old new (Ok now) h = (carried_goes_on sum w now old new h.0, h.1)
 syncs_carried sum w old new (Err e) h = record { cause = h.cause; stays = h.stays; log = h.log }
 
 -- the same by a writer whose durable slot was brought up to date
-pub sync_write : (sum : List ℕ → ℕ) (w v now : WriterState) (rest : Bool) (old new : Life) (result : Result (Unit {0}) Error) → IsSmall sum → IsSound sum w old.present → MayFlush w.sync w.flushed (guard_slot w.sync w.flushed w.durable) → v ≡ carried w
+pub sync_write : (sum : List ℕ → ℕ) (w v now : WriterState) (rest : Bool) (old new : Life) (result : Result (Unit {0}) Error) → IsSmall sum → IsConsistent sum w old.present → MayFlush w.sync w.flushed (guard_slot w.sync w.flushed w.durable) → v ≡ carried w
     → rest ≡ not (length w.tip % w.page_size == 0) → CanWrite v.page_size v.tip (full_in v) rest → WriteGoes (offset_of v) (flush_bytes sum v rest) true old new result
-    → OnOk result (now ≡ synced (after_write sum v (full_in v) rest)) → (IsErrOf result OffsetOverflow → ⊥) → Syncs sum w old new (answered now result)
-unfolding IsSound
+    → OnOk result (now ≡ synced (after_write sum v (full_in v) rest)) → (IsErrOf result OffsetOverflow → ⊥) → SyncsOver sum w old new (answered now result)
+unfolding IsConsistent
 sync_write sum w v now rest old new result small sound ready is rests =
     subst (λ v. CanWrite v.page_size v.tip (full_in v) rest → WriteGoes (offset_of v) (flush_bytes sum v rest) true old new result
-    → OnOk result (now ≡ synced (after_write sum v (full_in v) rest)) → (IsErrOf result OffsetOverflow → ⊥) → Syncs sum w old new (answered now result)) (sym is)
-    (λ can goes state fits. syncs_carried sum w old new (answered now result) (sync_durably sum (carried w) now rest old new result small (carry_sound sum w old.present sound) ready rests can goes state fits))
+    → OnOk result (now ≡ synced (after_write sum v (full_in v) rest)) → (IsErrOf result OffsetOverflow → ⊥) → SyncsOver sum w old new (answered now result)) (sym is)
+    (λ can goes state fits. syncs_carried sum w old new (answered now result) (sync_durably sum (carried w) now rest old new result small (carry_consistent sum w old.present sound) ready rests can goes state fits))
 
 -- a dirty writer's durable slot is up to date
 pub dirty_carried : (w : WriterState) → w.sync ≡ Dirty → MayFlush w.sync w.flushed w.durable
 dirty_carried w dirty = subst (λ (s : SyncState). MayFlush s w.flushed w.durable) (sym dirty) tt
 
 -- a writer that may flush has no started sync that isn't settled
-pub ready_settled : (sum : List ℕ → ℕ) (w : WriterState) (d : Disk) → IsSound sum w d → MayFlush w.sync w.flushed (guard_slot w.sync w.flushed w.durable) → AllSettled d
-unfolding IsSound
+pub ready_settled : (sum : List ℕ → ℕ) (w : WriterState) (d : Disk) → IsConsistent sum w d → MayFlush w.sync w.flushed (guard_slot w.sync w.flushed w.durable) → AllSettled d
+unfolding IsConsistent
 ready_settled sum w d sound ready = flush_settled d w.sync w.flushed (guard_slot w.sync w.flushed w.durable) ready sound.stands.starts
 
 -- so is that of a writer that waits for none, once it was carried
@@ -217,27 +225,27 @@ dirty_state w s is none (inl dirty) = sym is ∙ dirty
 dirty_state w s is none (inr (name, pending)) = absurd (subst (λ (t : SyncState). WaitsForNone t) (sym is ∙ pending) none)
 
 -- so all that was started is settled
-pub dirty_settled : (sum : List ℕ → ℕ) (w : WriterState) (d : Disk) → IsSound sum w d → w.sync ≡ Dirty → AllSettled d
-unfolding IsSound
+pub dirty_settled : (sum : List ℕ → ℕ) (w : WriterState) (d : Disk) → IsConsistent sum w d → w.sync ≡ Dirty → AllSettled d
+unfolding IsConsistent
 dirty_settled sum w d sound dirty = flush_settled d w.sync w.flushed w.durable (dirty_carried w dirty) sound.stands.starts
 
 -- a write, and a sync of the blob
-pub sync_second : (sum : List ℕ → ℕ) (w now n : WriterState) (rest : Bool) (old mid new : Life) (result : Result (Unit {0}) Error) → IsSmall sum → IsSound sum w old.present → w.sync ≡ Dirty
+pub sync_second : (sum : List ℕ → ℕ) (w now n : WriterState) (rest : Bool) (old mid new : Life) (result : Result (Unit {0}) Error) → IsSmall sum → IsConsistent sum w old.present → w.sync ≡ Dirty
     → rest ≡ not (length w.tip % w.page_size == 0) → CanWrite w.page_size w.tip (full_in w) rest → WriteGoes (offset_of w) (flush_bytes sum w rest) false old mid (Ok tt)
-    → now ≡ after_write sum w (full_in w) rest → SyncGoes mid new result → OnOk result (n ≡ synced now) → Syncs sum w old new (answered n result)
-unfolding IsSound
+    → now ≡ after_write sum w (full_in w) rest → SyncGoes mid new result → OnOk result (n ≡ synced now) → SyncsOver sum w old new (answered n result)
+unfolding IsConsistent
 sync_second sum w now n rest old mid new (Ok done) small sound dirty rests can goes state synced_blob last =
-    let first : GoesOn sum w old [] now mid = flush_goes sum w now rest old mid (Ok tt) small sound (dirty_carried w dirty) can goes state (λ is. cc) in (
-      goes_on_more sum w now n old mid new first (settle_ok sum now n mid new small first.sound synced_blob last),
+    let first : CarriesOn sum w old [] now mid = flush_goes sum w now rest old mid (Ok tt) small sound (dirty_carried w dirty) can goes state (λ is. cc) in (
+      goes_on_more sum w now n old mid new first (settle_ok sum now n mid new small first.holds synced_blob last),
       subst IsSettled (sym (last ∙ ap synced state)) (settled_after sum w rest sound.stands.some rests),
     )
 sync_second sum w now n rest old mid new (Err e) small sound dirty rests can goes state synced_blob last =
-    let first : GoesOn sum w old [] now mid = flush_goes sum w now rest old mid (Ok tt) small sound (dirty_carried w dirty) can goes state (λ is. cc) in
-    refuses_more sum w now old mid new e first (settle_goes sum now n mid new (Err e) small first.sound synced_blob last)
+    let first : CarriesOn sum w old [] now mid = flush_goes sum w now rest old mid (Ok tt) small sound (dirty_carried w dirty) can goes state (λ is. cc) in
+    refuses_more sum w now old mid new e first (settle_goes sum now n mid new (Err e) small first.holds synced_blob last)
 
 -- a writer that has nothing to write has written all
-idle_settled : (sum : List ℕ → ℕ) (w : WriterState) (d : Disk) → IsSound sum w d → has_work w true ≡ false → IsSettled (synced w)
-unfolding IsSound
+idle_settled : (sum : List ℕ → ℕ) (w : WriterState) (d : Disk) → IsConsistent sum w d → has_work w true ≡ false → IsSettled (synced w)
+unfolding IsConsistent
 idle_settled sum w d sound idle =
     let short : length w.tip < w.page_size = grind (arith, nat_tests, idle) in
     let same : length w.tip % w.page_size ≡ length w.tip = mod-eq_of_lt short in
@@ -251,15 +259,15 @@ idle_settled sum w d sound idle =
 pub idle_short_rest : (w : WriterState) (rest : Bool) → has_work w rest ≡ false → length w.tip < w.page_size
 idle_short_rest w rest idle = grind (arith, nat_tests, idle)
 
-pub idle_written : (sum : List ℕ → ℕ) (w : WriterState) (rest : Bool) (d : Disk) → IsSound sum w d → has_work w rest ≡ false → rest ≡ true → IsWritten w
-unfolding IsSound
+pub idle_written : (sum : List ℕ → ℕ) (w : WriterState) (rest : Bool) (d : Disk) → IsConsistent sum w d → has_work w rest ≡ false → rest ≡ true → IsWritten w
+unfolding IsConsistent
 idle_written sum w rest d sound idle all =
     let settled : IsSettled (synced w) = idle_settled sum w d sound (sym (ap (λ (b : Bool). has_work w b) all) ∙ idle) in
     record { short = settled.short; flushed = settled.flushed }
 
 -- nothing to write: what is written is synced
-pub sync_settles : (sum : List ℕ → ℕ) (w : WriterState) (old new : Life) (result : Result WriterState Error) → IsSound sum w old.present → has_work w true ≡ false
-    → Settles sum w old new result → Syncs sum w old new result
+pub sync_settles : (sum : List ℕ → ℕ) (w : WriterState) (old new : Life) (result : Result WriterState Error) → IsConsistent sum w old.present → has_work w true ≡ false
+    → Settles sum w old new result → SyncsOver sum w old new result
 sync_settles sum w old new (Ok now) sound idle (goes, state) = (goes, subst IsSettled (sym state) (idle_settled sum w old.present sound idle))
 sync_settles sum w old new (Err e) sound idle refused = refused
 
@@ -294,7 +302,7 @@ short_within state P capacity (Ok a) room short same = omega (arith, room, short
 short_within state P capacity (Err e) room short same = tt
 
 -- less than a page is buffered after a sync
-pub sync_within : (sum : List ℕ → ℕ) (w : WriterState) (old new : Life) (result : Result WriterState Error) → w.page_size ≤ w.capacity → Syncs sum w old new result → IfOk result (λ now. HoldsWithin now)
+pub sync_within : (sum : List ℕ → ℕ) (w : WriterState) (old new : Life) (result : Result WriterState Error) → w.page_size ≤ w.capacity → SyncsOver sum w old new result → IfOk result (λ now. HoldsWithin now)
 sync_within sum w old new (Ok now) room syncs = omega (arith, syncs.1.short, syncs.0.same.page_size, syncs.0.same.capacity, room)
 sync_within sum w old new (Err e) room syncs = tt
 

@@ -6,14 +6,14 @@ use Rattle.disk.specs.Disk.{Life}
 use Rattle.disk.specs.declared.error.Error.{Error}
 use Rattle.disk.specs.declared.error.Error.TheVariants.{ReadFailed, WriteFailed, ResizeFailed, SyncFailed, InvalidChecksum, BlobInsufficientLength, OffsetOverflow, OutOfMemory, IdsExhausted}
 use Rattle.writer_state.specs.WriterState.{WriterState}
-use Rattle.writer_state.specs.Sound.{IsSound, Soundness, content}
+use Rattle.writer_state.specs.Sound.{IsConsistent, IsSound, Soundness, content}
 use Rattle.crash.specs.Stays.{StaysThrough, KeepsAll, KeepsFloors, LeavesOnly, KeepsAllFloors}
 use Rattle.crash.specs.Kept.{AllKeep, Through}
 use Rattle.crash.specs.Moments.{through_then}
 use Rattle.writer_state.proofs.FloorLaws.{floors_of_sound}
 use Rattle.crash.proofs.Moments.{kept_through, only_through}
 use Rattle.crash.proofs.Promise.{keeps_same}
-use Rattle.writer_state.proofs.Soundness.{settle_keeps}
+use Rattle.writer_state.proofs.Soundness.{consistent_of, settle_keeps}
 use Rattle.disk.specs.declared.started_sync.StartedSync.{StartedSync}
 use Rattle.paged.specs.Calls.{GoesOn, Syncs, Appends, StartsSync, WaitsForSync, HoldsWithin}
 use Rattle.paged.specs.Truncate.{KeepsFloorsWithin}
@@ -30,13 +30,13 @@ unfolding IsSound
 sync_keeps_all sum w old new (Ok now) (goes, settled) =
     let same : content now new.present.readable ≡ content w old.present.readable = goes.content ∙ append-nil (content w old.present.readable) in
     subst (λ P. KeepsAll sum P (content w old.present.readable) new) goes.same.page_size
-    (subst (λ c. KeepsAll sum now.page_size c new) same (settle_keeps sum now new.present goes.sound settled.clean settled.flushed))
+    (subst (λ c. KeepsAll sum now.page_size c new) same (settle_keeps sum now new.present (consistent_of sum now new.present goes.sound) goes.sound.full settled.clean settled.flushed))
 sync_keeps_all sum w old new (Err e) refused = tt
 
 -- whatever an append answers
 pub appends_stay : (sum : List ℕ → ℕ) (w : WriterState) (bytes : List ℕ) (old new : Life) (result : Result (WriterState × ℕ) Error) → Soundness sum w old.present → Appends sum w bytes old new result
     → StaysThrough sum w.page_size (content w old.present.readable ++ bytes) old new
-unfolding IsSound
+unfolding IsSound IsConsistent
 appends_stay sum w bytes old new (Ok r) sound (at, goes) = goes.stays
 appends_stay sum w bytes old new (Err ReadFailed) sound refused = refused.stays
 appends_stay sum w bytes old new (Err WriteFailed) sound refused = refused.stays
@@ -44,7 +44,7 @@ appends_stay sum w bytes old new (Err ResizeFailed) sound refused = refused.stay
 appends_stay sum w bytes old new (Err SyncFailed) sound refused = refused.stays
 appends_stay sum w bytes old new (Err InvalidChecksum) sound refused = refused.stays
 appends_stay sum w bytes old new (Err BlobInsufficientLength) sound refused = refused.stays
-appends_stay sum w bytes old new (Err OffsetOverflow) sound refused = subst (λ life. StaysThrough sum w.page_size (content w old.present.readable ++ bytes) old life) (sym refused.0) (append_unasked sum w old bytes sound)
+appends_stay sum w bytes old new (Err OffsetOverflow) sound refused = subst (λ life. StaysThrough sum w.page_size (content w old.present.readable ++ bytes) old life) (sym refused.0) (append_unasked sum w old bytes (consistent_of sum w old.present sound))
 appends_stay sum w bytes old new (Err OutOfMemory) sound refused = refused.stays
 appends_stay sum w bytes old new (Err IdsExhausted) sound refused = refused.stays
 

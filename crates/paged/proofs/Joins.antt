@@ -9,21 +9,21 @@ use Rattle.disk.specs.declared.error.Error.{Error}
 use Rattle.disk.specs.declared.error.Error.TheVariants.{ReadFailed, WriteFailed, ResizeFailed, SyncFailed, InvalidChecksum, BlobInsufficientLength, OffsetOverflow, OutOfMemory, IdsExhausted}
 use Rattle.disk.proofs.Logs.{grows_joins}
 use Rattle.writer_state.specs.WriterState.{WriterState}
-use Rattle.writer_state.specs.Sound.{IsSound, Soundness, content}
+use Rattle.writer_state.specs.Sound.{IsConsistent, Consistency, content}
 use Rattle.crash.specs.Stays.{StaysThrough}
 use Rattle.crash.specs.Started.{CoversThrough}
 use Rattle.writer_state.proofs.CoverLaws.{covers_through_join, covers_shorter}
 use Rattle.writer_state.proofs.FlushLaws.{length-content, tip_reach}
 use Rattle.crash.proofs.Moments.{stays_through_joins, stays_through_longer}
 use Rattle.paged.specs.Writer.{FitsBlob}
-use Rattle.paged.specs.Calls.{GoesOn, Refuses, Appends}
+use Rattle.paged.specs.Calls.{CarriesOn, Refuses, AppendsOver}
 use Rattle.paged.specs.Direct.{fill_of, IsDirect}
 use Rattle.paged.specs.Flush.{answered}
 use Rattle.paged.specs.Reads.{size_of}
 use Rattle.paged.proofs.Appends.{append_fails}
 use Rattle.paged.proofs.Bypass.{IsCut}
 use Rattle.paged.proofs.Causes.{cause_later}
-use Rattle.paged.proofs.Flushes.{begins, size_is_length}
+use Rattle.paged.proofs.Flushes.{begins, size_holds}
 use Rattle.paged.proofs.Sizes.{fits_by_size}
 
 -- fewer bytes need no more offsets
@@ -44,15 +44,15 @@ refuses_longer sum w held more old new e refused = record {
 
 -- an append whose first part is refused
 pub appends_refused : (sum : List ℕ → ℕ) (w : WriterState) (xs ys : List ℕ) (old new : Life) (e : Error) → 0 < w.page_size → FitsBlob w.page_size w.full_pages (length w.tip + length (xs ++ ys))
-    → Appends sum w xs old new (Err e) → Appends sum w (xs ++ ys) old new (Err e)
+    → AppendsOver sum w xs old new (Err e) → AppendsOver sum w (xs ++ ys) old new (Err e)
 appends_refused sum w xs ys old new e some fits = by_error e
   where
-    longer : (e : Error) → Refuses sum w (content w old.present.readable ++ xs) old new e → Appends sum w (xs ++ ys) old new (Err e)
+    longer : (e : Error) → Refuses sum w (content w old.present.readable ++ xs) old new e → AppendsOver sum w (xs ++ ys) old new (Err e)
     longer e refused =
         append_fails sum w (xs ++ ys) old new e (subst (λ c. Refuses sum w c old new e) (append_assoc (content w old.present.readable) xs ys)
         (refuses_longer sum w (content w old.present.readable ++ xs) ys old new e refused))
 
-    by_error : (e : Error) → Appends sum w xs old new (Err e) → Appends sum w (xs ++ ys) old new (Err e)
+    by_error : (e : Error) → AppendsOver sum w xs old new (Err e) → AppendsOver sum w (xs ++ ys) old new (Err e)
     by_error ReadFailed refused = longer ReadFailed refused
     by_error WriteFailed refused = longer WriteFailed refused
     by_error ResizeFailed refused = longer ResizeFailed refused
@@ -64,7 +64,7 @@ appends_refused sum w xs ys old new e some fits = by_error e
     by_error OutOfMemory refused = longer OutOfMemory refused
     by_error IdsExhausted refused = longer IdsExhausted refused
 
-module _ (sum : List ℕ → ℕ) (w m : WriterState) (old mid new : Life) (xs ys : List ℕ) (first : GoesOn sum w old xs m mid) where
+module _ (sum : List ℕ → ℕ) (w m : WriterState) (old mid new : Life) (xs ys : List ℕ) (first : CarriesOn sum w old xs m mid) where
   joined_content : content m mid.present.readable ++ ys ≡ content w old.present.readable ++ (xs ++ ys)
   joined_content = ap (λ c. c ++ ys) first.content ∙ append_assoc (content w old.present.readable) xs ys
 
@@ -76,9 +76,10 @@ module _ (sum : List ℕ → ℕ) (w m : WriterState) (old mid new : Life) (xs y
       stays_through_joins sum w.page_size all old mid new (stays_through_longer sum w.page_size (held ++ xs) all old mid begins_all first.stays)
       (subst (λ P. StaysThrough sum P all mid new) first.same.page_size (subst (λ c. StaysThrough sum m.page_size c mid new) joined_content second))
 
-  pub goes_on_join : (n : WriterState) → GoesOn sum m mid ys n new → GoesOn sum w old (xs ++ ys) n new
+  pub goes_on_join : (n : WriterState) → CarriesOn sum m mid ys n new → CarriesOn sum w old (xs ++ ys) n new
   goes_on_join n second = record {
-    sound = second.sound;
+    holds = second.holds;
+    intact = λ full. second.intact (first.intact full);
     size = second.size;
     only = second.only;
     content = second.content ∙ joined_content;
@@ -96,16 +97,16 @@ module _ (sum : List ℕ → ℕ) (w m : WriterState) (old mid new : Life) (xs y
   }
 
   -- memory is refused between the two
-  pub appends_stopped : (e : Error) → e ≡ OutOfMemory → Appends sum w (xs ++ ys) old mid (Err e)
+  pub appends_stopped : (e : Error) → e ≡ OutOfMemory → AppendsOver sum w (xs ++ ys) old mid (Err e)
   appends_stopped e is =
       let held = content w old.present.readable in
-      subst (λ e. Appends sum w (xs ++ ys) old mid (Err e)) (sym is) (record {
+      subst (λ e. AppendsOver sum w (xs ++ ys) old mid (Err e)) (sym is) (record {
         cause = tt;
         log = first.log;
         stays = subst (λ c. StaysThrough sum w.page_size c old mid) (append_assoc held xs ys) (stays_through_longer sum w.page_size (held ++ xs) (held ++ xs ++ ys) old mid (begins (held ++ xs) ys) first.stays);
       })
 
-  later_refused : (e : Error) → FitsBlob m.page_size m.full_pages (length m.tip + length ys) → Appends sum m ys mid new (Err e) → Appends sum w (xs ++ ys) old new (Err e)
+  later_refused : (e : Error) → FitsBlob m.page_size m.full_pages (length m.tip + length ys) → AppendsOver sum m ys mid new (Err e) → AppendsOver sum w (xs ++ ys) old new (Err e)
   later_refused ReadFailed fits refused = refuses_join ReadFailed refused
   later_refused WriteFailed fits refused = refuses_join WriteFailed refused
   later_refused ResizeFailed fits refused = refuses_join ResizeFailed refused
@@ -117,9 +118,9 @@ module _ (sum : List ℕ → ℕ) (w m : WriterState) (old mid new : Life) (xs y
   later_refused IdsExhausted fits refused = refuses_join IdsExhausted refused
 
   -- whatever the later part answers
-  pub appends_join : (n : WriterState) (result : Result (Unit {0}) Error) → IsSound sum w old.present → FitsBlob m.page_size m.full_pages (length m.tip + length ys) → Appends sum m ys mid new (answered (n, size_of m) result)
-      → Appends sum w (xs ++ ys) old new (answered (n, size_of w) result)
-  appends_join n (Ok done) sound fits goes = (size_is_length sum w old sound, goes_on_join n goes.1)
+  pub appends_join : (n : WriterState) (result : Result (Unit {0}) Error) → IsConsistent sum w old.present → FitsBlob m.page_size m.full_pages (length m.tip + length ys) → AppendsOver sum m ys mid new (answered (n, size_of m) result)
+      → AppendsOver sum w (xs ++ ys) old new (answered (n, size_of w) result)
+  appends_join n (Ok done) sound fits goes = (size_holds sum w old sound, goes_on_join n goes.1)
   appends_join n (Err e) sound fits refused = later_refused e fits refused
 
   -- and what is covered
@@ -149,7 +150,7 @@ filled_whole P n some = elim (cases_lt 0 (n % P)) [
 ]
 
 -- so after a flush nothing is left in it
-module _ (sum : List ℕ → ℕ) (w m : WriterState) (old mid : Life) (xs : List ℕ) (sound : Soundness sum w old.present) (first : GoesOn sum w old xs m mid) where
+module _ (sum : List ℕ → ℕ) (w m : WriterState) (old mid : Life) (xs : List ℕ) (sound : Consistency sum w old.present) (first : CarriesOn sum w old xs m mid) where
   pub filled_size : m.full_pages * w.page_size + length m.tip ≡ w.full_pages * w.page_size + (length w.tip + length xs)
   filled_size =
       let held : length (content w old.present.readable) ≡ w.full_pages * w.page_size + length w.tip = length-content w old.present.readable ((tip_reach sum w.page_size w.full_pages w.tip old.present.readable w.flushed sound.stands.tip_page).0) in
@@ -168,16 +169,16 @@ module _ (sum : List ℕ → ℕ) (w m : WriterState) (old mid : Life) (xs : Lis
 
 -- where the flush of a writer that buffered them ends well
 module _ (sum : List ℕ → ℕ) (w v now : WriterState) (old new : Life) (xs : List ℕ) where
-  pub filled_ok : (result : Result (Unit {0}) Error) → IsSound sum w old.present → length xs ≡ fill_of w → v ≡ record w { tip = w.tip ++ xs } → Appends sum w xs old new (answered (now, size_of w) result) → OnOk result (length now.tip < v.page_size) → OnOk result (now.tip ≡ [])
-  unfolding IsSound
+  pub filled_ok : (result : Result (Unit {0}) Error) → IsConsistent sum w old.present → length xs ≡ fill_of w → v ≡ record w { tip = w.tip ++ xs } → AppendsOver sum w xs old new (answered (now, size_of w) result) → OnOk result (length now.tip < v.page_size) → OnOk result (now.tip ≡ [])
+  unfolding IsConsistent
   filled_ok (Ok done) sound fill is appends short = filled_empty sum w now old new xs sound appends.1 fill (subst (λ (u : WriterState). length now.tip < u.page_size) is short)
   filled_ok (Err e) sound fill is refused short = tt
 
 -- ---- whole pages after it
 
-module _ (sum : List ℕ → ℕ) (w m : WriterState) (old mid : Life) (bytes first whole rest : List ℕ) (sound : IsSound sum w old.present) (fits : FitsBlob w.page_size w.full_pages (length w.tip + length bytes)) (goes : GoesOn sum w old first m mid) where
+module _ (sum : List ℕ → ℕ) (w m : WriterState) (old mid : Life) (bytes first whole rest : List ℕ) (sound : IsConsistent sum w old.present) (fits : FitsBlob w.page_size w.full_pages (length w.tip + length bytes)) (goes : CarriesOn sum w old first m mid) where
   pub direct_after : m.tip ≡ [] → IsCut w.page_size (fill_of w) bytes first whole rest → IsDirect m whole rest
-  unfolding IsSound
+  unfolding IsConsistent
   direct_after empty cut = record {
     empty = empty;
     some = cut.some;

@@ -10,7 +10,7 @@ use Rattle.page.specs.Tip.{ArePages}
 use Rattle.page.specs.declared.slot.ActiveChecksum.{ActiveChecksum}
 use Rattle.crash.specs.Built.{durable_after}
 use Rattle.writer_state.specs.WriterState.{WriterState}
-use Rattle.writer_state.specs.Sound.{IsSound, TipPage}
+use Rattle.writer_state.specs.Sound.{IsConsistent, TipPage}
 use Rattle.paged.specs.Flush.{TellsFirst, TellsFirstPage, full_in, rest_of, advanced, carried}
 use Rattle.paged.proofs.Flushing.{short_drained}
 
@@ -35,12 +35,12 @@ tip_tells sum P full tip readable (Some f) is = (
   is.crc ∙ ap sum (sym (take-take f.len P tip (omega (arith, is.part)))),
 )
 
-pub sound_tells : (sum : List ℕ → ℕ) (w : WriterState) (d : Disk) → IsSound sum w d → TellsFirst sum w.flushed (take w.page_size w.tip)
-unfolding IsSound
-sound_tells sum w d sound = tip_tells sum w.page_size w.full_pages w.tip d.readable w.flushed sound.stands.tip_page
+pub consistent_tells : (sum : List ℕ → ℕ) (w : WriterState) (d : Disk) → IsConsistent sum w d → TellsFirst sum w.flushed (take w.page_size w.tip)
+unfolding IsConsistent
+consistent_tells sum w d sound = tip_tells sum w.page_size w.full_pages w.tip d.readable w.flushed sound.stands.tip_page
 
-pub carried_tells : (sum : List ℕ → ℕ) (w v : WriterState) (d : Disk) → IsSound sum w d → v ≡ carried w → TellsFirst sum v.flushed (take v.page_size v.tip)
-carried_tells sum w v d sound is = subst (λ (u : WriterState). TellsFirst sum u.flushed (take u.page_size u.tip)) (sym is) (sound_tells sum w d sound)
+pub carried_tells : (sum : List ℕ → ℕ) (w v : WriterState) (d : Disk) → IsConsistent sum w d → v ≡ carried w → TellsFirst sum v.flushed (take v.page_size v.tip)
+carried_tells sum w v d sound is = subst (λ (u : WriterState). TellsFirst sum u.flushed (take u.page_size u.tip)) (sym is) (consistent_tells sum w d sound)
 
 -- the first page of some bytes
 pub pages_tell : (sum : List ℕ → ℕ) (P n : ℕ) (slot : Option ActiveChecksum) (pages : List (List ℕ)) (bytes : List ℕ) → ArePages P pages → concat pages ≡ take n bytes

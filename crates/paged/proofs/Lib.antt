@@ -12,6 +12,7 @@ pub mod Waits
 pub mod Starting
 pub mod Appends
 pub mod Halves
+pub mod Over
 pub mod Recoveries
 pub mod Firsts
 pub mod Offsets

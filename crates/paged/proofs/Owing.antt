@@ -15,14 +15,14 @@ use Rattle.crash.proofs.Disks.{base_is_image, base_is_whole}
 use Rattle.crash.proofs.Moments.{keeps_longer, keeps_shorter, same_floor}
 use Rattle.crash.proofs.Promise.{keeps_same, whole_is_chance_free}
 use Rattle.writer_state.specs.WriterState.{WriterState}
-use Rattle.writer_state.specs.Sound.{IsSound, content}
-use Rattle.writer_state.proofs.Soundness.{sound_leaves}
+use Rattle.writer_state.specs.Sound.{IsConsistent, content}
+use Rattle.writer_state.proofs.Soundness.{consistent_leaves}
 use Rattle.paged_read.proofs.Outliving.{others_stay, tails_stay}
 use Rattle.paged_read.proofs.OutlivingReplays.{replays_stay}
 use Rattle.paged.specs.Owes.{Owed, OwedThrough, Owes, OwesWaiting}
 use Rattle.cache.proofs.CacheLaws.{caches_none}
 use Rattle.std.proofs.lemmas.List.{take_all}
-use Rattle.paged.specs.Ready.{IsReady}
+use Rattle.paged.specs.Ready.{IsUsable}
 use Rattle.paged.proofs.Caching.{fresh_law}
 
 -- ---- two promises at each moment are one
@@ -58,14 +58,14 @@ through_both Q R old new first second = record {
 -- ---- a moment's
 
 -- where each floor of a longer content is kept, each floor of any content is, of a sound writer
-floors_at : (sum : List ℕ → ℕ) (w : WriterState) (all : List ℕ) (d e : Disk) → IsSound sum w d
+floors_at : (sum : List ℕ → ℕ) (w : WriterState) (all : List ℕ) (d e : Disk) → IsConsistent sum w d
     → content w d.readable ≡ take (length (content w d.readable)) all → Stays sum w.page_size all d e
     → (other : List ℕ) (floor : ℕ) → floor ≤ length other → AllKeep sum w.page_size other floor d → AllKeep sum w.page_size other floor e
 floors_at sum w all d e sound begins stays other floor enough keeps =
     let P = w.page_size in
     let held = content w d.readable in
     let says : text sum P d.base ≡ take (length (text sum P d.base)) held =
-    (elim ((sound_leaves sum w d sound).only d.base (base_is_image d) (whole_is_chance_free sum P d d.base (base_is_whole d.base d.since))) [ inl is ↦ is | inr is ↦ is ]) in
+    (elim ((consistent_leaves sum w d sound).only d.base (base_is_image d) (whole_is_chance_free sum P d d.base (base_is_whole d.base d.since))) [ inl is ↦ is | inr is ↦ is ]) in
     let kept : take floor (text sum P d.base) ≡ take floor other = keeps.kept d.base (base_is_image d) in
     let there : floor ≤ length (text sum P d.base) = omega (arith, ap length kept, length-take floor (text sum P d.base), length-take floor other) in
     let within : floor ≤ length held = omega (arith, ap length says, length-take (length (text sum P d.base)) held) in
@@ -76,7 +76,7 @@ floors_at sum w all d e sound begins stays other floor enough keeps =
     (stays.kept floor (omega (arith, within, more))
     (keeps_longer sum P held all floor d begins within (keeps_same sum P other held floor d (sym same) keeps))))
 
-module _ (sum : List ℕ → ℕ) (w : WriterState) (all : List ℕ) (old new : Life) (sound : IsSound sum w old.present) where
+module _ (sum : List ℕ → ℕ) (w : WriterState) (all : List ℕ) (old new : Life) (sound : IsConsistent sum w old.present) where
   abbrev pub held : List ℕ
   held = content w old.present.readable
 
@@ -97,12 +97,12 @@ module _ (sum : List ℕ → ℕ) (w : WriterState) (all : List ℕ) (old new : 
 
 -- ---- a call's
 
-pub owes_of : (sum : List ℕ → ℕ) (w : WriterState) (all : List ℕ) (cache after : CacheState) (old new : Life) → IsReady sum w cache old
+pub owes_of : (sum : List ℕ → ℕ) (w : WriterState) (all : List ℕ) (cache after : CacheState) (old new : Life) → IsUsable sum w cache old
     → content w old.present.readable ≡ take (length (content w old.present.readable)) all → StaysThrough sum w.page_size all old new
     → PagesStay w.page_size w.full_pages old new → CoversThrough sum w.page_size (content w old.present.readable) old new → StartsStand new.present
     → CachesOnly w.id w.full_pages all cache after → Owes sum w all cache after old new
 owes_of sum w all cache after old new ready begins stays pages covers starts cached = record {
-  through = owed_through sum w all old new ready.sound begins stays pages covers;
+  through = owed_through sum w all old new ready.consistent begins stays pages covers;
   starts = starts;
   cached = cached;
   fresh = fresh_law w.id w.full_pages all cache after cached ready.can.given ready.fresh;
@@ -112,7 +112,7 @@ owes_of sum w all cache after old new ready begins stays pages covers starts cac
 }
 
 -- a wait's
-pub owes_waiting : (sum : List ℕ → ℕ) (w : WriterState) (old new : Life) → IsSound sum w old.present → StaysThrough sum w.page_size (content w old.present.readable) old new
+pub owes_waiting : (sum : List ℕ → ℕ) (w : WriterState) (old new : Life) → IsConsistent sum w old.present → StaysThrough sum w.page_size (content w old.present.readable) old new
     → PagesStay w.page_size w.full_pages old new → CoversThrough sum w.page_size (content w old.present.readable) old new → StartsStand new.present → OwesWaiting sum w old new
 owes_waiting sum w old new sound stays pages covers starts = record {
   through = owed_through sum w (content w old.present.readable) old new sound (sym (take_all (length (content w old.present.readable)) (content w old.present.readable) (omega arith))) stays pages covers;

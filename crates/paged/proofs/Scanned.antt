@@ -156,7 +156,7 @@ module _ (sum : List ℕ → ℕ) (w : WriterState) (d : Disk) where
       let k = min (proven / P) w.full_pages in
       let reach : w.full_pages * (P + 12) ≤ length d.readable = omega (arith, flushed_reach sum P w.full_pages w.tip d.readable w.flushed sound.stands.tip_page) in
       subst (λ (l : List (List ℕ)). AreFull sum P l) (take-pages P k d.readable (fewer_fit P k w.full_pages d.readable (omega arith) reach))
-      (AreFull_fewer sum P k w.full_pages (pages P d.readable) (omega arith) sound.stands.full)
+      (AreFull_fewer sum P k w.full_pages (pages P d.readable) (omega arith) sound.full)
 
   -- and what was flushed tells the blob's text
   pub sound_text : IsSound sum w d → text_of_first sum w.page_size (flushed_pages w) d.readable ≡ text sum w.page_size d.readable

@@ -17,4 +17,4 @@ sound_there sum w d sound =
 pub sound_full : (sum : List ℕ → ℕ) (w : WriterState) (d : Disk) → IsSound sum w d
     → HasFullPages sum (tail_of w) d
 unfolding IsSound
-sound_full sum w d sound = sound.stands.full
+sound_full sum w d sound = sound.full

@@ -9,70 +9,71 @@ use Rattle.cache.specs.CacheState.{CacheState}
 use Rattle.writer_state.specs.WriterState.{WriterState}
 use Rattle.writer_state.specs.declared.sync_state.SyncState.{SyncState}
 use Rattle.writer_state.specs.declared.sync_state.SyncState.TheVariants.{Clean, Dirty, Pending}
-use Rattle.writer_state.specs.Sound.{IsSound, content}
+use Rattle.writer_state.specs.Sound.{IsIntact, IsSound, content}
 use Rattle.crash.specs.Stays.{StaysThrough, KeepsAllFloors, LeavesOnly}
 use Rattle.writer_state.proofs.FloorLaws.{floors_of_sound}
 use Rattle.paged_read.specs.Tail.{Tail, CanRead}
-use Rattle.paged_read.specs.Replay.{IsReplayOf, new_replay, ReplayState}
+use Rattle.paged_read.specs.Replay.{CanReplay, IsReplayOf, new_replay, ReplayState}
 use Rattle.paged_read.specs.Snapshots.{IsTailOf, StandsOn}
 use Rattle.paged_read.proofs.Replays.{new_replays}
 use Rattle.paged.specs.Caches.{ReadsOn, tail_of}
-use Rattle.paged.specs.Calls.{GoesOn, waited, waited_state, wait_calls, unstarted_calls, start_calls, started_already}
+use Rattle.paged.specs.Calls.{CarriesOn, waited, waited_state, wait_calls, unstarted_calls, start_calls, started_already}
 use Rattle.paged.specs.Flush.{has_work}
-use Rattle.paged.specs.Replays.{BeginsReplay}
-use Rattle.paged.specs.Snapshots.{answer_of_seal, MakesSnapshot, seal_calls}
-use Rattle.paged.proofs.Halves.{goes_stay, keeps_floors, leaves_only}
-use Rattle.paged.proofs.Serves.{sound_full, sound_there}
+use Rattle.paged.specs.Replays.{ReplaysOver}
+use Rattle.paged.specs.Snapshots.{answer_of_seal, SnapshotsOver, seal_calls}
+use Rattle.paged.proofs.Halves.{keeps_floors, leaves_only}
+use Rattle.paged.proofs.Over.{goes_stay}
+use Rattle.paged.proofs.There.{consistent_has_pages}
 use Rattle.paged.proofs.Waits.{wait_readable}
 
 -- ---- what a snapshot tells
 
 -- the tail of a writer that goes on tells what was told before
 pub goes_tells : (sum : List ℕ → ℕ) (w now : WriterState) (old new : Life)
-    → GoesOn sum w old [] now new
+    → IsIntact sum w old.present → CarriesOn sum w old [] now new
     → IsTailOf sum (tail_of now) (content w old.present.readable) new.present
-goes_tells sum w now old new goes = record {
-  there = sound_there sum now new.present goes.sound;
-  full = sound_full sum now new.present goes.sound;
+goes_tells sum w now old new full goes = record {
+  there = consistent_has_pages sum now new goes.holds;
+  full = goes.intact full;
   is = goes.content ∙ append-nil (content w old.present.readable);
 }
 
 -- so does a snapshot of it
 pub made_tells : (sum : List ℕ → ℕ) (w now : WriterState) (t : Tail) (old new : Life)
-    → GoesOn sum w old [] now new → t ≡ tail_of now
+    → IsIntact sum w old.present → CarriesOn sum w old [] now new → t ≡ tail_of now
     → IsTailOf sum t (content w old.present.readable) new.present
-made_tells sum w now t old new goes is =
+made_tells sum w now t old new full goes is =
     subst (λ (u : Tail). IsTailOf sum u (content w old.present.readable) new.present) (sym is)
-    (goes_tells sum w now old new goes)
+    (goes_tells sum w now old new full goes)
 
 -- which can be read where the writer could be
 pub made_stands : (sum : List ℕ → ℕ) (w now : WriterState) (t : Tail) (cache after : CacheState)
-    (old new : Life) → GoesOn sum w old [] now new → t ≡ tail_of now
+    (old new : Life) → IsIntact sum w old.present → CarriesOn sum w old [] now new → t ≡ tail_of now
     → ReadsOn w now cache after old new → CanRead (tail_of w) cache old.present
     → StandsOn sum t (content w old.present.readable) after new.present
-made_stands sum w now t cache after old new goes is reads can = record {
-  tail = made_tells sum w now t old new goes is;
+made_stands sum w now t cache after old new full goes is reads can = record {
+  tail = made_tells sum w now t old new full goes is;
   can = subst (λ (u : Tail). CanRead u after new.present) (sym is) (reads can);
 }
 
 -- ---- a snapshot that is made
 
 pub make_stays : (sum : List ℕ → ℕ) (w : WriterState) (old new : Life)
-    (result : Result (WriterState × Tail) Error) → MakesSnapshot sum w old new result
+    (result : Result (WriterState × Tail) Error) → SnapshotsOver sum w old new result
     → StaysThrough sum w.page_size (content w old.present.readable) old new
 make_stays sum w old new (Ok r) (goes, short, is) = goes_stay sum w r.0 old new goes
 make_stays sum w old new (Err e) refused = refused.stays
 
 module _ (sum : List ℕ → ℕ) (w : WriterState) (old new : Life)
     (sound : IsSound sum w old.present) where
-  pub make_keeps : (result : Result (WriterState × Tail) Error) → MakesSnapshot sum w old new result
+  pub make_keeps : (result : Result (WriterState × Tail) Error) → SnapshotsOver sum w old new result
       → KeepsAllFloors sum w.page_size old new
   make_keeps result makes =
       floors_of_sound sum w old new sound
       (keeps_floors sum w.page_size (content w old.present.readable) old new
       (make_stays sum w old new result makes))
 
-  pub make_leaves : (result : Result (WriterState × Tail) Error) → MakesSnapshot sum w old new result
+  pub make_leaves : (result : Result (WriterState × Tail) Error) → SnapshotsOver sum w old new result
       → LeavesOnly sum w.page_size (content w old.present.readable)
       (content w old.present.readable) old new
   make_leaves result makes =
@@ -82,7 +83,7 @@ module _ (sum : List ℕ → ℕ) (w : WriterState) (old new : Life)
 -- ---- a replay that begins
 
 pub begin_stays : (sum : List ℕ → ℕ) (w : WriterState) (size : ℕ) (old new : Life)
-    (result : Result (WriterState × ReplayState) Error) → BeginsReplay sum w size old new result
+    (result : Result (WriterState × ReplayState) Error) → ReplaysOver sum w size old new result
     → StaysThrough sum w.page_size (content w old.present.readable) old new
 begin_stays sum w size old new (Ok r) begins = goes_stay sum w r.0 old new begins.0
 begin_stays sum w size old new (Err e) refused = refused.stays
@@ -90,28 +91,39 @@ begin_stays sum w size old new (Err e) refused = refused.stays
 module _ (sum : List ℕ → ℕ) (w : WriterState) (size : ℕ) (old new : Life)
     (sound : IsSound sum w old.present) where
   pub begin_keeps : (result : Result (WriterState × ReplayState) Error)
-      → BeginsReplay sum w size old new result → KeepsAllFloors sum w.page_size old new
+      → ReplaysOver sum w size old new result → KeepsAllFloors sum w.page_size old new
   begin_keeps result begins =
       floors_of_sound sum w old new sound
       (keeps_floors sum w.page_size (content w old.present.readable) old new
       (begin_stays sum w size old new result begins))
 
   pub begin_leaves : (result : Result (WriterState × ReplayState) Error)
-      → BeginsReplay sum w size old new result
+      → ReplaysOver sum w size old new result
       → LeavesOnly sum w.page_size (content w old.present.readable)
       (content w old.present.readable) old new
   begin_leaves result begins =
       leaves_only sum w.page_size (content w old.present.readable) old new
       (begin_stays sum w size old new result begins)
 
+-- the pages that it is of are there
+pub begun_can : (sum : List ℕ → ℕ) (w now : WriterState) (size : ℕ) (r : ReplayState)
+    (old new : Life) → CarriesOn sum w old [] now new → r ≡ new_replay (tail_of now) size
+    → CanReplay r new.present
+begun_can sum w now size r old new goes is =
+    subst (λ (s : ReplayState). CanReplay s new.present) (sym is) (record {
+      there = consistent_has_pages sum now new goes.holds;
+      hand = refl;
+      queue = λ k a below. absurd (omega (arith, below));
+    })
+
 -- it gives what was told before
 pub begun_gives : (sum : List ℕ → ℕ) (w now : WriterState) (size : ℕ) (r : ReplayState)
-    (old new : Life) → GoesOn sum w old [] now new → r ≡ new_replay (tail_of now) size
+    (old new : Life) → IsIntact sum w old.present → CarriesOn sum w old [] now new → r ≡ new_replay (tail_of now) size
     → IsReplayOf sum r (content w old.present.readable) new.present
-begun_gives sum w now size r old new goes is =
+begun_gives sum w now size r old new full goes is =
     subst (λ (s : ReplayState). IsReplayOf sum s (content w old.present.readable) new.present)
     (sym is) (new_replays sum (tail_of now) size (content w old.present.readable) new.present
-    (goes_tells sum w now old new goes))
+    (goes_tells sum w now old new full goes))
 
 -- ---- a writer that is sealed
 

@@ -9,7 +9,7 @@ use Rattle.disk.specs.declared.started_sync.StartedSync.TheVariants.{Done, Named
 use Rattle.writer_state.specs.WriterState.{WriterState, started_state}
 use Rattle.writer_state.specs.declared.sync_state.SyncState.{SyncState}
 use Rattle.writer_state.specs.declared.sync_state.SyncState.TheVariants.{Clean, Dirty, Pending}
-use Rattle.writer_state.specs.Sound.{IsSound, Soundness, content}
+use Rattle.writer_state.specs.Sound.{IsConsistent, IsIntact, Consistency, content}
 use Rattle.crash.specs.Started.{AllSettled, WouldKeep, CoversThrough, StartsStand}
 use Rattle.crash.specs.Below.{PagesStay}
 use Rattle.crash.specs.Stays.{Stays, StaysThrough}
@@ -19,15 +19,15 @@ use Rattle.crash.proofs.Lists.{slice_get-append_right}
 use Rattle.crash.proofs.BelowLaws.{pages_none, pages_one}
 use Rattle.writer_state.proofs.CoverLaws.{covers_none, covers_one}
 use Rattle.crash.proofs.Moments.{stays_through_start}
-use Rattle.writer_state.proofs.StandLaws.{sound_stands}
-use Rattle.writer_state.proofs.StartedLaws.{start_sound, start_stays, start_covers, started_covers, pending_covers}
-use Rattle.writer_state.proofs.Soundness.{sound_leaves, settle_keeps}
+use Rattle.writer_state.proofs.StandLaws.{consistent_stands}
+use Rattle.writer_state.proofs.StartedLaws.{start_consistent, start_stays, start_covers, started_covers, pending_covers}
+use Rattle.writer_state.proofs.Soundness.{consistent_leaves, intact_still, settle_keeps}
 use Rattle.disk.proofs.Logs.{failed_once}
 use Rattle.disk.specs.Disk.Request.{StartSync}
 use Rattle.paged.specs.Flush.{has_work, paired}
-use Rattle.paged.specs.Calls.{AsksAtMost, wait_calls, unstarted_calls, start_calls, GoesOn, IsSameWriter, IsWritten, HadFailed, CallCause, StartsSync, Starts, started_already}
+use Rattle.paged.specs.Calls.{AsksAtMost, wait_calls, unstarted_calls, start_calls, CarriesOn, IsSameWriter, IsWritten, HadFailed, CallCause, StartsOver, Starts, started_already}
 use Rattle.paged.proofs.Causes.{start_cause, start_grows, start_asks}
-use Rattle.paged.proofs.Flushes.{size_is_length, stays_nil, goes_on_same, goes_on_more, refuses_more, dirty_settled}
+use Rattle.paged.proofs.Flushes.{size_holds, stays_nil, goes_on_same, goes_on_more, refuses_more, dirty_settled}
 
 -- the newest sync has failed where its start did
 newest_failed : (failed : Bool) (d : Disk) → had_failed (starts failed d).started (length d.started) ≡ failed
@@ -43,7 +43,7 @@ newest_fails s old new now name failed last is state had =
     let here : failed ≡ true = sym (newest_failed failed old.present) ∙ ap (λ (n : ℕ). had_failed (starts failed old.present).started n) (sym last) ∙ ap (λ (l : Life). had_failed l.present.started name) (sym is) ∙ at in
     inl (failed_once StartSync old.present new.present (ap (λ (l : Life). l.present.log) is ∙ ap (λ (b : Bool). old.present.log ++ record { request = StartSync; failed = b } ∷ []) here))
 
-module _ (sum : List ℕ → ℕ) (w : WriterState) (old new : Life) (small : IsSmall sum) (sound : Soundness sum w old.present) (settled : AllSettled old.present) where
+module _ (sum : List ℕ → ℕ) (w : WriterState) (old new : Life) (small : IsSmall sum) (sound : Consistency sum w old.present) (settled : AllSettled old.present) where
   started_stays : (failed : Bool) → new ≡ next old (starts failed old.present) → StaysThrough sum w.page_size (content w old.present.readable) old new
   started_stays failed is =
       subst (λ (l : Life). StaysThrough sum w.page_size (content w old.present.readable) old l) (sym is)
@@ -52,20 +52,21 @@ module _ (sum : List ℕ → ℕ) (w : WriterState) (old new : Life) (small : Is
 
   -- the new one stands for all, where all is written
   start_ok : (now : WriterState) (name : ℕ) (failed : Bool) → IsWritten w → name ≡ length old.present.started → new ≡ next old (starts failed old.present) → now ≡ record w { sync = Pending name }
-      → StartsSync sum w old new (Ok (now, Named name))
-  unfolding IsSound
+      → StartsOver sum w old new (Ok (now, Named name))
+  unfolding IsConsistent
   start_ok now name failed written last is state =
       let d = old.present in
       let e = starts failed d in
       let there : new.present ≡ e = ap (λ (l : Life). l.present) is in
       let state_is : now ≡ record w { sync = Pending (length d.started) } = state ∙ ap (λ (n : ℕ). record w { sync = Pending n }) last in
-      let here : Soundness sum now new.present =
-      subst (λ (v : WriterState). Soundness sum v new.present) (sym state_is)
-      (subst (λ (x : Disk). Soundness sum (record w { sync = Pending (length d.started) }) x) (sym there) (start_sound sum w d failed sound settled)) in
-      let goes : GoesOn sum w old [] now new = record {
-        sound = here;
-        size = size_is_length sum now new here;
-        only = sound_leaves sum now new.present here;
+      let here : Consistency sum now new.present =
+      subst (λ (v : WriterState). Consistency sum v new.present) (sym state_is)
+      (subst (λ (x : Disk). Consistency sum (record w { sync = Pending (length d.started) }) x) (sym there) (start_consistent sum w d failed sound settled)) in
+      let goes : CarriesOn sum w old [] now new = record {
+        holds = here;
+        intact = λ full. subst (λ (v : WriterState). IsIntact sum v new.present) (sym state) (intact_still sum w d new.present (ap (λ (x : Disk). x.readable) there) full);
+        size = size_holds sum now new here;
+        only = consistent_leaves sum now new.present here;
         content = ap (λ (v : WriterState). content v new.present.readable) state ∙ ap (λ (x : Disk). content w x.readable) there ∙ sym (append-nil (content w d.readable));
         same = subst (λ (v : WriterState). IsSameWriter w v) (sym state) (record { page_size = refl; id = refl; capacity = refl; full_pages = omega arith });
         log = start_grows old new (Ok (Named name)) (last, failed, is);
@@ -75,12 +76,12 @@ module _ (sum : List ℕ → ℕ) (w : WriterState) (old new : Life) (small : Is
         goes,
         subst (λ (v : WriterState). IsWritten v) (sym state) (record { short = written.short; flushed = written.flushed }),
         ap (λ (v : WriterState). v.sync) state,
-        subst (λ (n : ℕ). WouldKeep sum w.page_size (content w d.readable) n (length (content w d.readable)) new.present) (sym last)
-            (subst (λ (x : Disk). WouldKeep sum w.page_size (content w d.readable) (length d.started) (length (content w d.readable)) x) (sym there) (started_covers sum w d sound failed small settled written.flushed)),
+        λ full. subst (λ (n : ℕ). WouldKeep sum w.page_size (content w d.readable) n (length (content w d.readable)) new.present) (sym last)
+            (subst (λ (x : Disk). WouldKeep sum w.page_size (content w d.readable) (length d.started) (length (content w d.readable)) x) (sym there) (started_covers sum w d sound failed small full settled written.flushed)),
       )
 
   -- whatever a start answers
-  start_goes : (now : WriterState) (result : Result StartedSync Error) → IsWritten w → StartGoes old new result → IfOk result (λ started. now ≡ record w { sync = started_state started }) → StartsSync sum w old new (paired now result)
+  start_goes : (now : WriterState) (result : Result StartedSync Error) → IsWritten w → StartGoes old new result → IfOk result (λ started. now ≡ record w { sync = started_state started }) → StartsOver sum w old new (paired now result)
   start_goes now (Ok (Named name)) written (last, failed, is) state = start_ok now name failed written last is state
   start_goes now (Ok Done) written goes state = absurd goes
   start_goes now (Err e) written goes state = record {
@@ -107,9 +108,9 @@ module _ (sum : List ℕ → ℕ) (w : WriterState) (old new : Life) (small : Is
 
   start_stands : (result : Result StartedSync Error) → StartGoes old new result → StartsStand new.present
   start_stands (Ok (Named name)) (last, failed, is) =
-      subst (λ (l : Life). StartsStand l.present) (sym is) (sound_stands sum (record w { sync = Pending (length old.present.started) }) (starts failed old.present) (start_sound sum w old.present failed sound settled))
+      subst (λ (l : Life). StartsStand l.present) (sym is) (consistent_stands sum (record w { sync = Pending (length old.present.started) }) (starts failed old.present) (start_consistent sum w old.present failed sound settled))
   start_stands (Ok Done) goes = absurd goes
-  start_stands (Err OutOfMemory) is = subst (λ (l : Life). StartsStand l.present) (sym is) (sound_stands sum w old.present sound)
+  start_stands (Err OutOfMemory) is = subst (λ (l : Life). StartsStand l.present) (sym is) (consistent_stands sum w old.present sound)
   start_stands (Err e) goes = absurd goes
 
 pub start_fresh : (old new : Life) (result : Result StartedSync Error) → StartGoes old new result → IfOk result (λ started. started ≡ Named (length old.present.started))
@@ -119,16 +120,16 @@ start_fresh old new (Err e) goes = tt
 
 -- the same by a dirty writer
 pub record Starting (sum : List ℕ → ℕ) (w now : WriterState) (old new : Life) (result : Result StartedSync Error) : Type 0 where
-  pub starts_sync : StartsSync sum w old new (paired now result)
+  pub starts_sync : StartsOver sum w old new (paired now result)
   pub pages : PagesStay w.page_size w.full_pages old new
   pub covers : CoversThrough sum w.page_size (content w old.present.readable) old new
   pub stands : StartsStand new.present
   pub calls : AsksAtMost (unstarted_calls w.sync) old new
   pub due : unstarted_calls w.sync ≡ 1
 
-pub dirty_starts : (sum : List ℕ → ℕ) (w now : WriterState) (old new : Life) (result : Result StartedSync Error) → IsSmall sum → IsSound sum w old.present → w.sync ≡ Dirty → IsWritten w → StartGoes old new result
+pub dirty_starts : (sum : List ℕ → ℕ) (w now : WriterState) (old new : Life) (result : Result StartedSync Error) → IsSmall sum → IsConsistent sum w old.present → w.sync ≡ Dirty → IsWritten w → StartGoes old new result
     → IfOk result (λ started. now ≡ record w { sync = started_state started }) → Starting sum w now old new result
-unfolding IsSound
+unfolding IsConsistent
 dirty_starts sum w now old new result small sound dirty written goes state =
     let settled : AllSettled old.present = dirty_settled sum w old.present sound dirty in
     let one : unstarted_calls w.sync ≡ 1 = ap unstarted_calls dirty in
@@ -142,24 +143,24 @@ dirty_starts sum w now old new result small sound dirty written goes state =
     }
 
 -- where all is durable, or a sync is pending, none is started
-pub clean_starts : (sum : List ℕ → ℕ) (w : WriterState) (life : Life) → IsSound sum w life.present → w.sync ≡ Clean → IsWritten w → StartsSync sum w life life (Ok (w, Done))
-unfolding IsSound
-clean_starts sum w life sound clean written = (goes_on_same sum w life sound, written, clean, settle_keeps sum w life.present sound clean written.flushed)
+pub clean_starts : (sum : List ℕ → ℕ) (w : WriterState) (life : Life) → IsConsistent sum w life.present → w.sync ≡ Clean → IsWritten w → StartsOver sum w life life (Ok (w, Done))
+unfolding IsConsistent
+clean_starts sum w life sound clean written = (goes_on_same sum w life sound, written, clean, λ full. settle_keeps sum w life.present sound full clean written.flushed)
 
-pub pending_starts : (sum : List ℕ → ℕ) (w : WriterState) (name : ℕ) (life : Life) → IsSmall sum → IsSound sum w life.present → w.sync ≡ Pending name → IsWritten w → StartsSync sum w life life (Ok (w, Named name))
-unfolding IsSound
-pending_starts sum w name life small sound pending written = (goes_on_same sum w life sound, written, pending, pending_covers sum w life.present sound name small pending written.flushed)
+pub pending_starts : (sum : List ℕ → ℕ) (w : WriterState) (name : ℕ) (life : Life) → IsSmall sum → IsConsistent sum w life.present → w.sync ≡ Pending name → IsWritten w → StartsOver sum w life life (Ok (w, Named name))
+unfolding IsConsistent
+pending_starts sum w name life small sound pending written = (goes_on_same sum w life sound, written, pending, λ full. pending_covers sum w life.present sound name small full pending written.flushed)
 
 -- ---- a start after a flush
 
-module _ (sum : List ℕ → ℕ) (w m : WriterState) (old mid new : Life) (first : GoesOn sum w old [] m mid) where
+module _ (sum : List ℕ → ℕ) (w m : WriterState) (old mid new : Life) (first : CarriesOn sum w old [] m mid) where
   same_starts : (started : StartedSync) → Starts sum m.page_size (content m mid.present.readable) new started → Starts sum w.page_size (content w old.present.readable) new started
   same_starts started covered =
       subst (λ (c : List ℕ). Starts sum w.page_size c new started) (first.content ∙ append-nil (content w old.present.readable))
       (subst (λ (P : ℕ). Starts sum P (content m mid.present.readable) new started) first.same.page_size covered)
 
-  pub starts_after : (result : Result (WriterState × StartedSync) Error) → StartsSync sum m mid new result → StartsSync sum w old new result
-  starts_after (Ok r) (goes, written, state, covered) = (goes_on_more sum w m r.0 old mid new first goes, written, state, same_starts r.1 covered)
+  pub starts_after : (result : Result (WriterState × StartedSync) Error) → StartsOver sum m mid new result → StartsOver sum w old new result
+  starts_after (Ok r) (goes, written, state, covered) = (goes_on_more sum w m r.0 old mid new first goes, written, state, λ full. same_starts r.1 (covered (first.intact full)))
   starts_after (Err e) refused = refuses_more sum w m old mid new e first refused
 
 -- what the flush did, by whether there was something to write

@@ -5,7 +5,7 @@ use Rattle.disk.specs.Disk.{Disk, Life}
 use Rattle.disk.specs.declared.error.Error.{Error}
 use Rattle.cache.specs.CacheState.{CacheState}
 use Rattle.writer_state.specs.WriterState.{WriterState}
-use Rattle.writer_state.specs.Sound.{IsSound, content}
+use Rattle.writer_state.specs.Sound.{IsConsistent, IsSound, content}
 use Rattle.crash.specs.Stays.{Stays, StaysThrough, LeavesOnly, KeepsAllFloors}
 use Rattle.writer_state.proofs.FloorLaws.{floors_of_sound}
 use Rattle.crash.specs.Moments.{through_then}
@@ -23,6 +23,10 @@ use Rattle.paged.specs.Recovers.{Recovers}
 pub sound_has_pages : (sum : List ℕ → ℕ) (w : WriterState) (life : Life) → IsSound sum w life.present → HasPages w life
 unfolding IsSound
 sound_has_pages sum w life sound = (tip_reach sum w.page_size w.full_pages w.tip life.present.readable w.flushed sound.stands.tip_page).0
+
+pub consistent_has_pages : (sum : List ℕ → ℕ) (w : WriterState) (life : Life) → IsConsistent sum w life.present → HasPages w life
+unfolding IsConsistent
+consistent_has_pages sum w life holds = (tip_reach sum w.page_size w.full_pages w.tip life.present.readable w.flushed holds.stands.tip_page).0
 
 -- after a sync
 pub synced_there : (sum : List ℕ → ℕ) (w : WriterState) (old new : Life) (result : Result WriterState Error) → Syncs sum w old new result → IfOk result (λ now. HasPages now new)

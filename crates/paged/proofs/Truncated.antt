@@ -21,7 +21,7 @@ use Rattle.crash.specs.Built.{footer, kept_len}
 use Rattle.crash.specs.Guard.{IsSlotFor}
 use Rattle.crash.specs.Moments.{through_joins}
 use Rattle.crash.specs.Started.{AllSettled, CoversThrough, StartsStand}
-use Rattle.writer_state.specs.Sound.{HasPage, IsSound, Soundness, StartsFit, StateFits, TipPage, content}
+use Rattle.writer_state.specs.Sound.{IsConsistent, HasPage, IsSound, Soundness, StartsFit, StateFits, TipPage, content}
 use Rattle.crash.specs.Contents.{stored, latest}
 use Rattle.crash.specs.Full.{AreFull}
 use Rattle.crash.specs.Kept.{AllOnly}
@@ -34,7 +34,7 @@ use Rattle.crash.proofs.Moments.{only_through}
 use Rattle.crash.proofs.PageFacts.{own_beginning, verified_len_held}
 use Rattle.crash.proofs.Pages.{length-stored, stored_same, take-stored, page_is}
 use Rattle.crash.proofs.Texts.{AreFull_fewer, AreFull_same}
-use Rattle.writer_state.proofs.Soundness.{exact_sound, page_sound, settle_keeps}
+use Rattle.writer_state.proofs.Soundness.{consistent_of, exact_sound, page_sound, settle_keeps, sound_holds_together}
 use Rattle.writer_state.proofs.ShortenLaws.{covers_through_shorten, shorten_floors, shorten_leaves, shorten_stands, sound_text}
 use Rattle.paged_read.specs.Ranges.{page_at}
 use Rattle.paged.specs.Calls.{IsSettled, Syncs, WaitsForNone}
@@ -98,26 +98,33 @@ module _ (sum : List ℕ → ℕ) (small_sum : IsSmall sum) (P len : ℕ) (s : S
   pub rewritten_good : (t : Slot) → IsGood sum P t rewritten_page
   rewritten_good t = rewritten_at t (slot_cases s t)
 
--- ---- a sound writer all of which is durable
+-- ---- a writer all of which is durable
+
+module _ (sum : List ℕ → ℕ) (w : WriterState) (d : Disk) (holds : IsConsistent sum w d) (settled : IsSettled w) where
+  -- it is as opened
+  pub settled_as_opened : IsAsOpened sum w d
+  unfolding IsConsistent
+  settled_as_opened = record {
+    page = holds.stands.tip_page;
+    written = record { short = settled.short; flushed = settled.flushed };
+    carries = holds.stands.carries.1;
+    tells = holds.stands.carries.2;
+    good = subst (λ (l : List ℕ). PageIsGood sum w.page_size w.full_pages l) (sym holds.stands.done) (holds.good (latest d.base d.since) (latest_is_whole d.base d.since) w.full_pages (omega arith));
+    waits = subst (λ (s : SyncState). WaitsForNone s) (sym settled.clean) tt;
+    durable = λ clean. let fits = subst (λ (s : SyncState). StateFits d s) clean holds.stands.state in record { since = fits.0; base = fits.1 };
+  }
+
+-- ---- a sound one
 
 module _ (sum : List ℕ → ℕ) (w : WriterState) (d : Disk) (sound : IsSound sum w d) (settled : IsSettled w) where
   -- it is as opened
   pub settled_opened : IsAsOpened sum w d
-  unfolding IsSound
-  settled_opened = record {
-    page = sound.stands.tip_page;
-    written = record { short = settled.short; flushed = settled.flushed };
-    carries = sound.stands.carries.1;
-    tells = sound.stands.carries.2;
-    good = subst (λ (l : List ℕ). PageIsGood sum w.page_size w.full_pages l) (sym sound.stands.done) (sound.good (latest d.base d.since) (latest_is_whole d.base d.since) w.full_pages (omega arith));
-    waits = subst (λ (s : SyncState). WaitsForNone s) (sym settled.clean) tt;
-    durable = λ clean. let fits = subst (λ (s : SyncState). StateFits d s) clean sound.stands.state in record { since = fits.0; base = fits.1 };
-  }
+  settled_opened = settled_as_opened sum w d (sound_holds_together sum w d sound) settled
 
   -- its pages are full
   pub settled_full : AreFull sum w.page_size (take w.full_pages (pages w.page_size d.readable))
   unfolding IsSound
-  settled_full = sound.stands.full
+  settled_full = sound.full
 
   -- and those before a cut
   pub settled_full_before : (k : ℕ) → k ≤ w.full_pages → AreFull sum w.page_size (take k (pages w.page_size d.readable))
@@ -439,4 +446,4 @@ module _ (sum : List ℕ → ℕ) (n : ℕ) (w : WriterState) (old : Life) (some
       left_keeps =
           let v = shortened_writer sum w n R in
           let same : content v new.present.readable ≡ take n (content w R) = ap (λ (l : List ℕ). content v l) is.readable ∙ shortened_content in
-          subst (λ (l : List ℕ). KeepsAll sum P l new) same (settle_keeps sum v new.present writer_sound refl (kept_is ∙ sym length-tip_left))
+          subst (λ (l : List ℕ). KeepsAll sum P l new) same (settle_keeps sum v new.present (consistent_of sum v new.present writer_sound) writer_sound.full refl (kept_is ∙ sym length-tip_left))

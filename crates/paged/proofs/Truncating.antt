@@ -36,7 +36,7 @@ use Rattle.crash.proofs.DistinctLaws.{vouched_at_rest}
 use Rattle.crash.proofs.PageFacts.{own_beginning}
 use Rattle.writer_state.proofs.ShortenLaws.{sound_text}
 use Rattle.crash.proofs.Texts.{AreFull_page}
-use Rattle.writer_state.proofs.Soundness.{settled_sound, settle_keeps}
+use Rattle.writer_state.proofs.Soundness.{consistent_of, settled_sound, settle_keeps, sound_holds_together}
 use Rattle.paged.specs.Calls.{AsksAtMost, CallCause, HoldsWithin, IsSettled, IsWritten, SettlesBy, Syncs, WaitsForNone, sync_calls, settle_calls}
 use Rattle.paged.specs.Flush.{answered, has_work, synced}
 use Rattle.paged_read.specs.Ranges.{page_at}
@@ -134,7 +134,7 @@ sound_tells sum w n d sound settled less told =
     let reach : w.full_pages * (P + 12) ≤ length d.readable = (tip_reach sum P w.full_pages w.tip d.readable w.flushed sound.stands.tip_page).0 in
     elim (cases_lt (n / P) w.full_pages) [
       | inl below ↦
-          let full : value_len sum P (page_at P (n / P) d.readable) ≡ P = AreFull_page sum P w.full_pages (n / P) d.readable sound.stands.full reach below in
+          let full : value_len sum P (page_at P (n / P) d.readable) ≡ P = AreFull_page sum P w.full_pages (n / P) d.readable sound.full reach below in
           omega (arith, full, told, rest)
       | inr past ↦
           let here : n / P ≡ w.full_pages = elim (cases_lt w.full_pages (n / P)) [
@@ -220,14 +220,13 @@ slot_sound sum w d sound few tells short = record {
     some = sound.stands.some;
     small = sound.stands.small;
     done = sound.stands.done;
-    full = sound.stands.full;
     tip_page = sound.stands.tip_page;
     state = sound.stands.state;
     starts = sound.stands.starts;
     carries = (omega (arith, few, short), few, tells);
   };
   safe = record {
-    full = sound.safe.full;
+    floor = sound.safe.floor;
     tip = sound.safe.tip;
     there = sound.safe.there;
     pages = sound.safe.pages;
@@ -238,6 +237,7 @@ slot_sound sum w d sound few tells short = record {
   truthful = sound.truthful;
   vouched = sound.vouched;
   good = sound.good;
+  full = sound.full;
 }
 
 module _ (sum : List ℕ → ℕ) (n : ℕ) (w : WriterState) (old : Life) (t : Truncating sum w old) where
@@ -312,7 +312,7 @@ module _ (sum : List ℕ → ℕ) (n : ℕ) (w : WriterState) (old : Life) (t : 
   first_text : (v : WriterState) (mid : Life) (answer : Result (Unit {0}) Error) → SyncsWritten sum w v old mid answer → has_work w true ≡ false → LeavesText sum w.page_size old mid
   first_text v mid answer written idle durable = elim t.stands [
     | inl sound ↦
-        let same : text sum w.page_size old.present.readable ≡ content w old.present.readable = sound_text sum w old.present sound (idle_written sum w true old.present sound idle refl).flushed in
+        let same : text sum w.page_size old.present.readable ≡ content w old.present.readable = sound_text sum w old.present sound (idle_written sum w true old.present (sound_holds_together sum w old.present sound) idle refl).flushed in
         subst (λ (l : List ℕ). LeavesOnly sum w.page_size l l old mid) (sym same)
         (only_through sum w.page_size (content w old.present.readable) (content w old.present.readable) old mid (syncs_stay sum w old mid (answered v answer) (written.syncs sound)))
     | inr opened ↦ settled_only sum w.page_size (text sum w.page_size old.present.readable) w.sync old mid answer durable opened.waits (written.written idle)
@@ -442,7 +442,7 @@ module _ (sum : List ℕ → ℕ) (n : ℕ) (w : WriterState) (old : Life) (t : 
           let sound : Soundness sum v new.present = subst (λ (s : WriterState). Soundness sum s new.present) (sym state) (opened_sound opened pages_are) in (
             sound,
             subst (λ (l : List ℕ). KeepsAll sum w.page_size l new) (later.content ∙ sym all_kept)
-                (subst (λ (k : ℕ). KeepsAll sum k (content v new.present.readable) new) later.page_size (settle_keeps sum v new.present sound later.settled.clean later.settled.flushed)),
+                (subst (λ (k : ℕ). KeepsAll sum k (content v new.present.readable) new) later.page_size (settle_keeps sum v new.present (consistent_of sum v new.present sound) sound.full later.settled.clean later.settled.flushed)),
           )
     ]
 
@@ -502,7 +502,7 @@ module _ (sum : List ℕ → ℕ) (n : ℕ) (w : WriterState) (old : Life) (t : 
     cut_text : has_work w true ≡ false → LeavesText sum w.page_size old new
     cut_text idle durable = elim t.stands [
       | inl sound ↦
-          let same : text sum w.page_size old.present.readable ≡ content w old.present.readable = sound_text sum w old.present sound (idle_written sum w true old.present sound idle refl).flushed in
+          let same : text sum w.page_size old.present.readable ≡ content w old.present.readable = sound_text sum w old.present sound (idle_written sum w true old.present (sound_holds_together sum w old.present sound) idle refl).flushed in
           subst (λ (l : List ℕ). LeavesOnly sum w.page_size l l old new) (sym same) (sync_cut_only sum n w v old mid new sound (written.syncs sound) cuts (content w old.present.readable))
       | inr opened ↦
           let held = text sum w.page_size old.present.readable in

@@ -9,7 +9,7 @@ use Rattle.disk.specs.declared.error.Error.TheVariants.{SyncFailed, OutOfMemory}
 use Rattle.writer_state.specs.WriterState.{WriterState}
 use Rattle.writer_state.specs.declared.sync_state.SyncState.{SyncState}
 use Rattle.writer_state.specs.declared.sync_state.SyncState.TheVariants.{Clean, Dirty, Pending}
-use Rattle.writer_state.specs.Sound.{IsSound, Soundness, content}
+use Rattle.writer_state.specs.Sound.{IsConsistent, IsIntact, IsSound, Consistency, Soundness, content}
 use Rattle.crash.specs.Below.{PagesStay}
 use Rattle.crash.specs.Started.{CoversThrough, StartsStand}
 use Rattle.crash.specs.Stays.{StaysThrough}
@@ -17,16 +17,16 @@ use Rattle.crash.proofs.Moments.{stays_through_start}
 use Rattle.crash.proofs.BuiltLaws.{IsSmall}
 use Rattle.crash.proofs.BelowLaws.{pages_none, pages_one, pages_join, sync_pages_stay}
 use Rattle.writer_state.proofs.CoverLaws.{covers_none, covers_one, covers_through_join, sync_covers}
-use Rattle.writer_state.proofs.StandLaws.{sound_stands, sync_stands}
+use Rattle.writer_state.proofs.StandLaws.{consistent_stands, sync_stands}
 use Rattle.crash.proofs.FloorLaws.{sync_readable}
-use Rattle.writer_state.proofs.StartedLaws.{settles_same, wait_leaves, wait_sound, wait_covers, waited_keeps}
-use Rattle.writer_state.proofs.Soundness.{sound_leaves}
+use Rattle.writer_state.proofs.StartedLaws.{settles_same, wait_leaves, wait_consistent, wait_covers, waited_keeps}
+use Rattle.writer_state.proofs.Soundness.{consistent_leaves, consistent_of, intact_still, sound_of}
 use Rattle.paged.specs.Flush.{has_work, synced, answered}
 use Rattle.paged_read.specs.Snapshots.{LeavesWriters}
 use Rattle.paged_read.proofs.Outliving.{leaves_writer}
-use Rattle.paged.specs.Calls.{AsksAtMost, wait_calls, settle_calls, sync_calls, GoesOn, IsSameWriter, Flushes, Settles, SettlesBy, Syncs, HadFailed, CallCause, WaitsForNone, WaitsForSync, Completes, Covers, waited, waited_state}
+use Rattle.paged.specs.Calls.{AsksAtMost, wait_calls, settle_calls, sync_calls, CarriesOn, IsSameWriter, Flushes, Settles, SettlesBy, SyncsOver, HadFailed, CallCause, WaitsForNone, WaitsOver, Completes, Covers, waited, waited_state}
 use Rattle.paged.proofs.Causes.{wait_cause, wait_asks, wait_grows, sync_asks}
-use Rattle.paged.proofs.Flushes.{size_is_length, stays_nil, goes_on_more, refuses_more, goes_on_same, settle_goes}
+use Rattle.paged.proofs.Flushes.{size_holds, stays_nil, goes_on_more, refuses_more, goes_on_same, settle_goes}
 
 -- what a wait leaves of what is readable
 pub wait_readable : (name : ℕ) (old new : Life) (answer : Result (Unit {0}) Error) → WaitGoes name old new answer → new.present.readable ≡ old.present.readable
@@ -46,14 +46,14 @@ wait_moment name old new (Err OutOfMemory) is = inl is
 wait_moment name old new (Err e) goes = absurd goes
 
 -- so it takes nothing from what started syncs cover
-wait_covers_by : (sum : List ℕ → ℕ) (w : WriterState) (name : ℕ) (old new : Life) (result : Result (Unit {0}) Error) → Soundness sum w old.present → WaitGoes name old new result → CoversThrough sum w.page_size (content w old.present.readable) old new
+wait_covers_by : (sum : List ℕ → ℕ) (w : WriterState) (name : ℕ) (old new : Life) (result : Result (Unit {0}) Error) → Consistency sum w old.present → WaitGoes name old new result → CoversThrough sum w.page_size (content w old.present.readable) old new
 wait_covers_by sum w name old new result sound goes = elim (wait_moment name old new result goes) [
   | inl none ↦ covers_none sum w.page_size (content w old.present.readable) old new none
   | inr one ↦ covers_one sum w.page_size (content w old.present.readable) old new new.present one (wait_covers sum w old new name sound result goes)
 ]
 
 -- the writer that waits
-module _ (sum : List ℕ → ℕ) (w now : WriterState) (name : ℕ) (old new : Life) (result : Result (Unit {0}) Error) (small : IsSmall sum) (sound : Soundness sum w old.present) (state : w.sync ≡ Pending name) (goes : WaitGoes name old new result) where
+module _ (sum : List ℕ → ℕ) (w now : WriterState) (name : ℕ) (old new : Life) (result : Result (Unit {0}) Error) (small : IsSmall sum) (sound : Consistency sum w old.present) (state : w.sync ≡ Pending name) (goes : WaitGoes name old new result) where
   pub wait_pages : PagesStay w.page_size w.full_pages old new
   wait_pages = elim (wait_moment name old new result goes) [
     | inl none ↦ pages_none w.page_size w.full_pages old new none
@@ -64,7 +64,7 @@ module _ (sum : List ℕ → ℕ) (w now : WriterState) (name : ℕ) (old new : 
   wait_covers_through = wait_covers_by sum w name old new result sound goes
 
   pub wait_stands : StartsStand new.present
-  wait_stands = sound_stands sum w new.present (wait_leaves sum w old new name small sound result goes).0
+  wait_stands = consistent_stands sum w new.present (wait_leaves sum w old new name small sound result goes).0
 
   pub wait_asks_one : AsksAtMost (wait_calls w.sync) old new
   wait_asks_one = subst (λ (s : SyncState). AsksAtMost (wait_calls s) old new) (sym state) (wait_asks name old new result goes)
@@ -86,15 +86,16 @@ pub wait_completes : (sum : List ℕ → ℕ) (P : ℕ) (s : SyncState) (name : 
 wait_completes sum P s name old new (Ok u) state goes = subst (λ (t : SyncState). Completes sum P t old new) (sym state) (λ content cover would. waited_keeps sum P content name cover old new tt would goes)
 wait_completes sum P s name old new (Err e) state goes = tt
 
-pub wait_goes : (sum : List ℕ → ℕ) (w now : WriterState) (name : ℕ) (old new : Life) (result : Result (Unit {0}) Error) → IsSmall sum → IsSound sum w old.present → w.sync ≡ Pending name
-    → WaitGoes name old new result → OnOk result (now ≡ synced w) → WaitsForSync sum w old new (answered now result)
-unfolding IsSound
+pub wait_goes : (sum : List ℕ → ℕ) (w now : WriterState) (name : ℕ) (old new : Life) (result : Result (Unit {0}) Error) → IsSmall sum → IsConsistent sum w old.present → w.sync ≡ Pending name
+    → WaitGoes name old new result → OnOk result (now ≡ synced w) → WaitsOver sum w old new (answered now result)
+unfolding IsConsistent
 wait_goes sum w now name old new (Ok u) small sound state goes is =
-    let here : Soundness sum now new.present = subst (λ (n : WriterState). Soundness sum n new.present) (sym is) (wait_sound sum w old new name small sound tt state goes) in (
+    let here : Consistency sum now new.present = subst (λ (n : WriterState). Consistency sum n new.present) (sym is) (wait_consistent sum w old new name small sound tt state goes) in (
       record {
-        sound = here;
-        size = size_is_length sum now new here;
-        only = sound_leaves sum now new.present here;
+        holds = here;
+        intact = λ full. subst (λ (n : WriterState). IsIntact sum n new.present) (sym is) (intact_still sum w old.present new.present (wait_readable name old new (Ok u) goes) full);
+        size = size_holds sum now new here;
+        only = consistent_leaves sum now new.present here;
         content = ap (λ (n : WriterState). content n new.present.readable) is ∙ ap (λ (l : List ℕ). content w l) (wait_readable name old new (Ok u) goes) ∙ sym (append-nil (content w old.present.readable));
         same = subst (λ (n : WriterState). IsSameWriter w n) (sym is) (record { page_size = refl; id = refl; capacity = refl; full_pages = omega arith });
         log = wait_grows name old new (Ok u) goes;
@@ -151,8 +152,10 @@ waits_for_none w = by_state w.sync
 pub wait_leaves_writers : (sum : List ℕ → ℕ) (started : StartedSync) (old new : Life) (result : Result (Unit {0}) Error) → IsSmall sum → WaitsFor started old new result → LeavesWriters sum old new
 unfolding IsSound
 wait_leaves_writers sum (Named name) old new result small goes w sound =
-    let left = wait_leaves sum w old new name small sound result goes in
-    leaves_writer sum w old new sound left.0 (wait_readable name old new result goes) left.1 (wait_covers_by sum w name old new result sound goes)
+    let holds = consistent_of sum w old.present sound in
+    let left = wait_leaves sum w old new name small holds result goes in
+    let same = wait_readable name old new result goes in
+    leaves_writer sum w old new sound (sound_of sum w new.present left.0 (intact_still sum w old.present new.present same sound.full)) same left.1 (wait_covers_by sum w name old new result holds goes)
 wait_leaves_writers sum Done old new (Ok u) small is w sound =
     leaves_writer sum w old new sound
     (subst (λ (l : Life). Soundness sum w l.present) (sym is) sound)
@@ -170,18 +173,18 @@ wait_covers_all sum Done old new (Err e) goes = tt
 
 -- ---- a wait that makes all durable that is written
 
-pub wait_is_settle : (sum : List ℕ → ℕ) (w : WriterState) (name : ℕ) → w.sync ≡ Pending name → (old new : Life) (result : Result WriterState Error) → WaitsForSync sum w old new result → Settles sum w old new result
+pub wait_is_settle : (sum : List ℕ → ℕ) (w : WriterState) (name : ℕ) → w.sync ≡ Pending name → (old new : Life) (result : Result WriterState Error) → WaitsOver sum w old new result → Settles sum w old new result
 wait_is_settle sum w name state old new (Ok now) (goes, is) = (goes, is ∙ ap (λ (s : SyncState). record w { sync = waited_state s }) state)
 wait_is_settle sum w name state old new (Err e) refused = refused
 
 -- ---- a call after a wait
 
-module _ (sum : List ℕ → ℕ) (w m : WriterState) (old mid new : Life) (first : GoesOn sum w old [] m mid) where
+module _ (sum : List ℕ → ℕ) (w m : WriterState) (old mid new : Life) (first : CarriesOn sum w old [] m mid) where
   pub flushes_after : (result : Result WriterState Error) → Flushes sum m mid new result → Flushes sum w old new result
   flushes_after (Ok now) goes = goes_on_more sum w m now old mid new first goes
   flushes_after (Err e) refused = refuses_more sum w m old mid new e first refused
 
-  pub syncs_after : (result : Result WriterState Error) → Syncs sum m mid new result → Syncs sum w old new result
+  pub syncs_after : (result : Result WriterState Error) → SyncsOver sum m mid new result → SyncsOver sum w old new result
   syncs_after (Ok now) goes = (goes_on_more sum w m now old mid new first goes.0, goes.1)
   syncs_after (Err e) refused = refuses_more sum w m old mid new e first refused
 
@@ -239,9 +242,9 @@ pub record SettledOwes (sum : List ℕ → ℕ) (w now : WriterState) (old new :
   pub starts : StartsStand new.present
   pub idle : settle_calls w.sync ≡ 0 → (result ≡ Ok tt) × (now ≡ w) × (new ≡ old)
 
-pub settled_owes : (sum : List ℕ → ℕ) (w now : WriterState) (old new : Life) (result : Result (Unit {0}) Error) → IsSmall sum → IsSound sum w old.present → SettlesBy w.sync old new result → OnOk result (now ≡ synced w)
+pub settled_owes : (sum : List ℕ → ℕ) (w now : WriterState) (old new : Life) (result : Result (Unit {0}) Error) → IsSmall sum → IsConsistent sum w old.present → SettlesBy w.sync old new result → OnOk result (now ≡ synced w)
     → SettledOwes sum w now old new result
-unfolding IsSound
+unfolding IsConsistent
 settled_owes sum w now old new result small sound goes state = by_state w.sync refl goes
   where
     by_state : (s : SyncState) → w.sync ≡ s → SettlesBy s old new result → SettledOwes sum w now old new result
@@ -250,7 +253,7 @@ settled_owes sum w now old new result small sound goes state = by_state w.sync r
         record {
           settles = rw (ok, is, same) (goes_on_same sum w old sound, ap (λ (s : SyncState). record w { sync = s }) clean);
           covers = covers_none sum w.page_size (content w old.present.readable) old new same;
-          starts = subst (λ (l : Life). StartsStand l.present) (sym same) (sound_stands sum w old.present sound);
+          starts = subst (λ (l : Life). StartsStand l.present) (sym same) (consistent_stands sum w old.present sound);
           idle = λ none. (ok, is, same);
         }
     by_state Dirty dirty goes = record {

@@ -11,7 +11,7 @@ use Rattle.disk.specs.declared.error.Error.TheVariants.{OutOfMemory}
 use Rattle.writer_state.specs.WriterState.{WriterState, started_state}
 use Rattle.writer_state.specs.declared.sync_state.SyncState.{SyncState}
 use Rattle.writer_state.specs.declared.sync_state.SyncState.TheVariants.{Clean, Dirty, Pending}
-use Rattle.writer_state.specs.Sound.{IsSound, LeavesItsContent, content}
+use Rattle.writer_state.specs.Sound.{IsConsistent, IsIntact, IsSound, LeavesItsContent, content}
 use Rattle.crash.specs.Kept.{AllKeep}
 use Rattle.crash.specs.Started.{WouldKeep}
 use Rattle.crash.specs.Stays.{StaysThrough, KeepsAll}
@@ -97,14 +97,28 @@ pub record Refuses (sum : List ℕ → ℕ) (w : WriterState) (content : List �
   pub stays : StaysThrough sum w.page_size content old new
   pub log : LogGrows old.present new.present
 
+-- the same of a writer whose blob may be damaged: it stays consistent, and where it was sound it is
+pub record CarriesOn (sum : List ℕ → ℕ) (w : WriterState) (old : Life) (more : List ℕ)
+    (now : WriterState) (new : Life) : Type 0 where
+  pub holds : IsConsistent sum now new.present
+  pub intact : IsIntact sum w old.present → IsIntact sum now new.present
+  pub stays : StaysThrough sum w.page_size (content w old.present.readable ++ more) old new
+  pub size : now.full_pages * now.page_size + length now.tip
+      ≡ length (content now new.present.readable)
+  pub only : LeavesItsContent sum now new.present
+  pub content : content now new.present.readable ≡ content w old.present.readable ++ more
+  pub same : IsSameWriter w now
+  pub log : LogGrows old.present new.present
+  pub waits : HadFailed now.sync new.present → CallCause w.sync old new SyncFailed
+
 -- a flush
 abbrev pub Flushes : (List ℕ → ℕ) → WriterState → Life → Life → Result WriterState Error → Type 0
-Flushes sum w old new (Ok now) = GoesOn sum w old [] now new
+Flushes sum w old new (Ok now) = CarriesOn sum w old [] now new
 Flushes sum w old new (Err e) = Refuses sum w (content w old.present.readable) old new e
 
 -- what is written is made durable, and the writer stays
 abbrev pub Settles : (List ℕ → ℕ) → WriterState → Life → Life → Result WriterState Error → Type 0
-Settles sum w old new (Ok now) = GoesOn sum w old [] now new × (now ≡ synced w)
+Settles sum w old new (Ok now) = CarriesOn sum w old [] now new × (now ≡ synced w)
 Settles sum w old new (Err e) = Refuses sum w (content w old.present.readable) old new e
 
 -- all that the writer stands for is written
@@ -122,6 +136,11 @@ pub record IsSettled (w : WriterState) : Type 0 where
 abbrev pub Syncs : (List ℕ → ℕ) → WriterState → Life → Life → Result WriterState Error → Type 0
 Syncs sum w old new (Ok now) = GoesOn sum w old [] now new × IsSettled now
 Syncs sum w old new (Err e) = Refuses sum w (content w old.present.readable) old new e
+
+-- the same over a blob that may be damaged
+abbrev pub SyncsOver : (List ℕ → ℕ) → WriterState → Life → Life → Result WriterState Error → Type 0
+SyncsOver sum w old new (Ok now) = CarriesOn sum w old [] now new × IsSettled now
+SyncsOver sum w old new (Err e) = Refuses sum w (content w old.present.readable) old new e
 
 -- what is written is made durable by one call of the device, or none, by the state of the writer
 abbrev pub SettlesBy : SyncState → Life → Life → Result (Unit {0}) Error → Type 0
@@ -149,6 +168,12 @@ abbrev pub WaitsForSync : (List ℕ → ℕ) → WriterState → Life → Life �
     → Type 0
 WaitsForSync sum w old new (Ok now) = GoesOn sum w old [] now new × (now ≡ waited w)
 WaitsForSync sum w old new (Err e) = Refuses sum w (content w old.present.readable) old new e
+
+-- the same over a blob that may be damaged
+abbrev pub WaitsOver : (List ℕ → ℕ) → WriterState → Life → Life → Result WriterState Error
+    → Type 0
+WaitsOver sum w old new (Ok now) = CarriesOn sum w old [] now new × (now ≡ waited w)
+WaitsOver sum w old new (Err e) = Refuses sum w (content w old.present.readable) old new e
 
 -- what the sync that a writer in this state waits for covers, every image keeps from then on
 abbrev pub Completes : (List ℕ → ℕ) → (P : ℕ) → SyncState → Life → Life → Type 0
@@ -192,6 +217,15 @@ StartsSync sum w old new (Ok r) =
     × Starts sum w.page_size (content w old.present.readable) new r.1
 StartsSync sum w old new (Err e) = Refuses sum w (content w old.present.readable) old new e
 
+-- the same over a blob that may be damaged, where nothing is promised of a damaged one
+abbrev pub StartsOver : (List ℕ → ℕ) → WriterState → Life → Life
+    → Result (WriterState × StartedSync) Error → Type 0
+StartsOver sum w old new (Ok r) =
+    CarriesOn sum w old [] r.0 new × IsWritten r.0 × (r.0.sync ≡ started_state r.1)
+    × (IsIntact sum w old.present
+    → Starts sum w.page_size (content w old.present.readable) new r.1)
+StartsOver sum w old new (Err e) = Refuses sum w (content w old.present.readable) old new e
+
 -- an append: it answers the size until now
 abbrev pub Appends : (List ℕ → ℕ) → WriterState → List ℕ → Life → Life
     → Result (WriterState × ℕ) Error → Type 0
@@ -201,6 +235,17 @@ Appends sum w bytes old new (Err OffsetOverflow) =
     (new ≡ old)
     × (2 ^ 64 ≤ physical_blob_size w.page_size w.full_pages (length w.tip + length bytes))
 Appends sum w bytes old new (Err e) =
+    Refuses sum w (content w old.present.readable ++ bytes) old new e
+
+-- the same over a blob that may be damaged
+abbrev pub AppendsOver : (List ℕ → ℕ) → WriterState → List ℕ → Life → Life
+    → Result (WriterState × ℕ) Error → Type 0
+AppendsOver sum w bytes old new (Ok r) =
+    (r.1 ≡ length (content w old.present.readable)) × CarriesOn sum w old bytes r.0 new
+AppendsOver sum w bytes old new (Err OffsetOverflow) =
+    (new ≡ old)
+    × (2 ^ 64 ≤ physical_blob_size w.page_size w.full_pages (length w.tip + length bytes))
+AppendsOver sum w bytes old new (Err e) =
     Refuses sum w (content w old.present.readable ++ bytes) old new e
 
 -- an append of bytes that fit what is buffered: they are buffered, and nothing is asked of the
@@ -251,6 +296,10 @@ BuffersOver sum w bytes now _ = Unit {0}
 -- a writer that was sound over a blob still is
 abbrev pub KeepsSound : (List ℕ → ℕ) → WriterState → WriterState → Type 0
 KeepsSound sum w now = (d : Disk) → IsSound sum w d → IsSound sum now d
+
+-- and one that was consistent with a blob still is
+abbrev pub KeepsConsistent : (List ℕ → ℕ) → WriterState → WriterState → Type 0
+KeepsConsistent sum w now = (d : Disk) → IsConsistent sum w d → IsConsistent sum now d
 
 -- the pages below the tip stay the same
 abbrev pub KeepsPages : WriterState → WriterState → Type 0

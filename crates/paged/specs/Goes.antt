@@ -8,14 +8,15 @@ use Rattle.disk.specs.declared.started_sync.StartedSync.TheVariants.{Named}
 use Rattle.cache.specs.CacheState.{CacheState}
 use Rattle.crash.specs.Stays.{KeepsAll}
 use Rattle.writer_state.specs.WriterState.{WriterState, started_state}
-use Rattle.writer_state.specs.Sound.{IsSound, LeavesItsContent, content}
-use Rattle.paged_read.specs.Replay.{IsReplayOf, ReplayState, new_replay}
+use Rattle.writer_state.specs.Sound.{IsConsistent, IsSound, LeavesItsContent, content}
+use Rattle.paged_read.specs.Replay.{CanReplay, IsReplayOf, ReplayState, new_replay}
 use Rattle.paged_read.specs.Snapshots.{StandsOn}
-use Rattle.paged_read.specs.Tail.{Tail}
+use Rattle.paged_read.specs.Tail.{CanRead, Tail}
 use Rattle.paged.specs.Writer.{physical_blob_size}
 use Rattle.paged.specs.Calls.{CallCause, Completed, Completes, HadFailed, HoldsWithin}
 use Rattle.paged.specs.Calls.{IsSameWriter, IsSettled, IsWritten, Starts, start_calls, waited}
 use Rattle.paged.specs.Reads.{size_of}
+use Rattle.paged.specs.Recovery.{IsAsOpened}
 use Rattle.paged.specs.Caches.{tail_of}
 use Rattle.paged.specs.Snapshots.{answer_of_seal}
 
@@ -70,7 +71,11 @@ pub record HasSynced (sum : List ℕ → ℕ) (w : WriterState) (old new : Life)
   pub holds : Holds sum w old [] now new
   pub within : HoldsWithin now
   pub settled : IsSettled now
-  pub durable : KeepsAll sum w.page_size (content w old.present.readable) new
+  -- so a recovery can be cut, damaged or not
+  pub as_opened : IsAsOpened sum now new.present
+  -- where no page was damaged
+  pub durable : IsSound sum w old.present
+      → KeepsAll sum w.page_size (content w old.present.readable) new
 
 abbrev pub SyncAllGoes : (List ℕ → ℕ) → WriterState → Life → Life → Result WriterState Error
     → Type 0
@@ -84,7 +89,8 @@ pub record IsUnderWay (sum : List ℕ → ℕ) (w : WriterState) (old new : Life
   pub within : HoldsWithin now
   pub written : IsWritten now
   pub state : now.sync ≡ started_state started
-  pub starts : Starts sum w.page_size (content w old.present.readable) new started
+  pub starts : IsSound sum w old.present
+      → Starts sum w.page_size (content w old.present.readable) new started
 
 -- where the device was asked, the sync has the name that comes next
 pub record HasStarted (sum : List ℕ → ℕ) (w : WriterState) (old new : Life) (now : WriterState)
@@ -100,7 +106,8 @@ StartSyncGoes sum w old new (Err e) = IsRefused w old new e
 -- what the pending sync covers is durable
 pub record HasWaited (sum : List ℕ → ℕ) (w : WriterState) (old new : Life) (now : WriterState)
     : Type 0 where
-  pub sound : IsSound sum now new.present
+  pub sound : IsSound sum w old.present → IsSound sum now new.present
+  pub consistent : IsConsistent sum now new.present
   pub holds : Holds sum w old [] now new
   pub state : now ≡ waited w
   pub completes : Completes sum w.page_size w.sync old new
@@ -119,7 +126,10 @@ pub record HasSnapshot (sum : List ℕ → ℕ) (w : WriterState) (after : Cache
   pub within : HoldsWithin now
   pub short : length now.tip < w.page_size
   pub tail : t ≡ tail_of now
-  pub stands : StandsOn sum t (content w old.present.readable) after new.present
+  pub can : CanRead t after new.present
+  -- where no page was damaged
+  pub stands : IsSound sum w old.present
+      → StandsOn sum t (content w old.present.readable) after new.present
 
 abbrev pub SnapshotGoes : (List ℕ → ℕ) → WriterState → (after : CacheState) → Life → Life
     → Result (WriterState × Tail) Error → Type 0
@@ -134,10 +144,14 @@ pub record HasReplay (sum : List ℕ → ℕ) (w : WriterState) (buffer_size : �
   pub within : HoldsWithin now
   pub written : IsWritten now
   pub replay : r ≡ new_replay (tail_of now) buffer_size
-  pub gives : IsReplayOf sum r (content w old.present.readable) new.present
+  pub can : CanReplay r new.present
+  -- where no page was damaged
+  pub gives : IsSound sum w old.present
+      → IsReplayOf sum r (content w old.present.readable) new.present
   pub page_size : r.tail.page_size ≡ now.page_size
   pub below : r.tail.full_pages ≤ now.full_pages
-  pub stands : StandsOn sum r.tail (content w old.present.readable) after new.present
+  pub stands : IsSound sum w old.present
+      → StandsOn sum r.tail (content w old.present.readable) after new.present
 
 abbrev pub ReplayGoes : (List ℕ → ℕ) → WriterState → (buffer_size : ℕ) → (after : CacheState)
     → Life → Life → Result (WriterState × ReplayState) Error → Type 0
@@ -152,11 +166,15 @@ ReplayGoes sum w buffer_size after old new (Err e) = IsRefused w old new e
 pub record HasSealed (sum : List ℕ → ℕ) (w : WriterState) (after : CacheState) (old new : Life)
     (t : Tail) (started : StartedSync) : Type 0 where
   pub now : WriterState
-  pub sound : IsSound sum now new.present
+  pub consistent : IsConsistent sum now new.present
   pub tail : t ≡ tail_of now
+  pub can : CanRead t after new.present
   pub goes : IsUnderWay sum w old new now started
   pub answer : started ≡ answer_of_seal w old
-  pub stands : StandsOn sum t (content w old.present.readable) after new.present
+  -- where no page was damaged
+  pub sound : IsSound sum w old.present → IsSound sum now new.present
+  pub stands : IsSound sum w old.present
+      → StandsOn sum t (content w old.present.readable) after new.present
 
 abbrev pub SealGoes : (List ℕ → ℕ) → WriterState → (after : CacheState) → Life → Life
     → Result (Tail × StartedSync) Error → Type 0

@@ -16,7 +16,7 @@ use Rattle.writer_state.specs.WriterState.{WriterState}
 use Rattle.writer_state.specs.declared.sync_state.SyncState.{SyncState}
 use Rattle.writer_state.specs.declared.sync_state.SyncState.TheVariants.{Clean, Dirty}
 use Rattle.crash.specs.Looks.{Looked}
-use Rattle.writer_state.specs.Sound.{IsSound, TipPage, content}
+use Rattle.writer_state.specs.Sound.{IsConsistent, IsSound, TipPage, content}
 use Rattle.crash.specs.Kept.{AllKeep, Through}
 use Rattle.crash.specs.Full.{AreFull}
 use Rattle.crash.specs.Built.{kept_len}
@@ -152,6 +152,8 @@ pub record IsOpened (sum : List ℕ → ℕ) (cache : CacheState) (capacity : �
   pub bytes : HasBytes cache.page_size w.full_pages old.present.readable
       (opened_prefix sum cache.page_size old.present.readable).partial
   pub sound : SoundWhereFull sum cache.page_size old new w
+  -- whatever its pages
+  pub consistent : IsDurable old.present → IsConsistent sum w new.present
   pub log : LogGrows old.present new.present
 
 abbrev pub Opens : (List ℕ → ℕ) → CacheState → ℕ → Life → Life → Result WriterState Error → Type 0

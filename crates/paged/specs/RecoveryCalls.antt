@@ -20,6 +20,7 @@ use Rattle.paged.specs.Caches.{PutsUpTo, ReadsOn}
 use Rattle.paged.specs.Calls.{AsksAtMost, HoldsWithin, Syncs, sync_calls}
 use Rattle.paged.specs.Flush.{has_work}
 use Rattle.paged.specs.Reads.{HasPages, size_of}
+use Rattle.paged.specs.Ready.{IsUsable}
 use Rattle.paged.specs.Recovers.{GivesId, Recovers}
 use Rattle.paged.specs.Recovery.{IsAsOpened, IsDurable, KeepsText, LeavesText, Opens}
 use Rattle.paged.specs.Recovery.{TailIsMended, cache_after}
@@ -55,6 +56,9 @@ pub record OpenGoes (sum : List ℕ → ℕ) (cache after : CacheState) (capacit
   pub as_opened : IfOk result (λ w. IsAsOpened sum w new.present)
   -- no slot of the tip's page is bad, durably
   pub mended : IsDurable old.present → IfOk result (λ w. TailIsMended sum w new.present.base)
+  -- where all was durable the other calls of a writer can follow, whatever its pages
+  pub usable : IsDurable old.present → IsFresh cache
+      → IfOk result (λ w. IsUsable sum w after new)
 
 -- ---- a recovery
 

@@ -1,18 +1,18 @@
 // Appending.
 ghost use Rattle.std.specs.Prelude.{◌≡◌, ◌↔◌, ◌+◌, ◌-◌, ◌*◌, ◌/◌, ◌^◌, ◌≤◌, ◌<◌, ◌++◌, length};
 ghost use Rattle.std.specs.Prelude.{IsTrue, IfOk, OnOk, Err};
-ghost use Rattle.writer_state.specs.Sound.{IsSound, content};
+ghost use Rattle.writer_state.specs.Sound.{IsConsistent, content};
 ghost use Rattle.crash.specs.Below.{PagesStay};
 ghost use Rattle.writer_state.specs.declared.sync_state.SyncState.TheVariants.{Dirty};
 ghost use Rattle.crash.specs.Started.{CoversThrough, StartsStand};
 ghost use Rattle.paged.specs.Writer.{physical_blob_size, FitsBlob};
-ghost use Rattle.paged.specs.Calls.{AsksAtMost, HoldsWithin, Appends, Buffers, BuffersAll};
+ghost use Rattle.paged.specs.Calls.{AsksAtMost, HoldsWithin, Appends, AppendsOver, Buffers, BuffersAll};
 ghost use Rattle.paged.specs.Calls.{wait_calls};
 ghost use Rattle.paged.specs.Costs.{AppendCosts};
 ghost use Rattle.paged.specs.Owes.{Owes};
-ghost use Rattle.paged.specs.Ready.{IsReady};
+ghost use Rattle.paged.specs.Ready.{CanGoOn, StaysUsable};
 ghost use Rattle.paged.specs.Goes.{AppendGoes};
-ghost use Rattle.paged.specs.Calls.{TryAppends, BuffersOver, KeepsSound, KeepsPages};
+ghost use Rattle.paged.specs.Calls.{TryAppends, BuffersOver, KeepsConsistent, KeepsSound, KeepsPages};
 ghost use Rattle.paged.specs.Reads.{size_of};
 ghost use Rattle.paged.specs.Flush.{answered};
 ghost use Rattle.paged.specs.Caches.{CachesTo, KeepsReads, PutsOnceWaited};
@@ -75,10 +75,11 @@ impl<B: Blob, H: Sum, Phase> Writer<B, H, Phase> {
         cache: &mut CacheRef,
         bytes: &[u8],
     ) -> Result<(Self, u64), Error>
-        requires ready { IsReady H.sum_of self cache.old (B.life blob.old) }
+        requires ready { CanGoOn H.sum_of self cache.old (B.life blob.old) }
         ensures goes { let old = B.life blob.old in let new = B.life blob.new in
             AppendGoes H.sum_of self bytes.now old new result }
-        ensures ready { IfOk result (λ r. IsReady H.sum_of r.0 cache.new (B.life blob.new)) }
+        ensures ready { let old = B.life blob.old in let new = B.life blob.new in
+            StaysUsable H.sum_of (λ r. r.0) self cache.old cache.new old new result }
         ensures owes { let all = content self (B.life blob.old).present.readable ++ bytes.now in
             Owes H.sum_of self all cache.old cache.new (B.life blob.old) (B.life blob.new) }
         ensures costs { let old = B.life blob.old in let new = B.life blob.new in
@@ -97,10 +98,10 @@ impl<B: Blob, H: Sum, Phase> Writer<B, H, Phase> {
         bytes: &[u8],
     ) -> Result<(), Error>
         requires cached { cache.old.page_size ≡ self.old.page_size }
-        requires sound { IsSound H.sum_of self.old (B.life blob.old).present }
+        requires holds { IsConsistent H.sum_of self.old (B.life blob.old).present }
         ensures appends { let old = B.life blob.old in let new = B.life blob.new in
             let at = size_of self.old in
-            Appends H.sum_of self.old bytes.now old new (answered (self.new, at) result) }
+            AppendsOver H.sum_of self.old bytes.now old new (answered (self.new, at) result) }
         ensures pages { let old = B.life blob.old in let new = B.life blob.new in
             PagesStay self.old.page_size self.old.full_pages old new }
         ensures covers { let old = B.life blob.old in let new = B.life blob.new in
@@ -145,10 +146,10 @@ impl<B: Blob, H: Sum, Phase> Writer<B, H, Phase> {
         bytes: &[u8],
     ) -> Result<(), Error>
         requires cached { cache.old.page_size ≡ self.old.page_size }
-        requires sound { IsSound H.sum_of self.old (B.life blob.old).present }
+        requires holds { IsConsistent H.sum_of self.old (B.life blob.old).present }
         ensures appends { let old = B.life blob.old in let new = B.life blob.new in
             let at = size_of self.old in
-            Appends H.sum_of self.old bytes.now old new (answered (self.new, at) result) }
+            AppendsOver H.sum_of self.old bytes.now old new (answered (self.new, at) result) }
         ensures pages { let old = B.life blob.old in let new = B.life blob.new in
             PagesStay self.old.page_size self.old.full_pages old new }
         ensures covers { let old = B.life blob.old in let new = B.life blob.new in
@@ -192,6 +193,7 @@ impl<B: Blob, H: Sum, Phase> Writer<B, H, Phase> {
         ensures tries { TryAppends self.old bytes.now self.new result }
         ensures appends { BuffersOver H.sum_of self.old bytes.now self.new result }
         ensures sound { KeepsSound H.sum_of self.old self.new }
+        ensures consistent { KeepsConsistent H.sum_of self.old self.new }
         ensures pages { KeepsPages self.old self.new }
         ensures can_read { KeepsReads self.old self.new }
     {
@@ -213,6 +215,7 @@ impl<B: Blob, H: Sum, Phase> Writer<B, H, Phase> {
         ensures tries { TryAppends self.old (T.encoded value.now) self.new result }
         ensures appends { BuffersOver H.sum_of self.old (T.encoded value.now) self.new result }
         ensures sound { KeepsSound H.sum_of self.old self.new }
+        ensures consistent { KeepsConsistent H.sum_of self.old self.new }
         ensures pages { KeepsPages self.old self.new }
         ensures can_read { KeepsReads self.old self.new }
     {

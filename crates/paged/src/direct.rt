@@ -7,15 +7,15 @@ ghost use Rattle.std.specs.List.{concat};
 ghost use Rattle.disk.specs.Disk.{WriteGoes};
 ghost use Rattle.writer_state.specs.declared.sync_state.SyncState.TheVariants.{Dirty};
 ghost use Rattle.crash.specs.Built.{built};
-ghost use Rattle.writer_state.specs.Sound.{IsSound, content};
+ghost use Rattle.writer_state.specs.Sound.{IsConsistent, content};
 ghost use Rattle.crash.specs.Below.{PagesStay};
 ghost use Rattle.crash.specs.Started.{CoversThrough, StartsStand};
 ghost use Rattle.paged.specs.Writer.{physical_blob_size, FitsBlob};
-ghost use Rattle.paged.specs.Calls.{AsksAtMost, HoldsWithin, Appends, BuffersAll, WaitsForNone};
+ghost use Rattle.paged.specs.Calls.{AsksAtMost, HoldsWithin, Appends, AppendsOver, BuffersAll, WaitsForNone};
 ghost use Rattle.paged.specs.Calls.{wait_calls};
 ghost use Rattle.paged.specs.Costs.{AppendCosts};
 ghost use Rattle.paged.specs.Owes.{Owes};
-ghost use Rattle.paged.specs.Ready.{IsReady};
+ghost use Rattle.paged.specs.Ready.{CanGoOn, StaysUsable};
 ghost use Rattle.paged.specs.Goes.{AppendGoes};
 ghost use Rattle.paged.specs.Direct.{fill_of, is_too_big, buffering, IsDirect, AsksWithWait};
 ghost use Rattle.paged.specs.Flush.{advanced, answered, flush_bytes, offset_of, written};
@@ -131,9 +131,10 @@ impl<B: Blob, H: Sum, Phase> Writer<B, H, Phase> {
         cache: &mut CacheRef,
         bytes: IoBuf,
     ) -> Result<(Self, u64), Error>
-        requires ready { IsReady H.sum_of self cache.old (B.life blob.old) }
+        requires ready { CanGoOn H.sum_of self cache.old (B.life blob.old) }
         ensures goes { AppendGoes H.sum_of self bytes (B.life blob.old) (B.life blob.new) result }
-        ensures ready { IfOk result (λ r. IsReady H.sum_of r.0 cache.new (B.life blob.new)) }
+        ensures ready { let old = B.life blob.old in let new = B.life blob.new in
+            StaysUsable H.sum_of (λ r. r.0) self cache.old cache.new old new result }
         ensures owes { let all = content self (B.life blob.old).present.readable ++ bytes in
             Owes H.sum_of self all cache.old cache.new (B.life blob.old) (B.life blob.new) }
         ensures costs { let old = B.life blob.old in let new = B.life blob.new in
@@ -147,10 +148,10 @@ impl<B: Blob, H: Sum, Phase> Writer<B, H, Phase> {
     /// The same. After an error the writer is of no use.
     fn append_buf(&mut self, blob: &mut B, cache: &mut CacheRef, bytes: &IoBuf) -> Result<(), Error>
         requires cached { cache.old.page_size ≡ self.old.page_size }
-        requires sound { IsSound H.sum_of self.old (B.life blob.old).present }
+        requires holds { IsConsistent H.sum_of self.old (B.life blob.old).present }
         ensures appends { let old = B.life blob.old in let new = B.life blob.new in
             let at = size_of self.old in
-            Appends H.sum_of self.old bytes.now old new (answered (self.new, at) result) }
+            AppendsOver H.sum_of self.old bytes.now old new (answered (self.new, at) result) }
         ensures pages { let old = B.life blob.old in let new = B.life blob.new in
             PagesStay self.old.page_size self.old.full_pages old new }
         ensures covers { let old = B.life blob.old in let new = B.life blob.new in
@@ -196,14 +197,14 @@ impl<B: Blob, H: Sum, Phase> Writer<B, H, Phase> {
         bytes: &IoBuf,
     ) -> Result<(), Error>
         requires cached { cache.old.page_size ≡ self.old.page_size }
-        requires sound { IsSound H.sum_of self.old (B.life blob.old).present }
+        requires holds { IsConsistent H.sum_of self.old (B.life blob.old).present }
         requires big { is_too_big self.old (length bytes.now) ≡ true }
         requires fill { fill ≡ fill_of self.old }
         requires fits { let buffered = length self.old.tip + length bytes.now in
             FitsBlob self.old.page_size self.old.full_pages buffered }
         ensures appends { let old = B.life blob.old in let new = B.life blob.new in
             let at = size_of self.old in
-            Appends H.sum_of self.old bytes.now old new (answered (self.new, at) result) }
+            AppendsOver H.sum_of self.old bytes.now old new (answered (self.new, at) result) }
         ensures pages { let old = B.life blob.old in let new = B.life blob.new in
             PagesStay self.old.page_size self.old.full_pages old new }
         ensures covers { let old = B.life blob.old in let new = B.life blob.new in
@@ -230,11 +231,11 @@ impl<B: Blob, H: Sum, Phase> Writer<B, H, Phase> {
     /// After an error the writer is of no use.
     fn fill_tip(&mut self, blob: &mut B, cache: &mut CacheRef, bytes: &[u8]) -> Result<(), Error>
         requires cached { cache.old.page_size ≡ self.old.page_size }
-        requires sound { IsSound H.sum_of self.old (B.life blob.old).present }
+        requires holds { IsConsistent H.sum_of self.old (B.life blob.old).present }
         requires fill { length bytes.now ≡ fill_of self.old }
         ensures appends { let old = B.life blob.old in let new = B.life blob.new in
             let at = size_of self.old in
-            Appends H.sum_of self.old bytes.now old new (answered (self.new, at) result) }
+            AppendsOver H.sum_of self.old bytes.now old new (answered (self.new, at) result) }
         ensures pages { let old = B.life blob.old in let new = B.life blob.new in
             PagesStay self.old.page_size self.old.full_pages old new }
         ensures covers { let old = B.life blob.old in let new = B.life blob.new in
@@ -265,11 +266,11 @@ impl<B: Blob, H: Sum, Phase> Writer<B, H, Phase> {
         rest: &[u8],
     ) -> Result<(), Error>
         requires cached { cache.old.page_size ≡ self.old.page_size }
-        requires sound { IsSound H.sum_of self.old (B.life blob.old).present }
+        requires holds { IsConsistent H.sum_of self.old (B.life blob.old).present }
         requires direct { IsDirect self.old whole rest.now }
         ensures appends { let old = B.life blob.old in let new = B.life blob.new in
             let at = size_of self.old in
-            Appends H.sum_of self.old (whole ++ rest.now) old new (answered (self.new, at) result) }
+            AppendsOver H.sum_of self.old (whole ++ rest.now) old new (answered (self.new, at) result) }
         ensures pages { let old = B.life blob.old in let new = B.life blob.new in
             PagesStay self.old.page_size self.old.full_pages old new }
         ensures covers { let old = B.life blob.old in let new = B.life blob.new in
@@ -297,12 +298,12 @@ impl<B: Blob, H: Sum, Phase> Writer<B, H, Phase> {
         rest: &[u8],
     ) -> Result<(), Error>
         requires cached { cache.old.page_size ≡ self.old.page_size }
-        requires sound { IsSound H.sum_of self.old (B.life blob.old).present }
+        requires holds { IsConsistent H.sum_of self.old (B.life blob.old).present }
         requires waited { WaitsForNone self.old.sync }
         requires direct { IsDirect self.old whole rest.now }
         ensures appends { let old = B.life blob.old in let new = B.life blob.new in
             let at = size_of self.old in
-            Appends H.sum_of self.old (whole ++ rest.now) old new (answered (self.new, at) result) }
+            AppendsOver H.sum_of self.old (whole ++ rest.now) old new (answered (self.new, at) result) }
         ensures pages { let old = B.life blob.old in let new = B.life blob.new in
             PagesStay self.old.page_size self.old.full_pages old new }
         ensures covers { let old = B.life blob.old in let new = B.life blob.new in

@@ -6,15 +6,15 @@ ghost use Rattle.std.specs.List.{concat};
 ghost use Rattle.disk.specs.Disk.{WriteGoes, SyncGoes, WaitGoes};
 ghost use Rattle.writer_state.specs.declared.sync_state.SyncState.TheVariants.{Clean, Dirty};
 ghost use Rattle.crash.specs.Built.{built, durable_after, rest_written};
-ghost use Rattle.writer_state.specs.Sound.{CanWrite, IsSound, MayFlush, content, guard_slot};
+ghost use Rattle.writer_state.specs.Sound.{CanWrite, IsConsistent, MayFlush, content, guard_slot};
 ghost use Rattle.crash.specs.Below.{PagesStay};
 ghost use Rattle.crash.specs.Started.{CoversThrough, StartsStand};
 ghost use Rattle.paged.specs.Calls.{AsksAtMost, settle_calls, sync_calls, Flushes};
-ghost use Rattle.paged.specs.Calls.{Settles, SettlesBy, Syncs, IsWritten, WaitsForNone, Completes};
-ghost use Rattle.paged.specs.Calls.{WaitsForSync, wait_calls};
+ghost use Rattle.paged.specs.Calls.{Settles, SettlesBy, Syncs, SyncsOver, IsWritten, WaitsForNone, Completes};
+ghost use Rattle.paged.specs.Calls.{WaitsOver, wait_calls};
 ghost use Rattle.paged.specs.Costs.{SyncCosts};
 ghost use Rattle.paged.specs.Owes.{Owes};
-ghost use Rattle.paged.specs.Ready.{IsReady};
+ghost use Rattle.paged.specs.Ready.{CanGoOn, StaysUsable};
 ghost use Rattle.paged.specs.Goes.{SyncAllGoes};
 ghost use Rattle.page.specs.Tip.{ArePages};
 ghost use Rattle.paged.specs.Writer.{FitsBlob};
@@ -244,9 +244,9 @@ impl<B: Blob, H: Sum, Phase> Writer<B, H, Phase> {
     /// Waits for a pending sync; where there is none it does nothing. After an error the writer is
     /// of no use.
     pub(crate) fn wait(&mut self, blob: &mut B) -> Result<(), Error>
-        requires sound { IsSound H.sum_of self.old (B.life blob.old).present }
+        requires holds { IsConsistent H.sum_of self.old (B.life blob.old).present }
         ensures waits { let old = B.life blob.old in let new = B.life blob.new in
-            WaitsForSync H.sum_of self.old old new (answered self.new result) }
+            WaitsOver H.sum_of self.old old new (answered self.new result) }
         ensures pages { let old = B.life blob.old in let new = B.life blob.new in
             PagesStay self.old.page_size self.old.full_pages old new }
         ensures covers { let old = B.life blob.old in let new = B.life blob.new in
@@ -280,7 +280,7 @@ impl<B: Blob, H: Sum, Phase> Writer<B, H, Phase> {
         rest: bool,
     ) -> Result<(), Error>
         requires cached { cache.old.page_size ≡ self.old.page_size }
-        requires sound { IsSound H.sum_of self.old (B.life blob.old).present }
+        requires holds { IsConsistent H.sum_of self.old (B.life blob.old).present }
         ensures flushes { let old = B.life blob.old in let new = B.life blob.new in
             Flushes H.sum_of self.old old new (answered self.new result) }
         ensures pages { let old = B.life blob.old in let new = B.life blob.new in
@@ -313,7 +313,7 @@ impl<B: Blob, H: Sum, Phase> Writer<B, H, Phase> {
     /// The same, where no sync is pending and there is something to write.
     fn flush_pages(&mut self, blob: &mut B, cache: &mut CacheRef, rest: bool) -> Result<(), Error>
         requires cached { cache.old.page_size ≡ self.old.page_size }
-        requires sound { IsSound H.sum_of self.old (B.life blob.old).present }
+        requires holds { IsConsistent H.sum_of self.old (B.life blob.old).present }
         requires waited { WaitsForNone self.old.sync }
         requires work { has_work self.old rest ≡ true }
         ensures flushes { let old = B.life blob.old in let new = B.life blob.new in
@@ -345,9 +345,10 @@ impl<B: Blob, H: Sum, Phase> Writer<B, H, Phase> {
     /// `WriteFailed` and `SyncFailed` where the device failed, and `SyncFailed` where the started
     /// sync had failed; `OutOfMemory`. The writer is gone then.
     pub fn sync(mut self, blob: &mut B, cache: &mut CacheRef) -> Result<Self, Error>
-        requires ready { IsReady H.sum_of self cache.old (B.life blob.old) }
+        requires ready { CanGoOn H.sum_of self cache.old (B.life blob.old) }
         ensures goes { SyncAllGoes H.sum_of self (B.life blob.old) (B.life blob.new) result }
-        ensures ready { IfOk result (λ w. IsReady H.sum_of w cache.new (B.life blob.new)) }
+        ensures ready { let old = B.life blob.old in let new = B.life blob.new in
+            StaysUsable H.sum_of (λ w. w) self cache.old cache.new old new result }
         ensures owes { let all = content self (B.life blob.old).present.readable in
             Owes H.sum_of self all cache.old cache.new (B.life blob.old) (B.life blob.new) }
         ensures costs { let old = B.life blob.old in let new = B.life blob.new in
@@ -360,9 +361,9 @@ impl<B: Blob, H: Sum, Phase> Writer<B, H, Phase> {
     /// The same. After an error the writer is of no use.
     fn sync_all(&mut self, blob: &mut B, cache: &mut CacheRef) -> Result<(), Error>
         requires cached { cache.old.page_size ≡ self.old.page_size }
-        requires sound { IsSound H.sum_of self.old (B.life blob.old).present }
+        requires holds { IsConsistent H.sum_of self.old (B.life blob.old).present }
         ensures syncs { let old = B.life blob.old in let new = B.life blob.new in
-            Syncs H.sum_of self.old old new (answered self.new result) }
+            SyncsOver H.sum_of self.old old new (answered self.new result) }
         ensures pages { let old = B.life blob.old in let new = B.life blob.new in
             PagesStay self.old.page_size self.old.full_pages old new }
         ensures covers { let old = B.life blob.old in let new = B.life blob.new in
@@ -390,10 +391,10 @@ impl<B: Blob, H: Sum, Phase> Writer<B, H, Phase> {
     /// Writes the tip out and makes it durable. After an error the writer is of no use.
     pub(crate) fn sync_pages(&mut self, blob: &mut B, cache: &mut CacheRef) -> Result<(), Error>
         requires cached { cache.old.page_size ≡ self.old.page_size }
-        requires sound { IsSound H.sum_of self.old (B.life blob.old).present }
+        requires holds { IsConsistent H.sum_of self.old (B.life blob.old).present }
         requires work { has_work self.old true ≡ true }
         ensures syncs { let old = B.life blob.old in let new = B.life blob.new in
-            Syncs H.sum_of self.old old new (answered self.new result) }
+            SyncsOver H.sum_of self.old old new (answered self.new result) }
         ensures pages { let old = B.life blob.old in let new = B.life blob.new in
             PagesStay self.old.page_size self.old.full_pages old new }
         ensures covers { let old = B.life blob.old in let new = B.life blob.new in
@@ -413,11 +414,11 @@ impl<B: Blob, H: Sum, Phase> Writer<B, H, Phase> {
     /// a sync.
     fn write_durably(&mut self, blob: &mut B, cache: &mut CacheRef) -> Result<(), Error>
         requires cached { cache.old.page_size ≡ self.old.page_size }
-        requires sound { IsSound H.sum_of self.old (B.life blob.old).present }
+        requires holds { IsConsistent H.sum_of self.old (B.life blob.old).present }
         requires waited { WaitsForNone self.old.sync }
         requires work { has_work self.old true ≡ true }
         ensures syncs { let old = B.life blob.old in let new = B.life blob.new in
-            Syncs H.sum_of self.old old new (answered self.new result) }
+            SyncsOver H.sum_of self.old old new (answered self.new result) }
         ensures pages { let old = B.life blob.old in let new = B.life blob.new in
             PagesStay self.old.page_size self.old.full_pages old new }
         ensures covers { let old = B.life blob.old in let new = B.life blob.new in
@@ -443,7 +444,7 @@ impl<B: Blob, H: Sum, Phase> Writer<B, H, Phase> {
 
     /// Makes durable what is written.
     fn settle(&mut self, blob: &mut B) -> Result<(), Error>
-        requires sound { IsSound H.sum_of self.old (B.life blob.old).present }
+        requires holds { IsConsistent H.sum_of self.old (B.life blob.old).present }
         ensures settles { let old = B.life blob.old in let new = B.life blob.new in
             Settles H.sum_of self.old old new (answered self.new result) }
         ensures pages { let old = B.life blob.old in let new = B.life blob.new in

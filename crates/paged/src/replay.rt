@@ -3,16 +3,16 @@ ghost use Rattle.std.specs.Prelude.{◌≡◌, ◌≤◌, ◌<◌, Ok, IfOk, OnO
 ghost use Rattle.std.specs.Int.NonZero.{non_zero_usize_get};
 ghost use Rattle.crash.specs.Below.{PagesStay};
 ghost use Rattle.writer_state.specs.declared.sync_state.SyncState.TheVariants.{Dirty};
-ghost use Rattle.writer_state.specs.Sound.{content, IsSound};
+ghost use Rattle.writer_state.specs.Sound.{content, IsConsistent};
 ghost use Rattle.crash.specs.Started.{CoversThrough, StartsStand};
 ghost use Rattle.paged.specs.Caches.{CachesTo, PutsOnceWaited};
 ghost use Rattle.paged.specs.Calls.{AsksAtMost};
 ghost use Rattle.paged.specs.Flush.{has_work, paired};
-ghost use Rattle.paged.specs.Replays.{BeginsAtOnce, BeginsReplay, replay_calls};
+ghost use Rattle.paged.specs.Replays.{BeginsAtOnce, ReplaysOver, replay_calls};
 ghost use Rattle.paged.specs.Costs.{ReplayCosts};
 ghost use Rattle.paged.specs.Goes.{ReplayGoes};
 ghost use Rattle.paged.specs.Owes.{Owes};
-ghost use Rattle.paged.specs.Ready.{IsReady};
+ghost use Rattle.paged.specs.Ready.{CanGoOn, StaysUsable};
 
 use crate::Writer;
 use cache::CacheRef;
@@ -40,10 +40,11 @@ impl<B: Blob, H: Sum, Phase> Writer<B, H, Phase> {
         buffer_size: NonZeroUsize,
         options: ReadOptions,
     ) -> Result<(Self, Replay<B, H>), Error>
-        requires ready { IsReady H.sum_of self cache.old (B.life blob.old) }
+        requires ready { CanGoOn H.sum_of self cache.old (B.life blob.old) }
         ensures goes { let old = B.life blob.old in let new = B.life blob.new in
             ReplayGoes H.sum_of self (non_zero_usize_get buffer_size) cache.new old new result }
-        ensures ready { IfOk result (λ r. IsReady H.sum_of r.0 cache.new (B.life blob.new)) }
+        ensures ready { let old = B.life blob.old in let new = B.life blob.new in
+            StaysUsable H.sum_of (λ r. r.0) self cache.old cache.new old new result }
         ensures owes { let all = content self (B.life blob.old).present.readable in
             Owes H.sum_of self all cache.old cache.new (B.life blob.old) (B.life blob.new) }
         ensures costs { let old = B.life blob.old in let new = B.life blob.new in
@@ -63,9 +64,9 @@ impl<B: Blob, H: Sum, Phase> Writer<B, H, Phase> {
         options: ReadOptions,
     ) -> Result<Replay<B, H>, Error>
         requires cached { cache.old.page_size ≡ self.old.page_size }
-        requires sound { IsSound H.sum_of self.old (B.life blob.old).present }
+        requires holds { IsConsistent H.sum_of self.old (B.life blob.old).present }
         ensures begins { let old = B.life blob.old in let new = B.life blob.new in
-            BeginsReplay H.sum_of self.old (non_zero_usize_get buffer_size) old new
+            ReplaysOver H.sum_of self.old (non_zero_usize_get buffer_size) old new
             (paired self.new result) }
         ensures pages { let old = B.life blob.old in let new = B.life blob.new in
             PagesStay self.old.page_size self.old.full_pages old new }

@@ -2,17 +2,17 @@
 ghost use Rattle.std.specs.Prelude.{◌≡◌, ◌≤◌, ◌<◌, Ok, IfOk, OnOk, false, true, length};
 ghost use Rattle.crash.specs.Below.{PagesStay};
 ghost use Rattle.writer_state.specs.declared.sync_state.SyncState.TheVariants.{Dirty};
-ghost use Rattle.writer_state.specs.Sound.{content, IsSound};
+ghost use Rattle.writer_state.specs.Sound.{content, IsConsistent};
 ghost use Rattle.crash.specs.Started.{CoversThrough, StartsStand};
 ghost use Rattle.paged.specs.Caches.{CachesTo, PutsOnceWaited, tail_of};
-ghost use Rattle.paged.specs.Calls.{AsksAtMost, StartsSync};
+ghost use Rattle.paged.specs.Calls.{AsksAtMost, StartsOver};
 ghost use Rattle.paged.specs.Flush.{has_work, paired};
-ghost use Rattle.paged.specs.Snapshots.{answer_of_seal, CopiesTail, MakesSnapshot};
+ghost use Rattle.paged.specs.Snapshots.{answer_of_seal, CopiesTail, SnapshotsOver};
 ghost use Rattle.paged.specs.Snapshots.{seal_calls, snapshot_calls, TriesSnapshot};
 ghost use Rattle.paged.specs.Costs.{SealCosts, SnapshotCosts};
 ghost use Rattle.paged.specs.Goes.{SealGoes, SnapshotGoes};
 ghost use Rattle.paged.specs.Owes.{Owes};
-ghost use Rattle.paged.specs.Ready.{IsReady};
+ghost use Rattle.paged.specs.Ready.{CanGoOn, StaysUsable};
 
 use crate::Writer;
 use cache::CacheRef;
@@ -82,10 +82,11 @@ impl<B: Blob, H: Sum> Writer<B, H> {
         blob: &mut B,
         cache: &mut CacheRef,
     ) -> Result<(Self, Sealed<B, H>), Error>
-        requires ready { IsReady H.sum_of self cache.old (B.life blob.old) }
+        requires ready { CanGoOn H.sum_of self cache.old (B.life blob.old) }
         ensures goes { let old = B.life blob.old in let new = B.life blob.new in
             SnapshotGoes H.sum_of self cache.new old new result }
-        ensures ready { IfOk result (λ r. IsReady H.sum_of r.0 cache.new (B.life blob.new)) }
+        ensures ready { let old = B.life blob.old in let new = B.life blob.new in
+            StaysUsable H.sum_of (λ r. r.0) self cache.old cache.new old new result }
         ensures owes { let all = content self (B.life blob.old).present.readable in
             Owes H.sum_of self all cache.old cache.new (B.life blob.old) (B.life blob.new) }
         ensures costs { let old = B.life blob.old in let new = B.life blob.new in
@@ -98,9 +99,9 @@ impl<B: Blob, H: Sum> Writer<B, H> {
     /// The same. After an error of the device the writer is of no use.
     fn snapshot_all(&mut self, blob: &mut B, cache: &mut CacheRef) -> Result<Sealed<B, H>, Error>
         requires cached { cache.old.page_size ≡ self.old.page_size }
-        requires sound { IsSound H.sum_of self.old (B.life blob.old).present }
+        requires holds { IsConsistent H.sum_of self.old (B.life blob.old).present }
         ensures makes { let old = B.life blob.old in let new = B.life blob.new in
-            MakesSnapshot H.sum_of self.old old new (paired self.new result) }
+            SnapshotsOver H.sum_of self.old old new (paired self.new result) }
         ensures pages { let old = B.life blob.old in let new = B.life blob.new in
             PagesStay self.old.page_size self.old.full_pages old new }
         ensures covers { let old = B.life blob.old in let new = B.life blob.new in
@@ -137,7 +138,7 @@ impl<B: Blob, H: Sum> Writer<B, H> {
         blob: &mut B,
         cache: &mut CacheRef,
     ) -> Result<(Sealed<B, H>, StartedSync), Error>
-        requires ready { IsReady H.sum_of self cache.old (B.life blob.old) }
+        requires ready { CanGoOn H.sum_of self cache.old (B.life blob.old) }
         ensures goes { let old = B.life blob.old in let new = B.life blob.new in
             SealGoes H.sum_of self cache.new old new result }
         ensures owes { let all = content self (B.life blob.old).present.readable in
@@ -152,9 +153,9 @@ impl<B: Blob, H: Sum> Writer<B, H> {
     /// The same, of which the writer is left. After an error it is of no use.
     fn seal_all(&mut self, blob: &mut B, cache: &mut CacheRef) -> Result<StartedSync, Error>
         requires cached { cache.old.page_size ≡ self.old.page_size }
-        requires sound { IsSound H.sum_of self.old (B.life blob.old).present }
+        requires holds { IsConsistent H.sum_of self.old (B.life blob.old).present }
         ensures starts_sync { let old = B.life blob.old in let new = B.life blob.new in
-            StartsSync H.sum_of self.old old new (paired self.new result) }
+            StartsOver H.sum_of self.old old new (paired self.new result) }
         ensures pages { let old = B.life blob.old in let new = B.life blob.new in
             PagesStay self.old.page_size self.old.full_pages old new }
         ensures covers { let old = B.life blob.old in let new = B.life blob.new in

@@ -1,10 +1,10 @@
 // Syncs that are started, and waited for later.
-ghost use Rattle.std.specs.Prelude.{ℕ, ◌≡◌, true, false, ◌<◌, ◌≤◌, Ok, IfOk, OnOk, length, nat_lt};
+ghost use Rattle.std.specs.Prelude.{ℕ, ◌≡◌, ◌⊎◌, true, false, ◌<◌, ◌≤◌, Ok, IfOk, OnOk, length, nat_lt};
 ghost use Rattle.disk.specs.declared.started_sync.StartedSync.TheVariants.{Named};
-ghost use Rattle.writer_state.specs.Sound.{IsSound, content};
+ghost use Rattle.writer_state.specs.Sound.{IsSound, IsConsistent, content};
 ghost use Rattle.crash.specs.Below.{PagesStay};
 ghost use Rattle.crash.specs.Started.{CoversThrough, StartsStand};
-ghost use Rattle.paged.specs.Calls.{AsksAtMost, IsWritten, StartsSync};
+ghost use Rattle.paged.specs.Calls.{AsksAtMost, IsWritten, StartsOver};
 ghost use Rattle.paged.specs.Calls.{start_calls};
 ghost use Rattle.paged.specs.Calls.{started_already, Covers};
 ghost use Rattle.writer_state.specs.WriterState.{started_state};
@@ -21,7 +21,7 @@ ghost use Rattle.cache.specs.CacheState.{CacheState};
 ghost use Rattle.paged.specs.Costs.{StartSyncCosts, WaitForSyncCosts};
 ghost use Rattle.paged.specs.Goes.{StartSyncGoes, WaitForSyncGoes};
 ghost use Rattle.paged.specs.Owes.{Owes, OwesWaiting};
-ghost use Rattle.paged.specs.Ready.{IsReady};
+ghost use Rattle.paged.specs.Ready.{CanGoOn, StaysUsable};
 
 use crate::Writer;
 use cache::CacheRef;
@@ -56,9 +56,10 @@ impl<B: Blob, H: Sum, Phase> Writer<B, H, Phase> {
         blob: &mut B,
         cache: &mut CacheRef,
     ) -> Result<(Self, StartedSync), Error>
-        requires ready { IsReady H.sum_of self cache.old (B.life blob.old) }
+        requires ready { CanGoOn H.sum_of self cache.old (B.life blob.old) }
         ensures goes { StartSyncGoes H.sum_of self (B.life blob.old) (B.life blob.new) result }
-        ensures ready { IfOk result (λ r. IsReady H.sum_of r.0 cache.new (B.life blob.new)) }
+        ensures ready { let old = B.life blob.old in let new = B.life blob.new in
+            StaysUsable H.sum_of (λ r. r.0) self cache.old cache.new old new result }
         ensures owes { let all = content self (B.life blob.old).present.readable in
             Owes H.sum_of self all cache.old cache.new (B.life blob.old) (B.life blob.new) }
         ensures costs { let old = B.life blob.old in let new = B.life blob.new in
@@ -75,9 +76,9 @@ impl<B: Blob, H: Sum, Phase> Writer<B, H, Phase> {
         cache: &mut CacheRef,
     ) -> Result<StartedSync, Error>
         requires cached { cache.old.page_size ≡ self.old.page_size }
-        requires sound { IsSound H.sum_of self.old (B.life blob.old).present }
+        requires holds { IsConsistent H.sum_of self.old (B.life blob.old).present }
         ensures starts_sync { let old = B.life blob.old in let new = B.life blob.new in
-            StartsSync H.sum_of self.old old new (paired self.new result) }
+            StartsOver H.sum_of self.old old new (paired self.new result) }
         ensures pages { let old = B.life blob.old in let new = B.life blob.new in
             PagesStay self.old.page_size self.old.full_pages old new }
         ensures covers { let old = B.life blob.old in let new = B.life blob.new in
@@ -100,10 +101,10 @@ impl<B: Blob, H: Sum, Phase> Writer<B, H, Phase> {
 
     /// The same, where all that was appended is written.
     fn start_written(&mut self, blob: &mut B) -> Result<StartedSync, Error>
-        requires sound { IsSound H.sum_of self.old (B.life blob.old).present }
+        requires holds { IsConsistent H.sum_of self.old (B.life blob.old).present }
         requires written { IsWritten self.old }
         ensures starts_sync { let old = B.life blob.old in let new = B.life blob.new in
-            StartsSync H.sum_of self.old old new (paired self.new result) }
+            StartsOver H.sum_of self.old old new (paired self.new result) }
         ensures pages { let old = B.life blob.old in let new = B.life blob.new in
             PagesStay self.old.page_size self.old.full_pages old new }
         ensures covers { let old = B.life blob.old in let new = B.life blob.new in
@@ -143,11 +144,12 @@ impl<B: Blob, H: Sum, Phase> Writer<B, H, Phase> {
     /// `SyncFailed` where the device failed, now or as the sync was started or waited for before;
     /// `OutOfMemory`. The writer is gone then.
     pub fn wait_for_sync(mut self, blob: &mut B) -> Result<Self, Error>
-        requires sound { IsSound H.sum_of self (B.life blob.old).present }
+        requires stands { let old = (B.life blob.old).present in
+            IsSound H.sum_of self old ⊎ IsConsistent H.sum_of self old }
         ensures goes { WaitForSyncGoes H.sum_of self (B.life blob.old) (B.life blob.new) result }
         ensures ready { let old = B.life blob.old in let new = B.life blob.new in
-            (cache : CacheState) → IsReady H.sum_of self cache old
-            → IfOk result (λ w. IsReady H.sum_of w cache new) }
+            (cache : CacheState)
+            → StaysUsable H.sum_of (λ w. w) self cache cache old new result }
         ensures owes { OwesWaiting H.sum_of self (B.life blob.old) (B.life blob.new) }
         ensures costs { WaitForSyncCosts self (B.life blob.old) (B.life blob.new) result }
     {

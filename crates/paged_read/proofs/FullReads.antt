@@ -60,7 +60,7 @@ unfolding IsSound
 full_of_sound sum t w d sound size fewer page below =
     let reach = tip_reach sum w.page_size w.full_pages w.tip d.readable w.flushed sound.stands.tip_page in
     subst (λ (P : ℕ). value_len sum P (page_at P page d.readable) ≡ P) size
-    (AreFull_page sum w.page_size w.full_pages page d.readable sound.stands.full reach.0
+    (AreFull_page sum w.page_size w.full_pages page d.readable sound.full reach.0
     (omega (arith, below, fewer)))
 
 module _ (sum : List ℕ → ℕ) (t : Tail) (cache : CacheState) (old new : Life)

@@ -16,7 +16,7 @@ use Rattle.crash.proofs.Promise.{keeps_nothing}
 use Rattle.writer_state.specs.WriterState.{WriterState}
 use Rattle.writer_state.specs.Sound.{Soundness}
 use Rattle.writer_state.specs.declared.sync_state.SyncState.TheVariants.{Pending}
-use Rattle.writer_state.proofs.Soundness.{empty_sound, operated_stays}
+use Rattle.writer_state.proofs.Soundness.{consistent_of, empty_sound, operated_stays}
 use Rattle.paged.specs.Writer.{physical_blob_size}
 use Rattle.session.specs.declared.steps.Step.{Step}
 use Rattle.session.specs.declared.steps.Step.TheVariants.{Append, Sync, Read}
@@ -162,7 +162,7 @@ buffering_sound : Soundness add_sum buffering empty
 buffering_sound = empty_sound add_sum buffering empty refl refl refl (omega arith) (lit< tt) refl refl refl (λ name c is. absurd (cc is))
 
 unsynced_stays : Stays add_sum 4 ab empty unsynced
-unsynced_stays = operated_stays add_sum buffering empty unsynced 0 true ab_page small_add_sum buffering_sound refl (omega arith, omega arith) refl (WriteAt 0 16 false) false write_is_done
+unsynced_stays = operated_stays add_sum buffering empty unsynced 0 true ab_page small_add_sum (consistent_of add_sum buffering empty buffering_sound) refl (omega arith, omega arith) refl (WriteAt 0 16 false) false write_is_done
 
 pub unsynced_only : AllOnly add_sum 4 ab ab unsynced
 unsynced_only = record { only = λ image is_image free. inl (unsynced_stays.only image is_image free); vouched = unsynced_stays.vouched }

@@ -13,7 +13,7 @@ use Rattle.paged_read.specs.Replay.{ReplayState}
 use Rattle.paged_read.specs.Tail.{CanRead, Tail}
 use Rattle.cache.specs.Pages.{IsTrueFor}
 use Rattle.paged.specs.Caches.{tail_of}
-use Rattle.paged.proofs.There.{sound_has_pages}
+use Rattle.paged.proofs.There.{consistent_has_pages}
 use Rattle.paged.specs.Calls.{Appends, GoesOn, HoldsWithin, Refuses, Syncs, WaitsForSync}
 use Rattle.paged.specs.Owes.{Owes, OwesWaiting, owed_covers}
 use Rattle.paged.specs.Ready.{IsReady as IsWriterReady}
@@ -55,8 +55,8 @@ module _ (sum : List ℕ → ℕ) (w : WriterState) (old new : Life) where
   goes_same now holds sound stays = goes_on sum w now [] old new holds sound (stays_nil sum w.page_size held old new stays)
 
   -- a wait, which has no cache
-  pub wait_says : (result : Result WriterState Error) → WaitForSyncGoes sum w old new result → OwesWaiting sum w old new → WaitForSyncCosts w old new result → WaitSays sum w old new result
-  wait_says result goes owes costs = record {
+  pub wait_says : IsSound sum w old.present → (result : Result WriterState Error) → WaitForSyncGoes sum w old new result → OwesWaiting sum w old new → WaitForSyncCosts w old new result → WaitSays sum w old new result
+  wait_says sound result goes owes costs = record {
     waits = by_answer result goes;
     calls = costs.calls;
     settles = costs.settles;
@@ -68,7 +68,7 @@ module _ (sum : List ℕ → ℕ) (w : WriterState) (old new : Life) where
       stays = owed_stays sum w held old new owes.through (whole held)
 
       by_answer : (r : Result WriterState Error) → WaitForSyncGoes sum w old new r → WaitsForSync sum w old new r
-      by_answer (Ok now) is = (goes_same now is.holds is.sound stays, is.state)
+      by_answer (Ok now) is = (goes_same now is.holds (is.sound sound) stays, is.state)
       by_answer (Err e) refused = refuses sum w held old new e refused stays
 
   -- reads go on after it, with whichever cache
@@ -76,7 +76,7 @@ module _ (sum : List ℕ → ℕ) (w : WriterState) (old new : Life) where
   wait_reads now is cache can =
       let same : content now new.present.readable ≡ held = is.holds.content ∙ append-nil held in
       record {
-        there = sound_has_pages sum now new is.sound;
+        there = consistent_has_pages sum now new is.consistent;
         page_size = can.page_size ∙ sym is.holds.same.page_size;
         given = subst (λ (id : ℕ). id < cache.ids_given) (sym is.holds.same.id) can.given;
         cached = subst (λ (l : List ℕ). IsTrueFor now.id l now.full_pages cache) (sym same) (subst (λ (v : WriterState). IsTrueFor v.id held v.full_pages cache) (sym is.state) can.cached);
@@ -141,17 +141,17 @@ module _ (sum : List ℕ → ℕ) (w : WriterState) (cache after : CacheState) (
       within (Ok now) is = is.within
       within (Err e) refused = tt
 
-  pub start_says : (result : Result (WriterState × StartedSync) Error) → StartSyncGoes sum w old new result → IfOk result (λ r. IsWriterReady sum r.0 after new) → Owes sum w was cache after old new
+  pub start_says : IsSound sum w old.present → (result : Result (WriterState × StartedSync) Error) → StartSyncGoes sum w old new result → IfOk result (λ r. IsWriterReady sum r.0 after new) → Owes sum w was cache after old new
       → StartSyncCosts w cache after old new result → StartSays sum w old new result
-  start_says (Ok r) is ready owes costs = record {
-    starts_sync = (goes_same sum w old new r.0 is.goes.holds ready.sound (same_stays owes), is.goes.written, is.goes.state, is.goes.starts);
+  start_says sound (Ok r) is ready owes costs = record {
+    starts_sync = (goes_same sum w old new r.0 is.goes.holds ready.sound (same_stays owes), is.goes.written, is.goes.state, is.goes.starts sound);
     within = is.goes.within;
     calls = costs.calls;
     idle = costs.idle;
     fresh = is.fresh;
     owes = owes_starts was owes;
   }
-  start_says (Err e) refused ready owes costs = record {
+  start_says sound (Err e) refused ready owes costs = record {
     starts_sync = refuses sum w was old new e refused (same_stays owes);
     within = tt;
     calls = costs.calls;
@@ -198,15 +198,15 @@ module _ (sum : List ℕ → ℕ) (w : WriterState) (cache after : CacheState) (
     owes = owes_starts was owes;
   }
 
-  pub seal_says : (result : Result (Tail × StartedSync) Error) → SealGoes sum w after old new result → Owes sum w was cache after old new → SealCosts w cache after old new result → SealSays sum w old new result
-  seal_says (Ok r) is owes costs = record {
-    seals = (is.now, is.tail, (goes_same sum w old new is.now is.goes.holds is.sound (same_stays owes), is.goes.written, is.goes.state, is.goes.starts));
+  pub seal_says : IsSound sum w old.present → (result : Result (Tail × StartedSync) Error) → SealGoes sum w after old new result → Owes sum w was cache after old new → SealCosts w cache after old new result → SealSays sum w old new result
+  seal_says sound (Ok r) is owes costs = record {
+    seals = (is.now, is.tail, (goes_same sum w old new is.now is.goes.holds (is.sound sound) (same_stays owes), is.goes.written, is.goes.state, is.goes.starts sound));
     calls = costs.calls;
     answers = is.answer;
     idle = costs.idle;
     owes = owes_starts was owes;
   }
-  seal_says (Err e) refused owes costs = record {
+  seal_says sound (Err e) refused owes costs = record {
     seals = refuses sum w was old new e refused (same_stays owes);
     calls = costs.calls;
     answers = tt;

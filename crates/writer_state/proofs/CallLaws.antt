@@ -10,14 +10,14 @@ use Rattle.writer_state.specs.WriterState.{WriterState, after_write}
 use Rattle.writer_state.specs.declared.sync_state.SyncState.TheVariants.{Clean, Dirty}
 use Rattle.crash.specs.Built.{built, written_pages}
 use Rattle.crash.specs.Stays.{Stays, StaysThrough}
-use Rattle.writer_state.specs.Sound.{content, MayFlush, Soundness, CanWrite}
+use Rattle.writer_state.specs.Sound.{content, MayFlush, Consistency, CanWrite, IsIntact}
 use Rattle.crash.proofs.BuiltLaws.{IsSmall}
-use Rattle.writer_state.proofs.FlushLaws.{flush_content, starts_within, settled_starts}
+use Rattle.writer_state.proofs.FlushLaws.{flush_content, flush_full, starts_within, settled_starts}
 use Rattle.crash.specs.Moments.{through_more}
 use Rattle.crash.proofs.Moments.{stays_through_start}
-use Rattle.writer_state.proofs.Soundness.{operated_sound, operated_stays, operated_settle_stays, settle_sound, settle_stays, alike_stays}
+use Rattle.writer_state.proofs.Soundness.{operated_consistent, operated_stays, operated_settle_stays, settle_consistent, settle_stays, alike_stays}
 
-module _ (sum : List ℕ → ℕ) (w : WriterState) (old : Life) (sound : Soundness sum w old.present) where
+module _ (sum : List ℕ → ℕ) (w : WriterState) (old : Life) (sound : Consistency sum w old.present) where
   -- what each moment of the call owes
   abbrev Owes : Disk → Type 0
   Owes d = Stays sum w.page_size (content w old.present.readable) old.present d
@@ -51,17 +51,17 @@ module _ (sum : List ℕ → ℕ) (w : WriterState) (old : Life) (sound : Soundn
   sync_stays new (Err e) goes = absurd goes
 
   -- and leaves a clean writer sound
-  pub sync_sound : (new : Life) (done : Unit {0}) → IsSmall sum → SyncGoes old new (Ok done) → Soundness sum (record w { sync = Clean }) new.present
-  sync_sound new done small goes =
-      subst (λ (life : Life). Soundness sum (record w { sync = Clean }) life.present) (sym goes)
-      (settle_sound sum w old.present (settled_disk (logged SyncAll false old.present)) sound refl Clean small refl refl
+  pub sync_consistent : (new : Life) (done : Unit {0}) → IsSmall sum → SyncGoes old new (Ok done) → Consistency sum (record w { sync = Clean }) new.present
+  sync_consistent new done small goes =
+      subst (λ (life : Life). Consistency sum (record w { sync = Clean }) life.present) (sym goes)
+      (settle_consistent sum w old.present (settled_disk (logged SyncAll false old.present)) sound refl Clean small refl refl
       (settled_starts old.present (settled_disk (logged SyncAll false old.present)) (starts_within old.present w.sync sound.stands.starts) refl refl) refl)
 
   -- that stands for the same content
   pub sync_content : (new : Life) (done : Unit {0}) → SyncGoes old new (Ok done) → content w new.present.readable ≡ content w old.present.readable
   sync_content new done goes = ap (λ (life : Life). content w life.present.readable) goes
 
-module _ (sum : List ℕ → ℕ) (w : WriterState) (old new : Life) (k : ℕ) (rest : Bool) (bytes : List ℕ) (small : IsSmall sum) (sound : Soundness sum w old.present) (ready : MayFlush w.sync w.flushed w.durable)
+module _ (sum : List ℕ → ℕ) (w : WriterState) (old new : Life) (k : ℕ) (rest : Bool) (bytes : List ℕ) (small : IsSmall sum) (sound : Consistency sum w old.present) (ready : MayFlush w.sync w.flushed w.durable)
     (can : CanWrite w.page_size w.tip k rest) (is : bytes ≡ built sum w.page_size w.durable (written_pages k rest) w.tip) where
   -- a flush that was done or failed
   operated : (sync failed : Bool) (d : Disk) → new ≡ next old d → Operated (Write (w.full_pages * (w.page_size + 12)) bytes) (WriteAt (w.full_pages * (w.page_size + 12)) (length bytes) sync) failed old.present d
@@ -92,18 +92,27 @@ module _ (sum : List ℕ → ℕ) (w : WriterState) (old new : Life) (k : ℕ) (
   write_stays false answer goes = plain_stays answer goes
 
   -- it leaves a sound writer
-  pub write_sound : (done : Unit {0}) → WriteGoes (w.full_pages * (w.page_size + 12)) bytes false old new (Ok done) → Soundness sum (after_write sum w k rest) new.present
-  write_sound done goes =
-      subst (λ (life : Life). Soundness sum (after_write sum w k rest) life.present) (sym goes.1)
-      (operated_sound sum w old.present goes.0 k rest bytes small sound ready can is (WriteAt (w.full_pages * (w.page_size + 12)) (length bytes) false) goes.2)
+  pub write_consistent : (done : Unit {0}) → WriteGoes (w.full_pages * (w.page_size + 12)) bytes false old new (Ok done) → Consistency sum (after_write sum w k rest) new.present
+  write_consistent done goes =
+      subst (λ (life : Life). Consistency sum (after_write sum w k rest) life.present) (sym goes.1)
+      (operated_consistent sum w old.present goes.0 k rest bytes small sound ready can is (WriteAt (w.full_pages * (w.page_size + 12)) (length bytes) false) goes.2)
 
   -- and where it is durable, a clean one
-  pub durable_write_sound : (done : Unit {0}) → WriteGoes (w.full_pages * (w.page_size + 12)) bytes true old new (Ok done) → Soundness sum (record (after_write sum w k rest) { sync = Clean }) new.present
-  durable_write_sound done goes =
+  pub durable_write_consistent : (done : Unit {0}) → WriteGoes (w.full_pages * (w.page_size + 12)) bytes true old new (Ok done) → Consistency sum (record (after_write sum w k rest) { sync = Clean }) new.present
+  durable_write_consistent done goes =
       let d = goes.0 in
-      subst (λ (life : Life). Soundness sum (record (after_write sum w k rest) { sync = Clean }) life.present) (sym goes.1)
-      (let done = operated_sound sum w old.present d k rest bytes small sound ready can is (WriteAt (w.full_pages * (w.page_size + 12)) (length bytes) true) goes.2 in
-      settle_sound sum (after_write sum w k rest) d (settled_disk d) done refl Clean small refl refl (settled_starts d (settled_disk d) (starts_within d Dirty done.stands.starts) refl refl) refl)
+      subst (λ (life : Life). Consistency sum (record (after_write sum w k rest) { sync = Clean }) life.present) (sym goes.1)
+      (let done = operated_consistent sum w old.present d k rest bytes small sound ready can is (WriteAt (w.full_pages * (w.page_size + 12)) (length bytes) true) goes.2 in
+      settle_consistent sum (after_write sum w k rest) d (settled_disk d) done refl Clean small refl refl (settled_starts d (settled_disk d) (starts_within d Dirty done.stands.starts) refl refl) refl)
+
+  -- where the pages below its tip were full, they are
+  pub write_intact : (sync : Bool) (done : Unit {0}) → WriteGoes (w.full_pages * (w.page_size + 12)) bytes sync old new (Ok done) → IsIntact sum w old.present → IsIntact sum (after_write sum w k rest) new.present
+  write_intact true done goes full =
+      subst (λ (life : Life). IsIntact sum (after_write sum w k rest) life.present) (sym goes.1)
+      (flush_full sum w old.present goes.0 k rest bytes small sound.stands can is (goes.2.done refl) full)
+  write_intact false done goes full =
+      subst (λ (life : Life). IsIntact sum (after_write sum w k rest) life.present) (sym goes.1)
+      (flush_full sum w old.present goes.0 k rest bytes small sound.stands can is (goes.2.done refl) full)
 
   -- that stands for the same content
   pub write_content : (sync : Bool) (done : Unit {0}) → WriteGoes (w.full_pages * (w.page_size + 12)) bytes sync old new (Ok done) → content (after_write sum w k rest) new.present.readable ≡ content w old.present.readable

@@ -223,8 +223,8 @@ it_is_not_sound sound = an_unsound_writer sound
 -- one that takes nothing for durable isn't safe where "abcdef" is
 pub it_is_not_safe : IsSafe add_sum (record with_g { full_pages = 0; flushed = None; durable = None }) seven durable → ⊥
 it_is_not_safe safe = elim safe.position [
-  | inl below ↦ omega (arith, below)
-  | inr (full, is) ↦ let base : 6 ≤ safe.full * 4 + 0 = subst (λ t. 6 ≤ safe.full * 4 + kept_len t) is safe.base in omega (arith, base, full)
+  | inl (few, none) ↦ omega (arith, safe.base, few, ap kept_len none)
+  | inr (at, is) ↦ omega (arith, safe.base, at, ap kept_len is)
 ]
 
 -- one that forgot "f" leaves more than its content

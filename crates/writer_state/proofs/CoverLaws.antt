@@ -9,7 +9,7 @@ use Rattle.disk.specs.Disk.Request.{WriteAt, SyncAll}
 use Rattle.writer_state.specs.WriterState.{WriterState}
 use Rattle.crash.specs.Built.{built, written_pages}
 use Rattle.crash.specs.Started.{WouldKeep, CoversStay, CoversThrough, AllSettled}
-use Rattle.writer_state.specs.Sound.{content, MayFlush, Soundness, CanWrite}
+use Rattle.writer_state.specs.Sound.{content, MayFlush, Consistency, CanWrite}
 use Rattle.crash.proofs.BuiltLaws.{IsSmall}
 use Rattle.writer_state.proofs.FlushLaws.{all_settled_alike, flush_settled}
 use Rattle.crash.specs.Moments.{through_start, through_more, through_joins, through_then, through_end}
@@ -40,7 +40,7 @@ covers_through_join sum P content old mid new first second =
     (through_then (CoversStay sum P content mid.present) (CoversStay sum P content old.present) mid new (λ d later. covers_join sum P content old.present mid.present d reached later) second)
 
 -- a sync
-module _ (sum : List ℕ → ℕ) (w : WriterState) (old new : Life) (sound : Soundness sum w old.present) where
+module _ (sum : List ℕ → ℕ) (w : WriterState) (old new : Life) (sound : Consistency sum w old.present) where
   abbrev all : List ℕ
   all = content w old.present.readable
 
@@ -53,7 +53,7 @@ module _ (sum : List ℕ → ℕ) (w : WriterState) (old new : Life) (sound : So
   sync_covers (Err e) goes = absurd goes
 
 -- a flush
-module _ (sum : List ℕ → ℕ) (w : WriterState) (old new : Life) (k : ℕ) (rest : Bool) (bytes : List ℕ) (small : IsSmall sum) (sound : Soundness sum w old.present) (ready : MayFlush w.sync w.flushed w.durable)
+module _ (sum : List ℕ → ℕ) (w : WriterState) (old new : Life) (k : ℕ) (rest : Bool) (bytes : List ℕ) (small : IsSmall sum) (sound : Consistency sum w old.present) (ready : MayFlush w.sync w.flushed w.durable)
     (can : CanWrite w.page_size w.tip k rest) (is : bytes ≡ built sum w.page_size w.durable (written_pages k rest) w.tip) where
   abbrev whole : List ℕ
   whole = content w old.present.readable

@@ -30,14 +30,14 @@ use Rattle.writer_state.proofs.ShortenLaws.{holds_at_rest, holds_keeps, stage_ho
 use Rattle.crash.proofs.ShrinkLaws.{held_stays_cut}
 use Rattle.crash.proofs.Promise.{guards_less, keeps_at_rest, keeps_same, guards_at_rest, whole_is_chance_free}
 use Rattle.crash.specs.Contents.{latest, stored}
-use Rattle.writer_state.specs.Sound.{content, HasPage, Stands, guard_slot, IsSafe, Soundness, IsSound, LeavesItsContent, IsPending}
+use Rattle.writer_state.specs.Sound.{content, HasPage, Stands, guard_slot, Consistency, IsConsistent, IsIntact, IsSafe, Soundness, IsSound, LeavesItsContent, IsPending}
 use Rattle.crash.specs.Started.{WouldKeep, CoversStay, StartsStand}
 use Rattle.crash.specs.Below.{SamePages, PagesStay}
 use Rattle.crash.proofs.Disks.{whole_is_image, torn_is_image, base_is_image, partial_whole, fixed_at_rest}
 use Rattle.crash.proofs.Moments.{stays_itself, kept_through, only_through}
 use Rattle.crash.proofs.Spared.{held_through_flush}
-use Rattle.writer_state.proofs.Soundness.{sound_leaves, page_sound, empty_sound, operated_stays, operated_sound}
-use Rattle.writer_state.proofs.StartedLaws.{start_sound, settle_covers}
+use Rattle.writer_state.proofs.Soundness.{sound_leaves, page_consistent, page_sound, empty_sound, operated_stays, operated_consistent, consistent_of, sound_of}
+use Rattle.writer_state.proofs.StartedLaws.{start_consistent, settle_covers}
 use Rattle.writer_state.proofs.StandLaws.{starts_stand}
 use Rattle.crash.proofs.BelowLaws.{pages_one}
 
@@ -246,6 +246,47 @@ it_is_truthful = a_sound_writer.truthful
 pub an_unsound_writer : Soundness add_sum (record with_g { tip = []; flushed = None; durable = None }) durable → ⊥
 an_unsound_writer sound = let size : 32 ≡ 16 = sound.stands.tip_page in omega (arith, size)
 
+-- the page below its tip is full
+pub it_is_intact : IsIntact add_sum with_g durable
+it_is_intact = a_sound_writer.full
+
+-- a page of zeros
+abbrev pub zero_page : List ℕ
+zero_page = 0 ∷ 0 ∷ 0 ∷ 0 ∷ 0 ∷ 0 ∷ 0 ∷ 0 ∷ 0 ∷ 0 ∷ 0 ∷ 0 ∷ 0 ∷ 0 ∷ 0 ∷ 0 ∷ []
+
+-- over it, since it has no value, the same writer is consistent: its content has the zeros
+abbrev pub damaged : Disk
+damaged = at_rest (zero_page ++ ef_page)
+
+has_ef_after_zeros : HasPage add_sum 4 1 (101 ∷ 102 ∷ 103 ∷ []) (zero_page ++ ef_page) ef_slot
+has_ef_after_zeros = record { size = refl; some = omega arith; there = omega arith; part = omega arith; crc = refl; value = refl; begins = refl; slot = refl }
+
+ef_is_good_after_zeros : PageIsGood add_sum 4 1 (zero_page ++ ef_page)
+ef_is_good_after_zeros page is s = subst (λ (l : List ℕ). IsGood add_sum 4 s l) (same_Some ef_page page is) (ef_good s)
+
+pub a_consistent_writer : Consistency add_sum with_g damaged
+a_consistent_writer = page_consistent add_sum with_g damaged refl refl (omega arith) (lit< tt) refl (λ name c is. absurd (cc is)) small_add_sum ef_slot refl has_ef_after_zeros ef_is_good_after_zeros
+
+pub it_is_consistent : IsConsistent add_sum with_g damaged
+unfolding IsConsistent
+it_is_consistent = a_consistent_writer
+
+pub it_holds_the_zeros : content with_g damaged.readable ≡ 0 ∷ 0 ∷ 0 ∷ 0 ∷ 101 ∷ 102 ∷ 103 ∷ []
+it_holds_the_zeros = refl
+
+-- but it isn't sound
+pub zeros_are_not_intact : IsIntact add_sum with_g damaged → ⊥
+zeros_are_not_intact full = omega (arith, full.0)
+
+pub a_damaged_one_is_not_sound : IsSound add_sum with_g damaged → ⊥
+unfolding IsSound
+a_damaged_one_is_not_sound sound = zeros_are_not_intact sound.full
+
+-- a writer that tells an empty tip over a page of two bytes isn't consistent either
+pub an_inconsistent_writer : IsConsistent add_sum (record with_g { tip = []; flushed = None; durable = None }) durable → ⊥
+unfolding IsConsistent
+an_inconsistent_writer holds = let size : 32 ≡ 16 = holds.stands.tip_page in omega (arith, size)
+
 -- the writer of an empty blob is sound
 pub an_empty_writer : Soundness add_sum (record { page_size = 4; id = 0; capacity = 8; full_pages = 0; tip = []; flushed = None; durable = None; sync = Clean }) (at_rest [])
 an_empty_writer = empty_sound add_sum (record { page_size = 4; id = 0; capacity = 8; full_pages = 0; tip = []; flushed = None; durable = None; sync = Clean }) (at_rest []) refl refl refl (omega arith) (lit< tt) refl refl refl (λ name c is. absurd (cc is))
@@ -258,11 +299,14 @@ flush_is_done = record { readable = partial_whole (Write 16 efg_page) (abcd_page
 
 -- the writer after it is sound
 pub a_sound_dirty_writer : Soundness add_sum (after_write add_sum with_g 0 true) rewritten
-a_sound_dirty_writer = operated_sound add_sum with_g durable rewritten 0 true efg_page small_add_sum a_sound_writer refl (omega arith, omega arith) refl (WriteAt 16 16 false) flush_is_done
+a_sound_dirty_writer =
+    sound_of add_sum (after_write add_sum with_g 0 true) rewritten
+    (operated_consistent add_sum with_g durable rewritten 0 true efg_page small_add_sum (consistent_of add_sum with_g durable a_sound_writer) refl (omega arith, omega arith) refl (WriteAt 16 16 false) flush_is_done)
+    (refl, tt)
 
 -- each floor that was kept before the flush is kept in the midst of it, and there is only content
 pub it_stays : Stays add_sum 4 seven durable rewritten
-it_stays = operated_stays add_sum with_g durable rewritten 0 true efg_page small_add_sum a_sound_writer refl (omega arith, omega arith) refl (WriteAt 16 16 false) false flush_is_done
+it_stays = operated_stays add_sum with_g durable rewritten 0 true efg_page small_add_sum (consistent_of add_sum with_g durable a_sound_writer) refl (omega arith, omega arith) refl (WriteAt 16 16 false) false flush_is_done
 
 -- the old slot of "ef" is repeated, so page 1 is held by it in the midst of the flush
 pub ef_stays_held : Held add_sum 4 rewritten 1 First (0 ∷ 2 ∷ 0 ∷ 0 ∷ 0 ∷ 203 ∷ []) (101 ∷ 102 ∷ [])
@@ -618,7 +662,7 @@ g_is_not_covered would =
 pub covers_stay : CoversStay add_sum 4 seven flush_started (settled_disk (logged SyncAll false flush_started))
 covers_stay =
     settle_covers add_sum (record (after_write add_sum with_g 0 true) { sync = Pending 0 }) flush_started
-    (start_sound add_sum (after_write add_sum with_g 0 true) rewritten false a_sound_dirty_writer (λ name c is. absurd (cc is)))
+    (start_consistent add_sum (after_write add_sum with_g 0 true) rewritten false (consistent_of add_sum (after_write add_sum with_g 0 true) rewritten a_sound_dirty_writer) (λ name c is. absurd (cc is)))
     (settled_disk (logged SyncAll false flush_started)) (record { readable = refl; base = refl; since = refl; settled = refl; covers = refl })
 
 -- a device that forgot it would

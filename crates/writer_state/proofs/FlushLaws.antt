@@ -19,7 +19,7 @@ use Rattle.crash.specs.Full.{AreFull}
 use Rattle.crash.specs.Distinct.{DurableTells}
 use Rattle.crash.specs.Built.{kept_slot, kept_len, page_of, built_pages, built, durable_after, rest_written, written_pages}
 use Rattle.crash.specs.Contents.{latest, stored}
-use Rattle.writer_state.specs.Sound.{content, HasPage, TipPage, StateFits, StartsFit, MayFlush, Stands, CanWrite}
+use Rattle.writer_state.specs.Sound.{content, HasPage, TipPage, StateFits, StartsFit, MayFlush, Stands, CanWrite, IsIntact}
 use Rattle.crash.specs.Started.{AllSettled}
 use Rattle.crash.proofs.Disks.{latest-append}
 use Rattle.crash.proofs.Lists.{take_past, drop_past, within_append, slice_get-append_right}
@@ -215,23 +215,30 @@ module _ (sum : List ℕ → ℕ) (w : WriterState) (d e : Disk) (k : ℕ) (rest
       let P = w.page_size in
       let q = w.full_pages in
       let one = written_some P k w.tip rest can in
-      let front = take q (pages P d.readable) in
-      let pages_front : take (q + k) (pages P e.readable) ≡ front ++ built_pages sum P w.durable k w.tip =
-      ap (λ (l : List ℕ). take (q + k) (pages P l)) known ∙ first_written sum P q (written_pages k rest) w.durable w.tip d.readable begins ends k one.1 in
       record {
         some = stands.some;
         small = stands.small;
         done = readable ∙ ap (λ (l : List ℕ). applied (Write (q * (P + 12)) bytes) l) stands.done
             ∙ sym (latest-append d.base d.since (Write (q * (P + 12)) bytes ∷ []))
             ∙ sym (cc (base, since));
-        full = subst (λ (l : List (List ℕ)). AreFull sum P l) (sym pages_front)
-            (AreFull-append sum P front (built_pages sum P w.durable k w.tip) stands.full (built_full sum P w.durable k w.tip small stands.some stands.small stands.carries.0 one.2));
         tip_page = subst (λ (l : List ℕ). TipPage sum P (q + k) (drop (k * P) w.tip) l (rest_written sum (durable_after w.durable k) (drop (k * P) w.tip) rest)) (sym known)
             (tip_after sum w d.readable k rest small stands.some stands.small stands.carries can begins ends);
         state = tt;
         starts = settled;
         carries = kept_after sum P k w.durable w.tip stands.carries.0 stands.carries.1 stands.carries.2;
       }
+
+  -- its pages are full, and where those below its tip were, all are
+  pub flush_full : IsIntact sum w d → IsIntact sum (after_write sum w k rest) e
+  flush_full full =
+      let P = w.page_size in
+      let q = w.full_pages in
+      let one = written_some P k w.tip rest can in
+      let front = take q (pages P d.readable) in
+      let pages_front : take (q + k) (pages P e.readable) ≡ front ++ built_pages sum P w.durable k w.tip =
+      ap (λ (l : List ℕ). take (q + k) (pages P l)) known ∙ first_written sum P q (written_pages k rest) w.durable w.tip d.readable begins ends k one.1 in
+      subst (λ (l : List (List ℕ)). AreFull sum P l) (sym pages_front)
+      (AreFull-append sum P front (built_pages sum P w.durable k w.tip) full (built_full sum P w.durable k w.tip small stands.some stands.small stands.carries.0 one.2))
 
   -- so does a write that the device did
   pub operated_stands : (request : Request) → MayFlush w.sync w.flushed w.durable → Operated (Write (w.full_pages * (w.page_size + 12)) bytes) request false d e → Stands sum (after_write sum w k rest) e
@@ -286,7 +293,6 @@ module _ (sum : List ℕ → ℕ) (w : WriterState) (d e : Disk) (stands : Stand
     some = stands.some;
     small = stands.small;
     done = done;
-    full = subst (λ (l : List ℕ). AreFull sum w.page_size (take w.full_pages (pages w.page_size l))) (sym same) stands.full;
     tip_page = subst (λ (l : List ℕ). TipPage sum w.page_size w.full_pages w.tip l w.flushed) (sym same) stands.tip_page;
     state = fits;
     starts = starts;
@@ -310,7 +316,6 @@ module _ (sum : List ℕ → ℕ) (w : WriterState) (d : Disk) (stands : Stands 
     some = stands.some;
     small = stands.small;
     done = stands.done;
-    full = stands.full;
     tip_page = longer_tip sum w.page_size w.full_pages w.tip more d.readable w.flushed stands.tip_page;
     state = stands.state;
     starts = stands.starts;
@@ -327,7 +332,6 @@ module _ (sum : List ℕ → ℕ) (w : WriterState) (d : Disk) (stands : Stands 
     some = stands.some;
     small = stands.small;
     done = stands.done;
-    full = stands.full;
     tip_page = stands.tip_page;
     state = stands.state;
     starts = stands.starts;
@@ -337,14 +341,13 @@ module _ (sum : List ℕ → ℕ) (w : WriterState) (d : Disk) (stands : Stands 
 -- ---- from what is readable
 
 module _ (sum : List ℕ → ℕ) (w : WriterState) (d : Disk) (since : d.since ≡ []) (base : d.base ≡ d.readable) (some : 0 < w.page_size) (small : w.page_size < 2 ^ 16)
-    (full : AreFull sum w.page_size (take w.full_pages (pages w.page_size d.readable))) (carried : w.durable ≡ w.flushed) where
+    (carried : w.durable ≡ w.flushed) where
   -- with nothing unsynced a writer stands for a blob whose pages it knows
   pub settled_stands : StartsFit d w.sync → TipPage sum w.page_size w.full_pages w.tip d.readable w.flushed → Stands sum w d
   settled_stands starts tip_page = record {
     some = some;
     small = small;
     done = sym base ∙ ap (λ (os : List Operation). latest d.base os) (sym since);
-    full = full;
     tip_page = tip_page;
     state = settled_fits d w.sync since base;
     starts = starts;
@@ -355,7 +358,9 @@ module _ (sum : List ℕ → ℕ) (w : WriterState) (d : Disk) (since : d.since 
   pub exact_stands : StartsFit d w.sync → w.flushed ≡ None → length d.readable ≡ w.full_pages * (w.page_size + 12) → Stands sum w d
   exact_stands starts none size = settled_stands starts (subst (λ (f : Option ActiveChecksum). TipPage sum w.page_size w.full_pages w.tip d.readable f) (sym none) size)
 
-  -- the content is then the text
+module _ (sum : List ℕ → ℕ) (w : WriterState) (d : Disk) (since : d.since ≡ []) (base : d.base ≡ d.readable) (some : 0 < w.page_size) (small : w.page_size < 2 ^ 16)
+    (full : IsIntact sum w d) (carried : w.durable ≡ w.flushed) where
+  -- where the pages are full the content is then the text
   pub exact_content : w.tip ≡ [] → length d.readable ≡ w.full_pages * (w.page_size + 12) → content w d.readable ≡ text sum w.page_size d.readable
   exact_content empty size =
       ap (λ (l : List ℕ). stored w.page_size w.full_pages d.readable ++ l) empty

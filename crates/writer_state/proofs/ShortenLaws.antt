@@ -590,7 +590,7 @@ module _ (sum : List ℕ → ℕ) (P n : ℕ) (old new : Life) (at_rest : old.pr
 pub sound_text : (sum : List ℕ → ℕ) (w : WriterState) (d : Disk) → IsSound sum w d → kept_len w.flushed ≡ length w.tip → text sum w.page_size d.readable ≡ content w d.readable
 unfolding IsSound
 sound_text sum w d sound written =
-    let full = sound.stands.full in
+    let full = sound.full in
     let tip_page = sound.stands.tip_page in
     let reach = (tip_reach sum w.page_size w.full_pages w.tip d.readable w.flushed tip_page).0 in
     text_begins_content sum w d.readable full tip_page

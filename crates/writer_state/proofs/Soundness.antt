@@ -2,12 +2,12 @@
 -- slot brought up to date; and what makes one sound.
 use Rattle.std.proofs.Common.{◌≡◌, inl, inr, ◌⊎◌, ℕ, zero, suc, ◌+◌, ◌-◌, ◌*◌, ◌^◌, ◌<◌, ◌≤◌, List, [], ◌∷◌, ◌++◌, length, take, drop, slice_get, refl, sym, ◌∙◌, ap, subst, arith, length-append, length-take, length-take-le, mul-le-mul_right}
 use Rattle.std.specs.Prelude.{Option, Some, None, Bool, false}
-use Rattle.std.proofs.lemmas.Bool.{cases_order}
+use Rattle.std.proofs.lemmas.Bool.{cases_lt, cases_order}
 use Rattle.std.proofs.lemmas.List.{append-nil, take_all, take_at}
 use Rattle.disk.specs.Disk.{Disk, Operation, Operated, Request, Life, IsWhole, applied, coverings}
 use Rattle.disk.specs.Disk.Operation.{Write}
 use Rattle.page.specs.Slot.{slot_offset}
-use Rattle.page.specs.Page.{pages, slot_bytes, verified_len, value_len, text}
+use Rattle.page.specs.Page.{pages, slot_bytes, verified_len, value_len, text, text_of_pages}
 use Rattle.page.specs.declared.slot.Slot.{Slot}
 use Rattle.page.specs.declared.slot.ActiveChecksum.{ActiveChecksum}
 use Rattle.writer_state.specs.WriterState.{WriterState, after_write}
@@ -22,15 +22,17 @@ use Rattle.crash.specs.Kept.{AllKeep}
 use Rattle.crash.specs.Stays.{Stays}
 use Rattle.crash.specs.Looks.{SameButLog, Looked}
 use Rattle.crash.specs.Contents.{latest, stored}
-use Rattle.writer_state.specs.Sound.{content, HasPage, TipPage, StateFits, Stands, guard_slot, StartsFit, IsRepeated, MayFlush, IsSafe, Soundness, IsSound, LeavesItsContent, CanWrite}
+use Rattle.writer_state.specs.Sound.{content, HasPage, TipPage, StateFits, Stands, guard_slot, StartsFit, IsRepeated, MayFlush, IsSafe, Consistency, IsConsistent, IsIntact, IsSound, Soundness, LeavesItsContent, CanWrite}
 use Rattle.crash.proofs.Lists.{take_past, take_same}
 use Rattle.crash.proofs.Pages.{length-stored, pages_at, page_fits, page_is, pages_fit, length-pages}
-use Rattle.crash.proofs.Texts.{text_exact, text_of_part, value_at, verified_le_value, verified_len_le}
+use Rattle.crash.proofs.Texts.{text_exact, text_full, text_of_part, text_part, value_at, value_len_le, verified_le_value, verified_len_le}
 use Rattle.crash.proofs.BuiltLaws.{IsSmall, slot_len_of, slot_crc_of}
 use Rattle.writer_state.proofs.FlushLaws.{tip_reach, flush_reach, pages_written, flush_content, operated_stands, settle_stands, state_stands, fits_alike, starts_alike, alike_content, longer_stands, longer_content, carry_stands, settled_stands, exact_stands, length-content, content_in_page, content_in_tip}
-use Rattle.crash.proofs.Disks.{fixed_at_rest, operated_base, operated_since, latest_is_whole}
+use Rattle.crash.proofs.Disks.{base_is_whole, fixed_at_rest, operated_base, operated_since, latest_is_whole}
+use Rattle.disk.specs.Images.{only_image}
 use Rattle.crash.proofs.PageFacts.{page_begins, slot_at, slot_offset_le, own_beginning}
-use Rattle.crash.proofs.Promise.{keeps_at_rest, keeps_less, keeps_same, guards_at_rest, guards_longer, guards_less, guards_alike, held_alike, held_stays, leaves_page_below, write_leaves_below, part_of_beginning, SaysOnly, truthful_at_rest, truthful_alike, truthful_longer, only_content}
+use Rattle.crash.proofs.Promise.{keeps_at_rest, keeps_less, keeps_same, guards_at_rest, guards_longer, guards_less, guards_alike, held_alike, held_stays, leaves_page_below, write_leaves_below, part_of_beginning, SaysOnly, truthful_at_rest, truthful_alike, truthful_longer, only_content, whole_is_chance_free}
+use Rattle.crash.specs.Moments.{through_then}
 use Rattle.crash.proofs.Moments.{stays_itself, stays_alike, stays_settled, stays_guarded}
 use Rattle.crash.proofs.Spared.{flush_keeps_full, held_through_flush, guards_with_tip, truthful_through_flush}
 
@@ -140,22 +142,44 @@ guard_at_rest sum P full tip content (Some f) d small small_page since is after 
   held = subst (λ (l : List ℕ). Held sum P d full f.slot (slot_bytes f.len f.crc) (take f.len l)) (sym after) (held_at_rest sum P full tip f d small small_page since is);
 }
 
-module _ (sum : List ℕ → ℕ) (w : WriterState) (d : Disk) (since : d.since ≡ []) (base : d.base ≡ d.readable) (full : AreFull sum w.page_size (take w.full_pages (pages w.page_size d.readable)))
-    (tip_page : TipPage sum w.page_size w.full_pages w.tip d.readable w.flushed) where
-  -- with nothing unsynced all that is written is guarded
-  guards_written : 0 < w.page_size → Guards sum w.page_size (content w d.readable) (w.full_pages * w.page_size + kept_len w.flushed) d
-  guards_written some =
-      let P = w.page_size in
-      let begins : text sum P d.base ≡ take (length (text sum P d.base)) (content w d.readable) =
-      subst (λ (l : List ℕ). text sum P l ≡ take (length (text sum P l)) (content w d.readable)) (sym base) (text_begins_content sum w d.readable full tip_page) in
-      let size : length (text sum P d.base) ≡ w.full_pages * P + kept_len w.flushed = ap (λ (l : List ℕ). length (text sum P l)) base ∙ length-written_text sum w d.readable full tip_page in
-      guards_less sum P (content w d.readable) (length (text sum P d.base)) (w.full_pages * P + kept_len w.flushed) d (omega arith)
-      (guards_longer sum P (text sum P d.base) (content w d.readable) (length (text sum P d.base)) d begins (guards_at_rest sum P d some since))
+-- where a text goes past so many full pages, these are full
+long_text_full : (sum : List ℕ → ℕ) (P k : ℕ) (ps : List (List ℕ)) → k * P < length (text_of_pages sum P ps) → AreFull sum P (take k ps)
+long_text_full sum P zero ps long = tt
+long_text_full sum P (suc k) [] long = tt
+long_text_full sum P (suc k) (page ∷ rest) long =
+    let fits : value_len sum P page ≤ P = value_len_le sum P page in
+    elim (cases_lt (value_len sum P page) P) [
+      | inl part ↦
+          let short : length (text_of_pages sum P (page ∷ rest)) ≤ value_len sum P page = omega (arith, ap length (text_part sum P page rest part), length-take (value_len sum P page) page) in
+          absurd (omega (arith, long, short, part))
+      | inr enough ↦
+          let full : value_len sum P page ≡ P = omega (arith, enough, fits) in
+          let size : length (text_of_pages sum P (page ∷ rest)) ≤ P + length (text_of_pages sum P rest) =
+          omega (arith, ap length (text_full sum P page rest full), length-append (take P page) (text_of_pages sum P rest), length-take P page) in
+          (full, long_text_full sum P k rest (omega (arith, long, size)))
+    ]
 
+module _ (sum : List ℕ → ℕ) (w : WriterState) (d : Disk) (since : d.since ≡ []) (base : d.base ≡ d.readable)
+    (tip_page : TipPage sum w.page_size w.full_pages w.tip d.readable w.flushed) where
   reaches : w.full_pages * (w.page_size + 12) ≤ length d.readable
   reaches = (tip_reach sum w.page_size w.full_pages w.tip d.readable w.flushed tip_page).0
 
-  -- of the tip's page, what was flushed last
+  -- with nothing unsynced no whole state says anything but the content
+  truthful_written : IsTruthful sum w.page_size (content w d.readable) d
+  truthful_written =
+      truthful_at_rest sum w.page_size (content w d.readable) d since (subst (λ (l : List ℕ). SaysOnly sum w.page_size (content w d.readable) l) (sym base) (says_written sum w d.readable tip_page))
+
+  -- so the text is a beginning of it
+  text_begins : text sum w.page_size d.base ≡ take (length (text sum w.page_size d.base)) (content w d.readable)
+  text_begins = only_content sum w.page_size (content w d.readable) d d.base truthful_written (whole_is_chance_free sum w.page_size d d.base (base_is_whole d.base d.since))
+
+  -- and guarded
+  guards_text : 0 < w.page_size → Guards sum w.page_size (content w d.readable) (length (text sum w.page_size d.base)) d
+  guards_text some =
+      let told = text sum w.page_size d.base in
+      guards_longer sum w.page_size told (content w d.readable) (length told) d text_begins (guards_at_rest sum w.page_size d some since)
+
+  -- of the tip's page, what was flushed last is
   guard_written : IsSmall sum → w.page_size < 2 ^ 16 → TipGuard sum w.page_size (content w d.readable) d w.full_pages w.flushed
   guard_written small small_page =
       let P = w.page_size in
@@ -168,35 +192,60 @@ module _ (sum : List ℕ → ℕ) (w : WriterState) (d : Disk) (since : d.since 
   safe_at_rest : 0 < w.page_size → TipGuard sum w.page_size (content w d.readable) d w.full_pages w.flushed → IsRepeated w.sync w.flushed w.durable w.flushed → IsSafe sum w (content w d.readable) d
   safe_at_rest some guard repeats =
       let P = w.page_size in
-      record {
-        full = w.full_pages;
-        tip = w.flushed;
-        there = omega (arith, length-content w d.readable reaches);
-        pages = guards_less sum P (content w d.readable) (w.full_pages * P + kept_len w.flushed) (w.full_pages * P) d (omega arith) (guards_written some);
-        guard = guard;
-        base = omega (arith, ap (λ (l : List ℕ). length (text sum P l)) base, length-written_text sum w d.readable full tip_page);
-        position = inr (refl, repeats);
-      }
-
-  -- and no whole state says anything else
-  truthful_written : IsTruthful sum w.page_size (content w d.readable) d
-  truthful_written =
-      truthful_at_rest sum w.page_size (content w d.readable) d since (subst (λ (l : List ℕ). SaysOnly sum w.page_size (content w d.readable) l) (sym base) (says_written sum w d.readable tip_page))
+      let told = text sum P d.base in
+      elim (cases_lt (w.full_pages * P) (length told)) [
+        | inl past ↦
+            let same : told ≡ text sum P d.readable = ap (λ (l : List ℕ). text sum P l) base in
+            let full : IsIntact sum w d = long_text_full sum P w.full_pages (pages P d.readable) (omega (arith, past, ap length same)) in
+            record {
+              floor = w.full_pages * P;
+              tip = w.flushed;
+              there = omega (arith, length-content w d.readable reaches);
+              pages = guards_less sum P (content w d.readable) (length told) (w.full_pages * P) d (omega (arith, past)) (guards_text some);
+              guard = guard;
+              base = omega (arith, ap length same, length-written_text sum w d.readable full tip_page);
+              position = inr (refl, repeats);
+            }
+        | inr within ↦
+            record {
+              floor = length told;
+              tip = None;
+              there = omega (arith, ap length text_begins, length-take (length told) (content w d.readable));
+              pages = guards_text some;
+              guard = tt;
+              base = omega arith;
+              position = inl (within, refl);
+            }
+      ]
 
 -- ---- what is safe
 
--- all that is safe is guarded
-pub safe_guards : (sum : List ℕ → ℕ) (P : ℕ) (content : List ℕ) (d : Disk) (full : ℕ) (tip : Option ActiveChecksum) → full * P ≤ length content → Guards sum P content (full * P) d → TipGuard sum P content d full tip
+-- the tip's page with the pages before it
+tip_guards : (sum : List ℕ → ℕ) (P : ℕ) (content : List ℕ) (d : Disk) (full : ℕ) (tip : Option ActiveChecksum) → full * P ≤ length content → Guards sum P content (full * P) d → TipGuard sum P content d full tip
     → (full * P + kept_len tip ≤ length content) × Guards sum P content (full * P + kept_len tip) d
-safe_guards sum P content d full None there guards guard = (omega arith, guards_less sum P content (full * P) (full * P + 0) d (omega arith) guards)
-safe_guards sum P content d full (Some f) there guards guard = (guard.there, guards_with_tip sum P full content f.len d f.slot (slot_bytes f.len f.crc) guard.there guards guard.held)
+tip_guards sum P content d full None there guards guard = (omega arith, guards_less sum P content (full * P) (full * P + 0) d (omega arith) guards)
+tip_guards sum P content d full (Some f) there guards guard = (guard.there, guards_with_tip sum P full content f.len d f.slot (slot_bytes f.len f.crc) guard.there guards guard.held)
+
+-- all that is safe is guarded
+pub safe_guards : (sum : List ℕ → ℕ) (w : WriterState) (content : List ℕ) (d : Disk) (safe : IsSafe sum w content d)
+    → (safe.floor + kept_len safe.tip ≤ length content) × Guards sum w.page_size content (safe.floor + kept_len safe.tip) d
+safe_guards sum w content d safe =
+    let P = w.page_size in
+    elim safe.position [
+      | inl below ↦
+          let none : kept_len safe.tip ≡ 0 = ap kept_len below.1 in
+          (omega (arith, safe.there, none), guards_less sum P content safe.floor (safe.floor + kept_len safe.tip) d (omega (arith, none)) safe.pages)
+      | inr here ↦
+          subst (λ (n : ℕ). (n + kept_len safe.tip ≤ length content) × Guards sum P content (n + kept_len safe.tip) d) (sym here.0)
+          (tip_guards sum P content d w.full_pages safe.tip (omega (arith, safe.there, here.0)) (subst (λ (n : ℕ). Guards sum P content n d) here.0 safe.pages) safe.guard)
+    ]
 
 -- where no more was durable, and no whole state says anything else, nothing is owed
 pub safe_stays : (sum : List ℕ → ℕ) (w : WriterState) (content : List ℕ) (d e : Disk) → e.base ≡ d.base → IsSafe sum w content e → IsTruthful sum w.page_size content e → IsVouched sum w.page_size e → Stays sum w.page_size content d e
 safe_stays sum w content d e base safe truthful vouched =
     let P = w.page_size in
-    let guarded = safe_guards sum P content e safe.full safe.tip safe.there safe.pages safe.guard in
-    stays_guarded sum P content (safe.full * P + kept_len safe.tip) d e (omega (arith, safe.base, ap (λ (l : List ℕ). length (text sum P l)) base)) guarded.1 truthful vouched
+    let guarded = safe_guards sum w content e safe in
+    stays_guarded sum P content (safe.floor + kept_len safe.tip) d e (omega (arith, safe.base, ap (λ (l : List ℕ). length (text sum P l)) base)) guarded.1 truthful vouched
 
 -- a slot that stays, over to a content that goes on
 guard_longer : (sum : List ℕ → ℕ) (P : ℕ) (content longer : List ℕ) (d : Disk) (full : ℕ) (tip : Option ActiveChecksum) → content ≡ take (length content) longer → TipGuard sum P content d full tip → TipGuard sum P longer d full tip
@@ -250,7 +299,7 @@ offset_after : (full k : ℕ) (durable : Option ActiveChecksum) → (full < full
 offset_after full zero durable = inr (omega arith, refl)
 offset_after full (suc k) durable = inl (omega arith)
 
-module _ (sum : List ℕ → ℕ) (w : WriterState) (d e : Disk) (k : ℕ) (rest : Bool) (bytes : List ℕ) (small : IsSmall sum) (sound : Soundness sum w d) (ready : MayFlush w.sync w.flushed w.durable)
+module _ (sum : List ℕ → ℕ) (w : WriterState) (d e : Disk) (k : ℕ) (rest : Bool) (bytes : List ℕ) (small : IsSmall sum) (sound : Consistency sum w d) (ready : MayFlush w.sync w.flushed w.durable)
     (can : CanWrite w.page_size w.tip k rest) (is : bytes ≡ built sum w.page_size w.durable (written_pages k rest) w.tip) where
   after : drop (w.full_pages * w.page_size) (content w d.readable) ≡ w.tip
   after =
@@ -265,36 +314,54 @@ module _ (sum : List ℕ → ℕ) (w : WriterState) (d e : Disk) (k : ℕ) (rest
       let q = w.full_pages in
       let all = content w d.readable in
       let safe = sound.safe in
-      let few : safe.full * P ≤ q * P = elim safe.position [
-        | inl below ↦ mul-le-mul_right P (let le : safe.full ≤ q = omega arith in le)
-        | inr here ↦ mul-le-mul_right P (let le : safe.full ≤ q = omega (arith, here.0) in le)
+      let few : safe.floor ≤ q * P = elim safe.position [
+        | inl below ↦ below.0
+        | inr here ↦ omega (arith, here.0)
       ] in
-      let kept : Guards sum P all (safe.full * P) e = flush_keeps_full sum P q all (safe.full * P) d e bytes base since few safe.pages in
-      let text_base : length (text sum P e.base) ≤ safe.full * P + kept_len safe.tip = omega (arith, safe.base, ap (λ (l : List ℕ). length (text sum P l)) base) in
+      let kept : Guards sum P all safe.floor e = flush_keeps_full sum P q all safe.floor d e bytes base since few safe.pages in
+      let text_base : length (text sum P e.base) ≤ safe.floor + kept_len safe.tip = omega (arith, safe.base, ap (λ (l : List ℕ). length (text sum P l)) base) in
+      let more : q * P ≤ (q + k) * P = mul-le-mul_right P (let le : q ≤ q + k = omega arith in le) in
       elim safe.position [
         | inl below ↦
-            let in_front : (safe.full + 1) * (P + 12) ≤ q * (P + 12) = mul-le-mul_right (P + 12) (let le : safe.full + 1 ≤ q = omega arith in le) in
             record {
-              full = safe.full;
-              tip = safe.tip;
+              floor = safe.floor;
+              tip = None;
               there = safe.there;
               pages = kept;
-              guard = guard_below sum P all d e safe.full (q * (P + 12)) bytes safe.tip base since in_front safe.guard;
-              base = text_base;
-              position = inl (omega arith);
+              guard = tt;
+              base = omega (arith, text_base, ap kept_len below.1);
+              position = inl (omega (arith, few, more), refl);
             }
         | inr here ↦
             let repeated : safe.tip ≡ w.durable = repeated_is w.sync w.flushed w.durable safe.tip ready here.1 in
-            let guard : TipGuard sum P all d q w.durable = subst (λ (n : ℕ). TipGuard sum P all d n w.durable) here.0 (subst (λ (f : Option ActiveChecksum). TipGuard sum P all d safe.full f) repeated safe.guard) in
-            record {
-              full = q;
-              tip = w.durable;
-              there = omega (arith, safe.there, ap (λ (n : ℕ). n * P) here.0);
-              pages = subst (λ (n : ℕ). Guards sum P all (n * P) e) here.0 kept;
-              guard = guard_repeated sum P all d e q (written_pages k rest) w.tip w.durable base (since ∙ ap (λ (l : List ℕ). d.since ++ Write (q * (P + 12)) l ∷ []) is) after guard;
-              base = omega (arith, text_base, ap (λ (n : ℕ). n * P) here.0, ap kept_len repeated);
-              position = offset_after q k w.durable;
-            }
+            let front : Guards sum P all (q * P) e = subst (λ (n : ℕ). Guards sum P all n e) here.0 kept in
+            let there : q * P ≤ length all = omega (arith, safe.there, here.0) in
+            let guard : TipGuard sum P all e q w.durable = guard_repeated sum P all d e q (written_pages k rest) w.tip w.durable base (since ∙ ap (λ (l : List ℕ). d.since ++ Write (q * (P + 12)) l ∷ []) is) after
+            (subst (λ (f : Option ActiveChecksum). TipGuard sum P all d q f) repeated safe.guard) in
+            elim (offset_after q k w.durable) [
+              | inl less ↦
+                  let held = tip_guards sum P all e q w.durable there front guard in
+                  let next : (q + 1) * P ≤ (q + k) * P = mul-le-mul_right P (let le : q + 1 ≤ q + k = omega (arith, less) in le) in
+                  record {
+                    floor = q * P + kept_len w.durable;
+                    tip = None;
+                    there = held.0;
+                    pages = held.1;
+                    guard = tt;
+                    base = omega (arith, text_base, here.0, ap kept_len repeated);
+                    position = inl (omega (arith, next, sound.stands.carries.0), refl);
+                  }
+              | inr same ↦
+                  record {
+                    floor = q * P;
+                    tip = w.durable;
+                    there = there;
+                    pages = front;
+                    guard = subst (λ (n : ℕ). TipGuard sum P all e n w.durable) same.0 guard;
+                    base = omega (arith, text_base, here.0, ap kept_len repeated);
+                    position = inr (ap (λ (n : ℕ). n * P) same.0, same.1);
+                  }
+            ]
       ]
 
   -- and no whole state says anything but the content
@@ -324,8 +391,8 @@ module _ (sum : List ℕ → ℕ) (w : WriterState) (d e : Disk) (k : ℕ) (rest
       sound.good sound.vouched
 
   -- a flush that is done keeps soundness
-  pub operated_sound : (request : Request) → Operated (Write (w.full_pages * (w.page_size + 12)) bytes) request false d e → Soundness sum (after_write sum w k rest) e
-  operated_sound request done =
+  pub operated_consistent : (request : Request) → Operated (Write (w.full_pages * (w.page_size + 12)) bytes) request false d e → Consistency sum (after_write sum w k rest) e
+  operated_consistent request done =
       let o : Operation = Write (w.full_pages * (w.page_size + 12)) bytes in
       let base = operated_base o request false d e done in
       let since = operated_since o request false d e done in
@@ -350,21 +417,25 @@ module _ (sum : List ℕ → ℕ) (w : WriterState) (d e : Disk) (k : ℕ) (rest
   -- nor does it where it is made durable
   pub operated_settle_stays : (request : Request) (f : Disk) → Operated (Write (w.full_pages * (w.page_size + 12)) bytes) request false d e → f.base ≡ e.readable → f.since ≡ [] → Stays sum w.page_size (content w d.readable) d f
   operated_settle_stays request f done base since =
-      stays_settled sum w.page_size (content w d.readable) d e f (base ∙ (operated_sound request done).stands.done) since (operated_stays request false done)
+      stays_settled sum w.page_size (content w d.readable) d e f (base ∙ (operated_consistent request done).stands.done) since (operated_stays request false done)
 
 -- ---- the same bytes in another state
 
-module _ (sum : List ℕ → ℕ) (w : WriterState) (d e : Disk) (sound : Soundness sum w d) (same : e.readable ≡ d.readable) where
+-- pages that are full stay so
+pub intact_still : (sum : List ℕ → ℕ) (w : WriterState) (d e : Disk) → e.readable ≡ d.readable → IsIntact sum w d → IsIntact sum w e
+intact_still sum w d e same full = subst (λ (l : List ℕ). AreFull sum w.page_size (take w.full_pages (pages w.page_size l))) (sym same) full
+
+module _ (sum : List ℕ → ℕ) (w : WriterState) (d e : Disk) (sound : Consistency sum w d) (same : e.readable ≡ d.readable) where
   -- a sync that is done keeps soundness, and leaves the writer clean
-  pub settle_sound : (s : SyncState) → IsSmall sum → e.base ≡ d.readable → e.since ≡ [] → StartsFit e s → IsRepeated s w.flushed w.durable w.flushed → Soundness sum (record w { sync = s }) e
-  settle_sound s small base since starts repeats =
+  pub settle_consistent : (s : SyncState) → IsSmall sum → e.base ≡ d.readable → e.since ≡ [] → StartsFit e s → IsRepeated s w.flushed w.durable w.flushed → Consistency sum (record w { sync = s }) e
+  settle_consistent s small base since starts repeats =
       let stands = settle_stands sum w d e sound.stands same s base since starts in
       let at_rest : e.base ≡ e.readable = base ∙ sym same in
       record {
         stands = stands;
-        safe = safe_at_rest sum (record w { sync = s }) e since at_rest stands.full stands.tip_page stands.some
-            (guard_written sum (record w { sync = s }) e since at_rest stands.full stands.tip_page small stands.small) repeats;
-        truthful = truthful_written sum (record w { sync = s }) e since at_rest stands.full stands.tip_page;
+        safe = safe_at_rest sum (record w { sync = s }) e since at_rest stands.tip_page stands.some
+            (guard_written sum (record w { sync = s }) e since at_rest stands.tip_page small stands.small) repeats;
+        truthful = truthful_written sum (record w { sync = s }) e since at_rest stands.tip_page;
         vouched = vouched_at_rest sum w.page_size e since;
         good = good_from_settles sum w.page_size w.full_pages d e (subst (λ (l : List ℕ). IsWhole d.base d.since l) (sym (base ∙ sound.stands.done)) (latest_is_whole d.base d.since)) since sound.good;
       }
@@ -375,19 +446,19 @@ module _ (sum : List ℕ → ℕ) (w : WriterState) (d e : Disk) (sound : Soundn
       stays_settled sum w.page_size (content w d.readable) d d e (base ∙ sound.stands.done) since (stays_itself sum w.page_size (content w d.readable) d sound.truthful sound.vouched)
 
   -- a disk with the same bytes, base and operations is as sound, in any state that fits it and lets no other slot be repeated
-  pub same_bytes_sound : (s : SyncState) → e.base ≡ d.base → e.since ≡ d.since → StateFits e s → StartsFit e s
-      → ((tip : Option ActiveChecksum) → IsRepeated w.sync w.flushed w.durable tip → IsRepeated s w.flushed w.durable tip) → Soundness sum (record w { sync = s }) e
-  same_bytes_sound s base since fits starts repeated =
+  pub same_bytes_consistent : (s : SyncState) → e.base ≡ d.base → e.since ≡ d.since → StateFits e s → StartsFit e s
+      → ((tip : Option ActiveChecksum) → IsRepeated w.sync w.flushed w.durable tip → IsRepeated s w.flushed w.durable tip) → Consistency sum (record w { sync = s }) e
+  same_bytes_consistent s base since fits starts repeated =
       let safe = sound.safe in
       let now : content w d.readable ≡ content w e.readable = sym (alike_content sum w d e sound.stands same) in
       record {
         stands = state_stands sum w d e sound.stands same s (same ∙ sound.stands.done ∙ sym (cc (base, since))) fits starts;
         safe = subst (λ (l : List ℕ). IsSafe sum (record w { sync = s }) l e) now (record {
-          full = safe.full;
+          floor = safe.floor;
           tip = safe.tip;
           there = safe.there;
-          pages = guards_alike sum w.page_size (content w d.readable) (safe.full * w.page_size) d e base since safe.pages;
-          guard = guard_alike sum w.page_size (content w d.readable) d e safe.full safe.tip base since safe.guard;
+          pages = guards_alike sum w.page_size (content w d.readable) safe.floor d e base since safe.pages;
+          guard = guard_alike sum w.page_size (content w d.readable) d e w.full_pages safe.tip base since safe.guard;
           base = omega (arith, safe.base, ap (λ (l : List ℕ). length (text sum w.page_size l)) base);
           position = elim safe.position [
             | inl below ↦ inl below
@@ -400,9 +471,9 @@ module _ (sum : List ℕ → ℕ) (w : WriterState) (d e : Disk) (sound : Soundn
       }
 
   -- so after a read
-  pub alike_sound : e.base ≡ d.base → e.since ≡ d.since → coverings e ≡ coverings d → e.settled ≡ d.settled → Soundness sum w e
-  alike_sound base since covers settled =
-      same_bytes_sound w.sync base since (fits_alike d e w.sync same base since sound.stands.state) (starts_alike d e w.sync same since covers settled sound.stands.starts) (λ tip is. is)
+  pub alike_consistent : e.base ≡ d.base → e.since ≡ d.since → coverings e ≡ coverings d → e.settled ≡ d.settled → Consistency sum w e
+  alike_consistent base since covers settled =
+      same_bytes_consistent w.sync base since (fits_alike d e w.sync same base since sound.stands.state) (starts_alike d e w.sync same since covers settled sound.stands.starts) (λ tip is. is)
 
   -- and nothing is owed
   pub alike_stays : e.base ≡ d.base → e.since ≡ d.since → Stays sum w.page_size (content w d.readable) d e
@@ -410,15 +481,15 @@ module _ (sum : List ℕ → ℕ) (w : WriterState) (d e : Disk) (sound : Soundn
 
 -- ---- what a crash keeps
 
-module _ (sum : List ℕ → ℕ) (w : WriterState) (d : Disk) (sound : Soundness sum w d) (clean : w.sync ≡ Clean) where
+module _ (sum : List ℕ → ℕ) (w : WriterState) (d : Disk) (sound : Consistency sum w d) (full : IsIntact sum w d) (clean : w.sync ≡ Clean) where
   at_rest : (d.since ≡ []) × (d.base ≡ d.readable)
   at_rest = subst (λ (s : SyncState). StateFits d s) clean sound.stands.state
 
   -- so it keeps what is written
   pub clean_keeps : AllKeep sum w.page_size (content w d.readable) (w.full_pages * w.page_size + kept_len w.flushed) d
   clean_keeps =
-      let written = length-written_text sum w d.readable sound.stands.full sound.stands.tip_page in
-      let begins = text_begins_content sum w d.readable sound.stands.full sound.stands.tip_page in
+      let written = length-written_text sum w d.readable full sound.stands.tip_page in
+      let begins = text_begins_content sum w d.readable full sound.stands.tip_page in
       let n = w.full_pages * w.page_size + kept_len w.flushed in
       let told = text sum w.page_size d.readable in
       let all : AllKeep sum w.page_size told (length told) d = subst (λ (l : List ℕ). AllKeep sum w.page_size (text sum w.page_size l) (length (text sum w.page_size l)) d) at_rest.1 (keeps_at_rest sum w.page_size d at_rest.0) in
@@ -446,10 +517,10 @@ carried_stands sum w d Clean stands = carry_stands sum w d stands
 carried_stands sum w d Dirty stands = stands
 carried_stands sum w d (Pending name) stands = stands
 
-module _ (sum : List ℕ → ℕ) (w : WriterState) (d : Disk) (sound : Soundness sum w d) where
+module _ (sum : List ℕ → ℕ) (w : WriterState) (d : Disk) (sound : Consistency sum w d) where
   -- a longer tip keeps soundness
-  pub longer_sound : (more : List ℕ) → Soundness sum (record w { tip = w.tip ++ more }) d
-  longer_sound more =
+  pub longer_consistent : (more : List ℕ) → Consistency sum (record w { tip = w.tip ++ more }) d
+  longer_consistent more =
       let P = w.page_size in
       let all = content w d.readable in
       let safe = sound.safe in
@@ -458,11 +529,11 @@ module _ (sum : List ℕ → ℕ) (w : WriterState) (d : Disk) (sound : Soundnes
       record {
         stands = longer_stands sum w d sound.stands more;
         safe = subst (λ (l : List ℕ). IsSafe sum (record w { tip = w.tip ++ more }) l d) now (record {
-          full = safe.full;
+          floor = safe.floor;
           tip = safe.tip;
           there = omega (arith, safe.there, length-append all more);
-          pages = guards_longer sum P all (all ++ more) (safe.full * P) d begins safe.pages;
-          guard = guard_longer sum P all (all ++ more) d safe.full safe.tip begins safe.guard;
+          pages = guards_longer sum P all (all ++ more) safe.floor d begins safe.pages;
+          guard = guard_longer sum P all (all ++ more) d w.full_pages safe.tip begins safe.guard;
           base = safe.base;
           position = safe.position;
         });
@@ -472,13 +543,13 @@ module _ (sum : List ℕ → ℕ) (w : WriterState) (d : Disk) (sound : Soundnes
       }
 
   -- so does a durable slot that is brought up to date: a flush may repeat it
-  pub carry_sound : Soundness sum (record w { durable = guard_slot w.sync w.flushed w.durable }) d
-  carry_sound =
+  pub carry_consistent : Consistency sum (record w { durable = guard_slot w.sync w.flushed w.durable }) d
+  carry_consistent =
       let safe = sound.safe in
       record {
         stands = carried_stands sum w d w.sync sound.stands;
         safe = record {
-          full = safe.full;
+          floor = safe.floor;
           tip = safe.tip;
           there = safe.there;
           pages = safe.pages;
@@ -511,44 +582,43 @@ good_at_rest sum P full tip d flushed since base tip_page good = λ whole is_who
     ]
 
 module _ (sum : List ℕ → ℕ) (w : WriterState) (d : Disk) (since : d.since ≡ []) (base : d.base ≡ d.readable) (some : 0 < w.page_size) (small : w.page_size < 2 ^ 16)
-    (full : AreFull sum w.page_size (take w.full_pages (pages w.page_size d.readable))) (carried : w.durable ≡ w.flushed) where
+    (carried : w.durable ≡ w.flushed) where
   repeats : (s : SyncState) → IsRepeated s w.flushed w.durable w.flushed
   repeats Clean = refl
   repeats Dirty = sym carried
   repeats (Pending name) = tt
 
   -- with nothing unsynced a writer is sound that knows the blob's pages
-  pub settled_sound : StartsFit d w.sync → IsSmall sum → TipPage sum w.page_size w.full_pages w.tip d.readable w.flushed → PageIsGood sum w.page_size w.full_pages d.readable → Soundness sum w d
-  settled_sound starts small_sum tip_page good = record {
+  pub settled_consistent : StartsFit d w.sync → IsSmall sum → TipPage sum w.page_size w.full_pages w.tip d.readable w.flushed → PageIsGood sum w.page_size w.full_pages d.readable → Consistency sum w d
+  settled_consistent starts small_sum tip_page good = record {
     vouched = vouched_at_rest sum w.page_size d since;
     good = good_at_rest sum w.page_size w.full_pages w.tip d w.flushed since base tip_page good;
-    stands = settled_stands sum w d since base some small full carried starts tip_page;
-    safe = safe_at_rest sum w d since base full tip_page some (guard_written sum w d since base full tip_page small_sum small) (repeats w.sync);
-    truthful = truthful_written sum w d since base full tip_page;
+    stands = settled_stands sum w d since base some small carried starts tip_page;
+    safe = safe_at_rest sum w d since base tip_page some (guard_written sum w d since base tip_page small_sum small) (repeats w.sync);
+    truthful = truthful_written sum w d since base tip_page;
   }
 
   -- the blob ends with a full page
-  pub exact_sound : StartsFit d w.sync → w.flushed ≡ None → length d.readable ≡ w.full_pages * (w.page_size + 12) → Soundness sum w d
-  exact_sound starts none size =
+  pub exact_consistent : StartsFit d w.sync → w.flushed ≡ None → length d.readable ≡ w.full_pages * (w.page_size + 12) → Consistency sum w d
+  exact_consistent starts none size =
       let tip_page : TipPage sum w.page_size w.full_pages w.tip d.readable w.flushed = subst (λ (f : Option ActiveChecksum). TipPage sum w.page_size w.full_pages w.tip d.readable f) (sym none) size in
       record {
-        stands = exact_stands sum w d since base some small full carried starts none size;
-        safe = safe_at_rest sum w d since base full tip_page some
+        stands = exact_stands sum w d since base some small carried starts none size;
+        safe = safe_at_rest sum w d since base tip_page some
             (subst (λ (f : Option ActiveChecksum). TipGuard sum w.page_size (content w d.readable) d w.full_pages f) (sym none) tt) (repeats w.sync);
-        truthful = truthful_written sum w d since base full tip_page;
+        truthful = truthful_written sum w d since base tip_page;
         vouched = vouched_at_rest sum w.page_size d since;
         good = good_from_end sum w.page_size w.full_pages d since (omega (arith, size, ap length base));
       }
 
   -- the blob ends with the tip's page
-  pub page_sound : StartsFit d w.sync → IsSmall sum → (a : ActiveChecksum) → w.flushed ≡ Some a → HasPage sum w.page_size w.full_pages w.tip d.readable a → PageIsGood sum w.page_size w.full_pages d.readable → Soundness sum w d
-  page_sound starts small_sum a is has good = settled_sound starts small_sum (subst (λ (f : Option ActiveChecksum). TipPage sum w.page_size w.full_pages w.tip d.readable f) (sym is) has) good
+  pub page_consistent : StartsFit d w.sync → IsSmall sum → (a : ActiveChecksum) → w.flushed ≡ Some a → HasPage sum w.page_size w.full_pages w.tip d.readable a → PageIsGood sum w.page_size w.full_pages d.readable → Consistency sum w d
+  page_consistent starts small_sum a is has good = settled_consistent starts small_sum (subst (λ (f : Option ActiveChecksum). TipPage sum w.page_size w.full_pages w.tip d.readable f) (sym is) has) good
 
--- a writer over an empty blob is sound
-pub empty_sound : (sum : List ℕ → ℕ) (w : WriterState) (d : Disk) → d.readable ≡ [] → d.base ≡ [] → d.since ≡ [] → 0 < w.page_size → w.page_size < 2 ^ 16 → w.full_pages ≡ 0 → w.flushed ≡ None → w.durable ≡ None → StartsFit d w.sync → Soundness sum w d
-empty_sound sum w d readable base since some small full flushed durable starts =
-    exact_sound sum w d since (base ∙ sym readable) some small
-    (subst (λ (n : ℕ). AreFull sum w.page_size (take n (pages w.page_size d.readable))) (sym full) tt)
+-- a writer over an empty blob is consistent
+pub empty_consistent : (sum : List ℕ → ℕ) (w : WriterState) (d : Disk) → d.readable ≡ [] → d.base ≡ [] → d.since ≡ [] → 0 < w.page_size → w.page_size < 2 ^ 16 → w.full_pages ≡ 0 → w.flushed ≡ None → w.durable ≡ None → StartsFit d w.sync → Consistency sum w d
+empty_consistent sum w d readable base since some small full flushed durable starts =
+    exact_consistent sum w d since (base ∙ sym readable) some small
     (durable ∙ sym flushed) starts flushed
     (omega (arith, ap length readable, ap (λ (n : ℕ). n * (w.page_size + 12)) full))
 
@@ -559,11 +629,67 @@ same_parts : (d e : Disk) → SameButLog d e → (e.readable ≡ d.readable) × 
 same_parts d e is = (ap (λ (x : Disk). x.readable) is, ap (λ (x : Disk). x.base) is, ap (λ (x : Disk). x.since) is)
 
 -- chance aside, a crash leaves of a sound writer's content a beginning
-pub sound_leaves : (sum : List ℕ → ℕ) (w : WriterState) (d : Disk) → IsSound sum w d → LeavesItsContent sum w d
-unfolding IsSound
-sound_leaves sum w d sound = record { only = λ image is_image free. inl (only_content sum w.page_size (content w d.readable) d image sound.truthful free); vouched = sound.vouched }
+pub consistent_leaves : (sum : List ℕ → ℕ) (w : WriterState) (d : Disk) → IsConsistent sum w d → LeavesItsContent sum w d
+unfolding IsConsistent
+consistent_leaves sum w d sound = record { only = λ image is_image free. inl (only_content sum w.page_size (content w d.readable) d image sound.truthful free); vouched = sound.vouched }
 
-module _ (sum : List ℕ → ℕ) (w : WriterState) (old new : Life) (sound : Soundness sum w old.present) (looked : Looked old new) where
+module _ (sum : List ℕ → ℕ) (w : WriterState) (old new : Life) (sound : Consistency sum w old.present) (looked : Looked old new) where
   -- a call that only reads keeps soundness
-  pub looked_sound : Soundness sum w new.present
-  looked_sound = let same = same_parts old.present new.present looked.same in alike_sound sum w old.present new.present sound same.0 same.1 same.2 (ap (λ (x : Disk). coverings x) looked.same) (ap (λ (x : Disk). x.settled) looked.same)
+  pub looked_consistent : Consistency sum w new.present
+  looked_consistent = let same = same_parts old.present new.present looked.same in alike_consistent sum w old.present new.present sound same.0 same.1 same.2 (ap (λ (x : Disk). coverings x) looked.same) (ap (λ (x : Disk). x.settled) looked.same)
+
+  -- and the content
+  pub looked_content : content w new.present.readable ≡ content w old.present.readable
+  looked_content = ap (λ (l : List ℕ). content w l) (same_parts old.present new.present looked.same).0
+
+  -- and owes nothing
+  pub looked_stays : StaysThrough sum w.page_size (content w old.present.readable) old new
+  looked_stays = through_then (SameButLog old.present) (Stays sum w.page_size (content w old.present.readable) old.present) old new
+      (λ d is. let same = same_parts old.present d is in alike_stays sum w old.present d sound same.0 same.1 same.2) looked.through
+
+-- ---- a blob in which no page is damaged
+
+pub consistent_of : (sum : List ℕ → ℕ) (w : WriterState) (d : Disk) → Soundness sum w d → Consistency sum w d
+consistent_of sum w d sound = record { stands = sound.stands; safe = sound.safe; truthful = sound.truthful; vouched = sound.vouched; good = sound.good }
+
+pub sound_of : (sum : List ℕ → ℕ) (w : WriterState) (d : Disk) → Consistency sum w d → IsIntact sum w d → Soundness sum w d
+sound_of sum w d holds full = record { stands = holds.stands; safe = holds.safe; truthful = holds.truthful; vouched = holds.vouched; good = holds.good; full = full }
+
+-- a sound writer is consistent, and its pages are full
+pub sound_holds_together : (sum : List ℕ → ℕ) (w : WriterState) (d : Disk) → IsSound sum w d → IsConsistent sum w d
+unfolding IsSound IsConsistent
+sound_holds_together sum w d sound = consistent_of sum w d sound
+
+pub sound_is_intact : (sum : List ℕ → ℕ) (w : WriterState) (d : Disk) → IsSound sum w d → IsIntact sum w d
+unfolding IsSound
+sound_is_intact sum w d sound = sound.full
+
+-- and one that is both is sound
+pub intact_is_sound : (sum : List ℕ → ℕ) (w : WriterState) (d : Disk) → IsConsistent sum w d → IsIntact sum w d → IsSound sum w d
+unfolding IsSound IsConsistent
+intact_is_sound sum w d holds full = sound_of sum w d holds full
+
+pub sound_leaves : (sum : List ℕ → ℕ) (w : WriterState) (d : Disk) → IsSound sum w d → LeavesItsContent sum w d
+sound_leaves sum w d sound = consistent_leaves sum w d (sound_holds_together sum w d sound)
+
+pub looked_sound : (sum : List ℕ → ℕ) (w : WriterState) (old new : Life) → Soundness sum w old.present → Looked old new → Soundness sum w new.present
+looked_sound sum w old new sound looked =
+    sound_of sum w new.present (looked_consistent sum w old new (consistent_of sum w old.present sound) looked)
+    (intact_still sum w old.present new.present (same_parts old.present new.present looked.same).0 sound.full)
+
+module _ (sum : List ℕ → ℕ) (w : WriterState) (d : Disk) (since : d.since ≡ []) (base : d.base ≡ d.readable) (some : 0 < w.page_size) (small : w.page_size < 2 ^ 16) (full : IsIntact sum w d) (carried : w.durable ≡ w.flushed) where
+  -- with nothing unsynced a writer that knows the blob's pages is sound where they are full
+  pub settled_sound : StartsFit d w.sync → IsSmall sum → TipPage sum w.page_size w.full_pages w.tip d.readable w.flushed → PageIsGood sum w.page_size w.full_pages d.readable → Soundness sum w d
+  settled_sound starts small_sum tip_page good = sound_of sum w d (settled_consistent sum w d since base some small carried starts small_sum tip_page good) full
+
+  pub exact_sound : StartsFit d w.sync → w.flushed ≡ None → length d.readable ≡ w.full_pages * (w.page_size + 12) → Soundness sum w d
+  exact_sound starts none size = sound_of sum w d (exact_consistent sum w d since base some small carried starts none size) full
+
+  pub page_sound : StartsFit d w.sync → IsSmall sum → (a : ActiveChecksum) → w.flushed ≡ Some a → HasPage sum w.page_size w.full_pages w.tip d.readable a → PageIsGood sum w.page_size w.full_pages d.readable → Soundness sum w d
+  page_sound starts small_sum a is has good = sound_of sum w d (page_consistent sum w d since base some small carried starts small_sum a is has good) full
+
+-- a writer over an empty blob is
+pub empty_sound : (sum : List ℕ → ℕ) (w : WriterState) (d : Disk) → d.readable ≡ [] → d.base ≡ [] → d.since ≡ [] → 0 < w.page_size → w.page_size < 2 ^ 16 → w.full_pages ≡ 0 → w.flushed ≡ None → w.durable ≡ None → StartsFit d w.sync → Soundness sum w d
+empty_sound sum w d readable base since some small full flushed durable starts =
+    sound_of sum w d (empty_consistent sum w d readable base since some small full flushed durable starts)
+    (subst (λ (n : ℕ). AreFull sum w.page_size (take n (pages w.page_size d.readable))) (sym full) tt)

@@ -16,9 +16,9 @@ use Rattle.writer_state.specs.declared.sync_state.SyncState.TheVariants.{Clean, 
 use Rattle.crash.specs.Kept.{AllKeep, AllOnly}
 use Rattle.crash.specs.Started.{WouldKeep, StartsStand, AllSettled}
 use Rattle.crash.specs.Contents.{latest}
-use Rattle.writer_state.specs.Sound.{StartsFit, Soundness}
+use Rattle.writer_state.specs.Sound.{StartsFit, Consistency}
 use Rattle.writer_state.proofs.FlushLaws.{all_settled_alike, starts_within, settled_starts}
-use Rattle.writer_state.proofs.Soundness.{alike_sound}
+use Rattle.writer_state.proofs.Soundness.{alike_consistent}
 use Rattle.crash.proofs.Disks.{image_alike, image_covered}
 use Rattle.crash.proofs.DistinctLaws.{vouched_alike, vouched_at_rest}
 use Rattle.crash.proofs.Moments.{keeps_alike, keeps_covered, chance_free_alike, chance_free_covered}
@@ -39,8 +39,8 @@ starts_stand d (Pending pending) done starts name c is = elim (starts.others nam
 pub all_settled_stand : (d : Disk) → AllSettled d → StartsStand d
 all_settled_stand d all name c is = inl (all name c is)
 
-pub sound_stands : (sum : List ℕ → ℕ) (w : WriterState) (d : Disk) → Soundness sum w d → StartsStand d
-sound_stands sum w d sound = starts_stand d w.sync sound.stands.done sound.stands.starts
+pub consistent_stands : (sum : List ℕ → ℕ) (w : WriterState) (d : Disk) → Consistency sum w d → StartsStand d
+consistent_stands sum w d sound = starts_stand d w.sync sound.stands.done sound.stands.starts
 
 -- after a write, whatever the device answers
 pub write_stands : (offset : ℕ) (bytes : List ℕ) (sync : Bool) (old new : Life) (answer : Result (Unit {0}) Error) → AllSettled old.present → WriteGoes offset bytes sync old new answer → StartsStand new.present
@@ -69,14 +69,14 @@ write_stands offset bytes sync old new answer settled goes = by_answer sync answ
     by_answer false (Err e) (fault, (d, goes, operated)) = at d (ap (λ (l : Life). l.present) goes) (done (WriteAt offset (length bytes) false) true d operated)
 
 -- after a sync
-pub sync_stands : (sum : List ℕ → ℕ) (w : WriterState) (old new : Life) (answer : Result (Unit {0}) Error) → Soundness sum w old.present → SyncGoes old new answer → StartsStand new.present
+pub sync_stands : (sum : List ℕ → ℕ) (w : WriterState) (old new : Life) (answer : Result (Unit {0}) Error) → Consistency sum w old.present → SyncGoes old new answer → StartsStand new.present
 sync_stands sum w old new (Ok u) sound is =
     let e = settled_disk (logged SyncAll false old.present) in
     subst (λ (x : Disk). StartsStand x) (sym (ap (λ (l : Life). l.present) is)) (all_settled_stand e (settled_starts old.present e (starts_within old.present w.sync sound.stands.starts) refl refl))
 sync_stands sum w old new (Err SyncFailed) sound is =
     let e = logged SyncAll true old.present in
-    subst (λ (x : Disk). StartsStand x) (sym (ap (λ (l : Life). l.present) is)) (sound_stands sum w e (alike_sound sum w old.present e sound refl refl refl refl refl))
-sync_stands sum w old new (Err OutOfMemory) sound is = subst (λ (l : Life). StartsStand l.present) (sym is) (sound_stands sum w old.present sound)
+    subst (λ (x : Disk). StartsStand x) (sym (ap (λ (l : Life). l.present) is)) (consistent_stands sum w e (alike_consistent sum w old.present e sound refl refl refl refl refl))
+sync_stands sum w old new (Err OutOfMemory) sound is = subst (λ (l : Life). StartsStand l.present) (sym is) (consistent_stands sum w old.present sound)
 sync_stands sum w old new (Err e) sound goes = absurd goes
 
 -- what a wait leaves

@@ -15,7 +15,7 @@ use Rattle.crash.specs.Kept.{AllKeep}
 use Rattle.crash.specs.Stays.{Stays, StaysThrough}
 use Rattle.crash.specs.Started.{WouldKeep, CoversStay, AllSettled}
 use Rattle.crash.specs.Contents.{latest}
-use Rattle.writer_state.specs.Sound.{content, IsPending, StartsFit, Soundness}
+use Rattle.writer_state.specs.Sound.{content, IsIntact, IsPending, StartsFit, Consistency}
 use Rattle.crash.proofs.BuiltLaws.{IsSmall}
 use Rattle.disk.specs.Disk.Operation.{Write}
 use Rattle.disk.proofs.Lists.{joined_element}
@@ -24,7 +24,7 @@ use Rattle.crash.proofs.Lists.{slice_get-append_left, slice_get-append_right}
 use Rattle.writer_state.proofs.FlushLaws.{starts_within, settled_starts}
 use Rattle.crash.specs.Moments.{through_more}
 use Rattle.crash.proofs.Moments.{stays_through_start, keeps_alike}
-use Rattle.writer_state.proofs.Soundness.{same_bytes_sound, alike_sound, alike_stays, settle_sound, settle_stays, settle_keeps}
+use Rattle.writer_state.proofs.Soundness.{same_bytes_consistent, alike_consistent, alike_stays, settle_consistent, settle_stays, settle_keeps, intact_still}
 
 -- ---- what is settled
 
@@ -91,7 +91,7 @@ covering_of name d s is = slice_get-map covering d.started name ∙ ap (λ (o : 
 
 -- ---- starting a sync
 
-module _ (sum : List ℕ → ℕ) (w : WriterState) (d : Disk) (failed : Bool) (sound : Soundness sum w d) (settled : AllSettled d) where
+module _ (sum : List ℕ → ℕ) (w : WriterState) (d : Disk) (failed : Bool) (sound : Consistency sum w d) (settled : AllSettled d) where
   covers_more : coverings (starts failed d) ≡ coverings d ++ (d.settled + length d.since, d.readable) ∷ []
   covers_more = map-append covering d.started (record { covers = d.settled + length d.since; bytes = d.readable; failed = failed } ∷ [])
 
@@ -116,13 +116,13 @@ module _ (sum : List ℕ → ℕ) (w : WriterState) (d : Disk) (failed : Bool) (
   }
 
   -- the writer is sound over it, and pending
-  pub start_sound : Soundness sum (record w { sync = Pending (length d.started) }) (starts failed d)
-  start_sound = same_bytes_sound sum w d (starts failed d) sound refl (Pending (length d.started)) refl refl tt is_pending (λ tip is. tt)
+  pub start_consistent : Consistency sum (record w { sync = Pending (length d.started) }) (starts failed d)
+  start_consistent = same_bytes_consistent sum w d (starts failed d) sound refl (Pending (length d.started)) refl refl tt is_pending (λ tip is. tt)
 
 -- ---- waiting for one, by the writer or behind its back
 
 -- what a sync that was waited for leaves
-module _ (sum : List ℕ → ℕ) (w : WriterState) (d : Disk) (sound : Soundness sum w d) where
+module _ (sum : List ℕ → ℕ) (w : WriterState) (d : Disk) (sound : Consistency sum w d) where
   within : AreCovered d
   within = starts_within d w.sync sound.stands.starts
 
@@ -140,14 +140,14 @@ module _ (sum : List ℕ → ℕ) (w : WriterState) (d : Disk) (sound : Soundnes
         }
 
     -- leaves the writer sound: clean, where it is the writer that waited
-    pub waited_clean : IsSmall sum → Soundness sum (record w { sync = Clean }) e
-    waited_clean small = settle_sound sum w d e sound all_settled.readable Clean small all_settled.base all_settled.since (settled_starts d e within all_settled.covers all_settled.settled) refl
+    pub waited_clean : IsSmall sum → Consistency sum (record w { sync = Clean }) e
+    waited_clean small = settle_consistent sum w d e sound all_settled.readable Clean small all_settled.base all_settled.since (settled_starts d e within all_settled.covers all_settled.settled) refl
 
     -- and pending as it was, where it is somebody else
-    pub waited_after : w.sync ≡ Pending name → IsSmall sum → Soundness sum w e
+    pub waited_after : w.sync ≡ Pending name → IsSmall sum → Consistency sum w e
     waited_after state small =
-        subst (λ (s : SyncState). Soundness sum (record w { sync = s }) e) (sym state)
-        (settle_sound sum w d e sound all_settled.readable (Pending name) small all_settled.base all_settled.since (record {
+        subst (λ (s : SyncState). Consistency sum (record w { sync = s }) e) (sym state)
+        (settle_consistent sum w d e sound all_settled.readable (Pending name) small all_settled.base all_settled.since (record {
           covers = pending.covers;
           named = ap (λ (cs : List (ℕ × List ℕ)). slice_get cs name) all_settled.covers ∙ pending.named;
           all = omega (arith, pending.all, all_settled.settled, ap length all_settled.since);
@@ -163,8 +163,8 @@ module _ (sum : List ℕ → ℕ) (w : WriterState) (d : Disk) (sound : Soundnes
     was : e ≡ logged (WaitSync name) failed d
     was = is ∙ ap (λ (x : Disk). logged (WaitSync name) failed x) (settled_already c d settled)
 
-    pub again_sound : Soundness sum w e
-    again_sound = alike_sound sum w d e sound (ap (λ (x : Disk). x.readable) was) (ap (λ (x : Disk). x.base) was) (ap (λ (x : Disk). x.since) was) (ap (λ (x : Disk). coverings x) was) (ap (λ (x : Disk). x.settled) was)
+    pub again_consistent : Consistency sum w e
+    again_consistent = alike_consistent sum w d e sound (ap (λ (x : Disk). x.readable) was) (ap (λ (x : Disk). x.base) was) (ap (λ (x : Disk). x.since) was) (ap (λ (x : Disk). coverings x) was) (ap (λ (x : Disk). x.settled) was)
 
     pub again_stays : Stays sum w.page_size (content w d.readable) d e
     again_stays = alike_stays sum w d e sound (ap (λ (x : Disk). x.readable) was) (ap (λ (x : Disk). x.base) was) (ap (λ (x : Disk). x.since) was)
@@ -182,13 +182,13 @@ which d (Pending pending) name c starts is = elim (starts.others name c is) [
 ]
 
 -- a wait for any started sync, by anybody, leaves the writer sound and owes nothing
-module _ (sum : List ℕ → ℕ) (w : WriterState) (old new : Life) (name : ℕ) (small : IsSmall sum) (sound : Soundness sum w old.present) where
+module _ (sum : List ℕ → ℕ) (w : WriterState) (old new : Life) (name : ℕ) (small : IsSmall sum) (sound : Consistency sum w old.present) where
   abbrev IsLeft : Type 0
-  IsLeft = Soundness sum w new.present × StaysThrough sum w.page_size (content w old.present.readable) old new
+  IsLeft = Consistency sum w new.present × StaysThrough sum w.page_size (content w old.present.readable) old new
 
-  one_moment : (e : Disk) → new ≡ next old e → Soundness sum w e → Stays sum w.page_size (content w old.present.readable) old.present e → IsLeft
+  one_moment : (e : Disk) → new ≡ next old e → Consistency sum w e → Stays sum w.page_size (content w old.present.readable) old.present e → IsLeft
   one_moment e is here stays = (
-    subst (λ (life : Life). Soundness sum w life.present) (sym is) here,
+    subst (λ (life : Life). Consistency sum w life.present) (sym is) here,
     subst (λ (life : Life). StaysThrough sum w.page_size (content w old.present.readable) old life) (sym is)
         (through_more (Stays sum w.page_size (content w old.present.readable) old.present) old old e (stays_through_start sum w.page_size (content w old.present.readable) old sound.truthful sound.vouched) stays),
   )
@@ -199,7 +199,7 @@ module _ (sum : List ℕ → ℕ) (w : WriterState) (old new : Life) (name : ℕ
       let c : ℕ × List ℕ = (s.covers, s.bytes) in
       let e = logged (WaitSync name) false (disk_settled_to c d) in
       elim (which d w.sync name c sound.stands.starts (covering_of name d s named)) [
-        | inl done ↦ one_moment e is (again_sound sum w d sound name false c done e refl) (again_stays sum w d sound name false c done e refl)
+        | inl done ↦ one_moment e is (again_consistent sum w d sound name false c done e refl) (again_stays sum w d sound name false c done e refl)
         | inr (p, state, same) ↦
             let e_is : e ≡ logged (WaitSync name) false (disk_settled_to p.covers d) = ap (λ (x : ℕ × List ℕ). logged (WaitSync name) false (disk_settled_to x d)) (sym same) in
             one_moment e is (waited_after sum w d sound name p e e_is state small) (waited_stays sum w d sound name p e e_is)
@@ -207,16 +207,16 @@ module _ (sum : List ℕ → ℕ) (w : WriterState) (old new : Life) (name : ℕ
   wait_leaves (Err SyncFailed) (failed, why, is) =
       let d = old.present in
       let e = logged (WaitSync name) failed (record d { started = failed_at name d.started }) in
-      one_moment e is (alike_sound sum w d e sound refl refl refl (covers_failed name d.started) refl) (alike_stays sum w d e sound refl refl refl)
+      one_moment e is (alike_consistent sum w d e sound refl refl refl (covers_failed name d.started) refl) (alike_stays sum w d e sound refl refl refl)
   wait_leaves (Err OutOfMemory) is = (
-    subst (λ (life : Life). Soundness sum w life.present) (sym is) sound,
+    subst (λ (life : Life). Consistency sum w life.present) (sym is) sound,
     subst (λ (life : Life). StaysThrough sum w.page_size (content w old.present.readable) old life) (sym is) (stays_through_start sum w.page_size (content w old.present.readable) old sound.truthful sound.vouched),
   )
   wait_leaves (Err e) goes = absurd goes
 
   -- where it is the writer that waits, it is clean after it
-  pub wait_sound : (u : Unit {0}) → w.sync ≡ Pending name → WaitGoes name old new (Ok u) → Soundness sum (record w { sync = Clean }) new.present
-  wait_sound u state (s, named, well, is) =
+  pub wait_consistent : (u : Unit {0}) → w.sync ≡ Pending name → WaitGoes name old new (Ok u) → Consistency sum (record w { sync = Clean }) new.present
+  wait_consistent u state (s, named, well, is) =
       let d = old.present in
       let p : IsPending name d = subst (λ (s : SyncState). StartsFit d s) state sound.stands.starts in
       let same : p.covers ≡ (s.covers, s.bytes) = same_Some p.covers (s.covers, s.bytes) (sym p.named ∙ covering_of name d s named) in
@@ -275,7 +275,7 @@ waited_keeps sum P content name cover old new u would (s, named, well, is) =
     let e_is : new.present ≡ logged (WaitSync name) false (disk_settled_to would.covers old.present) = ap (λ (life : Life). life.present) is ∙ ap (λ (x : ℕ × List ℕ). logged (WaitSync name) false (disk_settled_to x old.present)) (sym same) in
     keeps_alike sum P content cover (disk_settled_to would.covers old.present) new.present (ap (λ (x : Disk). x.base) e_is) (ap (λ (x : Disk). x.since) e_is) would.keeps
 
-module _ (sum : List ℕ → ℕ) (w : WriterState) (d : Disk) (sound : Soundness sum w d) where
+module _ (sum : List ℕ → ℕ) (w : WriterState) (d : Disk) (sound : Consistency sum w d) where
   -- a sync, or a wait for the pending one, takes nothing from what each covers
   pub settle_covers : (e : Disk) → IsSettledAll d e → CoversStay sum w.page_size (content w d.readable) d e
   settle_covers e is name cover enough would =
@@ -304,34 +304,34 @@ module _ (sum : List ℕ → ℕ) (w : WriterState) (d : Disk) (sound : Soundnes
       }
 
   -- and where all that was appended is written, the new one covers all
-  pub started_covers : (failed : Bool) → IsSmall sum → AllSettled d → kept_len w.flushed ≡ length w.tip
+  pub started_covers : (failed : Bool) → IsSmall sum → IsIntact sum w d → AllSettled d → kept_len w.flushed ≡ length w.tip
       → WouldKeep sum w.page_size (content w d.readable) (length d.started) (length (content w d.readable)) (starts failed d)
-  started_covers failed small all written =
+  started_covers failed small full all written =
       let c : ℕ × List ℕ = (d.settled + length d.since, d.readable) in
       let e = disk_settled_to c (starts failed d) in
       let s = settles_all c (starts failed d) sound.stands.done refl refl in
-      let here : Soundness sum (record w { sync = Clean }) e =
-      settle_sound sum (record w { sync = Pending (length d.started) }) (starts failed d) e (start_sound sum w d failed sound all) s.readable Clean small s.base s.since
+      let here : Consistency sum (record w { sync = Clean }) e =
+      settle_consistent sum (record w { sync = Pending (length d.started) }) (starts failed d) e (start_consistent sum w d failed sound all) s.readable Clean small s.base s.since
       (settled_starts (starts failed d) e (starts_within (starts failed d) (Pending (length d.started)) (is_pending sum w d failed sound all)) s.covers s.settled) refl in
       let same : content w e.readable ≡ content w d.readable = ap (λ (l : List ℕ). content w l) s.readable in
       record {
         covers = c;
         named = last_covers sum w d failed sound all;
-        keeps = subst (λ (l : List ℕ). AllKeep sum w.page_size l (length l) e) same (settle_keeps sum (record w { sync = Clean }) e here refl written);
+        keeps = subst (λ (l : List ℕ). AllKeep sum w.page_size l (length l) e) same (settle_keeps sum (record w { sync = Clean }) e here (intact_still sum w d e s.readable full) refl written);
       }
 
   -- so does the pending one
-  pub pending_covers : (name : ℕ) → IsSmall sum → w.sync ≡ Pending name → kept_len w.flushed ≡ length w.tip → WouldKeep sum w.page_size (content w d.readable) name (length (content w d.readable)) d
-  pending_covers name small state written =
+  pub pending_covers : (name : ℕ) → IsSmall sum → IsIntact sum w d → w.sync ≡ Pending name → kept_len w.flushed ≡ length w.tip → WouldKeep sum w.page_size (content w d.readable) name (length (content w d.readable)) d
+  pending_covers name small full state written =
       let p : IsPending name d = subst (λ (s : SyncState). StartsFit d s) state sound.stands.starts in
       let e = disk_settled_to p.covers d in
       let s = settles_all p.covers d sound.stands.done p.all p.bytes in
-      let here : Soundness sum (record w { sync = Clean }) e = settle_sound sum w d e sound s.readable Clean small s.base s.since (settled_starts d e (starts_within d w.sync sound.stands.starts) s.covers s.settled) refl in
+      let here : Consistency sum (record w { sync = Clean }) e = settle_consistent sum w d e sound s.readable Clean small s.base s.since (settled_starts d e (starts_within d w.sync sound.stands.starts) s.covers s.settled) refl in
       let same : content w e.readable ≡ content w d.readable = ap (λ (l : List ℕ). content w l) s.readable in
       record {
         covers = p.covers;
         named = p.named;
-        keeps = subst (λ (l : List ℕ). AllKeep sum w.page_size l (length l) e) same (settle_keeps sum (record w { sync = Clean }) e here refl written);
+        keeps = subst (λ (l : List ℕ). AllKeep sum w.page_size l (length l) e) same (settle_keeps sum (record w { sync = Clean }) e here (intact_still sum w d e s.readable full) refl written);
       }
 
   -- a start owes nothing
@@ -343,7 +343,7 @@ pub covers_join : (sum : List ℕ → ℕ) (P : ℕ) (content : List ℕ) (c d e
 covers_join sum P content c d e first second name cover enough would = second name cover enough (first name cover enough would)
 
 -- a wait takes nothing from what each covers
-module _ (sum : List ℕ → ℕ) (w : WriterState) (old new : Life) (name : ℕ) (sound : Soundness sum w old.present) where
+module _ (sum : List ℕ → ℕ) (w : WriterState) (old new : Life) (name : ℕ) (sound : Consistency sum w old.present) where
   pub wait_covers : (answer : Result (Unit {0}) Error) → WaitGoes name old new answer → CoversStay sum w.page_size (content w old.present.readable) old.present new.present
   wait_covers (Ok u) (s, named, well, is) =
       let d = old.present in

@@ -67,8 +67,7 @@ pub record Stands (sum : List ℕ → ℕ) (w : WriterState) (d : Disk) : Type 0
   pub small : w.page_size < 2 ^ 16
   -- each operation was done
   pub done : d.readable ≡ latest d.base d.since
-  -- each page below the tip is there and full
-  pub full : AreFull sum w.page_size (take w.full_pages (pages w.page_size d.readable))
+  -- the pages below the tip are there, and its page is the last
   pub tip_page : TipPage sum w.page_size w.full_pages w.tip d.readable w.flushed
   pub state : StateFits d w.sync
   pub starts : StartsFit d w.sync
@@ -97,23 +96,23 @@ MayFlush Clean flushed durable = durable ≡ flushed
 MayFlush Dirty flushed durable = Unit {0}
 MayFlush (Pending name) flushed durable = ⊥
 
--- how far the content is durable: so many full pages, and a slot of the next
+-- how far the content is durable: so many of its first bytes, and a slot of the tip's page
 pub record IsSafe (sum : List ℕ → ℕ) (w : WriterState) (content : List ℕ) (d : Disk) : Type 0 where
-  pub full : ℕ
+  pub floor : ℕ
   pub tip : Option ActiveChecksum
-  pub there : full * w.page_size ≤ length content
-  pub pages : Guards sum w.page_size content (full * w.page_size) d
-  pub guard : TipGuard sum w.page_size content d full tip
+  pub there : floor ≤ length content
+  pub pages : Guards sum w.page_size content floor d
+  pub guard : TipGuard sum w.page_size content d w.full_pages tip
   -- the base's text goes no further
-  pub base : length (text sum w.page_size d.base) ≤ full * w.page_size + kept_len tip
-  -- that page lies below the writer's tip, or it is the tip's page, and the slot the one that a
+  pub base : length (text sum w.page_size d.base) ≤ floor + kept_len tip
+  -- those bytes lie below the writer's tip; or they go up to it, and the slot is the one that a
   -- flush is to repeat
-  pub position : (full < w.full_pages)
-      ⊎ ((full ≡ w.full_pages) × IsRepeated w.sync w.flushed w.durable tip)
+  pub position : ((floor ≤ w.full_pages * w.page_size) × (tip ≡ None))
+      ⊎ ((floor ≡ w.full_pages * w.page_size) × IsRepeated w.sync w.flushed w.durable tip)
 
 -- the writer of a blob, between two calls: it stands for what is readable, a crash keeps what was
--- synced, and no whole state says anything but the content
-pub record Soundness (sum : List ℕ → ℕ) (w : WriterState) (d : Disk) : Type 0 where
+-- synced, and no whole state says anything but the content. A page below the tip may be damaged.
+pub record Consistency (sum : List ℕ → ℕ) (w : WriterState) (d : Disk) : Type 0 where
   pub stands : Stands sum w d
   pub safe : IsSafe sum w (content w d.readable) d
   pub truthful : IsTruthful sum w.page_size (content w d.readable) d
@@ -121,7 +120,24 @@ pub record Soundness (sum : List ℕ → ℕ) (w : WriterState) (d : Disk) : Typ
   pub vouched : IsVouched sum w.page_size d
   pub good : IsGoodFrom sum w.page_size w.full_pages d
 
--- the word for it in contracts: a caller hands it from call to call, and has no need to see into it
+-- each page below the tip verifies, and is full
+abbrev pub IsIntact : (List ℕ → ℕ) → WriterState → Disk → Type 0
+IsIntact sum w d = AreFull sum w.page_size (take w.full_pages (pages w.page_size d.readable))
+
+-- the writer is consistent with its blob, in which no page is damaged
+pub record Soundness (sum : List ℕ → ℕ) (w : WriterState) (d : Disk) : Type 0 where
+  pub stands : Stands sum w d
+  pub safe : IsSafe sum w (content w d.readable) d
+  pub truthful : IsTruthful sum w.page_size (content w d.readable) d
+  pub vouched : IsVouched sum w.page_size d
+  pub good : IsGoodFrom sum w.page_size w.full_pages d
+  pub full : IsIntact sum w d
+
+-- the words for them in contracts: a caller hands them from call to call, and has no need to see
+-- into them
+unfoldable pub IsConsistent : (List ℕ → ℕ) → WriterState → Disk → Type 0
+IsConsistent sum w d = Consistency sum w d
+
 unfoldable pub IsSound : (List ℕ → ℕ) → WriterState → Disk → Type 0
 IsSound sum w d = Soundness sum w d
 

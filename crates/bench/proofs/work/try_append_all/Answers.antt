@@ -1,4 +1,4 @@
-use Rattle.std.proofs.Common.{ap}
+use Rattle.std.proofs.Common.{ap, inl}
 use Rattle.paged.specs.Ready.{IsReady}
 use Rattle.bench.proofs.Readiness.{ready_tried, ready_same}
 use Rattle.bench.proofs.work.try_append_all.Goals as goal
@@ -16,10 +16,10 @@ loop-preserved g c =
           let next = w.in_ok-next.next in
           let new = g.B.Blob.life w.append.new.blob in
           ready_same sum c.if-is_none.writer next c.if-is_none.cache w.append.new.cache end new w.writer-is w.cache-is (ap g.B.Blob.life w.blob-is)
-          w.in_ok-next.ensures.ready
+          (w.in_ok-next.ensures.ready.0 tried)
       | else-is_none w ↦ ready_same sum c.if-is_none.writer now c.if-is_none.cache c.loop.cache end life w.writer-is w.cache-is (ap g.B.Blob.life w.blob-is) tried
     ]
 
 pub append-requires : goal.append-requires
 append-requires g c =
-    record { ready = ready_tried g.H.Sum.sum_of c.loop.writer c.try_append.new.self c.loop.cache (g.B.Blob.life c.loop.blob) c.loop.invariant c.try_append.ensures.sound c.try_append.ensures.can_read }
+    record { ready = inl (ready_tried g.H.Sum.sum_of c.loop.writer c.try_append.new.self c.loop.cache (g.B.Blob.life c.loop.blob) c.loop.invariant c.try_append.ensures.sound c.try_append.ensures.can_read) }

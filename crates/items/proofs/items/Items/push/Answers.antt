@@ -1,4 +1,4 @@
-use Rattle.std.proofs.Common.{Err, ◌≡◌, ◌∷◌, ◌++◌, [], length, subst, sym}
+use Rattle.std.proofs.Common.{inl, Err, ◌≡◌, ◌∷◌, ◌++◌, [], length, subst, sym}
 use Rattle.std.specs.Int.NonZero.{non_zero_usize_get}
 use Rattle.paged.specs.Ready.{IsReady}
 use Rattle.items.specs.State.{ItemsState}
@@ -12,8 +12,8 @@ use Rattle.items.proofs.items.Items.push.Goals.{After-append}
 
 pub append-requires : goal.append-requires
 append-requires g c = record {
-  ready = subst (λ (v : ItemsState). IsReady g.H.Sum.sum_of v.writer c.args.cache.now (g.B.Blob.life c.args.blob.now)) (sym c.self.view_is)
-      (stand g.H.Sum.sum_of c.args.self c.args.cache.now (g.B.Blob.life c.args.blob.now) c.requires.items).ready;
+  ready = inl (subst (λ (v : ItemsState). IsReady g.H.Sum.sum_of v.writer c.args.cache.now (g.B.Blob.life c.args.blob.now)) (sym c.self.view_is)
+      (stand g.H.Sum.sum_of c.args.self c.args.cache.now (g.B.Blob.life c.args.blob.now) c.requires.items).ready);
 }
 
 pub returns-in-Ok-clause-goes : goal.returns-in-Ok-clause-goes
@@ -29,7 +29,7 @@ returns-in-Ok-clause-goes g c =
     let now = c.new.result in
     let i = c.len-at.result in
     subst (λ (v : ItemsState). AreItems sum v cache old → length item ≡ v.size → i ≡ count v → IsPushed sum v item after old new now i) c.self.view_is
-    (λ items long number. pushed sum s item cache after old new c.in-Ok.writer now i items long number goes.goes.answers.holds c.new.ensures.writer c.new.ensures.size goes.ready)
+    (λ items long number. pushed sum s item cache after old new c.in-Ok.writer now i items long number goes.goes.answers.holds c.new.ensures.writer c.new.ensures.size (goes.ready.0 (stand sum s cache old items).ready))
     c.requires.items c.requires.size c.len-at.ensures.count
 
 pub returns-in-Ok-clause-ready : goal.returns-in-Ok-clause-ready

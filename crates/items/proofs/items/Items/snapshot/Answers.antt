@@ -1,4 +1,4 @@
-use Rattle.std.proofs.Common.{subst, sym, []}
+use Rattle.std.proofs.Common.{inl, subst, sym, []}
 use Rattle.std.specs.Int.NonZero.{non_zero_usize_get}
 use Rattle.paged.specs.Ready.{IsReady}
 use Rattle.items.specs.State.{ItemsState}
@@ -15,8 +15,8 @@ use Rattle.items.proofs.items.Items.snapshot.Goals.{After-snapshot}
 
 pub snapshot-requires : goal.snapshot-requires
 snapshot-requires g c = record {
-  ready = subst (λ (v : ItemsState). IsReady g.H.Sum.sum_of v.writer c.args.cache.now (g.B.Blob.life c.args.blob.now)) (sym c.self.view_is)
-      (stand g.H.Sum.sum_of c.args.self c.args.cache.now (g.B.Blob.life c.args.blob.now) c.requires.items).ready;
+  ready = inl (subst (λ (v : ItemsState). IsReady g.H.Sum.sum_of v.writer c.args.cache.now (g.B.Blob.life c.args.blob.now)) (sym c.self.view_is)
+      (stand g.H.Sum.sum_of c.args.self c.args.cache.now (g.B.Blob.life c.args.blob.now) c.requires.items).ready);
 }
 
 pub returns-in-Ok-clause-goes : goal.returns-in-Ok-clause-goes
@@ -31,7 +31,7 @@ returns-in-Ok-clause-goes g c =
     let now = c.new-items.result in
     subst (λ (r : ItemsSnapshotState). HasSnapshot sum c.args.self after old new now r) (sym c.new.ensures)
     (subst (λ (v : ItemsState). AreItems sum v cache old → HasSnapshot sum v after old new now (record { tail = c.in-Ok.snapshot; size = non_zero_usize_get c.self.inside.size })) c.self.view_is
-    (λ items. made sum s cache after old new c.in-Ok.writer c.in-Ok.snapshot now items goes.goes c.new-items.ensures.writer c.new-items.ensures.size goes.ready) c.requires.items)
+    (λ items. made sum s cache after old new c.in-Ok.writer c.in-Ok.snapshot now items goes.goes c.new-items.ensures.writer c.new-items.ensures.size (goes.ready.0 (stand sum s cache old items).ready)) c.requires.items)
 
 pub returns-in-Ok-clause-ready : goal.returns-in-Ok-clause-ready
 returns-in-Ok-clause-ready g c =

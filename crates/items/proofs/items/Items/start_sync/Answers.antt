@@ -1,4 +1,4 @@
-use Rattle.std.proofs.Common.{subst, sym, []}
+use Rattle.std.proofs.Common.{inl, subst, sym, []}
 use Rattle.std.specs.Int.NonZero.{non_zero_usize_get}
 use Rattle.paged.specs.Ready.{IsReady}
 use Rattle.items.specs.State.{ItemsState}
@@ -12,8 +12,8 @@ use Rattle.items.proofs.items.Items.start_sync.Goals.{After-start_sync}
 
 pub start_sync-requires : goal.start_sync-requires
 start_sync-requires g c = record {
-  ready = subst (λ (v : ItemsState). IsReady g.H.Sum.sum_of v.writer c.args.cache.now (g.B.Blob.life c.args.blob.now)) (sym c.self.view_is)
-      (stand g.H.Sum.sum_of c.args.self c.args.cache.now (g.B.Blob.life c.args.blob.now) c.requires.items).ready;
+  ready = inl (subst (λ (v : ItemsState). IsReady g.H.Sum.sum_of v.writer c.args.cache.now (g.B.Blob.life c.args.blob.now)) (sym c.self.view_is)
+      (stand g.H.Sum.sum_of c.args.self c.args.cache.now (g.B.Blob.life c.args.blob.now) c.requires.items).ready);
 }
 
 pub returns-in-Ok-clause-goes : goal.returns-in-Ok-clause-goes
@@ -27,7 +27,7 @@ returns-in-Ok-clause-goes g c =
     let goes = c.in-Ok.ensures in
     let now = c.new.result in
     subst (λ (v : ItemsState). AreItems sum v cache old → AreStarted sum v after old new now c.in-Ok.started) c.self.view_is
-    (λ items. begun sum s cache after old new c.in-Ok.writer c.in-Ok.started now items goes.goes.goes c.new.ensures.writer c.new.ensures.size goes.ready) c.requires.items
+    (λ items. begun sum s cache after old new c.in-Ok.writer c.in-Ok.started now items goes.goes.goes c.new.ensures.writer c.new.ensures.size (goes.ready.0 (stand sum s cache old items).ready)) c.requires.items
 
 pub returns-in-Ok-clause-ready : goal.returns-in-Ok-clause-ready
 returns-in-Ok-clause-ready g c =

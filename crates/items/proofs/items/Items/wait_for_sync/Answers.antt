@@ -1,4 +1,4 @@
-use Rattle.std.proofs.Common.{[], subst, sym}
+use Rattle.std.proofs.Common.{inl, [], subst, sym}
 use Rattle.std.specs.Int.NonZero.{non_zero_usize_get}
 use Rattle.cache.specs.CacheState.{CacheState}
 use Rattle.writer_state.specs.Sound.{IsSound}
@@ -13,8 +13,8 @@ use Rattle.items.proofs.items.Items.wait_for_sync.Goals.{After-wait_for_sync}
 
 pub wait_for_sync-requires : goal.wait_for_sync-requires
 wait_for_sync-requires g c = record {
-  sound = subst (λ (v : ItemsState). IsSound g.H.Sum.sum_of v.writer (g.B.Blob.life c.args.blob.now).present) (sym c.self.view_is)
-      (stand g.H.Sum.sum_of c.args.self c.requires.items.0 (g.B.Blob.life c.args.blob.now) c.requires.items.1).ready.sound;
+  stands = inl (subst (λ (v : ItemsState). IsSound g.H.Sum.sum_of v.writer (g.B.Blob.life c.args.blob.now).present) (sym c.self.view_is)
+      (stand g.H.Sum.sum_of c.args.self c.requires.items.0 (g.B.Blob.life c.args.blob.now) c.requires.items.1).ready.sound);
 }
 
 pub returns-in-Ok-clause-goes : goal.returns-in-Ok-clause-goes
@@ -26,7 +26,7 @@ returns-in-Ok-clause-goes g c = λ cache.
     let goes = c.in-Ok.ensures in
     let now = c.new.result in
     subst (λ (v : ItemsState). AreItems sum v cache old → HaveWaited sum v cache old new now) c.self.view_is
-    (λ items. waited sum s cache old new c.in-Ok.writer now items goes.goes c.new.ensures.writer c.new.ensures.size (goes.ready cache (stand sum s cache old items).ready))
+    (λ items. waited sum s cache old new c.in-Ok.writer now items goes.goes c.new.ensures.writer c.new.ensures.size ((goes.ready cache).0 (stand sum s cache old items).ready))
 
 pub returns-in-Ok-clause-ready : goal.returns-in-Ok-clause-ready
 returns-in-Ok-clause-ready g c = λ cache items.

@@ -3,9 +3,14 @@ use Rattle.std.proofs.Common.{Ok, Err}
 use Rattle.disk.specs.declared.started_sync.StartedSync.{StartedSync}
 use Rattle.writer_state.specs.WriterState.{WriterState}
 use Rattle.writer_state.specs.Sound.{content}
-use Rattle.paged.proofs.Answering.{owes_same, refused, seal_goes}
-use Rattle.paged.proofs.Halves.{starts_stay}
+use Rattle.paged.proofs.Answering.{owes_same, refused, seal_goes, usable_of}
+use Rattle.paged.proofs.Over.{starts_stay}
 use Rattle.paged.proofs.snapshot.Writer+B+H.seal.Goals as goal
+
+pub seal_all-requires : goal.seal_all-requires
+seal_all-requires g c =
+    let usable = usable_of g.H.Sum.sum_of c.args.self c.args.cache.now (g.B.Blob.life c.args.blob.now) c.requires.ready in
+    record { cached = usable.can.page_size; holds = usable.consistent }
 
 pub returns-in_err-started-clause-goes : goal.returns-in_err-started-clause-goes
 returns-in_err-started-clause-goes g c =
@@ -16,7 +21,7 @@ returns-in_err-started-clause-goes g c =
 pub returns-clause-goes : goal.returns-clause-goes
 returns-clause-goes g c =
     let is = c.in_ok-started.ensures in
-    seal_goes g.H.Sum.sum_of c.args.self c.seal_all.new.self c.into_sealed.result c.in_ok-started.started c.args.cache.now c.seal_all.new.cache (g.B.Blob.life c.args.blob.now) (g.B.Blob.life c.seal_all.new.blob) c.requires.ready is.room
+    seal_goes g.H.Sum.sum_of c.args.self c.seal_all.new.self c.into_sealed.result c.in_ok-started.started c.args.cache.now c.seal_all.new.cache (g.B.Blob.life c.args.blob.now) (g.B.Blob.life c.seal_all.new.blob) (usable_of g.H.Sum.sum_of c.args.self c.args.cache.now (g.B.Blob.life c.args.blob.now) c.requires.ready) is.room
     is.starts_sync is.covers is.puts c.into_sealed.ensures.is is.answers
 
 pub returns-in_err-started-clause-owes : goal.returns-in_err-started-clause-owes
@@ -24,7 +29,7 @@ returns-in_err-started-clause-owes g c =
     let is = c.in_err-started.ensures in
     let old = g.B.Blob.life c.args.blob.now in
     let new = g.B.Blob.life c.seal_all.new.blob in
-    owes_same {A = WriterState × StartedSync} g.H.Sum.sum_of (λ r. r.0) c.args.self c.args.cache.now c.seal_all.new.cache old new (Err c.in_err-started.field-0.0) c.requires.ready
+    owes_same {A = WriterState × StartedSync} g.H.Sum.sum_of (λ r. r.0) c.args.self c.args.cache.now c.seal_all.new.cache old new (Err c.in_err-started.field-0.0) (usable_of g.H.Sum.sum_of c.args.self c.args.cache.now (g.B.Blob.life c.args.blob.now) c.requires.ready)
     (starts_stay g.H.Sum.sum_of c.args.self old new (Err c.in_err-started.field-0.0) is.starts_sync) is.pages is.covers is.starts is.puts
 
 pub returns-clause-owes : goal.returns-clause-owes
@@ -32,5 +37,5 @@ returns-clause-owes g c =
     let is = c.in_ok-started.ensures in
     let old = g.B.Blob.life c.args.blob.now in
     let new = g.B.Blob.life c.seal_all.new.blob in
-    owes_same {A = WriterState × StartedSync} g.H.Sum.sum_of (λ r. r.0) c.args.self c.args.cache.now c.seal_all.new.cache old new (Ok (c.seal_all.new.self, c.in_ok-started.started)) c.requires.ready
+    owes_same {A = WriterState × StartedSync} g.H.Sum.sum_of (λ r. r.0) c.args.self c.args.cache.now c.seal_all.new.cache old new (Ok (c.seal_all.new.self, c.in_ok-started.started)) (usable_of g.H.Sum.sum_of c.args.self c.args.cache.now (g.B.Blob.life c.args.blob.now) c.requires.ready)
     (starts_stay g.H.Sum.sum_of c.args.self old new (Ok (c.seal_all.new.self, c.in_ok-started.started)) is.starts_sync) is.pages is.covers is.starts is.puts

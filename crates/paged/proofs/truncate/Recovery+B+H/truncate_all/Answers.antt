@@ -9,7 +9,7 @@ use Rattle.std.specs.Prelude.{IsErrAnd}
 use Rattle.disk.specs.Disk.{AreCovered, Life}
 use Rattle.disk.specs.declared.error.Error.{Error}
 use Rattle.writer_state.specs.WriterState.{WriterState}
-use Rattle.writer_state.proofs.Soundness.{sound_leaves}
+use Rattle.writer_state.proofs.Soundness.{sound_holds_together, sound_leaves}
 use Rattle.paged.specs.Reads.{size_of}
 use Rattle.paged.specs.Truncate.{CutsTo, Shortens}
 use Rattle.paged.proofs.Truncating.{Truncating, SyncsWritten, TruncateOwes, after, truncate_owes}
@@ -228,7 +228,7 @@ returns-in_err-sync_written-clause-caches g c = λ sound.
     let old = g.B.Blob.life c.args.blob.now in
     subst (λ (l : List ℕ). CachesOnly w.id w.full_pages l c.args.cache.now c.sync_written.new.cache)
     (append-nil (content w old.present.readable))
-    (only_law g.H.Sum.sum_of w [] w.tip old c.args.cache.now c.sync_written.new.cache c.in_err-sync_written.ensures.puts.0 sound
+    (only_law g.H.Sum.sum_of w [] w.tip old c.args.cache.now c.sync_written.new.cache c.in_err-sync_written.ensures.puts.0 (sound_holds_together g.H.Sum.sum_of w old.present sound)
     c.requires.cached (sym (append-nil w.tip)) c.in_err-sync_written.ensures.puts.1)
 
 pub returns-in_err-sync_written-clause-fresh_ids : goal.returns-in_err-sync_written-clause-fresh_ids
@@ -243,7 +243,7 @@ returns-in_err-shorten-clause-caches g c = λ sound.
     let old = g.B.Blob.life c.args.blob.now in
     subst (λ (l : List ℕ). CachesOnly w.id w.full_pages l c.args.cache.now c.sync_written.new.cache)
     (append-nil (content w old.present.readable))
-    (only_law g.H.Sum.sum_of w [] w.tip old c.args.cache.now c.sync_written.new.cache c.sync_written.new.self.full_pages sound
+    (only_law g.H.Sum.sum_of w [] w.tip old c.args.cache.now c.sync_written.new.cache c.sync_written.new.self.full_pages (sound_holds_together g.H.Sum.sum_of w old.present sound)
     c.requires.cached (sym (append-nil w.tip)) c.in_ok-sync_written.ensures.puts)
 
 pub returns-in_err-shorten-clause-fresh_ids : goal.returns-in_err-shorten-clause-fresh_ids
@@ -258,7 +258,7 @@ returns-clause-caches g c = λ sound.
     let old = g.B.Blob.life c.args.blob.now in
     subst (λ (l : List ℕ). CachesOnly w.id w.full_pages l c.args.cache.now c.sync_written.new.cache)
     (append-nil (content w old.present.readable))
-    (only_law g.H.Sum.sum_of w [] w.tip old c.args.cache.now c.sync_written.new.cache c.sync_written.new.self.full_pages sound
+    (only_law g.H.Sum.sum_of w [] w.tip old c.args.cache.now c.sync_written.new.cache c.sync_written.new.self.full_pages (sound_holds_together g.H.Sum.sum_of w old.present sound)
     c.requires.cached (sym (append-nil w.tip)) c.in_ok-sync_written.ensures.puts)
 
 pub returns-clause-fresh_ids : goal.returns-clause-fresh_ids

@@ -1,9 +1,9 @@
 use Rattle.std.proofs.Common.{◌++◌, refl}
 use Rattle.paged.proofs.Caching.{puts_nothing}
-use Rattle.writer_state.specs.Sound.{IsSound, content}
+use Rattle.writer_state.specs.Sound.{IsConsistent, content}
 use Rattle.crash.proofs.BelowLaws.{pages_none}
 use Rattle.writer_state.proofs.CoverLaws.{covers_none}
-use Rattle.writer_state.proofs.StandLaws.{sound_stands}
+use Rattle.writer_state.proofs.StandLaws.{consistent_stands}
 use Rattle.paged.proofs.writer.Writer.append_buf.Goals as goal
 
 pub returns-then-not-fits-clause-pages : goal.returns-then-not-fits-clause-pages
@@ -13,8 +13,8 @@ pub returns-then-not-fits-clause-covers : goal.returns-then-not-fits-clause-cove
 returns-then-not-fits-clause-covers g c = covers_none g.H.Sum.sum_of c.args.self.now.page_size (content c.args.self.now (g.B.Blob.life c.args.blob.now).present.readable) (g.B.Blob.life c.args.blob.now) (g.B.Blob.life c.args.blob.now) refl
 
 pub returns-then-not-fits-clause-starts : goal.returns-then-not-fits-clause-starts
-unfolding IsSound
-returns-then-not-fits-clause-starts g c = sound_stands g.H.Sum.sum_of c.args.self.now (g.B.Blob.life c.args.blob.now).present c.requires.sound
+unfolding IsConsistent
+returns-then-not-fits-clause-starts g c = consistent_stands g.H.Sum.sum_of c.args.self.now (g.B.Blob.life c.args.blob.now).present c.requires.holds
 
 pub returns-then-not-fits-clause-puts : goal.returns-then-not-fits-clause-puts
 returns-then-not-fits-clause-puts g c =

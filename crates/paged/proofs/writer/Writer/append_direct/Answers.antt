@@ -5,10 +5,10 @@ use Rattle.std.specs.Prelude.{slice_range}
 use Rattle.std.proofs.lemmas.List.{take_all, take-append-drop}
 use Rattle.std.proofs.lemmas.Result.{err_from_is_err_and}
 use Rattle.crash.specs.Below.{PagesStay}
-use Rattle.writer_state.specs.Sound.{IsSound}
+use Rattle.writer_state.specs.Sound.{IsConsistent}
 use Rattle.writer_state.specs.WriterState.{WriterState}
 use Rattle.crash.proofs.BelowLaws.{pages_join}
-use Rattle.paged.specs.Calls.{Appends}
+use Rattle.paged.specs.Calls.{AppendsOver}
 use Rattle.paged.specs.Direct.{fill_of, is_too_big}
 use Rattle.paged.specs.Flush.{answered}
 use Rattle.paged.specs.Reads.{size_of}
@@ -35,7 +35,7 @@ halves : (fill : ℕ) (bytes one : List ℕ) → one ≡ bytes → take fill one
 halves fill bytes one is = take-append-drop fill one ∙ is
 
 pub returns-in_err-fill_tip-clause-appends : goal.returns-in_err-fill_tip-clause-appends
-unfolding IsSound
+unfolding IsConsistent
 returns-in_err-fill_tip-clause-appends g c =
     let sum = g.H.Sum.sum_of in
     let w = c.args.self.now in
@@ -46,8 +46,8 @@ returns-in_err-fill_tip-clause-appends g c =
     let one = c.as_ref.result.now in
     let joined : take c.args.fill one ++ drop c.args.fill one ≡ bytes = halves c.args.fill bytes one c.as_ref.ensures in
     let p = err_from_is_err_and c.from_residual.result c.from_residual.ensures.1 in
-    rw (p.1, p.2) (subst (λ l. Appends sum w l old new (Err e)) joined
-    (appends_refused sum w (take c.args.fill one) (drop c.args.fill one) old new e c.requires.sound.stands.some (subst (λ l. FitsBlob w.page_size w.full_pages (length w.tip + length l)) (sym joined) c.requires.fits) c.in_err-fill_tip.ensures.appends))
+    rw (p.1, p.2) (subst (λ l. AppendsOver sum w l old new (Err e)) joined
+    (appends_refused sum w (take c.args.fill one) (drop c.args.fill one) old new e c.requires.holds.stands.some (subst (λ l. FitsBlob w.page_size w.full_pages (length w.tip + length l)) (sym joined) c.requires.fits) c.in_err-fill_tip.ensures.appends))
 
 pub returns-in_err-whole-clause-appends : goal.returns-in_err-whole-clause-appends
 returns-in_err-whole-clause-appends g c =
@@ -61,11 +61,11 @@ returns-in_err-whole-clause-appends g c =
     let one = c.as_ref.result.now in
     let joined : take c.args.fill one ++ drop c.args.fill one ≡ bytes = halves c.args.fill bytes one c.as_ref.ensures in
     let p = err_from_is_err_and c.from_residual-in_err-whole.result c.from_residual-in_err-whole.ensures.1 in
-    rw (p.1, p.2) (subst (λ l. Appends sum w l old mid (Err e)) joined
+    rw (p.1, p.2) (subst (λ l. AppendsOver sum w l old mid (Err e)) joined
     (appends_stopped sum w m old mid mid (take c.args.fill one) (drop c.args.fill one) c.in_ok-fill_tip.ensures.appends.1 e c.in_err-whole.ensures.err))
 
 pub write_direct-requires-clause-direct : goal.write_direct-requires-clause-direct
-unfolding IsSound
+unfolding IsConsistent
 write_direct-requires-clause-direct g c =
     let w = c.args.self.now in
     let bytes = c.args.bytes.now in
@@ -76,11 +76,11 @@ write_direct-requires-clause-direct g c =
     let old = g.B.Blob.life c.args.blob.now in
     let mid = g.B.Blob.life c.fill_tip.new.blob in
     let size : c.from-page_size.result ≡ w.page_size = c.from-page_size.ensures ∙ c.get.ensures.value ∙ ap (λ s. s.page_size) c.self.view_is in
-    let is = cut w c.args.fill c.from-page_size.result end c.len.result c.len-2.result bytes one two whole c.requires.sound.stands.some c.requires.fill size c.len.ensures c.len-2.ensures c.requires.big c.as_ref.ensures c.as_ref-2.ensures refl c.in_ok-whole.ensures.ok in
-    direct_after g.H.Sum.sum_of w c.fill_tip.new.self old mid bytes (take c.args.fill one) whole (take (length two - end) (drop end two)) c.requires.sound c.requires.fits c.in_ok-fill_tip.ensures.appends.1 c.in_ok-fill_tip.ensures.empty is
+    let is = cut w c.args.fill c.from-page_size.result end c.len.result c.len-2.result bytes one two whole c.requires.holds.stands.some c.requires.fill size c.len.ensures c.len-2.ensures c.requires.big c.as_ref.ensures c.as_ref-2.ensures refl c.in_ok-whole.ensures.ok in
+    direct_after g.H.Sum.sum_of w c.fill_tip.new.self old mid bytes (take c.args.fill one) whole (take (length two - end) (drop end two)) c.requires.holds c.requires.fits c.in_ok-fill_tip.ensures.appends.1 c.in_ok-fill_tip.ensures.empty is
 
 pub returns-clause-appends : goal.returns-clause-appends
-unfolding IsSound
+unfolding IsConsistent
 returns-clause-appends g c =
     let sum = g.H.Sum.sum_of in
     let w = c.args.self.now in
@@ -99,10 +99,10 @@ returns-clause-appends g c =
     let new = g.B.Blob.life c.write_direct.new.blob in
     let goes = c.in_ok-fill_tip.ensures.appends.1 in
     let size : c.from-page_size.result ≡ w.page_size = c.from-page_size.ensures ∙ c.get.ensures.value ∙ ap (λ s. s.page_size) c.self.view_is in
-    let is = cut w c.args.fill c.from-page_size.result end c.len.result c.len-2.result bytes one two whole c.requires.sound.stands.some c.requires.fill size c.len.ensures c.len-2.ensures c.requires.big c.as_ref.ensures c.as_ref-2.ensures refl c.in_ok-whole.ensures.ok in
-    let direct = direct_after sum w m old mid bytes first whole rest c.requires.sound c.requires.fits goes c.in_ok-fill_tip.ensures.empty is in
-    subst (λ l. Appends sum w l old new (answered (n, size_of w) result)) is.joined
-    (appends_join sum w m old mid new first (whole ++ rest) goes n result c.requires.sound (direct_offsets m whole rest direct) c.write_direct.ensures.appends)
+    let is = cut w c.args.fill c.from-page_size.result end c.len.result c.len-2.result bytes one two whole c.requires.holds.stands.some c.requires.fill size c.len.ensures c.len-2.ensures c.requires.big c.as_ref.ensures c.as_ref-2.ensures refl c.in_ok-whole.ensures.ok in
+    let direct = direct_after sum w m old mid bytes first whole rest c.requires.holds c.requires.fits goes c.in_ok-fill_tip.ensures.empty is in
+    subst (λ l. AppendsOver sum w l old new (answered (n, size_of w) result)) is.joined
+    (appends_join sum w m old mid new first (whole ++ rest) goes n result c.requires.holds (direct_offsets m whole rest direct) c.write_direct.ensures.appends)
 
 pub returns-clause-pages : goal.returns-clause-pages
 returns-clause-pages g c =
@@ -142,7 +142,7 @@ write_direct-requires-clause-cached g c =
     ∙ c.requires.cached ∙ sym c.in_ok-fill_tip.ensures.appends.1.same.page_size
 
 pub returns-clause-puts : goal.returns-clause-puts
-unfolding IsSound
+unfolding IsConsistent
 returns-clause-puts g c =
     let sum = g.H.Sum.sum_of in
     let w = c.args.self.now in
@@ -156,9 +156,9 @@ returns-clause-puts g c =
     let old = g.B.Blob.life c.args.blob.now in
     let mid = g.B.Blob.life c.fill_tip.new.blob in
     let size : c.from-page_size.result ≡ w.page_size = c.from-page_size.ensures ∙ c.get.ensures.value ∙ ap (λ s. s.page_size) c.self.view_is in
-    let is = cut w c.args.fill c.from-page_size.result end c.len.result c.len-2.result bytes one two whole c.requires.sound.stands.some c.requires.fill size c.len.ensures c.len-2.ensures c.requires.big c.as_ref.ensures c.as_ref-2.ensures refl c.in_ok-whole.ensures.ok in
+    let is = cut w c.args.fill c.from-page_size.result end c.len.result c.len-2.result bytes one two whole c.requires.holds.stands.some c.requires.fill size c.len.ensures c.len-2.ensures c.requires.big c.as_ref.ensures c.as_ref-2.ensures refl c.in_ok-whole.ensures.ok in
     direct_joined sum w m c.write_direct.new.self (take c.args.fill one) (whole ++ rest) bytes old mid c.args.cache.now c.fill_tip.new.cache c.write_direct.new.cache c.write_direct.result
-    c.requires.sound c.in_ok-fill_tip.ensures.appends.1 c.in_ok-fill_tip.ensures.empty c.requires.cached is.joined c.in_ok-fill_tip.ensures.puts c.write_direct.ensures.puts
+    c.requires.holds c.in_ok-fill_tip.ensures.appends.1 c.in_ok-fill_tip.ensures.empty c.requires.cached is.joined c.in_ok-fill_tip.ensures.puts c.write_direct.ensures.puts
 
 pub returns-clause-refused : goal.returns-clause-refused
 returns-clause-refused g c =

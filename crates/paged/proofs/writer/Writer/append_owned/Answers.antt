@@ -3,8 +3,13 @@ use Rattle.std.specs.Prelude.{Ok, Err}
 use Rattle.std.proofs.Common.{ℕ, sym, refl, ◌++◌, Ok, Err, subst}
 use Rattle.writer_state.specs.WriterState.{WriterState}
 use Rattle.paged.specs.Goes.{AppendGoes}
-use Rattle.paged.proofs.Answering.{append_goes, append_owes, ready_after}
+use Rattle.paged.proofs.Answering.{append_goes, append_owes, stays_usable, usable_of}
 use Rattle.paged.proofs.writer.Writer.append_owned.Goals as goal
+
+pub append_buf-requires : goal.append_buf-requires
+append_buf-requires g c =
+    let usable = usable_of g.H.Sum.sum_of c.args.self c.args.cache.now (g.B.Blob.life c.args.blob.now) c.requires.ready in
+    record { cached = usable.can.page_size; holds = usable.consistent }
 
 pub returns-in_err-append_buf-clause-goes : goal.returns-in_err-append_buf-clause-goes
 returns-in_err-append_buf-clause-goes g c =
@@ -21,15 +26,15 @@ returns-clause-goes g c =
 pub returns-clause-ready : goal.returns-clause-ready
 returns-clause-ready g c =
     let is = c.in_ok-append_buf.ensures in
-    ready_after {A = WriterState × ℕ} g.H.Sum.sum_of (λ r. r.0) c.args.self c.args.bytes (c.args.self.tip ++ c.args.bytes) (g.B.Blob.life c.args.blob.now) (g.B.Blob.life c.append_buf.new.blob) c.args.cache.now c.append_buf.new.cache
-    (c.append_buf.new.self, c.size-at.result) c.requires.ready refl is.appends.1 is.puts
+    stays_usable {A = WriterState × ℕ} g.H.Sum.sum_of (λ r. r.0) c.args.self c.args.bytes (c.args.self.tip ++ c.args.bytes) (g.B.Blob.life c.args.blob.now) (g.B.Blob.life c.append_buf.new.blob) c.args.cache.now c.append_buf.new.cache
+    (c.append_buf.new.self, c.size-at.result) refl is.appends.1 is.puts
 
 pub returns-in_err-append_buf-clause-owes : goal.returns-in_err-append_buf-clause-owes
 returns-in_err-append_buf-clause-owes g c =
     let is = c.in_err-append_buf.ensures in
-    append_owes g.H.Sum.sum_of c.args.self c.append_buf.new.self c.args.bytes c.args.cache.now c.append_buf.new.cache (g.B.Blob.life c.args.blob.now) (g.B.Blob.life c.append_buf.new.blob) (Err c.in_err-append_buf.field-0.0) is.appends is.covers c.requires.ready is.puts is.pages is.starts
+    append_owes g.H.Sum.sum_of c.args.self c.append_buf.new.self c.args.bytes c.args.cache.now c.append_buf.new.cache (g.B.Blob.life c.args.blob.now) (g.B.Blob.life c.append_buf.new.blob) (Err c.in_err-append_buf.field-0.0) is.appends is.covers (usable_of g.H.Sum.sum_of c.args.self c.args.cache.now (g.B.Blob.life c.args.blob.now) c.requires.ready) is.puts is.pages is.starts
 
 pub returns-clause-owes : goal.returns-clause-owes
 returns-clause-owes g c =
     let is = c.in_ok-append_buf.ensures in
-    append_owes g.H.Sum.sum_of c.args.self c.append_buf.new.self c.args.bytes c.args.cache.now c.append_buf.new.cache (g.B.Blob.life c.args.blob.now) (g.B.Blob.life c.append_buf.new.blob) (Ok tt) is.appends is.covers c.requires.ready is.puts is.pages is.starts
+    append_owes g.H.Sum.sum_of c.args.self c.append_buf.new.self c.args.bytes c.args.cache.now c.append_buf.new.cache (g.B.Blob.life c.args.blob.now) (g.B.Blob.life c.append_buf.new.blob) (Ok tt) is.appends is.covers (usable_of g.H.Sum.sum_of c.args.self c.args.cache.now (g.B.Blob.life c.args.blob.now) c.requires.ready) is.puts is.pages is.starts

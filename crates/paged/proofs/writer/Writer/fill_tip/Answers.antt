@@ -5,11 +5,11 @@ use Rattle.std.proofs.Common.{◌++◌, subst, ap, ◌∙◌, sym, refl}
 use Rattle.paged.proofs.Caching.{refused_before, puts_buffered, puts_alike}
 use Rattle.std.proofs.lemmas.Result.{err_from_is_err_and}
 use Rattle.writer_state.specs.WriterState.{WriterState}
-use Rattle.writer_state.specs.Sound.{content, IsSound}
+use Rattle.writer_state.specs.Sound.{content, IsConsistent}
 use Rattle.crash.proofs.BelowLaws.{pages_none}
 use Rattle.writer_state.proofs.CoverLaws.{covers_none}
-use Rattle.writer_state.proofs.Soundness.{longer_sound}
-use Rattle.writer_state.proofs.StandLaws.{sound_stands}
+use Rattle.writer_state.proofs.Soundness.{longer_consistent}
+use Rattle.writer_state.proofs.StandLaws.{consistent_stands}
 use Rattle.paged.proofs.Appends.{append_flushed, append_unbuffered}
 use Rattle.paged.proofs.Covers.{longer_covers}
 use Rattle.paged.proofs.Joins.{filled_ok}
@@ -18,7 +18,7 @@ use Rattle.paged.proofs.writer.Writer.fill_tip.Goals as goal
 pub returns-in_err-buffer-clause-appends : goal.returns-in_err-buffer-clause-appends
 returns-in_err-buffer-clause-appends g c =
     let p = err_from_is_err_and c.from_residual.result c.from_residual.ensures.1 in
-    rw (p.1, p.2) (append_unbuffered g.H.Sum.sum_of c.args.self.now c.buffer.new.self (g.B.Blob.life c.args.blob.now) c.args.bytes.now c.in_err-buffer.field-0.0 c.requires.sound c.in_err-buffer.ensures)
+    rw (p.1, p.2) (append_unbuffered g.H.Sum.sum_of c.args.self.now c.buffer.new.self (g.B.Blob.life c.args.blob.now) c.args.bytes.now c.in_err-buffer.field-0.0 c.requires.holds c.in_err-buffer.ensures)
 
 pub returns-in_err-buffer-clause-pages : goal.returns-in_err-buffer-clause-pages
 returns-in_err-buffer-clause-pages g c = pages_none c.args.self.now.page_size c.args.self.now.full_pages (g.B.Blob.life c.args.blob.now) (g.B.Blob.life c.args.blob.now) refl
@@ -27,26 +27,26 @@ pub returns-in_err-buffer-clause-covers : goal.returns-in_err-buffer-clause-cove
 returns-in_err-buffer-clause-covers g c = covers_none g.H.Sum.sum_of c.args.self.now.page_size (content c.args.self.now (g.B.Blob.life c.args.blob.now).present.readable) (g.B.Blob.life c.args.blob.now) (g.B.Blob.life c.args.blob.now) refl
 
 pub returns-in_err-buffer-clause-starts : goal.returns-in_err-buffer-clause-starts
-unfolding IsSound
-returns-in_err-buffer-clause-starts g c = sound_stands g.H.Sum.sum_of c.args.self.now (g.B.Blob.life c.args.blob.now).present c.requires.sound
+unfolding IsConsistent
+returns-in_err-buffer-clause-starts g c = consistent_stands g.H.Sum.sum_of c.args.self.now (g.B.Blob.life c.args.blob.now).present c.requires.holds
 
 pub flush-requires : goal.flush-requires
-unfolding IsSound
+unfolding IsConsistent
 flush-requires g c = record {
   cached = c.requires.cached ∙ sym (ap (λ (v : WriterState). v.page_size) c.in_ok-buffer.ensures.1);
-  sound = subst (λ (v : WriterState). IsSound g.H.Sum.sum_of v (g.B.Blob.life c.args.blob.now).present) (sym c.in_ok-buffer.ensures.1) (longer_sound g.H.Sum.sum_of c.args.self.now (g.B.Blob.life c.args.blob.now).present c.requires.sound c.args.bytes.now);
+  holds = subst (λ (v : WriterState). IsConsistent g.H.Sum.sum_of v (g.B.Blob.life c.args.blob.now).present) (sym c.in_ok-buffer.ensures.1) (longer_consistent g.H.Sum.sum_of c.args.self.now (g.B.Blob.life c.args.blob.now).present c.requires.holds c.args.bytes.now);
 }
 
 pub returns-clause-appends : goal.returns-clause-appends
 returns-clause-appends g c =
-    append_flushed g.H.Sum.sum_of c.args.self.now c.buffer.new.self c.flush.new.self (g.B.Blob.life c.args.blob.now) (g.B.Blob.life c.flush.new.blob) c.args.bytes.now c.flush.result c.requires.sound c.in_ok-buffer.ensures.1 c.flush.ensures.flushes
+    append_flushed g.H.Sum.sum_of c.args.self.now c.buffer.new.self c.flush.new.self (g.B.Blob.life c.args.blob.now) (g.B.Blob.life c.flush.new.blob) c.args.bytes.now c.flush.result c.requires.holds c.in_ok-buffer.ensures.1 c.flush.ensures.flushes
 
 pub returns-clause-covers : goal.returns-clause-covers
-returns-clause-covers g c = longer_covers g.H.Sum.sum_of c.args.self.now c.buffer.new.self c.args.bytes.now (g.B.Blob.life c.args.blob.now) (g.B.Blob.life c.flush.new.blob) c.requires.sound c.in_ok-buffer.ensures.1 c.flush.ensures.covers
+returns-clause-covers g c = longer_covers g.H.Sum.sum_of c.args.self.now c.buffer.new.self c.args.bytes.now (g.B.Blob.life c.args.blob.now) (g.B.Blob.life c.flush.new.blob) c.requires.holds c.in_ok-buffer.ensures.1 c.flush.ensures.covers
 
 pub returns-clause-empty : goal.returns-clause-empty
 returns-clause-empty g c =
-    filled_ok g.H.Sum.sum_of c.args.self.now c.buffer.new.self c.flush.new.self (g.B.Blob.life c.args.blob.now) (g.B.Blob.life c.flush.new.blob) c.args.bytes.now c.flush.result c.requires.sound c.requires.fill c.in_ok-buffer.ensures.1 (returns-clause-appends g c) c.flush.ensures.short
+    filled_ok g.H.Sum.sum_of c.args.self.now c.buffer.new.self c.flush.new.self (g.B.Blob.life c.args.blob.now) (g.B.Blob.life c.flush.new.blob) c.args.bytes.now c.flush.result c.requires.holds c.requires.fill c.in_ok-buffer.ensures.1 (returns-clause-appends g c) c.flush.ensures.short
 
 pub returns-in_err-buffer-clause-puts : goal.returns-in_err-buffer-clause-puts
 returns-in_err-buffer-clause-puts g c =

@@ -3,11 +3,11 @@ use Rattle.std.specs.Prelude.{Err, OnOk}
 use Rattle.std.proofs.Common.{ap, ◌≡◌, ◌<◌, ℕ, length, refl, sym, ◌∙◌, subst, arith, true}
 use Rattle.paged.proofs.Caching.{puts_nothing, puts_waited, puts_alike}
 use Rattle.std.proofs.lemmas.Result.{err_from_is_err_and}
-use Rattle.writer_state.specs.Sound.{content, IsSound}
+use Rattle.writer_state.specs.Sound.{content, IsConsistent}
 use Rattle.writer_state.specs.WriterState.{WriterState}
 use Rattle.crash.proofs.BelowLaws.{pages_none}
 use Rattle.writer_state.proofs.CoverLaws.{covers_none}
-use Rattle.writer_state.proofs.StandLaws.{sound_stands}
+use Rattle.writer_state.proofs.StandLaws.{consistent_stands}
 use Rattle.paged.specs.Flush.{has_work, answered}
 use Rattle.paged.specs.Calls.{WaitsForNone}
 use Rattle.paged.proofs.Flushes.{goes_on_same, idle_short_rest, idle_written}
@@ -15,7 +15,7 @@ use Rattle.paged.proofs.Waits.{flushes_after, pages_after, covers_after, waits_f
 use Rattle.paged.proofs.writer.Writer.flush.Goals as goal
 
 pub returns : goal.returns
-unfolding IsSound
+unfolding IsConsistent
 returns g c =
     let sum = g.H.Sum.sum_of in
     let w = c.args.self.now in
@@ -25,13 +25,13 @@ returns g c =
       puts = puts_nothing w.id w.full_pages w.page_size w.tip c.args.cache.now;
       refused = tt;
       idle_cache = λ _. refl;
-      flushes = goes_on_same sum w life c.requires.sound;
+      flushes = goes_on_same sum w life c.requires.holds;
       pages = pages_none w.page_size w.full_pages life life refl;
       covers = covers_none sum w.page_size (content w life.present.readable) life life refl;
-      starts = sound_stands sum w life.present c.requires.sound;
+      starts = consistent_stands sum w life.present c.requires.holds;
       calls = omega arith;
       short = idle_short_rest w c.args.rest idle;
-      written = idle_written sum w c.args.rest life.present c.requires.sound idle;
+      written = idle_written sum w c.args.rest life.present c.requires.holds idle;
       dirty = λ work. absurd (cc (work, idle));
       names = refl;
       idle = λ _. (refl, refl, refl);
@@ -64,7 +64,7 @@ flush_pages-requires g c =
     let is = c.in_ok-wait.ensures.waits.1 in
     record {
       cached = c.requires.cached ∙ sym (ap (λ (v : WriterState). v.page_size) is);
-      sound = c.in_ok-wait.ensures.waits.0.sound;
+      holds = c.in_ok-wait.ensures.waits.0.holds;
       waited = subst (λ (v : WriterState). WaitsForNone v.sync) (sym is) (waits_for_none c.args.self.now);
       work = subst (λ (v : WriterState). has_work v c.args.rest ≡ true) (sym is) (sym c.has_flush_work.ensures.work ∙ c.if-has_flush_work.true);
     }

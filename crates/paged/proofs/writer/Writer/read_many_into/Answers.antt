@@ -3,7 +3,7 @@ use Rattle.paged_read.specs.Reads.{ReadLeaves, ReadManyCosts, ReadManyGoes}
 use Rattle.std.specs.Int.NonZero.{non_zero_usize_get}
 use Rattle.paged_read.specs.Batch.{ranges_of}
 use Rattle.paged_read.specs.Tail.{Tail, CanRead}
-use Rattle.paged.proofs.Answering.{ready_still}
+use Rattle.paged.proofs.Answering.{ready_still, usable_still}
 use Rattle.paged.proofs.Recovered.{looked_as_opened}
 use Rattle.paged.proofs.writer.Writer.read_many_into.Goals as goal
 
@@ -24,4 +24,6 @@ returns-clause-ready g c = (
   ready_still g.H.Sum.sum_of c.args.self.now c.args.cache.now c.read_many_into.new.cache (g.B.Blob.life c.args.blob.now) (g.B.Blob.life c.read_many_into.new.blob)
       (subst (λ (t : Tail). ReadLeaves g.H.Sum.sum_of t c.args.cache.now c.read_many_into.new.cache (g.B.Blob.life c.args.blob.now) (g.B.Blob.life c.read_many_into.new.blob)) c.view.ensures.tail c.read_many_into.ensures.leaves),
   looked_as_opened g.H.Sum.sum_of c.args.self.now (g.B.Blob.life c.args.blob.now) (g.B.Blob.life c.read_many_into.new.blob) c.read_many_into.ensures.leaves.looked,
+  usable_still g.H.Sum.sum_of c.args.self.now c.args.cache.now c.read_many_into.new.cache (g.B.Blob.life c.args.blob.now) (g.B.Blob.life c.read_many_into.new.blob)
+      (subst (λ (t : Tail). ReadLeaves g.H.Sum.sum_of t c.args.cache.now c.read_many_into.new.cache (g.B.Blob.life c.args.blob.now) (g.B.Blob.life c.read_many_into.new.blob)) c.view.ensures.tail c.read_many_into.ensures.leaves),
 )

@@ -2,7 +2,7 @@ use Rattle.std.proofs.Common.{subst, sym}
 use Rattle.paged_read.specs.Reads.{ReadCosts, ReadLeaves, ReadUpToGoes}
 use Rattle.paged_read.specs.Ranges.{range_up_to}
 use Rattle.paged_read.specs.Tail.{Tail, CanRead}
-use Rattle.paged.proofs.Answering.{ready_still}
+use Rattle.paged.proofs.Answering.{ready_still, usable_still}
 use Rattle.paged.proofs.Recovered.{looked_as_opened}
 use Rattle.paged.proofs.writer.Writer.read_up_to.Goals as goal
 
@@ -23,4 +23,6 @@ returns-clause-ready g c = (
   ready_still g.H.Sum.sum_of c.args.self.now c.args.cache.now c.read_up_to.new.cache (g.B.Blob.life c.args.blob.now) (g.B.Blob.life c.read_up_to.new.blob)
       (subst (λ (t : Tail). ReadLeaves g.H.Sum.sum_of t c.args.cache.now c.read_up_to.new.cache (g.B.Blob.life c.args.blob.now) (g.B.Blob.life c.read_up_to.new.blob)) c.view.ensures.tail c.read_up_to.ensures.leaves),
   looked_as_opened g.H.Sum.sum_of c.args.self.now (g.B.Blob.life c.args.blob.now) (g.B.Blob.life c.read_up_to.new.blob) c.read_up_to.ensures.leaves.looked,
+  usable_still g.H.Sum.sum_of c.args.self.now c.args.cache.now c.read_up_to.new.cache (g.B.Blob.life c.args.blob.now) (g.B.Blob.life c.read_up_to.new.blob)
+      (subst (λ (t : Tail). ReadLeaves g.H.Sum.sum_of t c.args.cache.now c.read_up_to.new.cache (g.B.Blob.life c.args.blob.now) (g.B.Blob.life c.read_up_to.new.blob)) c.view.ensures.tail c.read_up_to.ensures.leaves),
 )

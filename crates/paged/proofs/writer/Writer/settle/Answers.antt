@@ -9,7 +9,7 @@ returns g c =
     let new = g.B.Blob.life c.settle_blob.new.blob in
     let result = c.settle_blob.result in
     let goes = c.settle_blob.ensures.goes in
-    let owes = settled_owes g.H.Sum.sum_of w now old new result g.met.H.Sum.small c.requires.sound goes c.settle_blob.ensures.state in
+    let owes = settled_owes g.H.Sum.sum_of w now old new result g.met.H.Sum.small c.requires.holds goes c.settle_blob.ensures.state in
     record {
       settles = owes.settles;
       pages = settled_pages w.page_size w.full_pages w.sync old new result goes;

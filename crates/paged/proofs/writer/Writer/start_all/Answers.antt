@@ -28,7 +28,7 @@ returns-in_err-flush g c =
 
 pub start_written-requires : goal.start_written-requires
 start_written-requires g c = record {
-  sound = c.in_ok-flush.ensures.flushes.sound;
+  holds = c.in_ok-flush.ensures.flushes.holds;
   written = c.in_ok-flush.ensures.written refl;
 }
 

@@ -27,7 +27,7 @@ write_durably-requires g c =
     let is = c.in_ok-wait.ensures.waits.1 in
     record {
       cached = c.requires.cached ∙ sym (ap (λ (v : WriterState). v.page_size) is);
-      sound = c.in_ok-wait.ensures.waits.0.sound;
+      holds = c.in_ok-wait.ensures.waits.0.holds;
       waited = subst (λ (v : WriterState). WaitsForNone v.sync) (sym is) (waits_for_none c.args.self.now);
       work = subst (λ (v : WriterState). has_work v true ≡ true) (sym is) c.requires.work;
     }

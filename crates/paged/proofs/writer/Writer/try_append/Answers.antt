@@ -1,7 +1,8 @@
 use Rattle.paged.proofs.Caching.{tried_reads}
 use Rattle.std.proofs.Common.{◌<◌, rules}
 use Rattle.std.specs.Int.NonZero.{non_zero_u16_get}
-use Rattle.paged.proofs.Appends.{tries, buffers_over, keeps_sound, keeps_pages}
+use Rattle.paged.proofs.Appends.{tries, keeps_pages}
+use Rattle.paged.proofs.Over.{buffers_over, keeps_consistent, keeps_sound}
 use Rattle.paged.proofs.writer.Writer.try_append.Goals as goal
 
 pub returns-clause-appends : goal.returns-clause-appends
@@ -18,6 +19,14 @@ returns-clause-sound g c =
     let P = non_zero_u16_get inside.page_size in
     let some : 0 < P = inside.page_size.ok in
     keeps_sound g.H.Sum.sum_of c.args.self.now _ c.args.bytes.now c.try_append.result
+    (tries P inside.id inside.flushed inside.durable inside.sync_state some inside.tip c.try_append.new.self c.args.bytes.now c.self.invariant c.args.self.now c.try_append.result c.self.view_is (c.fits.ensures.0 (search rules)) c.try_append.ensures)
+
+pub returns-clause-consistent : goal.returns-clause-consistent
+returns-clause-consistent g c =
+    let inside = c.self.inside in
+    let P = non_zero_u16_get inside.page_size in
+    let some : 0 < P = inside.page_size.ok in
+    keeps_consistent g.H.Sum.sum_of c.args.self.now _ c.args.bytes.now c.try_append.result
     (tries P inside.id inside.flushed inside.durable inside.sync_state some inside.tip c.try_append.new.self c.args.bytes.now c.self.invariant c.args.self.now c.try_append.result c.self.view_is (c.fits.ensures.0 (search rules)) c.try_append.ensures)
 
 pub returns-clause-pages : goal.returns-clause-pages

@@ -2,7 +2,8 @@ use Rattle.paged.proofs.Caching.{tried_reads}
 use Rattle.std.proofs.Common.{◌+◌, ◌<◌, length, subst, rules}
 use Rattle.std.specs.Int.NonZero.{non_zero_u16_get}
 use Rattle.paged.specs.Writer.{FitsBlob}
-use Rattle.paged.proofs.Appends.{tries, buffers_over, keeps_sound, keeps_pages}
+use Rattle.paged.proofs.Appends.{tries, keeps_pages}
+use Rattle.paged.proofs.Over.{buffers_over, keeps_consistent, keeps_sound}
 use Rattle.paged.proofs.writer.Writer.try_append_value.Goals as goal
 
 pub returns-clause-appends : goal.returns-clause-appends
@@ -23,6 +24,16 @@ returns-clause-sound g c =
     let w = c.args.self.now in
     let fits : FitsBlob w.page_size w.full_pages (length w.tip + length (g.T.EncodeSize.encoded c.args.value.now)) = subst (λ n. FitsBlob w.page_size w.full_pages (length w.tip + n)) c.encode_size.ensures (c.fits.ensures.0 (search rules)) in
     keeps_sound g.H.Sum.sum_of c.args.self.now _ (g.T.EncodeSize.encoded c.args.value.now) c.try_append_value.result
+    (tries P inside.id inside.flushed inside.durable inside.sync_state some inside.tip c.try_append_value.new.self (g.T.EncodeSize.encoded c.args.value.now) c.self.invariant c.args.self.now c.try_append_value.result c.self.view_is fits c.try_append_value.ensures)
+
+pub returns-clause-consistent : goal.returns-clause-consistent
+returns-clause-consistent g c =
+    let inside = c.self.inside in
+    let P = non_zero_u16_get inside.page_size in
+    let some : 0 < P = inside.page_size.ok in
+    let w = c.args.self.now in
+    let fits : FitsBlob w.page_size w.full_pages (length w.tip + length (g.T.EncodeSize.encoded c.args.value.now)) = subst (λ n. FitsBlob w.page_size w.full_pages (length w.tip + n)) c.encode_size.ensures (c.fits.ensures.0 (search rules)) in
+    keeps_consistent g.H.Sum.sum_of c.args.self.now _ (g.T.EncodeSize.encoded c.args.value.now) c.try_append_value.result
     (tries P inside.id inside.flushed inside.durable inside.sync_state some inside.tip c.try_append_value.new.self (g.T.EncodeSize.encoded c.args.value.now) c.self.invariant c.args.self.now c.try_append_value.result c.self.view_is fits c.try_append_value.ensures)
 
 pub returns-clause-pages : goal.returns-clause-pages

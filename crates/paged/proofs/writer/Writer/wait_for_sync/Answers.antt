@@ -1,10 +1,13 @@
 use Rattle.std.proofs.lemmas.Result.{err_from_is_err_and}
 use Rattle.std.proofs.Common.{Ok, Err}
 use Rattle.writer_state.specs.Sound.{content}
-use Rattle.paged.proofs.Answering.{ready_waited, refused, wait_goes}
-use Rattle.paged.proofs.Halves.{waits_stay}
+use Rattle.paged.proofs.Answering.{holds_of, refused, wait_goes, waited_usable}
+use Rattle.paged.proofs.Over.{waits_stay}
 use Rattle.paged.proofs.Owing.{owes_waiting}
 use Rattle.paged.proofs.writer.Writer.wait_for_sync.Goals as goal
+
+pub wait-requires : goal.wait-requires
+wait-requires g c = record { holds = holds_of g.H.Sum.sum_of c.args.self (g.B.Blob.life c.args.blob.now).present c.requires.stands }
 
 pub returns-in_err-wait-clause-goes : goal.returns-in_err-wait-clause-goes
 returns-in_err-wait-clause-goes g c =
@@ -18,19 +21,19 @@ returns-clause-goes g c =
     wait_goes g.H.Sum.sum_of c.args.self c.wait.new.self (g.B.Blob.life c.args.blob.now) (g.B.Blob.life c.wait.new.blob) is.waits is.completes is.covers
 
 pub returns-clause-ready : goal.returns-clause-ready
-returns-clause-ready g c = λ cache ready.
-    ready_waited g.H.Sum.sum_of c.args.self c.wait.new.self cache (g.B.Blob.life c.args.blob.now) (g.B.Blob.life c.wait.new.blob) c.in_ok-wait.ensures.waits ready
+returns-clause-ready g c = λ cache.
+    waited_usable g.H.Sum.sum_of c.args.self c.wait.new.self cache (g.B.Blob.life c.args.blob.now) (g.B.Blob.life c.wait.new.blob) c.in_ok-wait.ensures.waits
 
 pub returns-in_err-wait-clause-owes : goal.returns-in_err-wait-clause-owes
 returns-in_err-wait-clause-owes g c =
     let is = c.in_err-wait.ensures in
     let old = g.B.Blob.life c.args.blob.now in
     let new = g.B.Blob.life c.wait.new.blob in
-    owes_waiting g.H.Sum.sum_of c.args.self old new c.requires.sound (waits_stay g.H.Sum.sum_of c.args.self old new (Err c.in_err-wait.field-0.0) is.waits) is.pages is.covers is.starts
+    owes_waiting g.H.Sum.sum_of c.args.self old new (holds_of g.H.Sum.sum_of c.args.self (g.B.Blob.life c.args.blob.now).present c.requires.stands) (waits_stay g.H.Sum.sum_of c.args.self old new (Err c.in_err-wait.field-0.0) is.waits) is.pages is.covers is.starts
 
 pub returns-clause-owes : goal.returns-clause-owes
 returns-clause-owes g c =
     let is = c.in_ok-wait.ensures in
     let old = g.B.Blob.life c.args.blob.now in
     let new = g.B.Blob.life c.wait.new.blob in
-    owes_waiting g.H.Sum.sum_of c.args.self old new c.requires.sound (waits_stay g.H.Sum.sum_of c.args.self old new (Ok c.wait.new.self) is.waits) is.pages is.covers is.starts
+    owes_waiting g.H.Sum.sum_of c.args.self old new (holds_of g.H.Sum.sum_of c.args.self (g.B.Blob.life c.args.blob.now).present c.requires.stands) (waits_stay g.H.Sum.sum_of c.args.self old new (Ok c.wait.new.self) is.waits) is.pages is.covers is.starts

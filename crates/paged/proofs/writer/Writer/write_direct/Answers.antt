@@ -41,7 +41,7 @@ flush_direct-requires g c =
     let is = c.in_ok-wait.ensures.waits.1 in
     record {
       cached = c.requires.cached ∙ sym (ap (λ (v : WriterState). v.page_size) is);
-      sound = c.in_ok-wait.ensures.waits.0.sound;
+      holds = c.in_ok-wait.ensures.waits.0.holds;
       waited = subst (λ (v : WriterState). WaitsForNone v.sync) (sym is) (waits_for_none c.args.self.now);
       direct = direct_waited c.args.self.now c.wait.new.self c.args.whole c.args.rest.now is c.requires.direct;
     }
@@ -64,7 +64,7 @@ returns g c =
       puts = puts_waited w m now more c.args.cache.now c.flush_direct.new.cache result is c.flush_direct.ensures.puts;
       refused = puts_late c.args.cache.now c.flush_direct.new.cache result c.flush_direct.ensures.late;
       late = λ _. c.flush_direct.ensures.late;
-      appends = appends_join sum w m old mid new [] more first now result c.requires.sound (direct_offsets m c.args.whole c.args.rest.now direct) c.flush_direct.ensures.appends;
+      appends = appends_join sum w m old mid new [] more first now result c.requires.holds (direct_offsets m c.args.whole c.args.rest.now direct) c.flush_direct.ensures.appends;
       pages = pages_join w.page_size w.full_pages w.full_pages old mid new (omega arith) c.in_ok-wait.ensures.pages
           (subst (λ (v : WriterState). PagesStay v.page_size v.full_pages mid new) is c.flush_direct.ensures.pages);
       covers = covers_after sum w m old mid new first c.in_ok-wait.ensures.covers c.flush_direct.ensures.covers;

@@ -1,4 +1,4 @@
-use Rattle.std.proofs.Common.{rules, ◌≡◌, Some, None, Ok, Err, refl, sym, subst}
+use Rattle.std.proofs.Common.{rules, ◌≡◌, inl, Some, None, Ok, Err, refl, sym, subst}
 use Rattle.std.specs.Prelude.{Option}
 use Rattle.writer_state.specs.WriterState.{WriterState}
 use Rattle.session.specs.declared.steps.Reply.TheVariants.{At, Fault}
@@ -11,7 +11,7 @@ pub append-requires : goal.append-requires
 append-requires g c =
     let at : c.args.self.now ≡ Some c.in-Some.writer = search rules in
     let d = (g.B.Blob.life c.args.blob.now).present in
-    record { ready = record { sound = sound_in g.H.Sum.sum_of c.args.self.now c.in-Some.writer d at c.requires.sound; can = can_in c.args.self.now c.in-Some.writer c.args.cache.now d at c.requires.cached; fresh = c.requires.fresh } }
+    record { ready = inl (record { sound = sound_in g.H.Sum.sum_of c.args.self.now c.in-Some.writer d at c.requires.sound; can = can_in c.args.self.now c.in-Some.writer c.args.cache.now d at c.requires.cached; fresh = c.requires.fresh }) }
 
 pub returns-in-Ok-clause-goes : goal.returns-in-Ok-clause-goes
 returns-in-Ok-clause-goes g c =
@@ -22,7 +22,7 @@ returns-in-Ok-clause-goes g c =
     subst (λ (o : Option WriterState). Appended g.H.Sum.sum_of o (Some c.in-Ok.writer) c.args.bytes.now old new (At c.in-Ok.at)) (sym at) (
       c.in-Ok.writer,
       refl,
-      append_says g.H.Sum.sum_of c.in-Some.writer c.args.cache.now c.append.new.cache old new c.args.bytes.now (Ok (c.in-Ok.writer, c.in-Ok.at)) is.goes is.ready is.owes is.costs,
+      append_says g.H.Sum.sum_of c.in-Some.writer c.args.cache.now c.append.new.cache old new c.args.bytes.now (Ok (c.in-Ok.writer, c.in-Ok.at)) is.goes (is.ready.0 (record { sound = sound_in g.H.Sum.sum_of c.args.self.now c.in-Some.writer (g.B.Blob.life c.args.blob.now).present at c.requires.sound; can = can_in c.args.self.now c.in-Some.writer c.args.cache.now (g.B.Blob.life c.args.blob.now).present at c.requires.cached; fresh = c.requires.fresh })) is.owes is.costs,
     )
 
 pub returns-in-Err-clause-goes : goal.returns-in-Err-clause-goes

@@ -12,7 +12,7 @@ pub replay-requires : goal.replay-requires
 replay-requires g c =
     let at : c.args.self.now ≡ Some c.in-Some.writer = search rules in
     let d = (g.B.Blob.life c.args.blob.now).present in
-    record { ready = record { sound = sound_in g.H.Sum.sum_of c.args.self.now c.in-Some.writer d at c.requires.sound; can = can_in c.args.self.now c.in-Some.writer c.args.cache.now d at c.requires.cached; fresh = c.requires.fresh } }
+    record { ready = inl (record { sound = sound_in g.H.Sum.sum_of c.args.self.now c.in-Some.writer d at c.requires.sound; can = can_in c.args.self.now c.in-Some.writer c.args.cache.now d at c.requires.cached; fresh = c.requires.fresh }) }
 
 pub returns-in-Ok-clause-goes : goal.returns-in-Ok-clause-goes
 returns-in-Ok-clause-goes g c =
@@ -27,8 +27,8 @@ returns-in-Ok-clause-goes g c =
       refl,
       search rules,
       search rules,
-      replay_says g.H.Sum.sum_of c.in-Some.writer c.args.cache.now c.replay.new.cache old new size (Ok (c.in-Ok.writer, c.in-Ok.replay)) is.goes is.ready is.owes is.costs,
-      is.goes.gives,
+      replay_says g.H.Sum.sum_of c.in-Some.writer c.args.cache.now c.replay.new.cache old new size (Ok (c.in-Ok.writer, c.in-Ok.replay)) is.goes (is.ready.0 (record { sound = sound_in g.H.Sum.sum_of c.args.self.now c.in-Some.writer (g.B.Blob.life c.args.blob.now).present at c.requires.sound; can = can_in c.args.self.now c.in-Some.writer c.args.cache.now (g.B.Blob.life c.args.blob.now).present at c.requires.cached; fresh = c.requires.fresh })) is.owes is.costs,
+      is.goes.gives (sound_in g.H.Sum.sum_of c.args.self.now c.in-Some.writer (g.B.Blob.life c.args.blob.now).present at c.requires.sound),
     )
 
 pub returns-in-Err-clause-goes : goal.returns-in-Err-clause-goes

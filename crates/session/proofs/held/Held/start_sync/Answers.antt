@@ -11,7 +11,7 @@ pub start_sync-requires : goal.start_sync-requires
 start_sync-requires g c =
     let at : c.args.self.now ≡ Some c.in-Some.writer = search rules in
     let d = (g.B.Blob.life c.args.blob.now).present in
-    record { ready = record { sound = sound_in g.H.Sum.sum_of c.args.self.now c.in-Some.writer d at c.requires.sound; can = can_in c.args.self.now c.in-Some.writer c.args.cache.now d at c.requires.cached; fresh = c.requires.fresh } }
+    record { ready = inl (record { sound = sound_in g.H.Sum.sum_of c.args.self.now c.in-Some.writer d at c.requires.sound; can = can_in c.args.self.now c.in-Some.writer c.args.cache.now d at c.requires.cached; fresh = c.requires.fresh }) }
 
 pub returns-after-started-clause-goes : goal.returns-after-started-clause-goes
 returns-after-started-clause-goes g c =
@@ -19,7 +19,7 @@ returns-after-started-clause-goes g c =
     let is = c.in-Ok.ensures in
     let old = g.B.Blob.life c.args.blob.now in
     let new = g.B.Blob.life c.start_sync.new.blob in
-    let says = start_says g.H.Sum.sum_of c.in-Some.writer c.args.cache.now c.start_sync.new.cache old new (Ok (c.in-Ok.writer, c.in-Ok.started)) is.goes is.ready is.owes is.costs in
+    let says = start_says g.H.Sum.sum_of c.in-Some.writer c.args.cache.now c.start_sync.new.cache old new (sound_in g.H.Sum.sum_of c.args.self.now c.in-Some.writer (g.B.Blob.life c.args.blob.now).present at c.requires.sound) (Ok (c.in-Ok.writer, c.in-Ok.started)) is.goes (is.ready.0 (record { sound = sound_in g.H.Sum.sum_of c.args.self.now c.in-Some.writer (g.B.Blob.life c.args.blob.now).present at c.requires.sound; can = can_in c.args.self.now c.in-Some.writer c.args.cache.now (g.B.Blob.life c.args.blob.now).present at c.requires.cached; fresh = c.requires.fresh })) is.owes is.costs in
     search rules
 
 pub returns-in-Err-clause-goes : goal.returns-in-Err-clause-goes
@@ -30,7 +30,7 @@ returns-in-Err-clause-goes g c =
     let old = g.B.Blob.life c.args.blob.now in
     let new = g.B.Blob.life c.start_sync.new.blob in
     subst (λ (o : Option WriterState). Starts g.H.Sum.sum_of o c.take.new.self c.args.names.now.items c.make_room.new.self.items old new (Fault c.in-Err.error)) (sym at)
-    (inl (none, search rules, start_says g.H.Sum.sum_of c.in-Some.writer c.args.cache.now c.start_sync.new.cache old new (Err c.in-Err.error) is.goes tt is.owes is.costs))
+    (inl (none, search rules, start_says g.H.Sum.sum_of c.in-Some.writer c.args.cache.now c.start_sync.new.cache old new (sound_in g.H.Sum.sum_of c.args.self.now c.in-Some.writer (g.B.Blob.life c.args.blob.now).present at c.requires.sound) (Err c.in-Err.error) is.goes tt is.owes is.costs))
 
 pub returns-after-started-clause-tails : goal.returns-after-started-clause-tails
 returns-after-started-clause-tails g c =

@@ -1,4 +1,4 @@
-use Rattle.std.proofs.Common.{rules, ◌≡◌, Some, None, Ok, Err, sym, subst}
+use Rattle.std.proofs.Common.{rules, ◌≡◌, inl, Some, None, Ok, Err, sym, subst}
 use Rattle.std.specs.Prelude.{Option}
 use Rattle.writer_state.specs.WriterState.{WriterState}
 use Rattle.session.specs.Calls.{LeavesTaken}
@@ -10,21 +10,21 @@ pub seal-requires : goal.seal-requires
 seal-requires g c =
     let at : c.args.self.now.writer ≡ Some c.in-Some.writer = search rules in
     let d = (g.B.Blob.life c.args.blob.now).present in
-    record { ready = record { sound = sound_in g.H.Sum.sum_of c.args.self.now.writer c.in-Some.writer d at c.requires.sound; can = can_in c.args.self.now.writer c.in-Some.writer c.args.cache.now d at c.requires.cached; fresh = c.requires.fresh } }
+    record { ready = inl (record { sound = sound_in g.H.Sum.sum_of c.args.self.now.writer c.in-Some.writer d at c.requires.sound; can = can_in c.args.self.now.writer c.in-Some.writer c.args.cache.now d at c.requires.cached; fresh = c.requires.fresh }) }
 
 pub returns-after-started-clause-goes : goal.returns-after-started-clause-goes
 returns-after-started-clause-goes g c =
     let at : c.args.self.now.writer ≡ Some c.in-Some.writer = search rules in
     let is = c.in-Ok.ensures in
-    let says = seal_says g.H.Sum.sum_of c.in-Some.writer c.args.cache.now c.seal.new.cache (g.B.Blob.life c.args.blob.now) (g.B.Blob.life c.seal.new.blob) (Ok (c.in-Ok.snapshot, c.in-Ok.started)) is.goes is.owes is.costs in
-    let stands = is.goes.stands in
+    let says = seal_says g.H.Sum.sum_of c.in-Some.writer c.args.cache.now c.seal.new.cache (g.B.Blob.life c.args.blob.now) (g.B.Blob.life c.seal.new.blob) (sound_in g.H.Sum.sum_of c.args.self.now.writer c.in-Some.writer (g.B.Blob.life c.args.blob.now).present at c.requires.sound) (Ok (c.in-Ok.snapshot, c.in-Ok.started)) is.goes is.owes is.costs in
+    let stands = is.goes.stands (sound_in g.H.Sum.sum_of c.args.self.now.writer c.in-Some.writer (g.B.Blob.life c.args.blob.now).present at c.requires.sound) in
     search rules
 
 pub returns-in-Err-clause-goes : goal.returns-in-Err-clause-goes
 returns-in-Err-clause-goes g c =
     let at : c.args.self.now.writer ≡ Some c.in-Some.writer = search rules in
     let is = c.in-Err.ensures in
-    let says = seal_says g.H.Sum.sum_of c.in-Some.writer c.args.cache.now c.seal.new.cache (g.B.Blob.life c.args.blob.now) (g.B.Blob.life c.seal.new.blob) (Err c.in-Err.error) is.goes is.owes is.costs in
+    let says = seal_says g.H.Sum.sum_of c.in-Some.writer c.args.cache.now c.seal.new.cache (g.B.Blob.life c.args.blob.now) (g.B.Blob.life c.seal.new.blob) (sound_in g.H.Sum.sum_of c.args.self.now.writer c.in-Some.writer (g.B.Blob.life c.args.blob.now).present at c.requires.sound) (Err c.in-Err.error) is.goes is.owes is.costs in
     search rules
 
 pub returns-after-started-clause-tails : goal.returns-after-started-clause-tails

@@ -1,4 +1,4 @@
-use Rattle.std.proofs.Common.{rules, ◌≡◌, Some, None, Ok, Err, sym, subst}
+use Rattle.std.proofs.Common.{rules, ◌≡◌, inl, Some, None, Ok, Err, sym, subst}
 use Rattle.std.specs.Prelude.{Option}
 use Rattle.writer_state.specs.WriterState.{WriterState}
 use Rattle.session.specs.Calls.{LeavesTaken}
@@ -10,14 +10,14 @@ pub snapshot-requires : goal.snapshot-requires
 snapshot-requires g c =
     let at : c.args.self.now.writer ≡ Some c.in-Some.writer = search rules in
     let d = (g.B.Blob.life c.args.blob.now).present in
-    record { ready = record { sound = sound_in g.H.Sum.sum_of c.args.self.now.writer c.in-Some.writer d at c.requires.sound; can = can_in c.args.self.now.writer c.in-Some.writer c.args.cache.now d at c.requires.cached; fresh = c.requires.fresh } }
+    record { ready = inl (record { sound = sound_in g.H.Sum.sum_of c.args.self.now.writer c.in-Some.writer d at c.requires.sound; can = can_in c.args.self.now.writer c.in-Some.writer c.args.cache.now d at c.requires.cached; fresh = c.requires.fresh }) }
 
 pub returns-in-Ok-clause-goes : goal.returns-in-Ok-clause-goes
 returns-in-Ok-clause-goes g c =
     let at : c.args.self.now.writer ≡ Some c.in-Some.writer = search rules in
     let is = c.in-Ok.ensures in
-    let says = snapshot_says g.H.Sum.sum_of c.in-Some.writer c.args.cache.now c.snapshot.new.cache (g.B.Blob.life c.args.blob.now) (g.B.Blob.life c.snapshot.new.blob) (Ok (c.in-Ok.writer, c.in-Ok.snapshot)) is.goes is.ready is.owes is.costs in
-    let stands = is.goes.stands in
+    let says = snapshot_says g.H.Sum.sum_of c.in-Some.writer c.args.cache.now c.snapshot.new.cache (g.B.Blob.life c.args.blob.now) (g.B.Blob.life c.snapshot.new.blob) (Ok (c.in-Ok.writer, c.in-Ok.snapshot)) is.goes (is.ready.0 (record { sound = sound_in g.H.Sum.sum_of c.args.self.now.writer c.in-Some.writer (g.B.Blob.life c.args.blob.now).present at c.requires.sound; can = can_in c.args.self.now.writer c.in-Some.writer c.args.cache.now (g.B.Blob.life c.args.blob.now).present at c.requires.cached; fresh = c.requires.fresh })) is.owes is.costs in
+    let stands = is.goes.stands (sound_in g.H.Sum.sum_of c.args.self.now.writer c.in-Some.writer (g.B.Blob.life c.args.blob.now).present at c.requires.sound) in
     search rules
 
 pub returns-in-Err-clause-goes : goal.returns-in-Err-clause-goes
