@@ -13,6 +13,7 @@ use Rattle.session.specs.declared.steps.Step.TheVariants.{Size}
 use Rattle.session.specs.declared.steps.Reply.{Reply}
 use Rattle.session.specs.declared.steps.Reply.TheVariants.{Fault}
 use Rattle.session.specs.Run.{SessionState, RunsAlways, TookNone}
+use Rattle.session.specs.Calls.{RunGoes}
 use Rattle.session.proofs.Joined.{runs_join, runs_none, promised}
 use Rattle.protocol.specs.declared.request.Request.{Request}
 use Rattle.protocol.specs.declared.request.Request.TheVariants.{Step as StepOf, Close}
@@ -148,14 +149,14 @@ refusal_unwritten sum setting step was life out written stop (Err error) same is
     by_cause (Lost error) none = absurd none
 
 -- its reply is the only one, and was written
-pub takes_step : (sum : List ℕ → ℕ) (setting : Setting) (step : Step) (reply : Reply) (was now : SessionState) (old new : Life) (earlier replies : List Reply) (out written : Option (List ℕ)) (ran : Result (Unit {0}) Error)
-    (result : Result (Option Error) Stop) → (setting.read_only && changes step) ≡ false → is_err ran ≡ false → OnOk ran (RunsAlways sum (step ∷ []) was now old new earlier replies) → earlier ≡ [] → replies ≡ reply ∷ []
+pub takes_step : (sum : List ℕ → ℕ) (setting : Setting) (step : Step) (reply : Reply) (was now : SessionState) (cache after : CacheState) (old new : Life) (earlier replies : List Reply) (out written : Option (List ℕ)) (ran : Result (Unit {0}) Error)
+    (result : Result (Option Error) Stop) → (setting.read_only && changes step) ≡ false → is_err ran ≡ false → OnOk ran (RunGoes sum (step ∷ []) was now cache after old new earlier replies) → earlier ≡ [] → replies ≡ reply ∷ []
     → WritesReply out written reply result → TakesRequest sum setting (StepOf step) was now old new out written result
-takes_step sum setting step reply was now old new earlier replies out written (Err error) result may is runs none one answers = absurd (cc is)
-takes_step sum setting step reply was now old new earlier replies out written (Ok done) result may is runs none one answers = by_answer result answers
+takes_step sum setting step reply was now cache after old new earlier replies out written (Err error) result may is runs none one answers = absurd (cc is)
+takes_step sum setting step reply was now cache after old new earlier replies out written (Ok done) result may is runs none one answers = by_answer result answers
   where
     alone : RunsAlways sum (step ∷ []) was now old new [] (reply ∷ [])
-    alone = subst (λ (rs : List Reply). RunsAlways sum (step ∷ []) was now old new [] rs) one (subst (λ (rs : List Reply). RunsAlways sum (step ∷ []) was now old new rs replies) none runs)
+    alone = subst (λ (rs : List Reply). RunsAlways sum (step ∷ []) was now old new [] rs) one (subst (λ (rs : List Reply). RunsAlways sum (step ∷ []) was now old new rs replies) none runs.always)
 
     took : Took sum (step ∷ []) (reply ∷ []) was now old new
     took = record { runs = alone; promises = promised sum (step ∷ []) was now old new [] (reply ∷ []) alone }

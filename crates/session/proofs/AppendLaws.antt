@@ -29,7 +29,7 @@ use Rattle.session.specs.declared.steps.Reply.{Reply}
 use Rattle.session.specs.declared.steps.Reply.TheVariants.{At, Nothing, Fault}
 use Rattle.session.specs.Run.{Standing, SessionState, has_room, buffered_after, written_after, awaited_after, appended, ended, needs_sync, faults, HasCause, HadFailed, Foretells, Touches, AllCover, pending_in, WriterStandsFor}
 use Rattle.session.specs.Run.Touch.{Leaves, Changes}
-use Rattle.session.specs.Calls.{OwesStarts, AppendSays}
+use Rattle.session.proofs.Words.{OwesStarts, AppendTold}
 use Rattle.session.proofs.Apart.{AlwaysApart, StandsApart, SteppedApart}
 use Rattle.session.proofs.StepLaws.{held, no_moments, turned_here, few_calls, cover_longer, halves, each_end, stepped, unasked, unasked_over, stands_now, stands_ended, Halves}
 
@@ -265,12 +265,12 @@ needed_offsets sum was P w more life before sound stands =
 
 -- an append that passes the greatest number is refused so
 append_foretold : (sum : List ℕ → ℕ) (was : SessionState) (P : ℕ) (w : WriterState) (bytes : Vec ℕ Global) (old new : Life) (result : Result (WriterState × ℕ) Error) (reply : Reply) (before : Standing) → IsSound sum w old.present → StandsApart sum P (held was (Some w)) before old.present
-    → AppendSays sum w bytes.items old new result → (result ≡ Err OffsetOverflow → reply ≡ Fault OffsetOverflow) → Foretells P (Append bytes) reply before
+    → AppendTold sum w bytes.items old new result → (result ≡ Err OffsetOverflow → reply ≡ Fault OffsetOverflow) → Foretells P (Append bytes) reply before
 append_foretold sum was P w bytes old new result reply before sound stands says is =
     (λ overflows. is (says.overflow (omega (arith, overflows, needed_offsets sum was P w (length bytes.items) old before sound stands))), λ none. absurd none)
 
 -- an append that is done
-pub append_steps : (sum : List ℕ → ℕ) (was : SessionState) (w v : WriterState) (bytes : Vec ℕ Global) (n : ℕ) (old new : Life) → IsSound sum w old.present → AppendSays sum w bytes.items old new (Ok (v, n))
+pub append_steps : (sum : List ℕ → ℕ) (was : SessionState) (w v : WriterState) (bytes : Vec ℕ Global) (n : ℕ) (old new : Life) → IsSound sum w old.present → AppendTold sum w bytes.items old new (Ok (v, n))
     → AlwaysApart sum (Append bytes) (At n) (held was (Some w)) (held was (Some v)) old new
 unfolding Through
 append_steps sum was w v bytes n old new sound says = λ P before stands. by_room P before stands (has_room before (length bytes.items)) refl
@@ -346,7 +346,7 @@ append_cause sum P w bytes old new OutOfMemory before offsets awaited room goes 
 append_cause sum P w bytes old new IdsExhausted before offsets awaited room goes = absurd goes.cause
 
 -- an append that is refused
-pub append_refused_steps : (sum : List ℕ → ℕ) (was : SessionState) (w : WriterState) (bytes : Vec ℕ Global) (e : Error) (old new : Life) → IsSound sum w old.present → AppendSays sum w bytes.items old new (Err e)
+pub append_refused_steps : (sum : List ℕ → ℕ) (was : SessionState) (w : WriterState) (bytes : Vec ℕ Global) (e : Error) (old new : Life) → IsSound sum w old.present → AppendTold sum w bytes.items old new (Err e)
     → AlwaysApart sum (Append bytes) (Fault e) (held was (Some w)) (held was None) old new
 unfolding Through
 append_refused_steps sum was w bytes e old new sound says = λ P before stands.

@@ -3,10 +3,12 @@
 use Rattle.std.specs.Prelude.{◌≡◌, ℕ, List, [], ◌∷◌, ◌++◌, length}
 use Rattle.std.proofs.Common.{sym, ap, ◌∙◌, subst, refl, append_assoc, length-append, ◌+◌}
 use Rattle.disk.specs.Disk.{Disk, Life, life_after}
+use Rattle.cache.specs.CacheState.{CacheState}
 use Rattle.crash.specs.Moments.{life_after-append}
 use Rattle.session.specs.declared.steps.Step.{Step}
 use Rattle.session.specs.declared.steps.Reply.{Reply}
 use Rattle.session.specs.Run.{Standing, SessionState, last, raised, Ran, RunsAlways}
+use Rattle.session.specs.Calls.{RanCalls, RunGoes}
 use Rattle.session.specs.Promise.{Promises}
 pub use Rattle.session.proofs.RunLaws.{runs_none}
 use Rattle.session.proofs.PromiseLaws.{promises as kept}
@@ -86,6 +88,46 @@ runs_join sum steps more was mid now old between new earlier replies others firs
         stands = b.stands;
       };
 }
+
+-- what each step's call said in the first run and in the second is said in both
+calls_join : (sum : List ℕ → ℕ) (steps more : List Step) (replies others : List Reply)
+    (was mid now : SessionState) (cache held after : CacheState) (old between new : Life)
+    → RanCalls sum steps replies was mid cache held old between
+    → RanCalls sum more others mid now held after between new
+    → RanCalls sum (steps ++ more) (replies ++ others) was now cache after old new
+calls_join sum [] more [] others was mid now cache held after old between new (same, kept, stayed)
+    ran =
+    subst (λ (s : SessionState). RanCalls sum more others s now cache after old new) same
+    (subst (λ (c : CacheState). RanCalls sum more others mid now c after old new) kept
+    (subst (λ (life : Life). RanCalls sum more others mid now held after life new) stayed ran))
+calls_join sum (step ∷ steps) more (reply ∷ replies) others was mid now cache held after old between
+    new (ready, next, keeps, life, did, goes) ran = (
+      ready,
+      next,
+      keeps,
+      life,
+      did,
+      calls_join sum steps more replies others next mid now keeps held
+          after life between new goes ran,
+    )
+calls_join sum [] more (r ∷ rs) others was mid now cache held after old between new none ran =
+    absurd none
+calls_join sum (x ∷ xs) more [] others was mid now cache held after old between new none ran =
+    absurd none
+
+-- so with what each step's call said
+pub goes_join : (sum : List ℕ → ℕ) (steps more : List Step) (was mid now : SessionState)
+    (cache held after : CacheState) (old between new : Life) (earlier replies others : List Reply)
+    → RunGoes sum steps was mid cache held old between earlier replies
+    → RunGoes sum more mid now held after between new [] others
+    → RunGoes sum (steps ++ more) was now cache after old new earlier (replies ++ others)
+goes_join sum steps more was mid now cache held after old between new earlier replies others first
+    second = record {
+      always = runs_join sum steps more was mid now old between new earlier replies others first.always
+          second.always;
+      calls = calls_join sum steps more first.always.added second.always.added was mid now cache held
+          after old between new first.calls second.calls;
+    }
 
 -- a run keeps its promise
 pub promised : (sum : List ℕ → ℕ) (steps : List Step) (was now : SessionState) (old new : Life)

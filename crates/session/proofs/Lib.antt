@@ -3,6 +3,7 @@ pub mod OtherWriters
 pub mod Below
 pub mod NameLaws
 pub mod StepLaws
+pub mod Words
 pub mod AppendLaws
 pub mod SyncLaws
 pub mod SizeLaws
@@ -31,3 +32,4 @@ pub mod StoodExamples
 pub mod Joined
 pub mod WordLaws
 pub mod TwoSessions
+mod CallExamples

@@ -93,20 +93,20 @@ not_of o w t id at same other is =
     apart (is ∙ same)
 
 -- a snapshot
-pub snapshot_others : (sum : List ℕ → ℕ) (was now : SessionState) (cache after : CacheState) (old new : Life) (reply : Reply) → WriterLeavesOthers was.writer now.writer cache after → DidSnapshot sum was now after old new reply → LeavesOtherBlobs was now cache after
+pub snapshot_others : (sum : List ℕ → ℕ) (was now : SessionState) (cache after : CacheState) (old new : Life) (reply : Reply) → WriterLeavesOthers was.writer now.writer cache after → DidSnapshot sum was now cache after old new reply → LeavesOtherBlobs was now cache after
 snapshot_others sum was now cache after old new reply leaves did = by_state was.recovering was.writer refl did
   where
     kept : {s : SessionState} → now ≡ s → s.snapshots ≡ was.snapshots → LeavesOtherBlobs was now cache after
     kept is same = others_kept was now cache after (ap (λ (s : SessionState). s.snapshots) is ∙ same) leaves
 
-    takes : (w : WriterState) → was.writer ≡ Some w → (r : Reply) → TakesSnapshot sum w was now after old new r → LeavesOtherBlobs was now cache after
-    takes w at (Taken index) (v, t, number, is, says, on) =
-        let same : t.id ≡ w.id = ap (λ (u : Tail). u.id) says.makes.2 ∙ says.makes.0.same.id in
+    takes : (w : WriterState) → was.writer ≡ Some w → (r : Reply) → TakesSnapshot sum w was now cache after old new r → LeavesOtherBlobs was now cache after
+    takes w at (Taken index) (v, t, number, is, whole, says) =
+        let same : t.id ≡ w.id = ap (λ (u : Tail). u.id) says.goes.tail ∙ says.goes.holds.same.id in
         others_made was now t cache after (ap (λ (s : SessionState). s.snapshots) is) (λ id other. not_of was.writer w t id at same other) leaves
-    takes w at (Fault e) goes = elim goes [ inl (is, says) ↦ kept is refl | inr (fault, is, same) ↦ kept is refl ]
+    takes w at (Fault e) goes = elim goes [ inl (is, says) ↦ kept is refl | inr (fault, is, same, held) ↦ kept is refl ]
     takes w at r goes = absurd goes
 
-    by_state : (phase : Bool) (o : Option WriterState) → was.writer ≡ o → IfAppending phase o reply ((now ≡ was) × (new ≡ old)) (λ w. TakesSnapshot sum w was now after old new reply) → LeavesOtherBlobs was now cache after
+    by_state : (phase : Bool) (o : Option WriterState) → was.writer ≡ o → IfAppending phase o reply ((now ≡ was) × (new ≡ old) × (after ≡ cache)) (λ w. TakesSnapshot sum w was now cache after old new reply) → LeavesOtherBlobs was now cache after
     by_state true None at (replied, stays) = kept stays.0 refl
     by_state false None at (replied, stays) = kept stays.0 refl
     by_state true (Some w) at (replied, stays) = kept stays.0 refl
@@ -135,20 +135,20 @@ try_snapshot_others was now cache reply did = by_state was.recovering was.writer
     by_state false (Some w) at goes = tries w at reply goes
 
 -- the end of a writer
-pub seal_others : (sum : List ℕ → ℕ) (was now : SessionState) (cache after : CacheState) (old new : Life) (reply : Reply) → WriterLeavesOthers was.writer now.writer cache after → DidSeal sum was now after old new reply → LeavesOtherBlobs was now cache after
+pub seal_others : (sum : List ℕ → ℕ) (was now : SessionState) (cache after : CacheState) (old new : Life) (reply : Reply) → WriterLeavesOthers was.writer now.writer cache after → DidSeal sum was now cache after old new reply → LeavesOtherBlobs was now cache after
 seal_others sum was now cache after old new reply leaves did = by_state was.recovering was.writer refl did
   where
     kept : {s : SessionState} → now ≡ s → s.snapshots ≡ was.snapshots → LeavesOtherBlobs was now cache after
     kept is same = others_kept was now cache after (ap (λ (s : SessionState). s.snapshots) is ∙ same) leaves
 
-    seals : (w : WriterState) → was.writer ≡ Some w → (r : Reply) → SealsSession sum w was now after old new r → LeavesOtherBlobs was now cache after
-    seals w at (Sealed index sync) (t, number, is, says, on) =
-        let same : t.id ≡ w.id = ap (λ (u : Tail). u.id) says.seals.1 ∙ says.seals.2.0.same.id in
+    seals : (w : WriterState) → was.writer ≡ Some w → (r : Reply) → SealsSession sum w was now cache after old new r → LeavesOtherBlobs was now cache after
+    seals w at (Sealed index sync) (t, number, is, says) =
+        let same : t.id ≡ w.id = ap (λ (u : Tail). u.id) says.goes.tail ∙ says.goes.goes.holds.same.id in
         others_made was now t cache after (ap (λ (s : SessionState). s.snapshots) is) (λ id other. not_of was.writer w t id at same other) leaves
-    seals w at (Fault e) goes = elim goes [ inl (is, says) ↦ kept is refl | inr (fault, is, same) ↦ kept is refl ]
+    seals w at (Fault e) goes = elim goes [ inl (is, says) ↦ kept is refl | inr (fault, is, same, held) ↦ kept is refl ]
     seals w at r goes = absurd goes
 
-    by_state : (phase : Bool) (o : Option WriterState) → was.writer ≡ o → IfAppending phase o reply ((now ≡ was) × (new ≡ old)) (λ w. SealsSession sum w was now after old new reply) → LeavesOtherBlobs was now cache after
+    by_state : (phase : Bool) (o : Option WriterState) → was.writer ≡ o → IfAppending phase o reply ((now ≡ was) × (new ≡ old) × (after ≡ cache)) (λ w. SealsSession sum w was now cache after old new reply) → LeavesOtherBlobs was now cache after
     by_state true None at (replied, stays) = kept stays.0 refl
     by_state false None at (replied, stays) = kept stays.0 refl
     by_state true (Some w) at (replied, stays) = kept stays.0 refl

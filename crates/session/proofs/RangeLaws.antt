@@ -17,7 +17,7 @@ use Rattle.writer_state.specs.Sound.{IsSound}
 use Rattle.cache.specs.CacheState.{CacheState}
 use Rattle.paged_read.specs.Tail.{Tail}
 use Rattle.paged_read.specs.Failures.{none_failed_start}
-use Rattle.paged_read.specs.Ranges.{missing, is_served, missed_from, page_ranges, ReadsMany, AsksOnce, AsksTogether, Misses}
+use Rattle.paged_read.specs.Ranges.{missing, is_served, missed_from, page_ranges, ReadsMany, AsksTogether, Misses}
 use Rattle.paged_read.proofs.RangedLists.{refused_not}
 use Rattle.paged.specs.Caches.{tail_of}
 use Rattle.paged.specs.Reads.{size_of}
@@ -28,7 +28,10 @@ use Rattle.session.specs.declared.steps.Step.TheVariants.{ReadRanges, TryReadRan
 use Rattle.session.specs.declared.steps.Reply.{Reply}
 use Rattle.session.specs.declared.steps.Reply.TheVariants.{At, Nothing, Done, Started, Answer, Length, Bytes, Fault, Closed, NotRecovering, NoSuch, Served, Missed, BadRanges, Taken, Sealed, NotAppending, Replaying}
 use Rattle.session.specs.Run.{Standing, SessionState, in_order_from, fit_together, turned_away, content_after, faults, HasCause, Takes, Foretells, RiseBelow, NumbersSome, touch}
-use Rattle.session.specs.Calls.{ReadsRanges, ReadRangesSays, DidReadRanges, TriedRanges, DidTryReadRanges}
+use Rattle.session.specs.Calls.{CostsRanges, ReadsRanges, ReadRangesSays, DidReadRanges, TriedRanges, DidTryReadRanges}
+use Rattle.paged_read.specs.Reads.{ReadManyCosts}
+use Rattle.paged_read.proofs.PutLaws.{puts_none}
+use Rattle.std.proofs.lemmas.List.Sorted.{IsPermutation-refl}
 use Rattle.session.proofs.StepLaws.{held, answers_away, leaves, begun_keeps, begun_covers, only_there, raised_within, unasked}
 use Rattle.session.proofs.SizeLaws.{looked_steps, alike_stays_started}
 use Rattle.session.proofs.SessionLaws.{closed_takes, held_takes, sound_of, same_rest}
@@ -149,14 +152,14 @@ end_told sum w cache ranges old new NoSuch small reads goes = absurd reads
 -- ---- what a read of them says
 
 -- it tells what the first that can't be read decides
-says_by : (sum : List ℕ → ℕ) (w : WriterState) (cache : CacheState) (ranges : List (ℕ × ℕ)) (old new : Life) (reply : Reply) → size_of w < 2 ^ 64 → ReadsRanges sum w cache ranges old new reply → (reply ≡ Fault InvalidChecksum → ⊥) → AsksOnce cache (tail_of w) ranges old new → Looked old new
-    → ReadRangesSays sum w cache ranges old new reply
-says_by sum w cache ranges old new reply small reads full asks looked = record {
+says_by : (sum : List ℕ → ℕ) (w : WriterState) (cache after : CacheState) (ranges : List (ℕ × ℕ)) (old new : Life) (reply : Reply) → size_of w < 2 ^ 64 → ReadsRanges sum w cache ranges old new reply → (reply ≡ Fault InvalidChecksum → ⊥) → CostsRanges sum w cache after ranges old new reply → Looked old new
+    → ReadRangesSays sum w cache after ranges old new reply
+says_by sum w cache after ranges old new reply small reads full costs looked = record {
   reads = reads;
   full = full;
   overflow = overflow_told sum w cache ranges old new reply small reads;
   end = end_told sum w cache ranges old new reply small reads;
-  asks = asks;
+  costs = costs;
   looked = looked;
 }
 
@@ -164,6 +167,15 @@ says_by sum w cache ranges old new reply small reads full asks looked = record {
 asks_none : (ranges : List (ℕ × ℕ)) (life : Life) → AsksTogether ranges life life
 asks_none [] life = refl
 asks_none (range ∷ ranges) life = inl refl
+
+-- so does what is put
+costs_nothing : (sum : List ℕ → ℕ) (w : WriterState) (cache : CacheState) (ranges : List (ℕ × ℕ)) (life : Life) (e : Error) → CostsRanges sum w cache cache ranges life life (Fault e)
+costs_nothing sum w cache ranges life e =
+    let pages = missing cache (tail_of w) ranges in
+    record {
+      asks = asks_none (page_ranges w.page_size pages) life;
+      puts = record { order = pages; each = IsPermutation-refl pages; puts = puts_none sum (tail_of w) pages life.present.readable cache };
+    }
 
 -- the first that can't be read decides
 refused_reads : (sum : List ℕ → ℕ) (w : WriterState) (cache : CacheState) (ranges : List (ℕ × ℕ)) (life : Life) (e : Error) → RangesGo (size_of w) ranges (Err e) → ReadsMany sum (tail_of w) cache ranges [] life life (Err e)
@@ -188,10 +200,10 @@ refused_full size ranges InvalidChecksum (before, after, (range, at, ends, goes)
 refused_full size ranges OutOfMemory goes is = cc is
 refused_full size ranges IdsExhausted goes is = cc is
 
-pub refused_says : (sum : List ℕ → ℕ) (w : WriterState) (cache : CacheState) (ranges : List (ℕ × ℕ)) (life : Life) (e : Error) (size : ℕ) → size ≡ size_of w → size < 2 ^ 64 → RangesGo size ranges (Err e) → ReadRangesSays sum w cache ranges life life (Fault e)
+pub refused_says : (sum : List ℕ → ℕ) (w : WriterState) (cache : CacheState) (ranges : List (ℕ × ℕ)) (life : Life) (e : Error) (size : ℕ) → size ≡ size_of w → size < 2 ^ 64 → RangesGo size ranges (Err e) → ReadRangesSays sum w cache cache ranges life life (Fault e)
 refused_says sum w cache ranges life e size is small goes =
     let here : RangesGo (size_of w) ranges (Err e) = subst (λ (n : ℕ). RangesGo n ranges (Err e)) is goes in
-    says_by sum w cache ranges life life (Fault e) (omega (arith, is, small)) (refused_reads sum w cache ranges life e here) (refused_full (size_of w) ranges e here) (asks_none (page_ranges w.page_size (missing cache (tail_of w) ranges)) life) (looked_start life)
+    says_by sum w cache cache ranges life life (Fault e) (omega (arith, is, small)) (refused_reads sum w cache ranges life e here) (refused_full (size_of w) ranges e here) (costs_nothing sum w cache ranges life e) (looked_start life)
 
 -- where none was refused they can be read
 none_refused : (size : ℕ) (ranges : List (ℕ × ℕ)) (result : Result (Unit {0}) Error) → ((e : Error) → result ≡ Err e → ⊥) → RangesGo size ranges result → EndWithin size ranges
@@ -200,17 +212,17 @@ none_refused size ranges (Err e) not_err goes = absurd (not_err e refl)
 
 -- there is no memory for bytes within the size
 pub no_room_says : (sum : List ℕ → ℕ) (w : WriterState) (cache : CacheState) (ranges : List (ℕ × ℕ)) (life : Life) (e : Error) (size : ℕ) (result : Result (Unit {0}) Error) → size ≡ size_of w → size < 2 ^ 64 → e ≡ OutOfMemory → ((error : Error) → result ≡ Err error → ⊥) → RangesGo size ranges result
-    → ReadRangesSays sum w cache ranges life life (Fault e)
+    → ReadRangesSays sum w cache cache ranges life life (Fault e)
 no_room_says sum w cache ranges life e size result same small is not_err goes =
     let ends : EndWithin (size_of w) ranges = subst (λ (n : ℕ). EndWithin n ranges) same (none_refused size ranges result not_err goes) in
-    subst (λ (x : Error). ReadRangesSays sum w cache ranges life life (Fault x)) (sym is)
-    (says_by sum w cache ranges life life (Fault OutOfMemory) (omega (arith, same, small)) (ends, none_failed_start life.present) (λ other. cc other) (asks_none (page_ranges w.page_size (missing cache (tail_of w) ranges)) life) (looked_start life))
+    subst (λ (x : Error). ReadRangesSays sum w cache cache ranges life life (Fault x)) (sym is)
+    (says_by sum w cache cache ranges life life (Fault OutOfMemory) (omega (arith, same, small)) (ends, none_failed_start life.present) (λ other. cc other) (costs_nothing sum w cache ranges life OutOfMemory) (looked_start life))
 
 -- bytes were read
-pub served_says : (sum : List ℕ → ℕ) (w : WriterState) (cache : CacheState) (ranges : List (ℕ × ℕ)) (buf : List ℕ) (old new : Life) (count : ℕ) (bytes : Vec ℕ Global) → size_of w < 2 ^ 64 → bytes.items ≡ buf → ReadsMany sum (tail_of w) cache ranges buf old new (Ok count) → AsksOnce cache (tail_of w) ranges old new
-    → Looked old new → ReadRangesSays sum w cache ranges old new (Served count bytes)
-served_says sum w cache ranges buf old new count bytes small is reads asks looked =
-    says_by sum w cache ranges old new (Served count bytes) small (subst (λ (l : List ℕ). ReadsMany sum (tail_of w) cache ranges l old new (Ok count)) (sym is) reads) (λ other. cc other) asks looked
+pub served_says : (sum : List ℕ → ℕ) (w : WriterState) (cache after : CacheState) (ranges : List (ℕ × ℕ)) (buf : List ℕ) (old new : Life) (count : ℕ) (bytes : Vec ℕ Global) → size_of w < 2 ^ 64 → bytes.items ≡ buf → ReadsMany sum (tail_of w) cache ranges buf old new (Ok count) → ReadManyCosts {A = ℕ} sum (tail_of w) ranges cache after old new (Ok count)
+    → Looked old new → ReadRangesSays sum w cache after ranges old new (Served count bytes)
+served_says sum w cache after ranges buf old new count bytes small is reads costs looked =
+    says_by sum w cache after ranges old new (Served count bytes) small (subst (λ (l : List ℕ). ReadsMany sum (tail_of w) cache ranges l old new (Ok count)) (sym is) reads) (λ other. cc other) costs looked
 
 -- or not, and then it says nothing of them
 no_bytes : (sum : List ℕ → ℕ) (t : Tail) (cache : CacheState) (ranges : List (ℕ × ℕ)) (bytes : List ℕ) (old new : Life) (e : Error) → ReadsMany sum t cache ranges bytes old new (Err e) → ReadsMany sum t cache ranges [] old new (Err e)
@@ -224,9 +236,9 @@ no_bytes sum t cache ranges bytes old new OffsetOverflow reads = reads
 no_bytes sum t cache ranges bytes old new OutOfMemory reads = reads
 no_bytes sum t cache ranges bytes old new IdsExhausted reads = reads
 
-pub fault_says : (sum : List ℕ → ℕ) (w : WriterState) (cache : CacheState) (ranges : List (ℕ × ℕ)) (bytes : List ℕ) (old new : Life) (e : Error) → size_of w < 2 ^ 64 → (e ≡ InvalidChecksum → ⊥) → ReadsMany sum (tail_of w) cache ranges bytes old new (Err e) → AsksOnce cache (tail_of w) ranges old new → Looked old new
-    → ReadRangesSays sum w cache ranges old new (Fault e)
-fault_says sum w cache ranges bytes old new e small full reads asks looked = says_by sum w cache ranges old new (Fault e) small (no_bytes sum (tail_of w) cache ranges bytes old new e reads) (λ is. full (cc is)) asks looked
+pub fault_says : (sum : List ℕ → ℕ) (w : WriterState) (cache after : CacheState) (ranges : List (ℕ × ℕ)) (bytes : List ℕ) (old new : Life) (e : Error) → size_of w < 2 ^ 64 → (e ≡ InvalidChecksum → ⊥) → ReadsMany sum (tail_of w) cache ranges bytes old new (Err e) → ReadManyCosts {A = ℕ} sum (tail_of w) ranges cache after old new (Err e) → Looked old new
+    → ReadRangesSays sum w cache after ranges old new (Fault e)
+fault_says sum w cache after ranges bytes old new e small full reads costs looked = says_by sum w cache after ranges old new (Fault e) small (no_bytes sum (tail_of w) cache ranges bytes old new e reads) (λ is. full (cc is)) costs looked
 
 -- ---- a read of ranges as a step
 
@@ -300,10 +312,10 @@ filter_few p (x ∷ xs) = by_test (p x) (filter_few p xs)
     by_test false few = omega (arith, few)
 
 -- a read of ranges that one call can take
-read_ranges_steps : (sum : List ℕ → ℕ) (was : SessionState) (w : WriterState) (cache : CacheState) (ranges : Vec (ℕ × ℕ) Global) (old new : Life) (reply : Reply) → fit_together ranges.items ≡ true → IsSound sum w old.present → ReadRangesSays sum w cache ranges.items old new reply
+read_ranges_steps : (sum : List ℕ → ℕ) (was : SessionState) (w : WriterState) (cache after : CacheState) (ranges : Vec (ℕ × ℕ) Global) (old new : Life) (reply : Reply) → fit_together ranges.items ≡ true → IsSound sum w old.present → ReadRangesSays sum w cache after ranges.items old new reply
     → AlwaysApart sum (ReadRanges ranges) reply (held was (Some w)) (held was (Some w)) old new
 unfolding Through
-read_ranges_steps sum was w cache ranges old new reply fits sound says = λ P before stands.
+read_ranges_steps sum was w cache after ranges old new reply fits sound says = λ P before stands.
     let size : size_of w ≡ length before.content = size_is_length sum w old sound ∙ ap length (sym stands.fits.content) in
     let foretold : Foretells P (ReadRanges ranges) reply before = (
       λ passes. says.overflow (subst (λ (n : ℕ). RangesGo n ranges.items (Err OffsetOverflow)) (sym size) passes),
@@ -337,17 +349,17 @@ read_ranges_steps sum was w cache ranges old new reply fits sound says = λ P be
     taken (Missed numbers) P before stands size full reads = absurd reads
 
 -- by a session
-pub read_ranges_takes : (sum : List ℕ → ℕ) (was : SessionState) (cache : CacheState) (ranges : Vec (ℕ × ℕ) Global) (old new : Life) (reply : Reply) → IsReadyApart sum was old.present → DidReadRanges sum was.writer (fit_together ranges.items) cache ranges.items old new reply
+pub read_ranges_takes : (sum : List ℕ → ℕ) (was : SessionState) (cache after : CacheState) (ranges : Vec (ℕ × ℕ) Global) (old new : Life) (reply : Reply) → IsReadyApart sum was old.present → DidReadRanges sum was.writer (fit_together ranges.items) cache after ranges.items old new reply
     → StepsApart sum (ReadRanges ranges) reply was was old new
-read_ranges_takes sum was cache ranges old new reply ready goes = by_writer was.writer refl (fit_together ranges.items) refl goes
+read_ranges_takes sum was cache after ranges old new reply ready goes = by_writer was.writer refl (fit_together ranges.items) refl goes
   where
-    by_writer : (o : Option WriterState) → was.writer ≡ o → (fit : Bool) → fit_together ranges.items ≡ fit → DidReadRanges sum o fit cache ranges.items old new reply → StepsApart sum (ReadRanges ranges) reply was was old new
+    by_writer : (o : Option WriterState) → was.writer ≡ o → (fit : Bool) → fit_together ranges.items ≡ fit → DidReadRanges sum o fit cache after ranges.items old new reply → StepsApart sum (ReadRanges ranges) reply was was old new
     by_writer None at fit is goes = closed_takes sum (ReadRanges ranges) was was old new reply (λ before none. turned_none before.has_writer (fit_together ranges.items) none) at ready goes.0 refl goes.1
     by_writer (Some w) at false is goes = bad_takes sum (ReadRanges ranges) was w old new reply (λ before has. turned_bad before.has_writer (fit_together ranges.items) has is) (λ content. refl) at ready goes.0 goes.1
     by_writer (Some w) at true is says =
         let sound = sound_of sum was w old.present at ready in
         let starts : (was.names ≡ []) ⊎ StartsStand new.present = elim ready.starts [ inl none ↦ inl none | inr stand ↦ inr (alike_stays_started old.present new.present says.looked.same stand) ] in
-        held_takes sum (ReadRanges ranges) reply was was w (Some w) old new at (same_rest was) at (reads_keep_sound sum w old new says.looked sound) starts (read_ranges_steps sum was w cache ranges old new reply is sound says)
+        held_takes sum (ReadRanges ranges) reply was was w (Some w) old new at (same_rest was) at (reads_keep_sound sum w old new says.looked sound) starts (read_ranges_steps sum was w cache after ranges old new reply is sound says)
 
 -- ---- a question for ranges
 

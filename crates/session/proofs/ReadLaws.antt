@@ -1,5 +1,5 @@
 -- What the steps that read other than all of a range do.
-use Rattle.std.proofs.Common.{◌≡◌, ◌⊎◌, ℕ, ◌+◌, ◌-◌, ◌<◌, ◌≤◌, List, [], length, take, drop, min, refl, sym, ap, ◌∙◌, subst, arith, inl, inr, Bool, true, false, Err, lit<}
+use Rattle.std.proofs.Common.{◌≡◌, ◌⊎◌, ℕ, ◌+◌, ◌-◌, ◌*◌, ◌<◌, ◌≤◌, List, [], length, take, drop, min, refl, sym, ap, ◌∙◌, subst, arith, inl, inr, Bool, true, false, Err, lit<}
 use Rattle.std.specs.Prelude.{Option, Some, None, IfSome, nat_le, nat_eq, if◌then◌else◌}
 use Rattle.std.proofs.lemmas.Bool.Decides.{nat_tests}
 use Rattle.std.specs.List.{Contains}
@@ -21,13 +21,15 @@ use Rattle.paged.proofs.Flushes.{size_is_length}
 use Rattle.paged.proofs.There.{reads_keep_sound}
 use Rattle.std.specs.declared.num.NonZeroUsize.{NonZeroUsize}
 use Rattle.page.specs.Page.{text}
-use Rattle.paged_read.specs.Scans.{IsWithinBlob, Scans}
+use Rattle.paged_read.specs.Scans.{IsWithinBlob, Scans, scan_end, scan_to}
+use Rattle.paged.specs.Scans.{flushed_pages}
+use Rattle.std.specs.Int.NonZero.{non_zero_usize_get}
 use Rattle.session.specs.declared.steps.Step.TheVariants.{ReadUpTo, Scan, TryRead}
 use Rattle.session.specs.declared.steps.Reply.{Reply}
 use Rattle.session.specs.declared.steps.Reply.TheVariants.{At, Nothing, Done, Started, Answer, Length, Bytes, Fault, Closed, NotRecovering, NoSuch, Served, Missed, BadRanges, Taken, Sealed, NotAppending, Replaying}
 use Rattle.session.specs.Run.{Standing, SessionState, faults, HasCause, Takes, Touches, Foretells, FitsWriter}
 use Rattle.session.specs.Run.Touch.{Leaves, Looks}
-use Rattle.session.specs.Calls.{ReadsBytesUpTo, ReadUpToSays, DidReadUpTo, TriedBytes, DidTryRead, Counts, ScanSays, DidScan}
+use Rattle.session.specs.Calls.{ReadsBytesUpTo, ReadsUpToRange, DidReadUpTo, TriedBytes, DidTryRead, Counts, ScansBlob, DidScan}
 use Rattle.session.proofs.StepLaws.{no_moments, held, turned_here, turned_closed, unasked}
 use Rattle.session.proofs.SizeLaws.{looked_steps, alike_stays_started}
 use Rattle.session.proofs.SessionLaws.{closed_takes, held_takes, sound_of, can_of, same_rest}
@@ -58,91 +60,94 @@ up_to_cause sum P w cache offset len before old new OutOfMemory size full goes =
 up_to_cause sum P w cache offset len before old new IdsExhausted size full goes = absurd goes
 
 -- such a read
-read_up_to_steps : (sum : List ℕ → ℕ) (was : SessionState) (w : WriterState) (cache : CacheState) (offset len : ℕ) (old new : Life) (reply : Reply) → IsSound sum w old.present → ReadUpToSays sum w cache offset len old new reply
+read_up_to_steps : (sum : List ℕ → ℕ) (was : SessionState) (w : WriterState) (cache after : CacheState) (offset len : ℕ) (old new : Life) (reply : Reply) → IsSound sum w old.present → ReadsUpToRange sum (tail_of w) cache after offset len old new reply
     → AlwaysApart sum (ReadUpTo offset len) reply (held was (Some w)) (held was (Some w)) old new
 unfolding Through
-read_up_to_steps sum was w cache offset len old new reply sound says = λ P before stands.
+read_up_to_steps sum was w cache after offset len old new reply sound says = λ P before stands.
     let size : size_of w ≡ length before.content = size_is_length sum w old sound ∙ ap length (sym stands.fits.content) in
-    let foretold : Foretells P (ReadUpTo offset len) reply before = (λ none. absurd none, λ passes. says.end passes.0 (omega (arith, size, passes.1))) in
-    looked_steps sum was P w (ReadUpTo offset len) reply old new before refl refl (turned_here before.has_writer stands.fits.has_writer) sound says.looked says.looked.through says.looked.through.each stands (taken reply P before stands size says.full says.reads) foretold
+    let both = taken reply P before stands size says.reads in
+    looked_steps sum was P w (ReadUpTo offset len) reply old new before refl refl (turned_here before.has_writer stands.fits.has_writer) sound says.looked says.looked.through says.looked.through.each stands both.0 both.1
   where
     some : (P : ℕ) (before : Standing) → size_of w ≡ length before.content → (len ≡ 0) ⊎ (offset < size_of w) → (len ≡ 0) ⊎ (offset < length before.content)
     some P before size (inl none) = inl none
     some P before size (inr there) = inr (omega (arith, size, there))
 
-    taken : (r : Reply) (P : ℕ) (before : Standing) → StandsApart sum P (held was (Some w)) before old.present → size_of w ≡ length before.content → (r ≡ Fault InvalidChecksum → ⊥) → ReadsBytesUpTo sum w cache offset len old new r → Takes sum P (ReadUpTo offset len) r old.present new.present before before
-    taken (Bytes bytes) P before stands size full (count, reads) =
-        let is : bytes.items ≡ take (min len (size_of w - offset)) (drop offset before.content) = reads.1 ∙ ap (λ (l : List ℕ). take (min len (size_of w - offset)) (drop offset l)) (sym stands.fits.content) in
-        ((some P before size reads.0, is ∙ take_up_to before.content offset len (size_of w) size), refl)
-    taken (Fault e) P before stands size full reads = let cause = up_to_cause sum P w cache offset len before old new e size (λ is. full (ap Fault is)) reads in (cause.0, cause.1, refl)
-    taken (At n) P before stands size full reads = absurd reads
-    taken Nothing P before stands size full reads = absurd reads
-    taken Done P before stands size full reads = absurd reads
-    taken (Started sync) P before stands size full reads = absurd reads
-    taken (Answer answer) P before stands size full reads = absurd reads
-    taken NoSuch P before stands size full reads = absurd reads
-    taken NotRecovering P before stands size full reads = absurd reads
-    taken (Served count read) P before stands size full reads = absurd reads
-    taken (Missed numbers) P before stands size full reads = absurd reads
-    taken BadRanges P before stands size full reads = absurd reads
-    taken (Taken index) P before stands size full reads = absurd reads
-    taken (Sealed index sync) P before stands size full reads = absurd reads
-    taken NotAppending P before stands size full reads = absurd reads
-    taken (Replaying number) P before stands size full reads = absurd reads
-    taken (Length n) P before stands size full reads = absurd reads
-    taken Closed P before stands size full reads = absurd reads
+    taken : (r : Reply) (P : ℕ) (before : Standing) → StandsApart sum P (held was (Some w)) before old.present → size_of w ≡ length before.content → ReadsBytesUpTo sum (tail_of w) cache after offset len old new r
+        → Takes sum P (ReadUpTo offset len) r old.present new.present before before × Foretells P (ReadUpTo offset len) r before
+    taken (Bytes bytes) P before stands size (count, reads) =
+        let goes = reads.goes in
+        let is : bytes.items ≡ take (min len (size_of w - offset)) (drop offset before.content) = goes.answers.1 ∙ ap (λ (l : List ℕ). take (min len (size_of w - offset)) (drop offset l)) (sym stands.fits.content) in
+        (((some P before size goes.answers.0, is ∙ take_up_to before.content offset len (size_of w) size), refl), (λ none. absurd none, λ passes. absurd (cc (goes.end passes.0 (omega (arith, size, passes.1))))))
+    taken (Fault e) P before stands size reads =
+        let goes = reads.goes in
+        let cause = up_to_cause sum P w cache offset len before old new e size (λ is. goes.never_if_sound w sound refl (omega arith) (ap Err is)) goes.answers in
+        ((cause.0, cause.1, refl), (λ none. absurd none, λ passes. cc (goes.end passes.0 (omega (arith, size, passes.1)))))
+    taken (At n) P before stands size reads = absurd reads
+    taken Nothing P before stands size reads = absurd reads
+    taken Done P before stands size reads = absurd reads
+    taken (Started sync) P before stands size reads = absurd reads
+    taken (Answer answer) P before stands size reads = absurd reads
+    taken NoSuch P before stands size reads = absurd reads
+    taken NotRecovering P before stands size reads = absurd reads
+    taken (Served count read) P before stands size reads = absurd reads
+    taken (Missed numbers) P before stands size reads = absurd reads
+    taken BadRanges P before stands size reads = absurd reads
+    taken (Taken index) P before stands size reads = absurd reads
+    taken (Sealed index sync) P before stands size reads = absurd reads
+    taken NotAppending P before stands size reads = absurd reads
+    taken (Replaying number) P before stands size reads = absurd reads
+    taken (Length n) P before stands size reads = absurd reads
+    taken Closed P before stands size reads = absurd reads
 
 -- by a session
-pub read_up_to_takes : (sum : List ℕ → ℕ) (was : SessionState) (cache : CacheState) (offset len : ℕ) (old new : Life) (reply : Reply) → IsReadyApart sum was old.present → DidReadUpTo sum was.writer cache offset len old new reply
+pub read_up_to_takes : (sum : List ℕ → ℕ) (was : SessionState) (cache after : CacheState) (offset len : ℕ) (old new : Life) (reply : Reply) → IsReadyApart sum was old.present → DidReadUpTo sum was.writer cache after offset len old new reply
     → StepsApart sum (ReadUpTo offset len) reply was was old new
-read_up_to_takes sum was cache offset len old new reply ready goes = by_writer was.writer refl goes
+read_up_to_takes sum was cache after offset len old new reply ready goes = by_writer was.writer refl goes
   where
-    by_writer : (o : Option WriterState) → was.writer ≡ o → DidReadUpTo sum o cache offset len old new reply → StepsApart sum (ReadUpTo offset len) reply was was old new
+    by_writer : (o : Option WriterState) → was.writer ≡ o → DidReadUpTo sum o cache after offset len old new reply → StepsApart sum (ReadUpTo offset len) reply was was old new
     by_writer None at goes = closed_takes sum (ReadUpTo offset len) was was old new reply (λ before none. turned_closed before.has_writer none) at ready goes.0 refl goes.1
     by_writer (Some w) at says =
         let sound = sound_of sum was w old.present at ready in
         let starts : (was.names ≡ []) ⊎ StartsStand new.present = elim ready.starts [ inl none ↦ inl none | inr stand ↦ inr (alike_stays_started old.present new.present says.looked.same stand) ] in
-        held_takes sum (ReadUpTo offset len) reply was was w (Some w) old new at (same_rest was) at (reads_keep_sound sum w old new says.looked sound) starts (read_up_to_steps sum was w cache offset len old new reply sound says)
+        held_takes sum (ReadUpTo offset len) reply was was w (Some w) old new at (same_rest was) at (reads_keep_sound sum w old new says.looked sound) starts (read_up_to_steps sum was w cache after offset len old new reply sound says)
 
 -- ---- scans
 
 -- why one is refused
-pub scan_fails : (sum : List ℕ → ℕ) (w : WriterState) (most reach len : ℕ) (old new : Life) (e : Error) → Scans reach len old new (Err e) → IsWithinBlob {A = ℕ} (Err e) → (most ≡ 0 → ⊥) → Counts sum w most old new (Fault e)
-scan_fails sum w most reach len old new ReadFailed scans within some = scans.0
-scan_fails sum w most reach len old new OutOfMemory scans within some = some
-scan_fails sum w most reach len old new WriteFailed scans within some = absurd scans
-scan_fails sum w most reach len old new ResizeFailed scans within some = absurd scans
-scan_fails sum w most reach len old new SyncFailed scans within some = absurd scans
-scan_fails sum w most reach len old new InvalidChecksum scans within some = absurd scans
-scan_fails sum w most reach len old new BlobInsufficientLength scans within some = absurd within
-scan_fails sum w most reach len old new OffsetOverflow scans within some = absurd within
-scan_fails sum w most reach len old new IdsExhausted scans within some = absurd scans
+scan_cause : (P proven most reach len : ℕ) (buffer_size : NonZeroUsize) (old new : Life) (before : Standing) (e : Error) → Scans reach len old new (Err e) → IsWithinBlob {A = ℕ} (Err e) → (most ≡ 0 → ⊥)
+    → Contains (faults (Scan proven most buffer_size)) e × HasCause P (Scan proven most buffer_size) before old.present new.present e
+scan_cause P proven most reach len buffer_size old new before ReadFailed scans within some = ((0, lit< tt, refl), scans.0)
+scan_cause P proven most reach len buffer_size old new before OutOfMemory scans within some = ((1, lit< tt, refl), some)
+scan_cause P proven most reach len buffer_size old new before WriteFailed scans within some = absurd scans
+scan_cause P proven most reach len buffer_size old new before ResizeFailed scans within some = absurd scans
+scan_cause P proven most reach len buffer_size old new before SyncFailed scans within some = absurd scans
+scan_cause P proven most reach len buffer_size old new before InvalidChecksum scans within some = absurd scans
+scan_cause P proven most reach len buffer_size old new before BlobInsufficientLength scans within some = absurd within
+scan_cause P proven most reach len buffer_size old new before OffsetOverflow scans within some = absurd within
+scan_cause P proven most reach len buffer_size old new before IdsExhausted scans within some = absurd scans
 
-scan_steps : (sum : List ℕ → ℕ) (was : SessionState) (w : WriterState) (proven most : ℕ) (buffer_size : NonZeroUsize) (old new : Life) (reply : Reply) → IsSound sum w old.present → ScanSays sum w most old new reply
+scan_steps : (sum : List ℕ → ℕ) (was : SessionState) (w : WriterState) (proven most : ℕ) (buffer_size : NonZeroUsize) (old new : Life) (reply : Reply) → IsSound sum w old.present → ScansBlob sum w proven most (non_zero_usize_get buffer_size) old new reply
     → AlwaysApart sum (Scan proven most buffer_size) reply (held was (Some w)) (held was (Some w)) old new
 unfolding Through
 scan_steps sum was w proven most buffer_size old new reply sound says = λ P before stands.
-    looked_steps sum was P w (Scan proven most buffer_size) reply old new before refl refl (turned_here before.has_writer stands.fits.has_writer) sound says.looked says.looked.through (touched (nat_eq most 0) refl) stands
-    (taken reply P before stands says.counts) (λ none. absurd none, λ none. absurd none)
+    let both = taken reply P before stands says.counts in
+    looked_steps sum was P w (Scan proven most buffer_size) reply old new before refl refl (turned_here before.has_writer stands.fits.has_writer) sound says.looked says.looked.through (touched (nat_eq most 0) refl both.1) stands
+    both.0 (λ none. absurd none, λ none. absurd none)
   where
-    touched : (test : Bool) → nat_eq most 0 ≡ test → Touches (if test then Leaves else Looks) old.present says.looked.through.moments
-    touched true none = let zero_most : most ≡ 0 = grind (arith, nat_tests, none) in no_moments old new says.looked.through.moments says.looked.through.goes (says.none zero_most)
-    touched false some = says.looked.through.each
+    touched : (test : Bool) → nat_eq most 0 ≡ test → (most ≡ 0 → new ≡ old) → Touches (if test then Leaves else Looks) old.present says.looked.through.moments
+    touched true none idle = let zero_most : most ≡ 0 = grind (arith, nat_tests, none) in no_moments old new says.looked.through.moments says.looked.through.goes (idle zero_most)
+    touched false some idle = says.looked.through.each
 
-    failed : (e : Error) (P : ℕ) (before : Standing) → Counts sum w most old new (Fault e) → Takes sum P (Scan proven most buffer_size) (Fault e) old.present new.present before before
-    failed ReadFailed P before counts = ((0, lit< tt, refl), counts, refl)
-    failed OutOfMemory P before counts = ((1, lit< tt, refl), counts, refl)
-    failed WriteFailed P before counts = absurd counts
-    failed ResizeFailed P before counts = absurd counts
-    failed SyncFailed P before counts = absurd counts
-    failed InvalidChecksum P before counts = absurd counts
-    failed BlobInsufficientLength P before counts = absurd counts
-    failed OffsetOverflow P before counts = absurd counts
-    failed IdsExhausted P before counts = absurd counts
-
-    taken : (r : Reply) (P : ℕ) (before : Standing) → StandsApart sum P (held was (Some w)) before old.present → Counts sum w most old new r → Takes sum P (Scan proven most buffer_size) r old.present new.present before before
-    taken (Length n) P before stands counts = (counts ∙ ap (λ (p : ℕ). min most (length (text sum p old.present.readable))) stands.fits.page_size, refl)
-    taken (Fault e) P before stands counts = failed e P before counts
+    taken : (r : Reply) (P : ℕ) (before : Standing) → StandsApart sum P (held was (Some w)) before old.present → Counts sum w proven most (non_zero_usize_get buffer_size) old new r
+        → Takes sum P (Scan proven most buffer_size) r old.present new.present before before × (most ≡ 0 → new ≡ old)
+    taken (Length n) P before stands counts =
+        let text_is : n ≡ min most (length (text sum w.page_size old.present.readable)) = counts.goes.text sound in
+        ((text_is ∙ ap (λ (p : ℕ). min most (length (text sum p old.present.readable))) stands.fits.page_size, refl), λ none. (counts.goes.none none).1)
+    taken (Fault e) P before stands counts =
+        let end : ℕ = scan_end w.page_size (flushed_pages w) most in
+        let cause = scan_cause P proven most (end * (w.page_size + 12)) (min most (scan_to sum w.page_size w.full_pages end proven old.present.readable)) buffer_size old new before e counts.goes.answers (counts.goes.never (inl sound))
+        (λ none. absurd (cc (counts.goes.none none).0)) in
+        ((cause.0, cause.1, refl), λ none. (counts.goes.none none).1)
     taken (At n) P before stands counts = absurd counts
     taken Nothing P before stands counts = absurd counts
     taken Done P before stands counts = absurd counts
@@ -161,11 +166,11 @@ scan_steps sum was w proven most buffer_size old new reply sound says = λ P bef
     taken (Replaying number) P before stands counts = absurd counts
 
 -- by a session
-pub scan_takes : (sum : List ℕ → ℕ) (was : SessionState) (proven most : ℕ) (buffer_size : NonZeroUsize) (old new : Life) (reply : Reply) → IsReadyApart sum was old.present → DidScan sum was.writer most old new reply
+pub scan_takes : (sum : List ℕ → ℕ) (was : SessionState) (proven most : ℕ) (buffer_size : NonZeroUsize) (old new : Life) (reply : Reply) → IsReadyApart sum was old.present → DidScan sum was.writer proven most (non_zero_usize_get buffer_size) old new reply
     → StepsApart sum (Scan proven most buffer_size) reply was was old new
 scan_takes sum was proven most buffer_size old new reply ready goes = by_writer was.writer refl goes
   where
-    by_writer : (o : Option WriterState) → was.writer ≡ o → DidScan sum o most old new reply → StepsApart sum (Scan proven most buffer_size) reply was was old new
+    by_writer : (o : Option WriterState) → was.writer ≡ o → DidScan sum o proven most (non_zero_usize_get buffer_size) old new reply → StepsApart sum (Scan proven most buffer_size) reply was was old new
     by_writer None at goes = closed_takes sum (Scan proven most buffer_size) was was old new reply (λ before none. turned_closed before.has_writer none) at ready goes.0 refl goes.1
     by_writer (Some w) at says =
         let sound = sound_of sum was w old.present at ready in

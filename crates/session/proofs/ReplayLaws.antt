@@ -38,7 +38,9 @@ use Rattle.session.specs.declared.steps.Reply.{Reply}
 use Rattle.session.specs.declared.steps.Reply.TheVariants.{Done, Answer, Bytes, Fault, NoSuch, Replaying}
 use Rattle.session.specs.Run.{is_had, AllCover, Answers, begun, CacheFits, content_after, Did, ended, raised, WriterFits, faults, FitsWriter, Foretells, HasCause, HasEnsured, HasFetched, has_replay, IsBelow, IsReady, IsReplayIn, last, moved, numbered, passed, pending_in, Replayed, replayed, replaying, replay_size, rewritten, SessionState, Standing, StandsFor, Takes, touch, Touches, turned_away, WriterStandsFor}
 use Rattle.session.specs.Run.Touch.{Leaves, Looks, Changes}
-use Rattle.session.specs.Calls.{AtReplay, CanGoOn, EnsureSays, KeepsAllButReplays, KeepsButReplays, LeavesTaken, ReplaySays, SeeksOf, Steps, TakesOf, TakesReplay}
+use Rattle.session.specs.Calls.{AtReplay, CanGoOn, EnsureSays, KeepsAllButReplays, KeepsButReplays, LeavesTaken, SeeksOf, Steps, TakesOf, TakesReplay}
+use Rattle.session.proofs.Words.{ReplayTold}
+use Rattle.session.proofs.WordLaws.{replay_told}
 use Rattle.session.proofs.Apart.{AlwaysApart, IsReadyApart, ready_apart, StandsApart, stands_apart, SteppedApart, StepsApart}
 use Rattle.session.proofs.Below.{AlwaysLeaves, AlwaysMakes, framed, framed_by, framed_same, HasReplays, leaves_all, LeftAll, LeftReplay, left_by, of_each, map_both, maps_alike, sound_in}
 use Rattle.session.proofs.Numbered.{AtOne, numbered-map, numbered_there, put_back}
@@ -101,7 +103,7 @@ number_of : (sum : List ℕ → ℕ) (P : ℕ) (was : SessionState) (s : Standin
 number_of sum P was s d stands = sym (ap length stands.replays ∙ length-map was.replays (option_map (replayed d.readable)))
 
 -- one that is begun
-replay_steps : (sum : List ℕ → ℕ) (was : SessionState) (w v : WriterState) (r : ReplayState) (buffer_size : NonZeroUsize) (old new : Life) → was.writer ≡ Some w → IsSound sum w old.present → ReplaySays sum w (non_zero_usize_get buffer_size) old new (Ok (v, r))
+replay_steps : (sum : List ℕ → ℕ) (was : SessionState) (w v : WriterState) (r : ReplayState) (buffer_size : NonZeroUsize) (old new : Life) → was.writer ≡ Some w → IsSound sum w old.present → ReplayTold sum w (non_zero_usize_get buffer_size) old new (Ok (v, r))
     → AlwaysLeaves sum (Replay buffer_size) (Replaying (length was.replays)) was (with_replays was (Some v) (was.replays ++ Some r ∷ [])) old new [] (λ P s. (replaying P (non_zero_usize_get buffer_size) s).replays)
 unfolding Through
 replay_steps sum was w v r buffer_size old new at sound says = λ P before all.
@@ -154,7 +156,7 @@ replay_cause P w buffer_size before old new OffsetOverflow written awaited cause
 replay_cause P w buffer_size before old new OutOfMemory written awaited cause = ((2, lit< tt, refl), tt)
 replay_cause P w buffer_size before old new IdsExhausted written awaited cause = absurd cause
 
-replay_refused_steps : (sum : List ℕ → ℕ) (was : SessionState) (w : WriterState) (buffer_size : NonZeroUsize) (e : Error) (old new : Life) → ReplaySays sum w (non_zero_usize_get buffer_size) old new (Err e) → AlwaysApart sum (Replay buffer_size) (Fault e) (held was (Some w)) (held was None) old new
+replay_refused_steps : (sum : List ℕ → ℕ) (was : SessionState) (w : WriterState) (buffer_size : NonZeroUsize) (e : Error) (old new : Life) → ReplayTold sum w (non_zero_usize_get buffer_size) old new (Err e) → AlwaysApart sum (Replay buffer_size) (Fault e) (held was (Some w)) (held was None) old new
 unfolding Through
 replay_refused_steps sum was w buffer_size e old new says = λ P before stands.
     let fits = stands.fits in
@@ -219,7 +221,7 @@ more_replays sum was w v r size old new at left page is whole gives = record {
 
 -- a replay by a session
 pub replay_takes : (sum : List ℕ → ℕ) (was now : SessionState) (cache after : CacheState) (buffer_size : NonZeroUsize) (old new : Life) (reply : Reply) → IsReady sum was old.present → CacheFits was cache old.present → FitsWriter now.writer after new.present
-    → LeavesTaken sum was.writer now.writer cache after old new → KeepsButReplays was now → TakesReplay sum was.writer now.writer was.replays now.replays (non_zero_usize_get buffer_size) old new reply → Steps sum (Replay buffer_size) reply was now old new × CacheFits now after new.present
+    → LeavesTaken sum was.writer now.writer cache after old new → KeepsButReplays was now → TakesReplay sum was.writer now.writer was.replays now.replays (non_zero_usize_get buffer_size) cache after old new reply → Steps sum (Replay buffer_size) reply was now old new × CacheFits now after new.present
 replay_takes sum was now cache after buffer_size old new reply ready fits writer stay rest goes = by_writer was.writer refl reply goes
   where
     size : ℕ
@@ -239,12 +241,14 @@ replay_takes sum was now cache after buffer_size old new reply ready fits writer
     same_session : now.writer ≡ was.writer → now.replays ≡ was.replays → now ≡ was
     same_session writes holds = is_with was.writer was.replays writes holds
 
-    by_writer : (o : Option WriterState) → was.writer ≡ o → (r : Reply) → TakesReplay sum o now.writer was.replays now.replays (non_zero_usize_get buffer_size) old new r → Steps sum (Replay buffer_size) r was now old new × CacheFits now after new.present
-    by_writer None at r (closed, kept) =
+    by_writer : (o : Option WriterState) → was.writer ≡ o → (r : Reply) → TakesReplay sum o now.writer was.replays now.replays (non_zero_usize_get buffer_size) cache after old new r → Steps sum (Replay buffer_size) r was now old new × CacheFits now after new.present
+    by_writer None at r (closed, kept, stays) =
         let is = same_session (closed.writer ∙ sym at) kept in
         same_takes sum (Replay buffer_size) r was now cache after old new ready fits writer stay is
         (closed_takes sum (Replay buffer_size) was now old new r (λ before none. turned_closed before.has_writer none) at (ready_apart sum was old.present ready) closed.replied is closed.life)
-    by_writer (Some w) at (Replaying index) (v, r, writes, number, holds, says, gives) =
+    by_writer (Some w) at (Replaying index) (v, r, writes, number, holds, whole, call) =
+        let says = replay_told sum w cache after old new size (Ok (v, r)) whole call in
+        let gives = call.goes.gives (sound_in sum was.writer w old.present at ready.writer) in
         let sound = sound_in sum was.writer w old.present at ready.writer in
         let begins = says.begins.0 in
         let next = with_replays was (Some v) (was.replays ++ Some r ∷ []) in
@@ -258,7 +262,8 @@ replay_takes sum was now cache after buffer_size old new reply ready fits writer
         subst (λ (n : ℕ). Steps sum (Replay buffer_size) (Replaying n) was now old new × CacheFits now after new.present) (sym number)
         (subst (λ (s : SessionState). Steps sum (Replay buffer_size) (Replaying (length was.replays)) was s old new × CacheFits s after new.present) (sym is) all)
     by_writer (Some w) at (Fault e) faulted = elim faulted [
-      | inl (none, holds, says) ↦
+      | inl (none, holds, call) ↦
+          let says = replay_told sum w cache after old new size (Err e) tt call in
           let is : now ≡ held was None = is_with None was.replays none holds in
           framed_same sum (Replay buffer_size) (Fault e) was now after old new snapshots holds begun_with writer (left_by sum was now.writer cache after old new ready fits stay.own)
           (subst (λ (s : SessionState). StepsApart sum (Replay buffer_size) (Fault e) was s old new) (sym is)

@@ -10,10 +10,11 @@ use Rattle.crash.specs.Started.{WouldKeep}
 use Rattle.writer_state.specs.WriterState.{WriterState}
 use Rattle.writer_state.proofs.StartedLaws.{settled_already}
 use Rattle.crash.specs.Moments.{life_after-append}
+use Rattle.cache.specs.CacheState.{CacheState}
 use Rattle.session.specs.declared.steps.Step.{Step}
 use Rattle.session.specs.declared.steps.Reply.{Reply}
-use Rattle.session.specs.Run.{Standing, SessionState, is_complete, raised_floor, raised, AllCover, StandsFor, last, Did, Ran, RunsAlways, WriterFits}
-use Rattle.session.specs.Calls.{Steps}
+use Rattle.session.specs.Run.{Standing, SessionState, is_complete, raised_floor, raised, AllCover, StandsFor, last, Did, Ran, RunsAlways, WriterFits, IsSessionReady}
+use Rattle.session.specs.Calls.{DidCall, RanCalls, RunGoes, Steps}
 use Rattle.session.proofs.StepLaws.{last_is, raise_within}
 
 -- ---- floors that are raised
@@ -140,4 +141,33 @@ runs_more sum steps step reply was mid now old between new earlier replies more 
         ran = ran_more sum P steps ran.added step reply old.present between.present a.moments b.moments before a.after b.after a.ran (ap (λ (life : Life). life.present) a.goes ∙ last_is old a.moments) b.did final.kept final.only;
         stands = subst (λ (d : Disk). StandsFor sum P now (raised (last between.present b.moments) b.after) d) (sym end) final;
       };
+}
+
+-- ---- the calls of a run
+
+-- one step more
+calls_more : (sum : List ℕ → ℕ) (steps : List Step) (replies : List Reply) (step : Step) (reply : Reply) (was mid now : SessionState) (cache held after : CacheState) (old between new : Life) → RanCalls sum steps replies was mid cache held old between → IsSessionReady sum mid held between.present
+    → DidCall sum step reply mid now held after between new → RanCalls sum (steps ++ step ∷ []) (replies ++ reply ∷ []) was now cache after old new
+calls_more sum [] [] step reply was mid now cache held after old between new (same, kept, stayed) ready did =
+    let first : IsSessionReady sum was cache old.present × DidCall sum step reply was now cache after old new =
+    subst (λ (s : SessionState). IsSessionReady sum s cache old.present × DidCall sum step reply s now cache after old new) same
+    (subst (λ (c : CacheState). IsSessionReady sum mid c old.present × DidCall sum step reply mid now c after old new) kept
+    (subst (λ (life : Life). IsSessionReady sum mid held life.present × DidCall sum step reply mid now held after life new) stayed (ready, did))) in
+    (first.0, now, after, new, first.1, (refl, refl, refl))
+calls_more sum (x ∷ xs) (r ∷ rs) step reply was mid now cache held after old between new (begins, next, kept, life, one, others) ready did =
+    (begins, next, kept, life, one, calls_more sum xs rs step reply next mid now kept held after life between new others ready did)
+calls_more sum [] (r ∷ rs) step reply was mid now cache held after old between new ran ready did = absurd ran
+calls_more sum (x ∷ xs) [] step reply was mid now cache held after old between new ran ready did = absurd ran
+
+-- a run of no step
+pub goes_none : (sum : List ℕ → ℕ) (was : SessionState) (cache : CacheState) (life : Life) (replies : List Reply) → RunGoes sum [] was was cache cache life life replies replies
+goes_none sum was cache life replies = record { always = runs_none sum was life replies; calls = (refl, refl, refl) }
+
+-- and one step more
+pub goes_more : (sum : List ℕ → ℕ) (steps : List Step) (step : Step) (reply : Reply) (was mid now : SessionState) (cache held after : CacheState) (old between new : Life) (earlier replies more : List Reply)
+    → RunGoes sum steps was mid cache held old between earlier replies → IsSessionReady sum mid held between.present → Steps sum step reply mid now between new → DidCall sum step reply mid now held after between new → more ≡ replies ++ reply ∷ []
+    → RunGoes sum (steps ++ step ∷ []) was now cache after old new earlier more
+goes_more sum steps step reply was mid now cache held after old between new earlier replies more ran ready takes did is = record {
+  always = runs_more sum steps step reply was mid now old between new earlier replies more ran.always takes is;
+  calls = calls_more sum steps ran.always.added step reply was mid now cache held after old between new ran.calls ready did;
 }

@@ -1,5 +1,5 @@
 -- One step of a session, whichever it is and whichever phase its writer is in.
-use Rattle.std.proofs.Common.{◌≡◌, ◌⊎◌, ℕ, List, [], refl, sym, ap, ◌∙◌, subst, inl, inr, Bool, false, Vec}
+use Rattle.std.proofs.Common.{◌≡◌, ◌⊎◌, ℕ, List, [], refl, sym, ap, ◌∙◌, subst, inl, inr, Bool, false, Vec, Ok, Err}
 use Rattle.std.specs.Prelude.{Option, Some, None, if◌then◌else◌}
 use Rattle.std.specs.declared.alloc.Global.{Global}
 use Rattle.disk.specs.Disk.{Disk, Life}
@@ -21,6 +21,7 @@ use Rattle.session.specs.Run.{Standing, SessionState, turned_away, HasCause, Tak
 use Rattle.session.specs.Calls.{IsClosed, KeepsRest, Appended, TriedAppend, Synced, Sized, DidRead}
 use Rattle.session.proofs.Apart.{AlwaysApart, AlwaysBy, IsReadyApart, StepsApart, StepsBy}
 use Rattle.session.proofs.StepLaws.{held, held_same, turned_closed, closed_steps}
+use Rattle.session.proofs.WordLaws.{append_told, sync_told}
 use Rattle.session.proofs.AppendLaws.{append_steps, append_refused_steps, try_steps, try_nothing_steps, try_same, try_refused_steps}
 use Rattle.session.proofs.SyncLaws.{sync_steps, sync_refused_steps}
 use Rattle.session.proofs.SizeLaws.{alike_stays_started, read_steps, size_steps}
@@ -66,15 +67,17 @@ pub can_of : (was : SessionState) (w : WriterState) (cache : CacheState) (d : Di
 can_of was w cache d at fits = subst (λ (o : Option WriterState). FitsWriter o cache d) at fits
 
 -- an append by a session
-pub appended_takes : (sum : List ℕ → ℕ) (was now : SessionState) (bytes : Vec ℕ Global) (old new : Life) (reply : Reply) → IsReadyApart sum was old.present → KeepsRest was now → Appended sum was.writer now.writer bytes.items old new reply
+pub appended_takes : (sum : List ℕ → ℕ) (was now : SessionState) (bytes : Vec ℕ Global) (cache after : CacheState) (old new : Life) (reply : Reply) → IsReadyApart sum was old.present → KeepsRest was now → Appended sum was.writer now.writer bytes.items cache after old new reply
     → StepsApart sum (Append bytes) reply was now old new
-appended_takes sum was now bytes old new reply ready rest goes = by_writer was.writer refl reply goes
+appended_takes sum was now bytes cache after old new reply ready rest goes = by_writer was.writer refl reply goes
   where
-    by_writer : (o : Option WriterState) → was.writer ≡ o → (reply : Reply) → Appended sum o now.writer bytes.items old new reply → StepsApart sum (Append bytes) reply was now old new
-    by_writer None at reply goes = closed_rest sum (Append bytes) was now old new reply (λ before none. turned_closed before.has_writer none) at ready rest goes
-    by_writer (Some w) at (At n) (v, is, says) =
+    by_writer : (o : Option WriterState) → was.writer ≡ o → (reply : Reply) → Appended sum o now.writer bytes.items cache after old new reply → StepsApart sum (Append bytes) reply was now old new
+    by_writer None at reply goes = closed_rest sum (Append bytes) was now old new reply (λ before none. turned_closed before.has_writer none) at ready rest goes.0
+    by_writer (Some w) at (At n) (v, is, whole, call) =
+        let says = append_told sum w cache after old new bytes.items (Ok (v, n)) whole call in
         held_takes sum (Append bytes) (At n) was now w (Some v) old new at rest is says.appends.1.sound (inr says.owes.starts) (append_steps sum was w v bytes n old new (sound_of sum was w old.present at ready) says)
-    by_writer (Some w) at (Fault e) (is, says) =
+    by_writer (Some w) at (Fault e) (is, call) =
+        let says = append_told sum w cache after old new bytes.items (Err e) tt call in
         held_takes sum (Append bytes) (Fault e) was now w None old new at rest is tt (inr says.owes.starts) (append_refused_steps sum was w bytes e old new (sound_of sum was w old.present at ready) says)
     by_writer (Some w) at Nothing goes = absurd goes
     by_writer (Some w) at Done goes = absurd goes
@@ -193,13 +196,17 @@ tried_takes sum was now bytes life reply ready rest goes = by_writer was.writer 
     by_writer (Some w) at (Replaying number) goes = absurd goes
 
 -- a sync by a session
-pub synced_takes : (sum : List ℕ → ℕ) (was now : SessionState) (old new : Life) (reply : Reply) → IsReadyApart sum was old.present → KeepsRest was now → Synced sum was.writer now.writer old new reply → StepsApart sum Sync reply was now old new
-synced_takes sum was now old new reply ready rest goes = by_writer was.writer refl reply goes
+pub synced_takes : (sum : List ℕ → ℕ) (was now : SessionState) (cache after : CacheState) (old new : Life) (reply : Reply) → IsReadyApart sum was old.present → KeepsRest was now → Synced sum was.writer now.writer cache after old new reply → StepsApart sum Sync reply was now old new
+synced_takes sum was now cache after old new reply ready rest goes = by_writer was.writer refl reply goes
   where
-    by_writer : (o : Option WriterState) → was.writer ≡ o → (reply : Reply) → Synced sum o now.writer old new reply → StepsApart sum Sync reply was now old new
-    by_writer None at reply goes = closed_rest sum Sync was now old new reply (λ before none. turned_closed before.has_writer none) at ready rest goes
-    by_writer (Some w) at Done (v, is, says) = held_takes sum Sync Done was now w (Some v) old new at rest is says.syncs.0.sound (inr says.owes.starts) (sync_steps sum was w v old new (sound_of sum was w old.present at ready) says)
-    by_writer (Some w) at (Fault e) (is, says) = held_takes sum Sync (Fault e) was now w None old new at rest is tt (inr says.owes.starts) (sync_refused_steps sum was w e old new says)
+    by_writer : (o : Option WriterState) → was.writer ≡ o → (reply : Reply) → Synced sum o now.writer cache after old new reply → StepsApart sum Sync reply was now old new
+    by_writer None at reply goes = closed_rest sum Sync was now old new reply (λ before none. turned_closed before.has_writer none) at ready rest goes.0
+    by_writer (Some w) at Done (v, is, whole, call) =
+        let says = sync_told sum w cache after old new (Ok v) whole call in
+        held_takes sum Sync Done was now w (Some v) old new at rest is says.syncs.0.sound (inr says.owes.starts) (sync_steps sum was w v old new (sound_of sum was w old.present at ready) says)
+    by_writer (Some w) at (Fault e) (is, call) =
+        let says = sync_told sum w cache after old new (Err e) tt call in
+        held_takes sum Sync (Fault e) was now w None old new at rest is tt (inr says.owes.starts) (sync_refused_steps sum was w e old new says)
     by_writer (Some w) at (At n) goes = absurd goes
     by_writer (Some w) at Nothing goes = absurd goes
     by_writer (Some w) at (Started sync) goes = absurd goes
@@ -232,13 +239,13 @@ sized_takes sum was life reply ready goes = by_writer was.writer refl goes
         subst (λ (r : Reply). StepsApart sum Size r was was life life) (sym is) (held_takes sum Size (Length (size_of w)) was was w (Some w) life life at (same_rest was) at sound ready.starts (size_steps sum was w life sound))
 
 -- a read by a session
-pub read_takes : (sum : List ℕ → ℕ) (was : SessionState) (cache : CacheState) (offset len : ℕ) (old new : Life) (reply : Reply) → IsReadyApart sum was old.present → DidRead sum was.writer cache offset len old new reply
+pub read_takes : (sum : List ℕ → ℕ) (was : SessionState) (cache after : CacheState) (offset len : ℕ) (old new : Life) (reply : Reply) → IsReadyApart sum was old.present → DidRead sum was.writer cache after offset len old new reply
     → StepsApart sum (Read offset len) reply was was old new
-read_takes sum was cache offset len old new reply ready goes = by_writer was.writer refl goes
+read_takes sum was cache after offset len old new reply ready goes = by_writer was.writer refl goes
   where
-    by_writer : (o : Option WriterState) → was.writer ≡ o → DidRead sum o cache offset len old new reply → StepsApart sum (Read offset len) reply was was old new
+    by_writer : (o : Option WriterState) → was.writer ≡ o → DidRead sum o cache after offset len old new reply → StepsApart sum (Read offset len) reply was was old new
     by_writer None at goes = closed_takes sum (Read offset len) was was old new reply (λ before none. turned_closed before.has_writer none) at ready goes.0 refl goes.1
     by_writer (Some w) at says =
         let sound = sound_of sum was w old.present at ready in
         let starts : (was.names ≡ []) ⊎ StartsStand new.present = elim ready.starts [ inl none ↦ inl none | inr stand ↦ inr (alike_stays_started old.present new.present says.looked.same stand) ] in
-        held_takes sum (Read offset len) reply was was w (Some w) old new at (same_rest was) at (reads_keep_sound sum w old new says.looked sound) starts (read_steps sum was w cache offset len old new reply sound says)
+        held_takes sum (Read offset len) reply was was w (Some w) old new at (same_rest was) at (reads_keep_sound sum w old new says.looked sound) starts (read_steps sum was w cache after offset len old new reply sound says)

@@ -2,7 +2,7 @@
 use Rattle.std.proofs.Common.{◌≡◌, ℕ, ◌+◌, ◌<◌, ◌≤◌, List, [], ◌∷◌, append-nil, length, take, drop, refl, sym, ap, ◌∙◌, subst, arith, Ok, Err, Result, ◌^◌, lit<}
 use Rattle.std.specs.Prelude.{Some, None, Vec}
 use Rattle.std.specs.declared.alloc.Global.{Global}
-use Rattle.std.specs.List.{Contains, concat}
+use Rattle.std.specs.List.{Contains}
 use Rattle.disk.specs.Disk.{Disk, Life, coverings}
 use Rattle.disk.specs.declared.error.Error.{Error}
 use Rattle.disk.specs.declared.error.Error.TheVariants.{ReadFailed, WriteFailed, ResizeFailed, SyncFailed, InvalidChecksum, BlobInsufficientLength, OffsetOverflow, OutOfMemory, IdsExhausted}
@@ -19,7 +19,9 @@ use Rattle.paged.proofs.Flushes.{size_is_length, begins}
 use Rattle.cache.specs.CacheState.{CacheState}
 use Rattle.paged_read.specs.Tail.{Tail, size_of as size_of_tail}
 use Rattle.paged_read.specs.Failures.{none_failed_start}
-use Rattle.paged_read.specs.Ranges.{Reads}
+use Rattle.paged_read.specs.Ranges.{Reads, missing}
+use Rattle.paged_read.specs.Reads.{ReadCosts, ReadIntoGoes}
+use Rattle.paged_read.proofs.PutLaws.{puts_none}
 use Rattle.paged.specs.Caches.{tail_of}
 use Rattle.paged.specs.Reads.{size_of}
 use Rattle.session.specs.declared.steps.Step.{Step}
@@ -27,7 +29,7 @@ use Rattle.session.specs.declared.steps.Step.TheVariants.{Size, Read}
 use Rattle.session.specs.declared.steps.Reply.{Reply}
 use Rattle.session.specs.declared.steps.Reply.TheVariants.{At, Nothing, Done, Started, Answer, Length, Bytes, Fault, Closed, NotRecovering, NoSuch, Served, Missed, BadRanges, Taken, Sealed, NotAppending, Replaying}
 use Rattle.session.specs.Run.{Standing, SessionState, begun, turned_away, faults, HasCause, content_after, Takes, Foretells, touch, Touches, AllCover}
-use Rattle.session.specs.Calls.{ReadsBytes, ReadSays, RefusesRoom}
+use Rattle.session.specs.Calls.{ReadsBytes, ReadsRange, RefusesRoom}
 use Rattle.session.proofs.Apart.{AlwaysApart, StandsApart, SteppedApart}
 use Rattle.session.proofs.StepLaws.{held, turned_here, each_end, stepped, unasked, stands_now, Halves}
 use Rattle.session.proofs.SyncLaws.{same_halves}
@@ -86,7 +88,7 @@ looked_steps sum was P w step reply old new before same begins here sound looked
 
 -- why a read is refused: a sound writer has no page below its tip that isn't full
 read_cause : (sum : List ℕ → ℕ) (P : ℕ) (w : WriterState) (cache : CacheState) (offset len : ℕ) (before : Standing) (old new : Life) (e : Error) → size_of w ≡ length before.content → (e ≡ InvalidChecksum → ⊥)
-    → Reads sum (tail_of w) cache (offset, len) concat old new (Err e) → Contains (faults (Read offset len)) e × HasCause P (Read offset len) before old.present new.present e
+    → Reads {A = Vec ℕ Global} sum (tail_of w) cache (offset, len) (λ b. b.items) old new (Err e) → Contains (faults (Read offset len)) e × HasCause P (Read offset len) before old.present new.present e
 read_cause sum P w cache offset len before old new ReadFailed size full goes = ((0, lit< tt, refl), goes)
 read_cause sum P w cache offset len before old new WriteFailed size full goes = absurd goes
 read_cause sum P w cache offset len before old new ResizeFailed size full goes = absurd goes
@@ -97,27 +99,52 @@ read_cause sum P w cache offset len before old new OffsetOverflow size full goes
 read_cause sum P w cache offset len before old new OutOfMemory size full goes = ((3, lit< tt, refl), tt)
 read_cause sum P w cache offset len before old new IdsExhausted size full goes = absurd goes
 
+-- what a read costs that asks for nothing
+costs_none : (sum : List ℕ → ℕ) (t : Tail) (cache : CacheState) (offset len : ℕ) (life : Life) (e : Error) → ReadCosts {A = Vec ℕ Global} sum t (offset, len) cache cache life life (Err e)
+costs_none sum t cache offset len life e = record {
+  asks = (omega arith, λ served. refl);
+  puts = puts_none sum t (missing cache t ((offset, len) ∷ [])) life.present.readable cache;
+}
+
 -- no room was made for what is to be read
-pub room_refused : (sum : List ℕ → ℕ) (t : Tail) (cache : CacheState) (offset len size : ℕ) (life : Life) (e : Error) → size ≡ size_of_tail t → size < 2 ^ 64 → RefusesRoom size offset len e → ReadSays sum t cache offset len life life (Fault e)
+pub room_refused : (sum : List ℕ → ℕ) (t : Tail) (cache : CacheState) (offset len size : ℕ) (life : Life) (e : Error) → size ≡ size_of_tail t → size < 2 ^ 64 → RefusesRoom size offset len e → ReadsRange sum t cache cache offset len life life (Fault e)
 room_refused sum t cache offset len size life OffsetOverflow is small passes = record {
-  reads = (refl, passes);
-  full = λ other. cc other;
-  overflow = λ over. refl;
-  end = λ within over. absurd (omega (arith, within, passes));
+  reads = record {
+    goes = record {
+      answers = (refl, passes);
+      overflow = λ over. refl;
+      end = λ within over. absurd (omega (arith, within, passes));
+      never = λ full other. cc other;
+      never_if_sound = λ w sound same few other. cc other;
+    };
+    costs = costs_none sum t cache offset len life OffsetOverflow;
+  };
   looked = looked_start life;
 }
 room_refused sum t cache offset len size life BlobInsufficientLength is small (within, passes) = record {
-  reads = (refl, within, omega (arith, is, passes));
-  full = λ other. cc other;
-  overflow = λ over. absurd (omega (arith, over, within));
-  end = λ below over. refl;
+  reads = record {
+    goes = record {
+      answers = (refl, within, omega (arith, is, passes));
+      overflow = λ over. absurd (omega (arith, over, within));
+      end = λ below over. refl;
+      never = λ full other. cc other;
+      never_if_sound = λ w sound same few other. cc other;
+    };
+    costs = costs_none sum t cache offset len life BlobInsufficientLength;
+  };
   looked = looked_start life;
 }
 room_refused sum t cache offset len size life OutOfMemory is small within = record {
-  reads = none_failed_start life.present;
-  full = λ other. cc other;
-  overflow = λ over. absurd (omega (arith, over, within, small));
-  end = λ below over. absurd (omega (arith, over, within, is));
+  reads = record {
+    goes = record {
+      answers = none_failed_start life.present;
+      overflow = λ over. absurd (omega (arith, over, within, small));
+      end = λ below over. absurd (omega (arith, over, within, is));
+      never = λ full other. cc other;
+      never_if_sound = λ w sound same few other. cc other;
+    };
+    costs = costs_none sum t cache offset len life OutOfMemory;
+  };
   looked = looked_start life;
 }
 room_refused sum t cache offset len size life ReadFailed is small none = absurd none
@@ -128,69 +155,90 @@ room_refused sum t cache offset len size life InvalidChecksum is small none = ab
 room_refused sum t cache offset len size life IdsExhausted is small none = absurd none
 
 -- what was read to where there was room for it is told
-pub read_says : (sum : List ℕ → ℕ) (t : Tail) (cache : CacheState) (offset len size : ℕ) (old new : Life) (buf : List ℕ) (bytes : Vec ℕ Global) → size ≡ size_of_tail t → size < 2 ^ 64 → bytes.items ≡ buf
-    → Reads {A = Unit {0}} sum t cache (offset, len) (λ u. buf) old new (Ok tt) → Looked old new → ReadSays sum t cache offset len old new (Bytes bytes)
-read_says sum t cache offset len size old new buf bytes is small same reads looked = record {
-  reads = (bytes.items ∷ [], sym (append-nil bytes.items), (reads.0, append-nil bytes.items ∙ same ∙ reads.1, reads.2, reads.3));
-  full = λ other. cc other;
-  overflow = λ passes. absurd (omega (arith, passes, reads.0, is, small));
-  end = λ within passes. absurd (omega (arith, passes, reads.0));
-  looked = looked;
-}
+pub read_says : (sum : List ℕ → ℕ) (t : Tail) (cache after : CacheState) (offset len size : ℕ) (old new : Life) (was buf : List ℕ) (bytes : Vec ℕ Global) → size ≡ size_of_tail t → size < 2 ^ 64 → bytes.items ≡ buf → length was ≡ len
+    → ReadIntoGoes sum t cache offset was buf old new (Ok tt) → ReadCosts {A = Unit {0}} sum t (offset, length was) cache after old new (Ok tt) → Looked old new → ReadsRange sum t cache after offset len old new (Bytes bytes)
+read_says sum t cache after offset len size old new was buf bytes is small same room into costs looked =
+    let goes : Reads {A = Unit {0}} sum t cache (offset, len) (λ u. buf) old new (Ok tt) = subst (λ (n : ℕ). Reads {A = Unit {0}} sum t cache (offset, n) (λ u. buf) old new (Ok tt)) room into.answers in
+    let cost : ReadCosts {A = Unit {0}} sum t (offset, len) cache after old new (Ok tt) = subst (λ (n : ℕ). ReadCosts {A = Unit {0}} sum t (offset, n) cache after old new (Ok tt)) room costs in
+    record {
+      reads = record {
+        goes = record {
+          answers = (goes.0, same ∙ goes.1, goes.2, goes.3);
+          overflow = λ passes. absurd (omega (arith, passes, goes.0, is, small));
+          end = λ within passes. absurd (omega (arith, passes, goes.0));
+          never = λ full other. cc other;
+          never_if_sound = λ w sound same few other. cc other;
+        };
+        costs = record { asks = cost.asks; puts = cost.puts };
+      };
+      looked = looked;
+    }
 
 -- why nothing was read says nothing of the room
-abbrev pub nothing : Error → Result (Unit {0}) Error
-nothing e = Err e
+no_bytes : (sum : List ℕ → ℕ) (t : Tail) (cache : CacheState) (range : ℕ × ℕ) (buf : List ℕ) (old new : Life) (e : Error) → Reads {A = Unit {0}} sum t cache range (λ u. buf) old new (Err e) → Reads {A = Vec ℕ Global} sum t cache range (λ b. b.items) old new (Err e)
+no_bytes sum t cache range buf old new ReadFailed reads = reads
+no_bytes sum t cache range buf old new WriteFailed reads = reads
+no_bytes sum t cache range buf old new ResizeFailed reads = reads
+no_bytes sum t cache range buf old new SyncFailed reads = reads
+no_bytes sum t cache range buf old new InvalidChecksum reads = reads
+no_bytes sum t cache range buf old new BlobInsufficientLength reads = reads
+no_bytes sum t cache range buf old new OffsetOverflow reads = reads
+no_bytes sum t cache range buf old new OutOfMemory reads = reads
+no_bytes sum t cache range buf old new IdsExhausted reads = reads
 
-no_bufs : (sum : List ℕ → ℕ) (t : Tail) (cache : CacheState) (range : ℕ × ℕ) (buf : List ℕ) (old new : Life) (e : Error) → Reads {A = Unit {0}} sum t cache range (λ u. buf) old new (Err e) → Reads {A = List (List ℕ)} sum t cache range concat old new (Err e)
-no_bufs sum t cache range buf old new ReadFailed reads = reads
-no_bufs sum t cache range buf old new WriteFailed reads = reads
-no_bufs sum t cache range buf old new ResizeFailed reads = reads
-no_bufs sum t cache range buf old new SyncFailed reads = reads
-no_bufs sum t cache range buf old new InvalidChecksum reads = reads
-no_bufs sum t cache range buf old new BlobInsufficientLength reads = reads
-no_bufs sum t cache range buf old new OffsetOverflow reads = reads
-no_bufs sum t cache range buf old new OutOfMemory reads = reads
-no_bufs sum t cache range buf old new IdsExhausted reads = reads
-
-pub read_fails : (sum : List ℕ → ℕ) (t : Tail) (cache : CacheState) (offset len : ℕ) (old new : Life) (buf : List ℕ) (e : Error) → Reads {A = Unit {0}} sum t cache (offset, len) (λ u. buf) old new (nothing e) → (2 ^ 64 ≤ offset + len → nothing e ≡ nothing OffsetOverflow)
-    → (offset + len < 2 ^ 64 → size_of_tail t < offset + len → nothing e ≡ nothing BlobInsufficientLength) → (e ≡ InvalidChecksum → ⊥) → Looked old new → ReadSays sum t cache offset len old new (Fault e)
-read_fails sum t cache offset len old new buf e reads overflow end never looked = record {
-  reads = no_bufs sum t cache (offset, len) buf old new e reads;
-  full = λ same. never (cc same);
-  overflow = λ passes. cc (overflow passes);
-  end = λ within passes. cc (end within passes);
-  looked = looked;
-}
+pub read_fails : (sum : List ℕ → ℕ) (t : Tail) (cache after : CacheState) (offset len : ℕ) (old new : Life) (was buf : List ℕ) (e : Error) → length was ≡ len → ReadIntoGoes sum t cache offset was buf old new (Err e) → ReadCosts {A = Unit {0}} sum t (offset, length was) cache after old new (Err e) → Looked old new
+    → ReadsRange sum t cache after offset len old new (Fault e)
+read_fails sum t cache after offset len old new was buf e room into costs looked =
+    subst (λ (n : ℕ). ReadsRange sum t cache after offset n old new (Fault e)) room
+    (record {
+      reads = record {
+        goes = record {
+          answers = no_bytes sum t cache (offset, length was) buf old new e into.answers;
+          overflow = λ passes. cc (into.overflow passes);
+          end = λ within passes. cc (into.end within passes);
+          never = λ full other. into.never full (cc other);
+          never_if_sound = λ w sound same few other. into.never_if_sound w sound same few (cc other);
+        };
+        costs = record { asks = costs.asks; puts = costs.puts };
+      };
+      looked = looked;
+    })
 
 -- a read
-pub read_steps : (sum : List ℕ → ℕ) (was : SessionState) (w : WriterState) (cache : CacheState) (offset len : ℕ) (old new : Life) (reply : Reply) → IsSound sum w old.present → ReadSays sum (tail_of w) cache offset len old new reply
+pub read_steps : (sum : List ℕ → ℕ) (was : SessionState) (w : WriterState) (cache after : CacheState) (offset len : ℕ) (old new : Life) (reply : Reply) → IsSound sum w old.present → ReadsRange sum (tail_of w) cache after offset len old new reply
     → AlwaysApart sum (Read offset len) reply (held was (Some w)) (held was (Some w)) old new
 unfolding Through
-read_steps sum was w cache offset len old new reply sound says = λ P before stands.
+read_steps sum was w cache after offset len old new reply sound says = λ P before stands.
     let size : size_of w ≡ length before.content = size_is_length sum w old sound ∙ ap length (sym stands.fits.content) in
-    let foretold : Foretells P (Read offset len) reply before = (says.overflow, λ passes. says.end passes.0 (omega (arith, size, passes.1))) in
-    looked_steps sum was P w (Read offset len) reply old new before refl refl (turned_here before.has_writer stands.fits.has_writer) sound says.looked says.looked.through says.looked.through.each stands (taken reply P before stands size says.full says.reads) foretold
+    let both = taken reply P before stands size says.reads in
+    looked_steps sum was P w (Read offset len) reply old new before refl refl (turned_here before.has_writer stands.fits.has_writer) sound says.looked says.looked.through says.looked.through.each stands both.0 both.1
   where
-    taken : (r : Reply) (P : ℕ) (before : Standing) → StandsApart sum P (held was (Some w)) before old.present → size_of w ≡ length before.content → (r ≡ Fault InvalidChecksum → ⊥) → ReadsBytes sum (tail_of w) cache offset len old new r → Takes sum P (Read offset len) r old.present new.present before before
-    taken (Bytes bytes) P before stands size full (bufs, is, reads) = ((omega (arith, size, reads.0), is ∙ reads.1 ∙ ap (λ (l : List ℕ). take len (drop offset l)) (sym stands.fits.content)), refl)
-    taken (Fault e) P before stands size full reads = let cause = read_cause sum P w cache offset len before old new e size (λ is. full (ap Fault is)) reads in (cause.0, cause.1, refl)
-    taken (At n) P before stands size full reads = absurd reads
-    taken Nothing P before stands size full reads = absurd reads
-    taken Done P before stands size full reads = absurd reads
-    taken (Started sync) P before stands size full reads = absurd reads
-    taken (Answer answer) P before stands size full reads = absurd reads
-    taken NoSuch P before stands size full reads = absurd reads
-    taken NotRecovering P before stands size full reads = absurd reads
-    taken (Served count read) P before stands size full reads = absurd reads
-    taken (Missed numbers) P before stands size full reads = absurd reads
-    taken BadRanges P before stands size full reads = absurd reads
-    taken (Taken index) P before stands size full reads = absurd reads
-    taken (Sealed index sync) P before stands size full reads = absurd reads
-    taken NotAppending P before stands size full reads = absurd reads
-    taken (Replaying number) P before stands size full reads = absurd reads
-    taken (Length n) P before stands size full reads = absurd reads
-    taken Closed P before stands size full reads = absurd reads
+    taken : (r : Reply) (P : ℕ) (before : Standing) → StandsApart sum P (held was (Some w)) before old.present → size_of w ≡ length before.content → ReadsBytes sum (tail_of w) cache after offset len old new r
+        → Takes sum P (Read offset len) r old.present new.present before before × Foretells P (Read offset len) r before
+    taken (Bytes bytes) P before stands size reads =
+        let goes = reads.goes in
+        let same : bytes.items ≡ take len (drop offset before.content) = goes.answers.1 ∙ ap (λ (l : List ℕ). take len (drop offset l)) (sym stands.fits.content) in
+        (((omega (arith, size, goes.answers.0), same), refl), (λ over. absurd (cc (goes.overflow over)), λ passes. absurd (cc (goes.end passes.0 (omega (arith, size, passes.1))))))
+    taken (Fault e) P before stands size reads =
+        let goes = reads.goes in
+        let cause = read_cause sum P w cache offset len before old new e size (λ is. goes.never_if_sound w sound refl (omega arith) (ap Err is)) goes.answers in
+        ((cause.0, cause.1, refl), (λ over. cc (goes.overflow over), λ passes. cc (goes.end passes.0 (omega (arith, size, passes.1)))))
+    taken (At n) P before stands size reads = absurd reads
+    taken Nothing P before stands size reads = absurd reads
+    taken Done P before stands size reads = absurd reads
+    taken (Started sync) P before stands size reads = absurd reads
+    taken (Answer answer) P before stands size reads = absurd reads
+    taken NoSuch P before stands size reads = absurd reads
+    taken NotRecovering P before stands size reads = absurd reads
+    taken (Served count read) P before stands size reads = absurd reads
+    taken (Missed numbers) P before stands size reads = absurd reads
+    taken BadRanges P before stands size reads = absurd reads
+    taken (Taken index) P before stands size reads = absurd reads
+    taken (Sealed index sync) P before stands size reads = absurd reads
+    taken NotAppending P before stands size reads = absurd reads
+    taken (Replaying number) P before stands size reads = absurd reads
+    taken (Length n) P before stands size reads = absurd reads
+    taken Closed P before stands size reads = absurd reads
 
 -- the size
 pub size_steps : (sum : List ℕ → ℕ) (was : SessionState) (w : WriterState) (life : Life) → IsSound sum w life.present → AlwaysApart sum Size (Length (size_of w)) (held was (Some w)) (held was (Some w)) life life

@@ -1,7 +1,9 @@
 -- What the steps do that make snapshots, and read them.
 use Rattle.std.proofs.Common.{◌≡◌, ◌⊎◌, ℕ, zero, suc, ◌+◌, ◌<◌, ◌≤◌, ◌%◌, List, [], ◌∷◌, ◌++◌, length, map, take, drop, refl, sym, ap, ◌∙◌, subst, arith, append-nil, inl, inr, Bool, true, false, Ok, Err, lit<, lit≤}
 use Rattle.std.specs.Prelude.{All, IfSome, Option, Some, None, nat_le, nat_lt, nat_eq, if◌then◌else◌, is_some, option_map}
-use Rattle.std.specs.List.{Contains, concat}
+use Rattle.std.specs.List.{Contains}
+use Rattle.std.specs.Prelude.{Vec}
+use Rattle.std.specs.declared.alloc.Global.{Global}
 use Rattle.std.proofs.Math.Bool.{or-false}
 use Rattle.std.proofs.lemmas.Bool.{false≢true}
 use Rattle.std.proofs.lemmas.Bool.Decides.{nat_tests}
@@ -24,7 +26,7 @@ use Rattle.crash.proofs.Disks.{image_alike}
 use Rattle.crash.proofs.Moments.{chance_free_alike, keeps_alike}
 use Rattle.writer_state.proofs.StartedLaws.{alike_would}
 use Rattle.cache.specs.CacheState.{CacheState}
-use Rattle.paged_read.specs.Tail.{Tail, told, HasPages, CanRead, size_of as size_of_tail}
+use Rattle.paged_read.specs.Tail.{Tail, told, HasFullPages, HasPages, CanRead, size_of as size_of_tail}
 use Rattle.paged_read.specs.Ranges.{Reads}
 use Rattle.paged_read.specs.Replay.{LeavesAllReplays}
 use Rattle.paged_read.specs.Snapshots.{LeavesAllReads, LeavesAllTails, LeavesWriters, StandsOn}
@@ -40,7 +42,9 @@ use Rattle.session.specs.declared.steps.Reply.{Reply}
 use Rattle.session.specs.declared.steps.Reply.TheVariants.{Nothing, Bytes, Fault, Closed, NoSuch, Taken, Sealed, NotAppending}
 use Rattle.session.specs.Run.{Replayed, Standing, SessionState, begun, noted, flushed, left_by_seal, ended, sealed_by, snapshot_at, numbered, turned_away, faults, HasCause, Takes, Foretells, Answers, Touches, wait_touch, last, AllCover, pending_in, WriterStandsFor, HasSoundWriter, FitsWriter, CacheFits, IsReady, IsBelow, IsSnapshot, StandsFor}
 use Rattle.session.specs.Run.Touch.{Leaves, Looks, Changes}
-use Rattle.session.specs.Calls.{IfAppending, SnapshotSays, with_snapshot, TakesSnapshot, TriesSnapshot, SealSays, sealed_with, SealsSession, DidSnapshot, DidTrySnapshot, DidSeal, DidSnap, ReadsBytes, ReadSays, LeavesTaken, Steps}
+use Rattle.session.specs.Calls.{IfAppending, with_snapshot, TakesSnapshot, TriesSnapshot, sealed_with, SealsSession, DidSnapshot, DidTrySnapshot, DidSeal, DidSnap, ReadsBytes, ReadsRange, LeavesTaken, Steps}
+use Rattle.session.proofs.Words.{SnapshotTold, SealTold}
+use Rattle.session.proofs.WordLaws.{seal_told, snapshot_told}
 use Rattle.session.proofs.Apart.{AlwaysApart, IsReadyApart, StandsApart, SteppedApart, StepsApart, stands_apart, ready_apart}
 use Rattle.session.proofs.Below.{AlwaysMakes, MadeSnapshot, can_in, framed, framed_same, leaves_all, leaves_here, LeftAll, left_by, left_same, of_each, sound_in}
 use Rattle.session.proofs.Numbered.{numbered-map, numbered_there}
@@ -160,7 +164,7 @@ snapshot_few true (Pending name) = lit≤ tt
 snapshot_few false state = lit≤ tt
 
 -- a snapshot that is made
-snapshot_steps : (sum : List ℕ → ℕ) (was : SessionState) (w v : WriterState) (t : Tail) (after : CacheState) (old new : Life) → was.writer ≡ Some w → was.recovering ≡ false → IsSound sum w old.present → SnapshotSays sum w old new (Ok (v, t))
+snapshot_steps : (sum : List ℕ → ℕ) (was : SessionState) (w v : WriterState) (t : Tail) (after : CacheState) (old new : Life) → was.writer ≡ Some w → was.recovering ≡ false → IsSound sum w old.present → SnapshotTold sum w old new (Ok (v, t))
     → StandsOn sum t (content_of w old.present.readable) after new.present → AlwaysMakes sum Snapshot (Taken (length was.snapshots)) was (with_snapshot was (Some v) t) old new (Some t ∷ [])
 unfolding Through
 snapshot_steps sum was w v t after old new at phase sound says on = λ P before all.
@@ -228,7 +232,7 @@ snapshot_cause P w before old new OffsetOverflow short awaited cause = absurd ca
 snapshot_cause P w before old new OutOfMemory short awaited cause = ((2, lit< tt, refl), tt)
 snapshot_cause P w before old new IdsExhausted short awaited cause = absurd cause
 
-snapshot_refused_steps : (sum : List ℕ → ℕ) (was : SessionState) (w : WriterState) (e : Error) (old new : Life) → was.recovering ≡ false → SnapshotSays sum w old new (Err e) → AlwaysApart sum Snapshot (Fault e) (held was (Some w)) (held was None) old new
+snapshot_refused_steps : (sum : List ℕ → ℕ) (was : SessionState) (w : WriterState) (e : Error) (old new : Life) → was.recovering ≡ false → SnapshotTold sum w old new (Err e) → AlwaysApart sum Snapshot (Fault e) (held was (Some w)) (held was None) old new
 unfolding Through
 snapshot_refused_steps sum was w e old new phase says = λ P before stands.
     let fits = stands.fits in
@@ -260,11 +264,13 @@ no_room_for_one sum was w life phase = λ P before stands.
 
 -- a snapshot by a session
 pub snapshot_takes : (sum : List ℕ → ℕ) (was now : SessionState) (cache after : CacheState) (old new : Life) (reply : Reply) → IsReady sum was old.present → CacheFits was cache old.present → FitsWriter now.writer after new.present
-    → LeavesTaken sum was.writer now.writer cache after old new → DidSnapshot sum was now after old new reply → Steps sum Snapshot reply was now old new × CacheFits now after new.present
+    → LeavesTaken sum was.writer now.writer cache after old new → DidSnapshot sum was now cache after old new reply → Steps sum Snapshot reply was now old new × CacheFits now after new.present
 snapshot_takes sum was now cache after old new reply ready fits writer stay did = by_state was.recovering was.writer refl refl did
   where
-    made : (w : WriterState) → was.writer ≡ Some w → was.recovering ≡ false → (r : Reply) → TakesSnapshot sum w was now after old new r → Steps sum Snapshot r was now old new × CacheFits now after new.present
-    made w at phase (Taken index) (v, t, number, is, says, on) =
+    made : (w : WriterState) → was.writer ≡ Some w → was.recovering ≡ false → (r : Reply) → TakesSnapshot sum w was now cache after old new r → Steps sum Snapshot r was now old new × CacheFits now after new.present
+    made w at phase (Taken index) (v, t, number, is, whole, call) =
+        let says = snapshot_told sum w cache after old new (Ok (v, t)) whole call in
+        let on = call.goes.stands (sound_in sum was.writer w old.present at ready.writer) in
         let sound = sound_in sum was.writer w old.present at ready.writer in
         let goes = says.makes.0 in
         let below : IsBelow (Some v) t = subst (λ (u : Tail). IsBelow (Some v) u) (sym says.makes.2) (refl, omega arith) in
@@ -278,7 +284,8 @@ snapshot_takes sum was now cache after old new reply ready fits writer stay did 
         one_made o t below on zero d lt = record { snapshot = record { there = on.tail.there; full = on.tail.full; below = below }; can = on.can }
         one_made o t below on (suc k) d lt = absurd (omega (arith, lt))
     made w at phase (Fault e) goes = elim goes [
-      | inl (is, says) ↦
+      | inl (is, call) ↦
+          let says = snapshot_told sum w cache after old new (Err e) tt call in
           framed_same sum Snapshot (Fault e) was now after old new (ap (λ (s : SessionState). s.snapshots) is) (ap (λ (s : SessionState). s.replays) is) (λ other. absurd (false≢true (sym phase ∙ sym (ap (λ (s : SessionState). s.recovering) is) ∙ other))) writer
           (left_by sum was now.writer cache after old new ready fits stay.own)
           (subst (λ (s : SessionState). StepsApart sum Snapshot (Fault e) was s old new) (sym is)
@@ -286,7 +293,7 @@ snapshot_takes sum was now cache after old new reply ready fits writer stay did 
             ready = record { writer = tt; starts = inr says.owes.starts };
             always = subst (λ (s : SessionState). AlwaysApart sum Snapshot (Fault e) s (held was None) old new) (sym (held_same was (Some w) at)) (snapshot_refused_steps sum was w e old new phase says);
           }))
-      | inr (fault, is, same) ↦
+      | inr (fault, is, same, held) ↦
           same_takes sum Snapshot (Fault e) was now cache after old new ready fits writer stay is
           (subst (λ (x : Error). StepsApart sum Snapshot (Fault x) was now old new) (sym fault)
           (subst (λ (s : SessionState). StepsApart sum Snapshot (Fault OutOfMemory) was s old new) (sym is)
@@ -298,11 +305,11 @@ snapshot_takes sum was now cache after old new reply ready fits writer stay did 
     ]
     made w at phase r goes = absurd goes
 
-    by_state : (phase : Bool) (o : Option WriterState) → was.recovering ≡ phase → was.writer ≡ o → IfAppending phase o reply ((now ≡ was) × (new ≡ old)) (λ w. TakesSnapshot sum w was now after old new reply)
+    by_state : (phase : Bool) (o : Option WriterState) → was.recovering ≡ phase → was.writer ≡ o → IfAppending phase o reply ((now ≡ was) × (new ≡ old) × (after ≡ cache)) (λ w. TakesSnapshot sum w was now cache after old new reply)
         → Steps sum Snapshot reply was now old new × CacheFits now after new.present
-    by_state true None phase at (replied, (is, same)) = same_takes sum Snapshot reply was now cache after old new ready fits writer stay is (closed_apart sum Snapshot was now old new ready (λ s. refl) reply at replied is same)
-    by_state false None phase at (replied, (is, same)) = same_takes sum Snapshot reply was now cache after old new ready fits writer stay is (closed_apart sum Snapshot was now old new ready (λ s. refl) reply at replied is same)
-    by_state true (Some w) phase at (replied, (is, same)) =
+    by_state true None phase at (replied, (is, same, held)) = same_takes sum Snapshot reply was now cache after old new ready fits writer stay is (closed_apart sum Snapshot was now old new ready (λ s. refl) reply at replied is same)
+    by_state false None phase at (replied, (is, same, held)) = same_takes sum Snapshot reply was now cache after old new ready fits writer stay is (closed_apart sum Snapshot was now old new ready (λ s. refl) reply at replied is same)
+    by_state true (Some w) phase at (replied, (is, same, held)) =
         same_takes sum Snapshot reply was now cache after old new ready fits writer stay is (recovering_apart sum Snapshot was now old new ready (λ s. refl) reply w at phase (λ content. refl) replied is same)
     by_state false (Some w) phase at goes = made w at phase reply goes
 
@@ -439,7 +446,7 @@ sealed_stands sum P was w t (Named name) old new before moments stands starts h 
     }
 
 -- a writer that is sealed
-seal_steps : (sum : List ℕ → ℕ) (was : SessionState) (w : WriterState) (t : Tail) (sync : StartedSync) (after : CacheState) (old new : Life) → was.writer ≡ Some w → was.recovering ≡ false → SealSays sum w old new (Ok (t, sync))
+seal_steps : (sum : List ℕ → ℕ) (was : SessionState) (w : WriterState) (t : Tail) (sync : StartedSync) (after : CacheState) (old new : Life) → was.writer ≡ Some w → was.recovering ≡ false → SealTold sum w old new (Ok (t, sync))
     → StandsOn sum t (content_of w old.present.readable) after new.present → AlwaysMakes sum Seal (Sealed (length was.snapshots) sync) was (sealed_with was t sync) old new (Some t ∷ [])
 unfolding Through
 seal_steps sum was w t sync after old new at phase says on = λ P before all.
@@ -470,7 +477,7 @@ seal_cause P w before old new OffsetOverflow awaited cause = absurd cause
 seal_cause P w before old new OutOfMemory awaited cause = ((2, lit< tt, refl), tt)
 seal_cause P w before old new IdsExhausted awaited cause = absurd cause
 
-seal_refused_steps : (sum : List ℕ → ℕ) (was : SessionState) (w : WriterState) (e : Error) (old new : Life) → was.recovering ≡ false → SealSays sum w old new (Err e) → AlwaysApart sum Seal (Fault e) (held was (Some w)) (held was None) old new
+seal_refused_steps : (sum : List ℕ → ℕ) (was : SessionState) (w : WriterState) (e : Error) (old new : Life) → was.recovering ≡ false → SealTold sum w old new (Err e) → AlwaysApart sum Seal (Fault e) (held was (Some w)) (held was None) old new
 unfolding Through
 seal_refused_steps sum was w e old new phase says = λ P before stands.
     let fits = stands.fits in
@@ -488,15 +495,17 @@ no_room_to_seal sum was w life phase = λ P before stands.
     (λ none. absurd none, λ none. absurd none) stands
 
 pub seal_takes : (sum : List ℕ → ℕ) (was now : SessionState) (cache after : CacheState) (old new : Life) (reply : Reply) → IsReady sum was old.present → CacheFits was cache old.present → FitsWriter now.writer after new.present
-    → LeavesTaken sum was.writer now.writer cache after old new → DidSeal sum was now after old new reply → Steps sum Seal reply was now old new × CacheFits now after new.present
+    → LeavesTaken sum was.writer now.writer cache after old new → DidSeal sum was now cache after old new reply → Steps sum Seal reply was now old new × CacheFits now after new.present
 seal_takes sum was now cache after old new reply ready fits writer stay did = by_state was.recovering was.writer refl refl did
   where
     one_made : (t : Tail) (content : List ℕ) → StandsOn sum t content after new.present → All (MadeSnapshot sum None after new.present) (Some t ∷ [])
     one_made t content on zero d lt = record { snapshot = record { there = on.tail.there; full = on.tail.full; below = tt }; can = on.can }
     one_made t content on (suc k) d lt = absurd (omega (arith, lt))
 
-    seals : (w : WriterState) → was.writer ≡ Some w → was.recovering ≡ false → (r : Reply) → SealsSession sum w was now after old new r → Steps sum Seal r was now old new × CacheFits now after new.present
-    seals w at phase (Sealed index sync) (t, number, is, says, on) =
+    seals : (w : WriterState) → was.writer ≡ Some w → was.recovering ≡ false → (r : Reply) → SealsSession sum w was now cache after old new r → Steps sum Seal r was now old new × CacheFits now after new.present
+    seals w at phase (Sealed index sync) (t, number, is, call) =
+        let says = seal_told sum w cache after old new (sound_in sum was.writer w old.present at ready.writer) (Ok (t, sync)) call in
+        let on = call.goes.stands (sound_in sum was.writer w old.present at ready.writer) in
         let next = sealed_with was t sync in
         subst (λ (n : ℕ). Steps sum Seal (Sealed n sync) was now old new × CacheFits now after new.present) (sym number)
         (framed sum Seal (Sealed (length was.snapshots) sync) was now after old new (Some t ∷ []) (ap (λ (s : SessionState). s.snapshots) is) (ap (λ (s : SessionState). s.replays) is) (λ other. absurd (false≢true (sym phase ∙ sym (ap (λ (s : SessionState). s.recovering) is) ∙ other)))
@@ -504,7 +513,8 @@ seal_takes sum was now cache after old new reply ready fits writer stay did = by
         (subst (λ (s : SessionState). All (MadeSnapshot sum s.writer after new.present) (Some t ∷ [])) (sym is) (one_made t (content_of w old.present.readable) on))
         (subst (λ (s : SessionState). AlwaysMakes sum Seal (Sealed (length was.snapshots) sync) was s old new (Some t ∷ [])) (sym is) (seal_steps sum was w t sync after old new at phase says on)))
     seals w at phase (Fault e) goes = elim goes [
-      | inl (is, says) ↦
+      | inl (is, call) ↦
+          let says = seal_told sum w cache after old new (sound_in sum was.writer w old.present at ready.writer) (Err e) call in
           framed_same sum Seal (Fault e) was now after old new (ap (λ (s : SessionState). s.snapshots) is) (ap (λ (s : SessionState). s.replays) is) (λ other. absurd (false≢true (sym phase ∙ sym (ap (λ (s : SessionState). s.recovering) is) ∙ other))) writer
           (left_by sum was now.writer cache after old new ready fits stay.own)
           (subst (λ (s : SessionState). StepsApart sum Seal (Fault e) was s old new) (sym is)
@@ -512,7 +522,7 @@ seal_takes sum was now cache after old new reply ready fits writer stay did = by
             ready = record { writer = tt; starts = inr says.owes.starts };
             always = subst (λ (s : SessionState). AlwaysApart sum Seal (Fault e) s (held was None) old new) (sym (held_same was (Some w) at)) (seal_refused_steps sum was w e old new phase says);
           }))
-      | inr (fault, is, same) ↦
+      | inr (fault, is, same, held) ↦
           same_takes sum Seal (Fault e) was now cache after old new ready fits writer stay is
           (subst (λ (x : Error). StepsApart sum Seal (Fault x) was now old new) (sym fault)
           (subst (λ (s : SessionState). StepsApart sum Seal (Fault OutOfMemory) was s old new) (sym is)
@@ -524,11 +534,11 @@ seal_takes sum was now cache after old new reply ready fits writer stay did = by
     ]
     seals w at phase r goes = absurd goes
 
-    by_state : (phase : Bool) (o : Option WriterState) → was.recovering ≡ phase → was.writer ≡ o → IfAppending phase o reply ((now ≡ was) × (new ≡ old)) (λ w. SealsSession sum w was now after old new reply)
+    by_state : (phase : Bool) (o : Option WriterState) → was.recovering ≡ phase → was.writer ≡ o → IfAppending phase o reply ((now ≡ was) × (new ≡ old) × (after ≡ cache)) (λ w. SealsSession sum w was now cache after old new reply)
         → Steps sum Seal reply was now old new × CacheFits now after new.present
-    by_state true None phase at (replied, (is, same)) = same_takes sum Seal reply was now cache after old new ready fits writer stay is (closed_apart sum Seal was now old new ready (λ s. refl) reply at replied is same)
-    by_state false None phase at (replied, (is, same)) = same_takes sum Seal reply was now cache after old new ready fits writer stay is (closed_apart sum Seal was now old new ready (λ s. refl) reply at replied is same)
-    by_state true (Some w) phase at (replied, (is, same)) =
+    by_state true None phase at (replied, (is, same, held)) = same_takes sum Seal reply was now cache after old new ready fits writer stay is (closed_apart sum Seal was now old new ready (λ s. refl) reply at replied is same)
+    by_state false None phase at (replied, (is, same, held)) = same_takes sum Seal reply was now cache after old new ready fits writer stay is (closed_apart sum Seal was now old new ready (λ s. refl) reply at replied is same)
+    by_state true (Some w) phase at (replied, (is, same, held)) =
         same_takes sum Seal reply was now cache after old new ready fits writer stay is (recovering_apart sum Seal was now old new ready (λ s. refl) reply w at phase (λ content. refl) replied is same)
     by_state false (Some w) phase at goes = seals w at phase reply goes
 
@@ -552,7 +562,7 @@ looked_stands sum P was s d e alike stands =
 
 -- why one is refused
 snap_cause : (sum : List ℕ → ℕ) (P : ℕ) (t : Tail) (cache : CacheState) (index offset len : ℕ) (before : Standing) (old new : Life) (e : Error) → size_of_tail t ≡ length (snapshot_at before index) → (e ≡ InvalidChecksum → ⊥)
-    → Reads sum t cache (offset, len) concat old new (Err e) → Contains (faults (Snap index offset len)) e × HasCause P (Snap index offset len) before old.present new.present e
+    → Reads {A = Vec ℕ Global} sum t cache (offset, len) (λ b. b.items) old new (Err e) → Contains (faults (Snap index offset len)) e × HasCause P (Snap index offset len) before old.present new.present e
 snap_cause sum P t cache index offset len before old new ReadFailed size full goes = ((0, lit< tt, refl), goes)
 snap_cause sum P t cache index offset len before old new WriteFailed size full goes = absurd goes
 snap_cause sum P t cache index offset len before old new ResizeFailed size full goes = absurd goes
@@ -563,23 +573,27 @@ snap_cause sum P t cache index offset len before old new OffsetOverflow size ful
 snap_cause sum P t cache index offset len before old new OutOfMemory size full goes = ((3, lit< tt, refl), tt)
 snap_cause sum P t cache index offset len before old new IdsExhausted size full goes = absurd goes
 
-snap_taken : (sum : List ℕ → ℕ) (P : ℕ) (t : Tail) (cache : CacheState) (index offset len : ℕ) (before : Standing) (old new : Life) (reply : Reply) → told t old.present.readable ≡ snapshot_at before index → size_of_tail t ≡ length (snapshot_at before index)
-    → (reply ≡ Fault InvalidChecksum → ⊥) → ReadsBytes sum t cache offset len old new reply → Takes sum P (Snap index offset len) reply old.present new.present before before
-snap_taken sum P t cache index offset len before old new (Bytes bytes) tells size full (bufs, is, reads) =
-    ((omega (arith, size, reads.0), is ∙ reads.1 ∙ ap (λ (l : List ℕ). take len (drop offset l)) tells), refl)
-snap_taken sum P t cache index offset len before old new (Fault e) tells size full reads =
-    let cause = snap_cause sum P t cache index offset len before old new e size (λ is. full (ap Fault is)) reads in (cause.0, cause.1, refl)
-snap_taken sum P t cache index offset len before old new r tells size full reads = absurd reads
+snap_taken : (sum : List ℕ → ℕ) (P : ℕ) (t : Tail) (cache after : CacheState) (index offset len : ℕ) (before : Standing) (old new : Life) (reply : Reply) → told t old.present.readable ≡ snapshot_at before index → size_of_tail t ≡ length (snapshot_at before index)
+    → HasFullPages sum t old.present → ReadsBytes sum t cache after offset len old new reply → Takes sum P (Snap index offset len) reply old.present new.present before before × Foretells P (Snap index offset len) reply before
+snap_taken sum P t cache after index offset len before old new (Bytes bytes) tells size full reads =
+    let goes = reads.goes in
+    let same : bytes.items ≡ take len (drop offset (snapshot_at before index)) = goes.answers.1 ∙ ap (λ (l : List ℕ). take len (drop offset l)) tells in
+    (((omega (arith, size, goes.answers.0), same), refl), (λ over. absurd (cc (goes.overflow over)), λ passes. absurd (cc (goes.end passes.0 (omega (arith, size, passes.1))))))
+snap_taken sum P t cache after index offset len before old new (Fault e) tells size full reads =
+    let goes = reads.goes in
+    let cause = snap_cause sum P t cache index offset len before old new e size (λ is. goes.never full (ap Err is)) goes.answers in
+    ((cause.0, cause.1, refl), (λ over. cc (goes.overflow over), λ passes. cc (goes.end passes.0 (omega (arith, size, passes.1)))))
+snap_taken sum P t cache after index offset len before old new r tells size full reads = absurd reads
 
 -- the one of a number, as a standing has it
 found : (sum : List ℕ → ℕ) (P : ℕ) (was : SessionState) (index : ℕ) (before : Standing) (d : Disk) → StandsFor sum P was before d → numbered before.snapshots index ≡ option_map (λ u. told u d.readable) (numbered was.snapshots index)
 found sum P was index before d all = ap (λ (l : List (Option (List ℕ))). numbered l index) all.snapshots ∙ numbered-map (λ (u : Tail). told u d.readable) was.snapshots index
 
 -- one that there is
-snap_steps : (sum : List ℕ → ℕ) (was : SessionState) (t : Tail) (cache : CacheState) (index offset len : ℕ) (old new : Life) (reply : Reply) → numbered was.snapshots index ≡ Some t → HasPages t old.present → ReadSays sum t cache offset len old new reply
+snap_steps : (sum : List ℕ → ℕ) (was : SessionState) (t : Tail) (cache after : CacheState) (index offset len : ℕ) (old new : Life) (reply : Reply) → numbered was.snapshots index ≡ Some t → HasPages t old.present → HasFullPages sum t old.present → ReadsRange sum t cache after offset len old new reply
     → AlwaysMakes sum (Snap index offset len) reply was was old new []
 unfolding Through
-snap_steps sum was t cache index offset len old new reply at there says = λ P before all.
+snap_steps sum was t cache after index offset len old new reply at there full says = λ P before all.
     let stands = stands_apart sum P was before old.present all in
     let here : numbered before.snapshots index ≡ Some (told t old.present.readable) =
     found sum P was index before old.present all ∙ ap (λ (o : Option Tail). option_map (λ u. told u old.present.readable) o) at in
@@ -590,7 +604,7 @@ snap_steps sum was t cache index offset len old new reply at there says = λ P b
     let at_each : (d : Disk) → SameButLog old.present d → StandsApart sum P was before d = λ d alike. looked_stands sum P was before old.present d alike stands in
     let after_it = at_each new.present says.looked.same in
     let end : new.present ≡ last old.present seen.moments = ap (λ (life : Life). life.present) seen.goes ∙ last_is old seen.moments in
-    let foretold : Foretells P (Snap index offset len) reply before = (says.overflow, λ passes. says.end passes.0 (omega (arith, size, passes.1))) in
+    let both = snap_taken sum P t cache after index offset len before old new reply tells size full says.reads in
     subst (λ (l : List (Option (List ℕ))). SteppedApart sum P (Snap index offset len) reply was old new before l before.replays) (sym (append-nil before.snapshots))
     (record {
       moments = seen.moments;
@@ -598,7 +612,7 @@ snap_steps sum was t cache index offset len old new reply at there says = λ P b
       after = before;
       did = record {
         answer = subst (λ (to : Disk). Answers sum P (Snap index offset len) reply old.present to before before) end
-            (answers_here sum P (Snap index offset len) reply old.present new.present before before known (snap_taken sum P t cache index offset len before old new reply tells size says.full says.reads) foretold);
+            (answers_here sum P (Snap index offset len) reply old.present new.present before before known both.0 both.1);
         touches = seen.each;
         stopped = λ away. absurd (false≢true (sym (ap (λ (o : Option Reply). is_some o) known) ∙ away));
         kept = (stands.kept, each_then (SameButLog old.present) (AllKeep sum P before.content before.floor) seen.moments (λ d alike. (at_each d alike).kept) seen.each);
@@ -649,7 +663,7 @@ fits_on None cache after old new stay fits = tt
 fits_on (Some w) cache after old new stay fits = stay (tail_of w) fits
 
 pub snap_takes : (sum : List ℕ → ℕ) (was : SessionState) (cache after : CacheState) (index offset len : ℕ) (old new : Life) (reply : Reply) → IsReady sum was old.present → CacheFits was cache old.present
-    → DidSnap sum (numbered was.snapshots index) cache offset len old new reply → LeavesWriters sum old new → LeavesAllTails sum cache after old new → LeavesAllReplays old new → LeavesAllReads cache after old new
+    → DidSnap sum (numbered was.snapshots index) cache after offset len old new reply → LeavesWriters sum old new → LeavesAllTails sum cache after old new → LeavesAllReplays old new → LeavesAllReads cache after old new
     → Steps sum (Snap index offset len) reply was was old new × CacheFits was after new.present
 snap_takes sum was cache after index offset len old new reply ready fits did writers tails replays reads = by_offset (numbered was.snapshots index) refl did
   where
@@ -661,13 +675,13 @@ snap_takes sum was cache after index offset len old new reply ready fits did wri
         framed sum (Snap index offset len) r was was after old new [] (sym (append-nil was.snapshots)) refl ready.begun (record { writer = sound_on sum was.writer old new writers ready.writer; starts = starts })
         (fits_on was.writer cache after old new reads fits.writer) left (λ k t lt. absurd (omega (arith, lt))) always
 
-    by_offset : (o : Option Tail) → numbered was.snapshots index ≡ o → DidSnap sum o cache offset len old new reply → Steps sum (Snap index offset len) reply was was old new × CacheFits was after new.present
-    by_offset None none (replied, same) =
+    by_offset : (o : Option Tail) → numbered was.snapshots index ≡ o → DidSnap sum o cache after offset len old new reply → Steps sum (Snap index offset len) reply was was old new × CacheFits was after new.present
+    by_offset None none (replied, same, held) =
         let starts : (was.names ≡ []) ⊎ StartsStand new.present = subst (λ (life : Life). (was.names ≡ []) ⊎ StartsStand life.present) (sym same) ready.starts in
         whole_of reply starts
         (subst (λ (r : Reply). AlwaysMakes sum (Snap index offset len) r was was old new []) (sym replied)
         (subst (λ (life : Life). AlwaysMakes sum (Snap index offset len) NoSuch was was old life []) (sym same) (no_snap_steps sum was index offset len old none)))
     by_offset (Some t) at says =
-        let there = (of_each (λ o. IfSome o (λ u. IsSnapshot sum was.writer u old.present)) was.snapshots index (Some t) (numbered_there was.snapshots index t at) ready.snapshots).there in
+        let one = of_each (λ o. IfSome o (λ u. IsSnapshot sum was.writer u old.present)) was.snapshots index (Some t) (numbered_there was.snapshots index t at) ready.snapshots in
         let starts : (was.names ≡ []) ⊎ StartsStand new.present = elim ready.starts [ inl none ↦ inl none | inr stand ↦ inr (alike_stays_started old.present new.present says.looked.same stand) ] in
-        whole_of reply starts (snap_steps sum was t cache index offset len old new reply at there says)
+        whole_of reply starts (snap_steps sum was t cache after index offset len old new reply at one.there one.full says)

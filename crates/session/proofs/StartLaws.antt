@@ -28,7 +28,9 @@ use Rattle.session.specs.declared.steps.Reply.{Reply}
 use Rattle.session.specs.declared.steps.Reply.TheVariants.{At, Nothing, Done, Started, Answer, Length, Bytes, Fault, Closed, NotRecovering, NoSuch, Served, Missed, BadRanges, Taken, Sealed, NotAppending, Replaying}
 use Rattle.session.specs.Run.{Replayed, Standing, SessionState, ended, starting, waited, started_by, is_complete, HasCompleted, turned_away, Answers, faults, HasCause, HadFailed, Takes, wait_touch, last, Touches, AllCover, pending_in, WriterStandsFor, WriterFits, NamesFit, HasSoundWriter}
 use Rattle.session.specs.Run.Touch.{Leaves, Changes}
-use Rattle.session.specs.Calls.{KeepsRest, StartSays, names_after, with_name, Starts, WaitSays, Waits, WaitsFor, is_given, NeedsSync as SaysNeeds, Begins, KeepsSnapshots}
+use Rattle.session.specs.Calls.{KeepsRest, names_after, with_name, Starts, Waits, WaitsFor, is_given, NeedsSync as SaysNeeds, Begins, KeepsSnapshots}
+use Rattle.session.proofs.Words.{StartTold, WaitTold}
+use Rattle.session.proofs.WordLaws.{start_told, wait_told}
 use Rattle.session.proofs.StepLaws.{held, held_same, last_is, no_moments, answers_away, answers_here, turned_here, turned_closed, leaves, few_calls, raised_within, only_there, Halves, each_end, stepped, unasked, stands_now, stands_ended}
 use Rattle.session.proofs.AppendLaws.{written_no_work, needs_is, had_failed_as, wait_none, wait_one, owed_starts}
 use Rattle.session.proofs.SyncLaws.{same_halves, left_buffered, synced_stands}
@@ -94,7 +96,7 @@ start_touch w P before old new moments fits goes few idle = by_written before.wr
     by_written false is = few_calls old new moments 3 goes (omega (arith, few, starts_few (has_work w true) w.sync))
 
 -- the answer by the standing
-start_answer : (sum : List ℕ → ℕ) (w v : WriterState) (sync : StartedSync) (P : ℕ) (before : Standing) (old new : Life) → WriterStandsFor P w before old.present → StartSays sum w old new (Ok (v, sync)) → sync ≡ started_by before old.present
+start_answer : (sum : List ℕ → ℕ) (w v : WriterState) (sync : StartedSync) (P : ℕ) (before : Standing) (old new : Life) → WriterStandsFor P w before old.present → StartTold sum w old new (Ok (v, sync)) → sync ≡ started_by before old.present
 start_answer sum w v sync P before old new fits says = by_written before.written fits.written
   where
     second : (r : Result (WriterState × StartedSync) Error) → r ≡ Ok (w, started_already w.sync) → IfOk r (λ p. p.1 ≡ started_already w.sync)
@@ -111,7 +113,7 @@ all_more Q c cs one more (suc k) d lt = more k d (omega (arith, lt))
 
 -- what a session stands for once a sync was started
 started_stands : (sum : List ℕ → ℕ) (P : ℕ) (was : SessionState) (w v : WriterState) (sync : StartedSync) (old new : Life) (before : Standing) (moments : List Disk) → IsSound sum w old.present → StandsApart sum P (held was (Some w)) before old.present
-    → StartSays sum w old new (Ok (v, sync)) → Halves sum P before.content before.content before.floor before.covers old new moments
+    → StartTold sum w old new (Ok (v, sync)) → Halves sum P before.content before.content before.floor before.covers old new moments
     → StandsApart sum P (record was { writer = Some v; names = names_after sync was.names }) (starting P sync before) new.present
 started_stands sum P was w v AllDone old new before moments sound stands says h =
     let s = says.starts_sync in
@@ -153,7 +155,7 @@ starting_keeps P AllDone s = refl
 starting_keeps P (Named name) s = refl
 
 -- a sync that is started
-start_steps : (sum : List ℕ → ℕ) (was : SessionState) (w v : WriterState) (sync : StartedSync) (old new : Life) → IsSound sum w old.present → StartSays sum w old new (Ok (v, sync))
+start_steps : (sum : List ℕ → ℕ) (was : SessionState) (w v : WriterState) (sync : StartedSync) (old new : Life) → IsSound sum w old.present → StartTold sum w old new (Ok (v, sync))
     → AlwaysApart sum StartSync (Started sync) (held was (Some w)) (record was { writer = Some v; names = names_after sync was.names }) old new
 unfolding Through
 start_steps sum was w v sync old new sound says = λ P before stands.
@@ -186,7 +188,7 @@ start_cause P w before old new OffsetOverflow some awaited cause = absurd cause
 start_cause P w before old new OutOfMemory some awaited cause = ((2, lit< tt, refl), tt)
 start_cause P w before old new IdsExhausted some awaited cause = absurd cause
 
-start_refused_steps : (sum : List ℕ → ℕ) (was : SessionState) (w : WriterState) (e : Error) (old new : Life) → StartSays sum w old new (Err e) → AlwaysApart sum StartSync (Fault e) (held was (Some w)) (held was None) old new
+start_refused_steps : (sum : List ℕ → ℕ) (was : SessionState) (w : WriterState) (e : Error) (old new : Life) → StartTold sum w old new (Err e) → AlwaysApart sum StartSync (Fault e) (held was (Some w)) (held was None) old new
 unfolding Through
 start_refused_steps sum was w e old new says = λ P before stands.
     let fits = stands.fits in
@@ -268,7 +270,7 @@ waits_touch w P before old new moments fits goes few idle = by_awaited before.aw
     by_awaited (Some name) is = few_calls old new moments 1 goes (omega (arith, few, wait_one w.sync))
 
 -- a wait that is done
-wait_steps : (sum : List ℕ → ℕ) (was : SessionState) (w v : WriterState) (old new : Life) → WaitSays sum w old new (Ok v) → AlwaysApart sum Wait Done (held was (Some w)) (held was (Some v)) old new
+wait_steps : (sum : List ℕ → ℕ) (was : SessionState) (w v : WriterState) (old new : Life) → WaitTold sum w old new (Ok v) → AlwaysApart sum Wait Done (held was (Some w)) (held was (Some v)) old new
 unfolding Through
 wait_steps sum was w v old new says = λ P before stands.
     let fits = stands.fits in
@@ -306,7 +308,7 @@ wait_cause P w before old new OffsetOverflow some awaited cause wrote = absurd c
 wait_cause P w before old new OutOfMemory some awaited cause wrote = ((1, lit< tt, refl), some)
 wait_cause P w before old new IdsExhausted some awaited cause wrote = absurd cause
 
-wait_refused_steps : (sum : List ℕ → ℕ) (was : SessionState) (w : WriterState) (e : Error) (old new : Life) → WaitSays sum w old new (Err e) → AlwaysApart sum Wait (Fault e) (held was (Some w)) (held was None) old new
+wait_refused_steps : (sum : List ℕ → ℕ) (was : SessionState) (w : WriterState) (e : Error) (old new : Life) → WaitTold sum w old new (Err e) → AlwaysApart sum Wait (Fault e) (held was (Some w)) (held was None) old new
 unfolding Through
 wait_refused_steps sum was w e old new says = λ P before stands.
     let fits = stands.fits in
@@ -490,17 +492,18 @@ both_are : (was now : SessionState) (o : Option WriterState) (names : List ℕ) 
 both_are was now o names rest writer same = rest ∙ ap (λ (x : Option WriterState). record was { writer = x; names = now.names }) writer ∙ ap (λ (l : List ℕ). record was { writer = o; names = l }) same
 
 -- a start of a sync by a session
-pub started_takes : (sum : List ℕ → ℕ) (was now : SessionState) (old new : Life) (reply : Reply) → IsReadyApart sum was old.present → KeepsSnapshots was now → Starts sum was.writer now.writer was.names now.names old new reply
+pub started_takes : (sum : List ℕ → ℕ) (was now : SessionState) (cache after : CacheState) (old new : Life) (reply : Reply) → IsReadyApart sum was old.present → KeepsSnapshots was now → Starts sum was.writer now.writer was.names now.names cache after old new reply
     → StepsApart sum StartSync reply was now old new
-started_takes sum was now old new reply ready rest goes = by_writer was.writer refl reply goes
+started_takes sum was now cache after old new reply ready rest goes = by_writer was.writer refl reply goes
   where
     with_writer : (w : WriterState) → was.writer ≡ Some w → (r : Reply) (x : SessionState) (life : Life) → AlwaysApart sum StartSync r (held was (Some w)) x old life → AlwaysApart sum StartSync r was x old life
     with_writer w at r x life always = subst (λ (y : SessionState). AlwaysApart sum StartSync r y x old life) (sym (held_same was (Some w) at)) always
 
-    by_writer : (o : Option WriterState) → was.writer ≡ o → (reply : Reply) → Starts sum o now.writer was.names now.names old new reply → StepsApart sum StartSync reply was now old new
-    by_writer None at reply (closed, names) =
+    by_writer : (o : Option WriterState) → was.writer ≡ o → (reply : Reply) → Starts sum o now.writer was.names now.names cache after old new reply → StepsApart sum StartSync reply was now old new
+    by_writer None at reply (closed, names, held) =
         closed_takes sum StartSync was now old new reply (λ before none. turned_closed before.has_writer none) at ready closed.replied (rest ∙ both_same was now.writer now.names (closed.writer ∙ sym at) names) closed.life
-    by_writer (Some w) at (Started sync) (v, is, more, says) =
+    by_writer (Some w) at (Started sync) (v, is, more, whole, call) =
+        let says = start_told sum w cache after old new (sound_of sum was w old.present at ready) (Ok (v, sync)) whole call in
         let sound = sound_of sum was w old.present at ready in
         subst (λ (x : SessionState). StepsApart sum StartSync (Started sync) was x old new) (sym (both_are was now (Some v) (names_after sync was.names) rest is more))
         (record {
@@ -508,7 +511,8 @@ started_takes sum was now old new reply ready rest goes = by_writer was.writer r
           always = with_writer w at (Started sync) (record was { writer = Some v; names = names_after sync was.names }) new (start_steps sum was w v sync old new sound says);
         })
     by_writer (Some w) at (Fault e) goes = elim goes [
-      | inl (is, names, says) ↦
+      | inl (is, names, call) ↦
+          let says = start_told sum w cache after old new (sound_of sum was w old.present at ready) (Err e) tt call in
           subst (λ (x : SessionState). StepsApart sum StartSync (Fault e) was x old new) (sym (both_are was now None was.names rest is names))
           (record { ready = record { writer = tt; starts = inr says.owes.starts }; always = with_writer w at (Fault e) (held was None) new (start_refused_steps sum was w e old new says) })
       | inr room ↦
@@ -545,8 +549,12 @@ waited_takes sum was now old new reply ready rest goes = by_writer was.writer re
     by_writer None at reply closed =
         closed_takes sum Wait was now old new reply (λ before none. turned_closed before.has_writer none) at ready closed.replied
         (rest ∙ ap (λ (o : Option WriterState). held was o) (closed.writer ∙ sym at) ∙ sym (held_same was was.writer refl)) closed.life
-    by_writer (Some w) at Done (v, is, says) = held_takes sum Wait Done was now w (Some v) old new at rest is says.waits.0.sound (inr says.owes.starts) (wait_steps sum was w v old new says)
-    by_writer (Some w) at (Fault e) (is, says) = held_takes sum Wait (Fault e) was now w None old new at rest is tt (inr says.owes.starts) (wait_refused_steps sum was w e old new says)
+    by_writer (Some w) at Done (v, is, call) =
+        let says = wait_told sum w old new (sound_of sum was w old.present at ready) (Ok v) call in
+        held_takes sum Wait Done was now w (Some v) old new at rest is says.waits.0.sound (inr says.owes.starts) (wait_steps sum was w v old new says)
+    by_writer (Some w) at (Fault e) (is, call) =
+        let says = wait_told sum w old new (sound_of sum was w old.present at ready) (Err e) call in
+        held_takes sum Wait (Fault e) was now w None old new at rest is tt (inr says.owes.starts) (wait_refused_steps sum was w e old new says)
     by_writer (Some w) at (At n) goes = absurd goes
     by_writer (Some w) at Nothing goes = absurd goes
     by_writer (Some w) at (Started sync) goes = absurd goes

@@ -17,7 +17,7 @@ use Rattle.session.specs.declared.steps.Step.TheVariants.{Sync}
 use Rattle.session.specs.declared.steps.Reply.TheVariants.{Done, Fault}
 use Rattle.session.specs.Run.{Standing, SessionState, synced, ended, needs_sync, faults, HasCause, wait_touch, Touches, AllCover, pending_in, WriterStandsFor}
 use Rattle.session.specs.Run.Touch.{Changes}
-use Rattle.session.specs.Calls.{SyncSays}
+use Rattle.session.proofs.Words.{SyncTold}
 use Rattle.session.proofs.Apart.{AlwaysApart, StandsApart}
 use Rattle.session.proofs.StepLaws.{held, no_moments, turned_here, few_calls, halves, each_end, itself, stepped, stands_now, stands_ended, Halves}
 use Rattle.session.proofs.AppendLaws.{rest_left, settled_started, settled_awaits, sync_needed, calls_few, calls_written, wait_none, wait_one, had_failed_as, owed_starts}
@@ -78,7 +78,7 @@ sync_touch w P before old new moments fits goes few idle = by_written before.wri
     by_written false awaited is some = few_calls old new moments 2 goes (omega (arith, few, calls_few (has_work w true) w.sync))
 
 -- a sync that is done
-pub sync_steps : (sum : List ℕ → ℕ) (was : SessionState) (w v : WriterState) (old new : Life) → IsSound sum w old.present → SyncSays sum w old new (Ok v) → AlwaysApart sum Sync Done (held was (Some w)) (held was (Some v)) old new
+pub sync_steps : (sum : List ℕ → ℕ) (was : SessionState) (w v : WriterState) (old new : Life) → IsSound sum w old.present → SyncTold sum w old new (Ok v) → AlwaysApart sum Sync Done (held was (Some w)) (held was (Some v)) old new
 unfolding Through
 sync_steps sum was w v old new sound says = λ P before stands.
     let fits = stands.fits in
@@ -102,7 +102,7 @@ sync_cause P w before old new OutOfMemory work awaited cause = ((2, lit< tt, ref
 sync_cause P w before old new IdsExhausted work awaited cause = absurd cause
 
 -- a sync that is refused
-pub sync_refused_steps : (sum : List ℕ → ℕ) (was : SessionState) (w : WriterState) (e : Error) (old new : Life) → SyncSays sum w old new (Err e) → AlwaysApart sum Sync (Fault e) (held was (Some w)) (held was None) old new
+pub sync_refused_steps : (sum : List ℕ → ℕ) (was : SessionState) (w : WriterState) (e : Error) (old new : Life) → SyncTold sum w old new (Err e) → AlwaysApart sum Sync (Fault e) (held was (Some w)) (held was None) old new
 unfolding Through
 sync_refused_steps sum was w e old new says = λ P before stands.
     let fits = stands.fits in

@@ -13,6 +13,7 @@ use Rattle.crash.specs.Kept.{AllKeep, AllOnly, Each, Through, Moments}
 use Rattle.crash.specs.Stays.{LeavesOnly}
 use Rattle.crash.specs.Started.{WouldKeep, CoversStay, CoversThrough}
 use Rattle.writer_state.specs.WriterState.{WriterState}
+use Rattle.cache.specs.CacheState.{CacheState}
 use Rattle.writer_state.specs.Sound.{IsSound, content as content_of}
 use Rattle.crash.specs.Moments.{each_then}
 use Rattle.crash.proofs.Moments.{keeps_longer, keeps_shorter}
@@ -185,20 +186,20 @@ cut_steps sum P n was w reply now old new before after moments recovering sound 
     (few_calls old new moments (if nat_lt n (length before.content) then 8 else 2) h.goes (omega (arith, few, most))) (takes (forgetting (lowered n before)) refl lower) (λ none. absurd none, λ none. absurd none) after_it
 
 -- a truncate that is done
-truncate_steps : (sum : List ℕ → ℕ) (was : SessionState) (w v : WriterState) (n : ℕ) (old new : Life) → was.recovering ≡ true → IsSound sum w old.present → TruncateSays sum w n old new (Ok v)
+truncate_steps : (sum : List ℕ → ℕ) (was : SessionState) (w v : WriterState) (n : ℕ) (cache after : CacheState) (old new : Life) → was.recovering ≡ true → IsSound sum w old.present → TruncateSays sum w n cache after old new (Ok v)
     → AlwaysBy true sum (Truncate n) (Length (size_of v)) (held was (Some w)) (held was (Some v)) old new
 unfolding Through
-truncate_steps sum was w v n old new recovering sound says = λ P before stands.
+truncate_steps sum was w v n cache after old new recovering sound says = λ P before stands.
     let fits = stands.fits in
-    let is = says.truncates in
-    let through = says_only sum P was w n old new before stands says.only in
-    let h = cut_halves sum P n before old new stands.floor stands.within stands.kept stands.covered (says_floors sum P was w n old new before stands says.floors) (says_covers sum P was w n old new before stands says.covers) through in
+    let is = says.goes.answers in
+    let through = says_only sum P was w n old new before stands (says.owes.only sound) in
+    let h = cut_halves sum P n before old new stands.floor stands.within stands.kept stands.covered (says_floors sum P was w n old new before stands says.owes.floors) (says_covers sum P was w n old new before stands (says.owes.covers sound)) through in
     let size : size_of w ≡ length before.content = size_is_length sum w old sound ∙ ap length (sym fits.content) in
     let page : v.page_size ≡ P = is.same.page_size ∙ fits.page_size in
     let holds : content_of v new.present.readable ≡ take n before.content = is.content ∙ ap (λ (l : List ℕ). take n l) (sym fits.content) in
     let room : v.capacity ≡ before.capacity = is.same.capacity ∙ fits.capacity in
     let buffered : length v.tip ≡ length (take n before.content) % P =
-    tip_is sum v new says.sound is.settled.short ∙ ap (λ (l : List ℕ). length l % v.page_size) holds ∙ ap (λ (p : ℕ). length (take n before.content) % p) page in
+    tip_is sum v new (says.goes.sound sound) is.settled.short ∙ ap (λ (l : List ℕ). length l % v.page_size) holds ∙ ap (λ (p : ℕ). length (take n before.content) % p) page in
     let after_it : StandsApart sum P (held was (Some v)) (truncated P n (forgetting (lowered n before))) new.present = record {
       fits = record {
         page_size = page;
@@ -207,7 +208,7 @@ truncate_steps sum was w v n old new recovering sound says = λ P before stands.
         otherwise = refl;
         capacity = room;
         buffered = buffered;
-        within = omega (arith, says.within, buffered, room);
+        within = omega (arith, says.goes.within, buffered, room);
         written = settled_started v is.settled;
         awaited = settled_awaits v is.settled;
       };
@@ -216,12 +217,12 @@ truncate_steps sum was w v n old new recovering sound says = λ P before stands.
       floor = omega arith;
       within = lowered_within n before stands.within;
       kept = subst (λ (p : ℕ). AllKeep sum p (take n before.content) (length (take n before.content)) new.present) fits.page_size
-          (subst (λ (l : List ℕ). AllKeep sum w.page_size (take n l) (length (take n l)) new.present) (sym fits.content) says.durable);
+          (subst (λ (l : List ℕ). AllKeep sum w.page_size (take n l) (length (take n l)) new.present) (sym fits.content) (says.goes.durable sound));
       covered = each_end (AllCover sum P (take n before.content) (lowered n before).covers) old new through.moments h.goes h.first;
       only = subst (λ (p : ℕ). AllOnly sum p (take n before.content) (take n before.content) new.present) page
-          (subst (λ (l : List ℕ). AllOnly sum v.page_size l l new.present) holds (sound_leaves sum v new.present says.sound));
+          (subst (λ (l : List ℕ). AllOnly sum v.page_size l l new.present) holds (sound_leaves sum v new.present (says.goes.sound sound)));
     } in
-    cut_steps sum P n was w (Length (size_of v)) (held was (Some v)) old new before (truncated P n (forgetting (lowered n before))) through.moments recovering sound stands h says.calls
+    cut_steps sum P n was w (Length (size_of v)) (held was (Some v)) old new before (truncated P n (forgetting (lowered n before))) through.moments recovering sound stands h says.costs.calls
     (λ s lower begins. subst (λ (x : Standing). (size_of v ≡ min n (length x.content)) × (truncated P n (forgetting (lowered n before)) ≡ truncated P n x)) (sym (begins ∙ lower)) (is.size ∙ ap (λ (k : ℕ). min n k) size, refl)) after_it
 
 -- why one is refused
@@ -237,13 +238,13 @@ truncate_cause sum P n w before old new OffsetOverflow sound awaited cause = abs
 truncate_cause sum P n w before old new OutOfMemory sound awaited cause = ((4, lit< tt, refl), tt)
 truncate_cause sum P n w before old new IdsExhausted sound awaited cause = absurd cause
 
-truncate_refused_steps : (sum : List ℕ → ℕ) (was : SessionState) (w : WriterState) (n : ℕ) (e : Error) (old new : Life) → was.recovering ≡ true → IsSound sum w old.present → TruncateSays sum w n old new (Err e)
+truncate_refused_steps : (sum : List ℕ → ℕ) (was : SessionState) (w : WriterState) (n : ℕ) (e : Error) (cache after : CacheState) (old new : Life) → was.recovering ≡ true → IsSound sum w old.present → TruncateSays sum w n cache after old new (Err e)
     → AlwaysBy true sum (Truncate n) (Fault e) (held was (Some w)) (held was None) old new
 unfolding Through
-truncate_refused_steps sum was w n e old new recovering sound says = λ P before stands.
-    let through = says_only sum P was w n old new before stands says.only in
-    let h = cut_halves sum P n before old new stands.floor stands.within stands.kept stands.covered (says_floors sum P was w n old new before stands says.floors) (says_covers sum P was w n old new before stands says.covers) through in
-    let cause = truncate_cause sum P n w before old new e sound stands.fits.awaited says.truncates.0 in
+truncate_refused_steps sum was w n e cache after old new recovering sound says = λ P before stands.
+    let through = says_only sum P was w n old new before stands (says.owes.only sound) in
+    let h = cut_halves sum P n before old new stands.floor stands.within stands.kept stands.covered (says_floors sum P was w n old new before stands says.owes.floors) (says_covers sum P was w n old new before stands (says.owes.covers sound)) through in
+    let cause = truncate_cause sum P n w before old new e sound stands.fits.awaited says.goes.answers.0 in
     let after_it : StandsApart sum P (held was None) (ended (take n before.content) (forgetting (lowered n before))) new.present = record {
       fits = refl;
       phase = stands.phase;
@@ -254,7 +255,7 @@ truncate_refused_steps sum was w n e old new recovering sound says = λ P before
       covered = each_end (AllCover sum P before.content (lowered n before).covers) old new through.moments h.goes h.covered;
       only = each_end (AllOnly sum P before.content (take n before.content)) old new through.moments h.goes h.only;
     } in
-    cut_steps sum P n was w (Fault e) (held was None) old new before (ended (take n before.content) (forgetting (lowered n before))) through.moments recovering sound stands h says.calls
+    cut_steps sum P n was w (Fault e) (held was None) old new before (ended (take n before.content) (forgetting (lowered n before))) through.moments recovering sound stands h says.costs.calls
     (λ s lower begins. (cause.0, cause.1, subst (λ (x : Standing). ended (take n before.content) (forgetting (lowered n before)) ≡ ended (take n x.content) x) (sym (begins ∙ lower)) refl)) after_it
 
 -- where the recovery has ended it is turned away
@@ -301,35 +302,35 @@ closed_turned n s none = by_writer s.has_writer none
     by_writer true is = absurd (false≢true (sym is))
 
 -- a truncate by a session with a writer in recovery
-cuts_takes : (sum : List ℕ → ℕ) (was now : SessionState) (w : WriterState) (n : ℕ) (old new : Life) (reply : Reply) → was.writer ≡ Some w → was.recovering ≡ true → IsSound sum w old.present → KeepsRest was now → Cuts sum w now.writer n old new reply
+cuts_takes : (sum : List ℕ → ℕ) (was now : SessionState) (w : WriterState) (n : ℕ) (cache after : CacheState) (old new : Life) (reply : Reply) → was.writer ≡ Some w → was.recovering ≡ true → IsSound sum w old.present → KeepsRest was now → Cuts sum w now.writer n cache after old new reply
     → StepsBy true sum (Truncate n) reply was now old new
-cuts_takes sum was now w n old new (Length m) at recovering sound rest (v, is, size, says) =
+cuts_takes sum was now w n cache after old new (Length m) at recovering sound rest (v, is, size, says) =
     subst (λ (k : ℕ). StepsBy true sum (Truncate n) (Length k) was now old new) (sym size)
-    (held_by true sum (Truncate n) (Length (size_of v)) was now w (Some v) old new at rest is says.sound (inr says.starts) (truncate_steps sum was w v n old new recovering sound says))
-cuts_takes sum was now w n old new (Fault e) at recovering sound rest (is, says) =
-    held_by true sum (Truncate n) (Fault e) was now w None old new at rest is tt (inr says.starts) (truncate_refused_steps sum was w n e old new recovering sound says)
-cuts_takes sum was now w n old new (At m) at recovering sound rest cuts = absurd cuts
-cuts_takes sum was now w n old new Nothing at recovering sound rest cuts = absurd cuts
-cuts_takes sum was now w n old new Done at recovering sound rest cuts = absurd cuts
-cuts_takes sum was now w n old new (Started sync) at recovering sound rest cuts = absurd cuts
-cuts_takes sum was now w n old new (Answer answer) at recovering sound rest cuts = absurd cuts
-cuts_takes sum was now w n old new (Bytes read) at recovering sound rest cuts = absurd cuts
-cuts_takes sum was now w n old new Closed at recovering sound rest cuts = absurd cuts
-cuts_takes sum was now w n old new NotRecovering at recovering sound rest cuts = absurd cuts
-cuts_takes sum was now w n old new (Served count read) at recovering sound rest cuts = absurd cuts
-cuts_takes sum was now w n old new (Missed numbers) at recovering sound rest cuts = absurd cuts
-cuts_takes sum was now w n old new BadRanges at recovering sound rest cuts = absurd cuts
-cuts_takes sum was now w n old new (Taken index) at recovering sound rest cuts = absurd cuts
-cuts_takes sum was now w n old new (Sealed index sync) at recovering sound rest cuts = absurd cuts
-cuts_takes sum was now w n old new NotAppending at recovering sound rest cuts = absurd cuts
-cuts_takes sum was now w n old new NoSuch at recovering sound rest cuts = absurd cuts
-cuts_takes sum was now w n old new (Replaying index) at recovering sound rest cuts = absurd cuts
+    (held_by true sum (Truncate n) (Length (size_of v)) was now w (Some v) old new at rest is (says.goes.sound sound) (inr (says.owes.starts sound)) (truncate_steps sum was w v n cache after old new recovering sound says))
+cuts_takes sum was now w n cache after old new (Fault e) at recovering sound rest (is, says) =
+    held_by true sum (Truncate n) (Fault e) was now w None old new at rest is tt (inr (says.owes.starts sound)) (truncate_refused_steps sum was w n e cache after old new recovering sound says)
+cuts_takes sum was now w n cache after old new (At m) at recovering sound rest cuts = absurd cuts
+cuts_takes sum was now w n cache after old new Nothing at recovering sound rest cuts = absurd cuts
+cuts_takes sum was now w n cache after old new Done at recovering sound rest cuts = absurd cuts
+cuts_takes sum was now w n cache after old new (Started sync) at recovering sound rest cuts = absurd cuts
+cuts_takes sum was now w n cache after old new (Answer answer) at recovering sound rest cuts = absurd cuts
+cuts_takes sum was now w n cache after old new (Bytes read) at recovering sound rest cuts = absurd cuts
+cuts_takes sum was now w n cache after old new Closed at recovering sound rest cuts = absurd cuts
+cuts_takes sum was now w n cache after old new NotRecovering at recovering sound rest cuts = absurd cuts
+cuts_takes sum was now w n cache after old new (Served count read) at recovering sound rest cuts = absurd cuts
+cuts_takes sum was now w n cache after old new (Missed numbers) at recovering sound rest cuts = absurd cuts
+cuts_takes sum was now w n cache after old new BadRanges at recovering sound rest cuts = absurd cuts
+cuts_takes sum was now w n cache after old new (Taken index) at recovering sound rest cuts = absurd cuts
+cuts_takes sum was now w n cache after old new (Sealed index sync) at recovering sound rest cuts = absurd cuts
+cuts_takes sum was now w n cache after old new NotAppending at recovering sound rest cuts = absurd cuts
+cuts_takes sum was now w n cache after old new NoSuch at recovering sound rest cuts = absurd cuts
+cuts_takes sum was now w n cache after old new (Replaying index) at recovering sound rest cuts = absurd cuts
 
 -- what a call of the writer did, by the session's state
-pub cuts_here : (sum : List ℕ → ℕ) (recovering : Bool) (o : Option WriterState) (w : WriterState) (now : Option WriterState) (n : ℕ) (old new : Life) (reply : Reply) → recovering ≡ true → o ≡ Some w → Cuts sum w now n old new reply
-    → Truncated sum recovering o now n old new reply
-cuts_here sum recovering o w now n old new reply phase at cuts =
-    subst (λ (b : Bool). Truncated sum b o now n old new reply) (sym phase) (subst (λ (x : Option WriterState). Truncated sum true x now n old new reply) (sym at) cuts)
+pub cuts_here : (sum : List ℕ → ℕ) (recovering : Bool) (o : Option WriterState) (w : WriterState) (now : Option WriterState) (n : ℕ) (cache after : CacheState) (old new : Life) (reply : Reply) → recovering ≡ true → o ≡ Some w → Cuts sum w now n cache after old new reply
+    → Truncated sum recovering o now n cache after old new reply
+cuts_here sum recovering o w now n cache after old new reply phase at cuts =
+    subst (λ (b : Bool). Truncated sum b o now n cache after old new reply) (sym phase) (subst (λ (x : Option WriterState). Truncated sum true x now n cache after old new reply) (sym at) cuts)
 
 -- a truncate by a session that is closed
 pub truncated_closed : (sum : List ℕ → ℕ) (was now : SessionState) (n : ℕ) (old new : Life) (reply : Reply) → IsReadyApart sum was old.present → was.writer ≡ None → KeepsRest was now → IsClosed now.writer old new reply
@@ -339,14 +340,14 @@ truncated_closed sum was now n old new reply ready at rest closed =
     (rest ∙ ap (λ (o : Option WriterState). held was o) (closed.writer ∙ sym at) ∙ sym (held_same was was.writer refl)) closed.life
 
 -- by one in recovery
-pub truncated_cut : (sum : List ℕ → ℕ) (was now : SessionState) (w : WriterState) (n : ℕ) (old new : Life) (reply : Reply) → IsReadyApart sum was old.present → was.recovering ≡ true → was.writer ≡ Some w → KeepsRest was now → Cuts sum w now.writer n old new reply
+pub truncated_cut : (sum : List ℕ → ℕ) (was now : SessionState) (w : WriterState) (n : ℕ) (cache after : CacheState) (old new : Life) (reply : Reply) → IsReadyApart sum was old.present → was.recovering ≡ true → was.writer ≡ Some w → KeepsRest was now → Cuts sum w now.writer n cache after old new reply
     → StepsBy true sum (Truncate n) reply was now old new
-truncated_cut sum was now w n old new reply ready phase at rest cuts = cuts_takes sum was now w n old new reply at phase (sound_of sum was w old.present at ready) rest cuts
+truncated_cut sum was now w n cache after old new reply ready phase at rest cuts = cuts_takes sum was now w n cache after old new reply at phase (sound_of sum was w old.present at ready) rest cuts
 
 -- and by one whose recovery has ended
-pub truncated_turned : (sum : List ℕ → ℕ) (was now : SessionState) (w : WriterState) (n : ℕ) (old new : Life) (reply : Reply) → IsReadyApart sum was old.present → was.recovering ≡ false → was.writer ≡ Some w → KeepsRest was now → Truncated sum false (Some w) now.writer n old new reply
+pub truncated_turned : (sum : List ℕ → ℕ) (was now : SessionState) (w : WriterState) (n : ℕ) (cache after : CacheState) (old new : Life) (reply : Reply) → IsReadyApart sum was old.present → was.recovering ≡ false → was.writer ≡ Some w → KeepsRest was now → Truncated sum false (Some w) now.writer n cache after old new reply
     → StepsApart sum (Truncate n) reply was now old new
-truncated_turned sum was now w n old new reply ready phase at rest (replied, is, same) =
+truncated_turned sum was now w n cache after old new reply ready phase at rest (replied, is, same, held) =
     subst (λ (r : Reply). StepsApart sum (Truncate n) r was now old new) (sym replied)
     (subst (λ (life : Life). StepsApart sum (Truncate n) NotRecovering was now old life) (sym same)
     (held_takes sum (Truncate n) NotRecovering was now w (Some w) old old at rest is (sound_of sum was w old.present at ready) ready.starts (turned_steps sum was w n old phase)))

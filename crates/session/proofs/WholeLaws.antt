@@ -14,7 +14,7 @@ use Rattle.session.specs.declared.steps.Step.{Step}
 use Rattle.session.specs.declared.steps.Step.TheVariants.{Append, Owned, TryAppend, Sync, StartSync, Wait, WaitSync, Needs, Size, Read, ReadUpTo, TryRead, ReadRanges, TryReadRanges, Begin, Truncate, Snapshot, TrySnapshot, Snap, Seal, Replay, Ensure, Take, Seek, DropSnapshot, DropReplay, Scan}
 use Rattle.session.specs.declared.steps.Reply.{Reply}
 use Rattle.session.specs.Run.{SessionState, CacheFits, FitsWriter, IsReady}
-use Rattle.session.specs.Calls.{Begins, is_given, IsClosed, KeepsRest, KeepsSnapshots, KeepsUncut, LeavesTaken, LeavesWriterState, Steps, TakenBy, Truncated, WaitsFor}
+use Rattle.session.specs.Calls.{Begins, DidCall, is_given, IsClosed, KeepsRest, KeepsSnapshots, KeepsUncut, LeavesTaken, LeavesWriterState, Steps, TakenBy, Truncated, WaitsFor}
 use Rattle.session.proofs.Apart.{IsReadyApart, ready_apart, StepsApart, StepsBy, steps_with}
 use Rattle.session.proofs.Below.{framed_cut, framed_same, leaves_all, LeftAll, LeftSnapshot, left_by, left_same, replays_same}
 use Rattle.session.proofs.SessionLaws.{appended_takes, owned_steps, tried_takes, synced_takes, sized_takes, read_takes}
@@ -33,7 +33,7 @@ rest_of was now rest names = rest ∙ ap (λ (l : List ℕ). record was { writer
 same_of : (was now : SessionState) → KeepsSnapshots was now → LeavesWriterState was.writer now.writer was.names now.names → now ≡ was
 same_of was now rest stay = rest ∙ both_same was now.writer now.names stay.writer stay.given
 
-module _ (sum : List ℕ → ℕ) (was now : SessionState) (cache : CacheState) (old new : Life) (reply : Reply) (ready : IsReadyApart sum was old.present) (fits : FitsWriter was.writer cache old.present) (rest : KeepsSnapshots was now) where
+module _ (sum : List ℕ → ℕ) (was now : SessionState) (cache after : CacheState) (old new : Life) (reply : Reply) (ready : IsReadyApart sum was old.present) (fits : FitsWriter was.writer cache old.present) (rest : KeepsSnapshots was now) where
   -- the session is as it was
   looks : (step : Step) → LeavesWriterState was.writer now.writer was.names now.names → StepsApart sum step reply was was old new → StepsApart sum step reply was now old new
   looks step stay steps = subst (λ (s : SessionState). StepsApart sum step reply was s old new) (sym (same_of was now rest stay)) steps
@@ -45,21 +45,21 @@ module _ (sum : List ℕ → ℕ) (was now : SessionState) (cache : CacheState) 
   looks_here : (step : Step) → LeavesWriterState was.writer now.writer was.names now.names → new ≡ old → StepsApart sum step reply was was old old → StepsApart sum step reply was now old new
   looks_here step stay same steps = leaves step same (subst (λ (s : SessionState). StepsApart sum step reply was s old old) (sym (same_of was now rest stay)) steps)
 
-  taken_apart : (step : Step) → TakenBy sum step was.writer now.writer was.names now.names cache old new reply → StepsApart sum step reply was now old new
-  taken_apart (Append bytes) (goes, names) = appended_takes sum was now bytes old new reply ready (rest_of was now rest names) goes
-  taken_apart (Owned bytes) (goes, names) = owned_steps sum was now bytes old new reply (appended_takes sum was now bytes old new reply ready (rest_of was now rest names) goes)
-  taken_apart (TryAppend bytes) (goes, names, same) = leaves (TryAppend bytes) same (tried_takes sum was now bytes old reply ready (rest_of was now rest names) goes)
-  taken_apart Sync (goes, names) = synced_takes sum was now old new reply ready (rest_of was now rest names) goes
-  taken_apart StartSync goes = started_takes sum was now old new reply ready rest goes
-  taken_apart Wait (goes, names) = waited_takes sum was now old new reply ready (rest_of was now rest names) goes
-  taken_apart Needs (goes, stay, same) = looks_here Needs stay same (needed_takes sum was old reply ready goes)
-  taken_apart Size (goes, stay, same) = looks_here Size stay same (sized_takes sum was old reply ready goes)
-  taken_apart (Read offset len) (goes, stay) = looks (Read offset len) stay (read_takes sum was cache offset len old new reply ready goes)
-  taken_apart (ReadUpTo offset len) (goes, stay) = looks (ReadUpTo offset len) stay (read_up_to_takes sum was cache offset len old new reply ready goes)
-  taken_apart (TryRead offset len) (goes, stay, same) = looks_here (TryRead offset len) stay same (try_read_takes sum was cache offset len old reply ready fits goes)
-  taken_apart (ReadRanges ranges) (goes, stay) = looks (ReadRanges ranges) stay (read_ranges_takes sum was cache ranges old new reply ready goes)
-  taken_apart (TryReadRanges ranges) (goes, stay, same) = looks_here (TryReadRanges ranges) stay same (try_read_ranges_takes sum was cache ranges old reply ready goes)
-  taken_apart (Scan proven most buffer_size) (goes, stay) = looks (Scan proven most buffer_size) stay (scan_takes sum was proven most buffer_size old new reply ready goes)
+  taken_apart : (step : Step) → TakenBy sum step was.writer now.writer was.names now.names cache after old new reply → StepsApart sum step reply was now old new
+  taken_apart (Append bytes) (goes, names) = appended_takes sum was now bytes cache after old new reply ready (rest_of was now rest names) goes
+  taken_apart (Owned bytes) (goes, names) = owned_steps sum was now bytes old new reply (appended_takes sum was now bytes cache after old new reply ready (rest_of was now rest names) goes)
+  taken_apart (TryAppend bytes) (goes, names, same, held) = leaves (TryAppend bytes) same (tried_takes sum was now bytes old reply ready (rest_of was now rest names) goes)
+  taken_apart Sync (goes, names) = synced_takes sum was now cache after old new reply ready (rest_of was now rest names) goes
+  taken_apart StartSync goes = started_takes sum was now cache after old new reply ready rest goes
+  taken_apart Wait (goes, names, held) = waited_takes sum was now old new reply ready (rest_of was now rest names) goes
+  taken_apart Needs (goes, stay, same, held) = looks_here Needs stay same (needed_takes sum was old reply ready goes)
+  taken_apart Size (goes, stay, same, held) = looks_here Size stay same (sized_takes sum was old reply ready goes)
+  taken_apart (Read offset len) (goes, stay) = looks (Read offset len) stay (read_takes sum was cache after offset len old new reply ready goes)
+  taken_apart (ReadUpTo offset len) (goes, stay) = looks (ReadUpTo offset len) stay (read_up_to_takes sum was cache after offset len old new reply ready goes)
+  taken_apart (TryRead offset len) (goes, stay, same, held) = looks_here (TryRead offset len) stay same (try_read_takes sum was cache offset len old reply ready fits goes)
+  taken_apart (ReadRanges ranges) (goes, stay) = looks (ReadRanges ranges) stay (read_ranges_takes sum was cache after ranges old new reply ready goes)
+  taken_apart (TryReadRanges ranges) (goes, stay, same, held) = looks_here (TryReadRanges ranges) stay same (try_read_ranges_takes sum was cache ranges old reply ready goes)
+  taken_apart (Scan proven most buffer_size) (goes, stay, held) = looks (Scan proven most buffer_size) stay (scan_takes sum was proven most buffer_size old new reply ready goes)
   taken_apart (WaitSync name) taken = absurd taken
   taken_apart Begin taken = absurd taken
   taken_apart (Truncate n) taken = absurd taken
@@ -74,15 +74,46 @@ module _ (sum : List ℕ → ℕ) (was now : SessionState) (cache : CacheState) 
   taken_apart (DropSnapshot index) taken = absurd taken
   taken_apart (DropReplay index) taken = absurd taken
 
+-- what it says
+pub taken_call : (sum : List ℕ → ℕ) (step : Step) (was now : SessionState) (cache after : CacheState) (old new : Life) (reply : Reply) → TakenBy sum step was.writer now.writer was.names now.names cache after old new reply → KeepsSnapshots was now
+    → DidCall sum step reply was now cache after old new
+taken_call sum (Append bytes) was now cache after old new reply taken rest = (taken, rest)
+taken_call sum (Owned bytes) was now cache after old new reply taken rest = (taken, rest)
+taken_call sum (TryAppend bytes) was now cache after old new reply taken rest = (taken, rest)
+taken_call sum Sync was now cache after old new reply taken rest = (taken, rest)
+taken_call sum StartSync was now cache after old new reply taken rest = (taken, rest)
+taken_call sum Wait was now cache after old new reply taken rest = (taken, rest)
+taken_call sum Needs was now cache after old new reply taken rest = (taken, rest)
+taken_call sum Size was now cache after old new reply taken rest = (taken, rest)
+taken_call sum (Read offset len) was now cache after old new reply taken rest = (taken, rest)
+taken_call sum (ReadUpTo offset len) was now cache after old new reply taken rest = (taken, rest)
+taken_call sum (TryRead offset len) was now cache after old new reply taken rest = (taken, rest)
+taken_call sum (ReadRanges ranges) was now cache after old new reply taken rest = (taken, rest)
+taken_call sum (TryReadRanges ranges) was now cache after old new reply taken rest = (taken, rest)
+taken_call sum (Scan proven most buffer_size) was now cache after old new reply taken rest = (taken, rest)
+taken_call sum (WaitSync name) was now cache after old new reply taken rest = absurd taken
+taken_call sum Begin was now cache after old new reply taken rest = absurd taken
+taken_call sum (Truncate n) was now cache after old new reply taken rest = absurd taken
+taken_call sum Snapshot was now cache after old new reply taken rest = absurd taken
+taken_call sum TrySnapshot was now cache after old new reply taken rest = absurd taken
+taken_call sum (Snap index offset len) was now cache after old new reply taken rest = absurd taken
+taken_call sum Seal was now cache after old new reply taken rest = absurd taken
+taken_call sum (Replay buffer_size) was now cache after old new reply taken rest = absurd taken
+taken_call sum (Ensure index count) was now cache after old new reply taken rest = absurd taken
+taken_call sum (Take index count) was now cache after old new reply taken rest = absurd taken
+taken_call sum (Seek index offset) was now cache after old new reply taken rest = absurd taken
+taken_call sum (DropSnapshot index) was now cache after old new reply taken rest = absurd taken
+taken_call sum (DropReplay index) was now cache after old new reply taken rest = absurd taken
+
 -- such a step, with the session's snapshots
 pub writer_takes : (sum : List ℕ → ℕ) (step : Step) (was now : SessionState) (cache after : CacheState) (old new : Life) (reply : Reply) → IsReady sum was old.present → CacheFits was cache old.present
-    → TakenBy sum step was.writer now.writer was.names now.names cache old new reply → KeepsSnapshots was now → FitsWriter now.writer after new.present → LeavesTaken sum was.writer now.writer cache after old new
+    → TakenBy sum step was.writer now.writer was.names now.names cache after old new reply → KeepsSnapshots was now → FitsWriter now.writer after new.present → LeavesTaken sum was.writer now.writer cache after old new
     → Steps sum step reply was now old new × CacheFits now after new.present
 writer_takes sum step was now cache after old new reply ready fits taken rest writer stay =
     let same : now.snapshots ≡ was.snapshots = ap (λ (s : SessionState). s.snapshots) rest in
     let phase : now.recovering ≡ was.recovering = ap (λ (s : SessionState). s.recovering) rest in
     framed_same sum step reply was now after old new same (ap (λ (s : SessionState). s.replays) rest) (λ is. same ∙ ready.begun (sym phase ∙ is)) writer (left_by sum was now.writer cache after old new ready fits stay.own)
-    (taken_apart sum was now cache old new reply (ready_apart sum was old.present ready) fits.writer rest step taken)
+    (taken_apart sum was now cache after old new reply (ready_apart sum was old.present ready) fits.writer rest step taken)
 
 -- ---- steps of the session
 
@@ -113,7 +144,7 @@ begin_takes sum was now cache life reply ready fits goes =
 
 -- a truncate, by a session in recovery, which has no snapshot, and no replay from then on; or turned
 -- away
-pub cut_takes : (sum : List ℕ → ℕ) (was now : SessionState) (cache after : CacheState) (n : ℕ) (old new : Life) (reply : Reply) → IsReady sum was old.present → CacheFits was cache old.present → Truncated sum was.recovering was.writer now.writer n old new reply
+pub cut_takes : (sum : List ℕ → ℕ) (was now : SessionState) (cache after : CacheState) (n : ℕ) (old new : Life) (reply : Reply) → IsReady sum was old.present → CacheFits was cache old.present → Truncated sum was.recovering was.writer now.writer n cache after old new reply
     → KeepsUncut was now → FitsWriter now.writer after new.present → (was.recovering ≡ false → after ≡ cache) → Steps sum (Truncate n) reply was now old new × CacheFits now after new.present
 cut_takes sum was now cache after n old new reply ready fits goes rest writer turned = by_state was.recovering was.writer refl refl goes
   where
@@ -141,18 +172,18 @@ cut_takes sum was now cache after n old new reply ready fits goes rest writer tu
       replays = replays_same sum was now.writer old new ready (closed.writer ∙ sym at) closed.life;
     }
 
-    by_state : (phase : Bool) (o : Option WriterState) → was.recovering ≡ phase → was.writer ≡ o → Truncated sum phase o now.writer n old new reply → Steps sum (Truncate n) reply was now old new × CacheFits now after new.present
+    by_state : (phase : Bool) (o : Option WriterState) → was.recovering ≡ phase → was.writer ≡ o → Truncated sum phase o now.writer n cache after old new reply → Steps sum (Truncate n) reply was now old new × CacheFits now after new.present
     by_state phase None in_phase at closed =
         let by_phase : (b : Bool) → (b && false) ≡ false = λ b. elim b as (λ x. (x && false) ≡ false) [ true ↦ refl | false ↦ refl ] in
         let none : (was.recovering && is_some was.writer) ≡ false = ap (λ (o : Option WriterState). was.recovering && is_some o) at ∙ by_phase was.recovering in
-        uncut (truncated_closed sum was (record was { writer = now.writer }) n old new reply (ready_apart sum was old.present ready) at refl closed) none
-        (closed_left phase in_phase at closed)
+        uncut (truncated_closed sum was (record was { writer = now.writer }) n old new reply (ready_apart sum was old.present ready) at refl closed.0) none
+        (closed_left phase in_phase at closed.0)
     by_state true (Some w) in_phase at cuts =
         let both : (was.recovering && is_some was.writer) ≡ true = ap (λ (b : Bool). b && is_some was.writer) in_phase ∙ ap (λ (o : Option WriterState). is_some o) at in
         framed_cut sum (Truncate n) reply was now after old new same (kept true both) begun writer
         (subst (λ (ts : List (Option Tail)). All (LeftSnapshot sum now.writer after old.present new.present) ts) (sym (ready.begun in_phase)) (λ k t lt. absurd (omega (arith, lt))))
-        (steps true (truncated_cut sum was (record was { writer = now.writer }) w n old new reply (ready_apart sum was old.present ready) in_phase at refl cuts))
+        (steps true (truncated_cut sum was (record was { writer = now.writer }) w n cache after old new reply (ready_apart sum was old.present ready) in_phase at refl cuts))
     by_state false (Some w) in_phase at turns =
         let none : (was.recovering && is_some was.writer) ≡ false = ap (λ (b : Bool). b && is_some was.writer) in_phase in
-        uncut (truncated_turned sum was (record was { writer = now.writer }) w n old new reply (ready_apart sum was old.present ready) in_phase at refl turns) none
+        uncut (truncated_turned sum was (record was { writer = now.writer }) w n cache after old new reply (ready_apart sum was old.present ready) in_phase at refl turns) none
         (left_same sum was now.writer cache after old new ready fits (turns.1 ∙ sym at) (turned in_phase) turns.2)

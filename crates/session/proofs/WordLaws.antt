@@ -1,4 +1,4 @@
--- What each call of a writer says to a session, from what the writer's contracts say.
+-- What the laws of a step take from what the call of its writer says.
 use Rattle.std.proofs.Common.{◌≡◌, ◌<◌, ℕ, List, [], ◌++◌, ◌∙◌, append-nil, arith, subst, sym, Ok, Err, Result}
 use Rattle.std.specs.Prelude.{IfOk}
 use Rattle.disk.specs.Disk.{Life}
@@ -15,15 +15,14 @@ use Rattle.cache.specs.Pages.{IsTrueFor}
 use Rattle.paged.specs.Caches.{tail_of}
 use Rattle.paged.proofs.There.{consistent_has_pages}
 use Rattle.paged.specs.Calls.{Appends, GoesOn, HoldsWithin, Refuses, Syncs, WaitsForSync}
-use Rattle.paged.specs.Owes.{Owes, OwesWaiting, owed_covers}
+use Rattle.paged.specs.Owes.{Owes, owed_covers}
+use Rattle.session.specs.Calls.{AppendSays, ReplaySays, SealSays, SnapshotSays, StartSays, SyncSays, WaitSays}
 use Rattle.paged.specs.Ready.{IsReady as IsWriterReady}
-use Rattle.paged.specs.Costs.{AppendCosts, ReplayCosts, SealCosts, SnapshotCosts, StartSyncCosts, SyncCosts, WaitForSyncCosts}
-use Rattle.paged.specs.Goes.{AppendAnswers, AppendGoes, HasWaited, Holds, IsRefused, ReplayGoes, SealGoes, SnapshotGoes, StartSyncGoes, SyncAllGoes, WaitForSyncGoes}
-use Rattle.paged.specs.RecoveryCalls.{OwesCutting, TruncateCosts, TruncateGoes}
+use Rattle.paged.specs.Goes.{AppendAnswers, HasWaited, Holds, IsRefused, SyncAllGoes, WaitForSyncGoes}
 use Rattle.paged.proofs.Answering.{whole}
 use Rattle.paged.proofs.Flushes.{begins, stays_nil}
 use Rattle.paged.proofs.Owing.{owed_stays}
-use Rattle.session.specs.Calls.{AppendSays, OwesStarts, ReplaySays, SealSays, SnapshotSays, StartSays, SyncSays, TruncateSays, WaitSays}
+use Rattle.session.proofs.Words.{AppendTold, OwesStarts, ReplayTold, SealTold, SnapshotTold, StartTold, SyncTold, WaitTold}
 use Rattle.session.proofs.AppendLaws.{wait_one}
 
 -- ---- whatever the call
@@ -55,17 +54,17 @@ module _ (sum : List ℕ → ℕ) (w : WriterState) (old new : Life) where
   goes_same now holds sound stays = goes_on sum w now [] old new holds sound (stays_nil sum w.page_size held old new stays)
 
   -- a wait, which has no cache
-  pub wait_says : IsSound sum w old.present → (result : Result WriterState Error) → WaitForSyncGoes sum w old new result → OwesWaiting sum w old new → WaitForSyncCosts w old new result → WaitSays sum w old new result
-  wait_says sound result goes owes costs = record {
-    waits = by_answer result goes;
-    calls = costs.calls;
-    settles = costs.settles;
-    idle = costs.idle;
-    owes = record { covers = owed_covers sum w.page_size w.full_pages held held old new owes.through; starts = owes.starts };
+  pub wait_told : IsSound sum w old.present → (result : Result WriterState Error) → WaitSays sum w old new result → WaitTold sum w old new result
+  wait_told sound result says = record {
+    waits = by_answer result says.goes;
+    calls = says.costs.calls;
+    settles = says.costs.settles;
+    idle = says.costs.idle;
+    owes = record { covers = owed_covers sum w.page_size w.full_pages held held old new says.owes.through; starts = says.owes.starts };
   }
     where
       stays : StaysThrough sum w.page_size held old new
-      stays = owed_stays sum w held old new owes.through (whole held)
+      stays = owed_stays sum w held old new says.owes.through (whole held)
 
       by_answer : (r : Result WriterState Error) → WaitForSyncGoes sum w old new r → WaitsForSync sum w old new r
       by_answer (Ok now) is = (goes_same now is.holds (is.sound sound) stays, is.state)
@@ -92,21 +91,20 @@ module _ (sum : List ℕ → ℕ) (w : WriterState) (cache after : CacheState) (
   same_stays : Owes sum w was cache after old new → StaysThrough sum w.page_size was old new
   same_stays owes = owed_stays sum w was old new owes.through (whole was)
 
-  pub append_says : (bytes : List ℕ) (result : Result (WriterState × ℕ) Error) → AppendGoes sum w bytes old new result → IfOk result (λ r. IsWriterReady sum r.0 after new)
-      → Owes sum w (was ++ bytes) cache after old new → AppendCosts w bytes cache after old new result → AppendSays sum w bytes old new result
-  append_says bytes result goes ready owes costs = record {
-    appends = by_answer result goes.answers ready;
-    overflow = goes.overflow;
-    within = within result goes.answers;
-    buffered = costs.buffered;
-    flushed = costs.flushed;
-    dirty = costs.dirty;
-    calls = omega (arith, costs.calls, wait_one w.sync);
-    owes = owes_starts (was ++ bytes) owes;
+  pub append_told : (bytes : List ℕ) (result : Result (WriterState × ℕ) Error) → IfOk result (λ r. IsWriterReady sum r.0 after new) → AppendSays sum w bytes cache after old new result → AppendTold sum w bytes old new result
+  append_told bytes result ready says = record {
+    appends = by_answer result says.goes.answers ready;
+    overflow = says.goes.overflow;
+    within = within result says.goes.answers;
+    buffered = says.costs.buffered;
+    flushed = says.costs.flushed;
+    dirty = says.costs.dirty;
+    calls = omega (arith, says.costs.calls, wait_one w.sync);
+    owes = owes_starts (was ++ bytes) says.owes;
   }
     where
       stays : StaysThrough sum w.page_size (was ++ bytes) old new
-      stays = owed_stays sum w (was ++ bytes) old new owes.through (begins was bytes)
+      stays = owed_stays sum w (was ++ bytes) old new says.owes.through (begins was bytes)
 
       by_answer : (r : Result (WriterState × ℕ) Error) → AppendAnswers sum w bytes old new r → IfOk r (λ a. IsWriterReady sum a.0 after new) → Appends sum w bytes old new r
       by_answer (Ok r) is ready = (is.at_end, goes_on sum w r.0 bytes old new is.holds ready.sound stays)
@@ -124,107 +122,89 @@ module _ (sum : List ℕ → ℕ) (w : WriterState) (cache after : CacheState) (
       within (Ok r) is = is.within
       within (Err e) refused = tt
 
-  pub sync_says : (result : Result WriterState Error) → SyncAllGoes sum w old new result → IfOk result (λ v. IsWriterReady sum v after new) → Owes sum w was cache after old new → SyncCosts w cache after old new result → SyncSays sum w old new result
-  sync_says result goes ready owes costs = record {
-    syncs = by_answer result goes ready;
-    within = within result goes;
-    calls = costs.calls;
-    idle = costs.idle;
-    owes = owes_starts was owes;
+  pub sync_told : (result : Result WriterState Error) → IfOk result (λ v. IsWriterReady sum v after new) → SyncSays sum w cache after old new result → SyncTold sum w old new result
+  sync_told result ready says = record {
+    syncs = by_answer result says.goes ready;
+    within = within result says.goes;
+    calls = says.costs.calls;
+    idle = says.costs.idle;
+    owes = owes_starts was says.owes;
   }
     where
       by_answer : (r : Result WriterState Error) → SyncAllGoes sum w old new r → IfOk r (λ v. IsWriterReady sum v after new) → Syncs sum w old new r
-      by_answer (Ok now) is ready = (goes_same sum w old new now is.holds ready.sound (same_stays owes), is.settled)
-      by_answer (Err e) refused ready = refuses sum w was old new e refused (same_stays owes)
+      by_answer (Ok now) is ready = (goes_same sum w old new now is.holds ready.sound (same_stays says.owes), is.settled)
+      by_answer (Err e) refused ready = refuses sum w was old new e refused (same_stays says.owes)
 
       within : (r : Result WriterState Error) → SyncAllGoes sum w old new r → IfOk r (λ v. HoldsWithin v)
       within (Ok now) is = is.within
       within (Err e) refused = tt
 
-  pub start_says : IsSound sum w old.present → (result : Result (WriterState × StartedSync) Error) → StartSyncGoes sum w old new result → IfOk result (λ r. IsWriterReady sum r.0 after new) → Owes sum w was cache after old new
-      → StartSyncCosts w cache after old new result → StartSays sum w old new result
-  start_says sound (Ok r) is ready owes costs = record {
-    starts_sync = (goes_same sum w old new r.0 is.goes.holds ready.sound (same_stays owes), is.goes.written, is.goes.state, is.goes.starts sound);
-    within = is.goes.within;
-    calls = costs.calls;
-    idle = costs.idle;
-    fresh = is.fresh;
-    owes = owes_starts was owes;
+  pub start_told : IsSound sum w old.present → (result : Result (WriterState × StartedSync) Error) → IfOk result (λ r. IsWriterReady sum r.0 after new) → StartSays sum w cache after old new result → StartTold sum w old new result
+  start_told sound (Ok r) ready says = record {
+    starts_sync = (goes_same sum w old new r.0 says.goes.goes.holds ready.sound (same_stays says.owes), says.goes.goes.written, says.goes.goes.state, says.goes.goes.starts sound);
+    within = says.goes.goes.within;
+    calls = says.costs.calls;
+    idle = says.costs.idle;
+    fresh = says.goes.fresh;
+    owes = owes_starts was says.owes;
   }
-  start_says sound (Err e) refused ready owes costs = record {
-    starts_sync = refuses sum w was old new e refused (same_stays owes);
+  start_told sound (Err e) ready says = record {
+    starts_sync = refuses sum w was old new e says.goes (same_stays says.owes);
     within = tt;
-    calls = costs.calls;
-    idle = costs.idle;
+    calls = says.costs.calls;
+    idle = says.costs.idle;
     fresh = λ some. tt;
-    owes = owes_starts was owes;
+    owes = owes_starts was says.owes;
   }
 
-  pub snapshot_says : (result : Result (WriterState × Tail) Error) → SnapshotGoes sum w after old new result → IfOk result (λ r. IsWriterReady sum r.0 after new) → Owes sum w was cache after old new
-      → SnapshotCosts w cache after old new result → SnapshotSays sum w old new result
-  snapshot_says (Ok r) is ready owes costs = record {
-    makes = (goes_same sum w old new r.0 is.holds ready.sound (same_stays owes), is.short, is.tail);
-    within = is.within;
-    calls = costs.calls;
-    idle = costs.idle;
-    dirty = costs.dirty;
-    owes = owes_starts was owes;
+  pub snapshot_told : (result : Result (WriterState × Tail) Error) → IfOk result (λ r. IsWriterReady sum r.0 after new) → SnapshotSays sum w cache after old new result → SnapshotTold sum w old new result
+  snapshot_told (Ok r) ready says = record {
+    makes = (goes_same sum w old new r.0 says.goes.holds ready.sound (same_stays says.owes), says.goes.short, says.goes.tail);
+    within = says.goes.within;
+    calls = says.costs.calls;
+    idle = says.costs.idle;
+    dirty = says.costs.dirty;
+    owes = owes_starts was says.owes;
   }
-  snapshot_says (Err e) refused ready owes costs = record {
-    makes = refuses sum w was old new e refused (same_stays owes);
+  snapshot_told (Err e) ready says = record {
+    makes = refuses sum w was old new e says.goes (same_stays says.owes);
     within = tt;
-    calls = costs.calls;
-    idle = costs.idle;
-    dirty = costs.dirty;
-    owes = owes_starts was owes;
+    calls = says.costs.calls;
+    idle = says.costs.idle;
+    dirty = says.costs.dirty;
+    owes = owes_starts was says.owes;
   }
 
-  pub replay_says : (size : ℕ) (result : Result (WriterState × ReplayState) Error) → ReplayGoes sum w size after old new result → IfOk result (λ r. IsWriterReady sum r.0 after new) → Owes sum w was cache after old new
-      → ReplayCosts w size cache after old new result → ReplaySays sum w size old new result
-  replay_says size (Ok r) is ready owes costs = record {
-    begins = (goes_same sum w old new r.0 is.holds ready.sound (same_stays owes), is.written, is.replay);
-    within = is.within;
-    calls = costs.calls;
-    idle = costs.idle;
-    dirty = costs.dirty;
-    owes = owes_starts was owes;
+  pub replay_told : (size : ℕ) (result : Result (WriterState × ReplayState) Error) → IfOk result (λ r. IsWriterReady sum r.0 after new) → ReplaySays sum w size cache after old new result → ReplayTold sum w size old new result
+  replay_told size (Ok r) ready says = record {
+    begins = (goes_same sum w old new r.0 says.goes.holds ready.sound (same_stays says.owes), says.goes.written, says.goes.replay);
+    within = says.goes.within;
+    calls = says.costs.calls;
+    idle = says.costs.idle;
+    dirty = says.costs.dirty;
+    owes = owes_starts was says.owes;
   }
-  replay_says size (Err e) refused ready owes costs = record {
-    begins = refuses sum w was old new e refused (same_stays owes);
+  replay_told size (Err e) ready says = record {
+    begins = refuses sum w was old new e says.goes (same_stays says.owes);
     within = tt;
-    calls = costs.calls;
-    idle = costs.idle;
-    dirty = costs.dirty;
-    owes = owes_starts was owes;
+    calls = says.costs.calls;
+    idle = says.costs.idle;
+    dirty = says.costs.dirty;
+    owes = owes_starts was says.owes;
   }
 
-  pub seal_says : IsSound sum w old.present → (result : Result (Tail × StartedSync) Error) → SealGoes sum w after old new result → Owes sum w was cache after old new → SealCosts w cache after old new result → SealSays sum w old new result
-  seal_says sound (Ok r) is owes costs = record {
-    seals = (is.now, is.tail, (goes_same sum w old new is.now is.goes.holds (is.sound sound) (same_stays owes), is.goes.written, is.goes.state, is.goes.starts sound));
-    calls = costs.calls;
-    answers = is.answer;
-    idle = costs.idle;
-    owes = owes_starts was owes;
+  pub seal_told : IsSound sum w old.present → (result : Result (Tail × StartedSync) Error) → SealSays sum w cache after old new result → SealTold sum w old new result
+  seal_told sound (Ok r) says = record {
+    seals = (says.goes.now, says.goes.tail, (goes_same sum w old new says.goes.now says.goes.goes.holds (says.goes.sound sound) (same_stays says.owes), says.goes.goes.written, says.goes.goes.state, says.goes.goes.starts sound));
+    calls = says.costs.calls;
+    answers = says.goes.answer;
+    idle = says.costs.idle;
+    owes = owes_starts was says.owes;
   }
-  seal_says sound (Err e) refused owes costs = record {
-    seals = refuses sum w was old new e refused (same_stays owes);
-    calls = costs.calls;
+  seal_told sound (Err e) says = record {
+    seals = refuses sum w was old new e says.goes (same_stays says.owes);
+    calls = says.costs.calls;
     answers = tt;
-    idle = costs.idle;
-    owes = owes_starts was owes;
-  }
-
-  -- of a sound writer
-  pub truncate_says : (n : ℕ) (result : Result WriterState Error) → IsSound sum w old.present → TruncateGoes sum n w cache after old new result → OwesCutting sum n w cache after old new → TruncateCosts n w cache after old new result
-      → TruncateSays sum w n old new result
-  truncate_says n result sound goes owes costs = record {
-    truncates = goes.answers;
-    sound = goes.sound sound;
-    within = goes.within;
-    calls = costs.calls;
-    durable = goes.durable sound;
-    floors = owes.floors;
-    only = owes.only sound;
-    covers = owes.covers sound;
-    starts = owes.starts sound;
+    idle = says.costs.idle;
+    owes = owes_starts was says.owes;
   }

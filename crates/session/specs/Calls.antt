@@ -3,8 +3,10 @@ use Rattle.std.specs.Prelude.{◌≡◌, ◌≢◌, ◌⊎◌, ◌<◌, ◌≤�
 use Rattle.std.specs.Prelude.{length, Bool}
 use Rattle.std.specs.Prelude.{true, false, nat_eq, nat_lt, Option, Some, None, Result, Ok, Err}
 use Rattle.std.specs.Prelude.{IfOk, OnOk, take, min, nat_le, ◌&&◌, slice_set, map, is_some}
-use Rattle.std.specs.Prelude.{if◌then◌else◌}
-use Rattle.std.specs.List.{concat, insert, list_any}
+use Rattle.std.specs.Prelude.{if◌then◌else◌, Vec, ⊤}
+use Rattle.std.specs.List.{insert, list_any}
+use Rattle.std.specs.Int.NonZero.{non_zero_usize_get}
+use Rattle.std.specs.declared.alloc.Global.{Global}
 use Rattle.std.specs.List.Sorted.{IsStrictlyIncreasing}
 use Rattle.disk.specs.Disk.{Disk, HasFailed, Life, life_after, WaitGoes}
 use Rattle.disk.specs.declared.started_sync.StartedSync.{StartedSync}
@@ -18,26 +20,25 @@ use Rattle.writer_state.specs.WriterState.{WriterState}
 use Rattle.writer_state.specs.declared.sync_state.SyncState.TheVariants.{Dirty}
 use Rattle.crash.specs.Looks.{Looked}
 use Rattle.writer_state.specs.Sound.{IsSound, content as content_of}
-use Rattle.crash.specs.Started.{CoversThrough, StartsStand}
-use Rattle.crash.specs.Stays.{KeepsAll, LeavesOnly}
-use Rattle.paged.specs.Writer.{physical_blob_size}
-use Rattle.paged.specs.Calls.{Appends, BuffersAll, TryAppends, BuffersOver, Syncs, HoldsWithin}
-use Rattle.paged.specs.Calls.{AsksAtMost, sync_calls, start_calls, wait_calls, StartsSync}
-use Rattle.paged.specs.Calls.{started_already, WaitsForSync, SettlesBy}
-use Rattle.paged.specs.Flush.{outcome, has_work}
-use Rattle.paged.specs.Snapshots.{MakesSnapshot, CopiesTail, SealsWriter, snapshot_calls}
-use Rattle.paged.specs.Snapshots.{answer_of_seal, seal_calls}
-use Rattle.paged.specs.Replays.{BeginsReplay, BeginsAtOnce, replay_calls}
+use Rattle.paged.specs.Calls.{TryAppends, BuffersOver, sync_calls}
+use Rattle.paged.specs.Goes.{AppendGoes, ReplayGoes, SealGoes, SnapshotGoes, StartSyncGoes}
+use Rattle.paged.specs.Goes.{SyncAllGoes, WaitForSyncGoes}
+use Rattle.paged.specs.Costs.{AppendCosts, ReplayCosts, SealCosts, SnapshotCosts, StartSyncCosts}
+use Rattle.paged.specs.Costs.{SyncCosts, WaitForSyncCosts}
+use Rattle.paged.specs.Owes.{Owes, OwesWaiting}
+use Rattle.paged.specs.Ready.{IsReady as IsWriterReady}
+use Rattle.paged.specs.RecoveryCalls.{OwesCutting, TruncateCosts, TruncateGoes}
+use Rattle.paged.specs.Scans.{ScanFirstCosts, ScanFirstGoes}
 use Rattle.cache.specs.CacheState.{CacheState}
-use Rattle.paged_read.specs.Tail.{Tail, size_of as size_of_tail}
+use Rattle.paged_read.specs.Tail.{Tail}
+use Rattle.paged_read.specs.Reads.{ReadCosts, ReadGoes, ReadManyCosts, ReadUpToGoes}
 use Rattle.paged_read.specs.Snapshots.{StandsOn}
 use Rattle.paged_read.specs.Replay.{ReplayState, IsReplayOf, CanReplay, Ensures, Seeks, advanced}
-use Rattle.paged_read.specs.Replay.{IsHad, ReplaysThrough}
-use Rattle.paged_read.specs.Ranges.{Reads, ReadsUpTo, TriesRead, is_served}
-use Rattle.paged_read.specs.Ranges.{ReadsMany, AsksOnce, Misses}
+use Rattle.paged_read.specs.Replay.{IsHad, ReplaysOn, ReplaysThrough}
+use Rattle.paged_read.specs.Ranges.{TriesRead, is_served, range_up_to}
+use Rattle.paged_read.specs.Ranges.{ReadsMany, Misses}
 use Rattle.paged.specs.Caches.{tail_of}
 use Rattle.paged.specs.Reads.{size_of}
-use Rattle.paged.specs.Truncate.{Truncates, KeepsFloorsWithin, truncate_calls}
 use Rattle.session.specs.declared.steps.Step.{Step}
 use Rattle.session.specs.declared.steps.Reply.{Reply}
 use Rattle.session.specs.declared.steps.Reply.TheVariants.{At, Nothing, Done, Started, Answer}
@@ -54,7 +55,7 @@ use Rattle.session.specs.declared.steps.Reply.TheVariants.{Served, Missed, BadRa
 use Rattle.session.specs.declared.steps.Reply.TheVariants.{Taken, Sealed, NotAppending}
 use Rattle.session.specs.declared.steps.Reply.TheVariants.{Replaying}
 use Rattle.session.specs.Run.{Standing, SessionState, Did, StandsFor, IsReady, IsBelow}
-use Rattle.session.specs.Run.{fit_together, numbered}
+use Rattle.session.specs.Run.{IsSessionReady, RunsAlways, fit_together, numbered}
 use Rattle.session.specs.Others.{WriterLeavesOthers}
 
 -- what a call of the writer leaves of the session but the writer
@@ -72,10 +73,12 @@ KeepsUncut was now =
     let left = if cuts then map (λ r. None) was.replays else was.replays in
     now ≡ record was { writer = now.writer; replays = left }
 
--- what each call of a writer owes to the started syncs, whatever it answers
-pub record OwesStarts (sum : List ℕ → ℕ) (w : WriterState) (old new : Life) : Type 0 where
-  pub covers : CoversThrough sum w.page_size (content_of w old.present.readable) old new
-  pub starts : StartsStand new.present
+-- what a call that takes the writer says: what it answers, and whatever that is, what it owes and
+-- costs
+pub record Says (Goes Owed Costs : Type 0) : Type 0 where
+  pub goes : Goes
+  pub owes : Owed
+  pub costs : Costs
 
 -- a session with no writer
 pub record IsClosed (now : Option WriterState) (old new : Life) (reply : Reply) : Type 0 where
@@ -83,29 +86,25 @@ pub record IsClosed (now : Option WriterState) (old new : Life) (reply : Reply) 
   pub writer : now ≡ None
   pub life : new ≡ old
 
--- what an append says of its answer
-pub record AppendSays (sum : List ℕ → ℕ) (w : WriterState) (bytes : List ℕ) (old new : Life)
-    (result : Result (WriterState × ℕ) Error) : Type 0 where
-  pub appends : Appends sum w bytes old new result
-  pub overflow : 2 ^ 64 ≤ physical_blob_size w.page_size w.full_pages (length w.tip + length bytes)
-      → result ≡ Err OffsetOverflow
-  pub within : IfOk result (λ r. HoldsWithin r.0)
-  pub buffered : length w.tip + length bytes ≤ w.capacity → BuffersAll w bytes old new result
-  pub flushed : w.capacity < length w.tip + length bytes
-      → IfOk result (λ r. length r.0.tip < w.page_size)
-  pub dirty : w.capacity < length w.tip + length bytes → IfOk result (λ r. r.0.sync ≡ Dirty)
-  pub calls : AsksAtMost 3 old new
-  pub owes : OwesStarts sum w old new
-
 -- an append
-abbrev pub Appended : (List ℕ → ℕ) → Option WriterState → Option WriterState → List ℕ → Life → Life
-    → Reply → Type 0
-Appended sum None now bytes old new reply = IsClosed now old new reply
-Appended sum (Some w) now bytes old new (At n) =
-    (v : WriterState) × (now ≡ Some v) × AppendSays sum w bytes old new (Ok (v, n))
-Appended sum (Some w) now bytes old new (Fault e) =
-    (now ≡ None) × AppendSays sum w bytes old new (Err e)
-Appended sum (Some w) now bytes old new _ = ⊥
+abbrev pub AppendSays : (List ℕ → ℕ) → WriterState → List ℕ → (cache after : CacheState) → Life
+    → Life → Result (WriterState × ℕ) Error → Type 0
+AppendSays sum w bytes cache after old new result =
+    let all = content_of w old.present.readable ++ bytes in
+    Says (AppendGoes sum w bytes old new result) (Owes sum w all cache after old new)
+    (AppendCosts w bytes cache after old new result)
+
+-- by a session with this writer, or none
+abbrev pub Appended : (List ℕ → ℕ) → Option WriterState → Option WriterState → List ℕ
+    → (cache after : CacheState) → Life → Life → Reply → Type 0
+Appended sum None now bytes cache after old new reply =
+    IsClosed now old new reply × (after ≡ cache)
+Appended sum (Some w) now bytes cache after old new (At n) =
+    (v : WriterState) × (now ≡ Some v) × IsWriterReady sum v after new
+    × AppendSays sum w bytes cache after old new (Ok (v, n))
+Appended sum (Some w) now bytes cache after old new (Fault e) =
+    (now ≡ None) × AppendSays sum w bytes cache after old new (Err e)
+Appended sum (Some w) now bytes cache after old new _ = ⊥
 
 -- an append within the capacity, which keeps the writer: it has buffered the bytes, which is an
 -- append, or is as it was
@@ -121,33 +120,23 @@ TriedAppend sum (Some w) now bytes (Fault e) =
     (v : WriterState) × (now ≡ Some v) × TryAppends w bytes v (Err e)
 TriedAppend sum (Some w) now bytes _ = ⊥
 
--- what a sync says of its answer
-pub record SyncSays (sum : List ℕ → ℕ) (w : WriterState) (old new : Life)
-    (result : Result WriterState Error) : Type 0 where
-  pub syncs : Syncs sum w old new result
-  pub within : IfOk result (λ v. HoldsWithin v)
-  pub calls : AsksAtMost (sync_calls w) old new
-  pub idle : sync_calls w ≡ 0 → (result ≡ Ok w) × (new ≡ old)
-  pub owes : OwesStarts sum w old new
-
 -- a sync
-abbrev pub Synced : (List ℕ → ℕ) → Option WriterState → Option WriterState → Life → Life → Reply
-    → Type 0
-Synced sum None now old new reply = IsClosed now old new reply
-Synced sum (Some w) now old new Done =
-    (v : WriterState) × (now ≡ Some v) × SyncSays sum w old new (Ok v)
-Synced sum (Some w) now old new (Fault e) = (now ≡ None) × SyncSays sum w old new (Err e)
-Synced sum (Some w) now old new _ = ⊥
+abbrev pub SyncSays : (List ℕ → ℕ) → WriterState → (cache after : CacheState) → Life → Life
+    → Result WriterState Error → Type 0
+SyncSays sum w cache after old new result =
+    let all = content_of w old.present.readable in
+    Says (SyncAllGoes sum w old new result) (Owes sum w all cache after old new)
+    (SyncCosts w cache after old new result)
 
--- what starting a sync says of its answer
-pub record StartSays (sum : List ℕ → ℕ) (w : WriterState) (old new : Life)
-    (result : Result (WriterState × StartedSync) Error) : Type 0 where
-  pub starts_sync : StartsSync sum w old new result
-  pub within : IfOk result (λ r. HoldsWithin r.0)
-  pub calls : AsksAtMost (start_calls w) old new
-  pub idle : start_calls w ≡ 0 → (result ≡ Ok (w, started_already w.sync)) × (new ≡ old)
-  pub fresh : 0 < start_calls w → IfOk result (λ r. r.1 ≡ Named (length old.present.started))
-  pub owes : OwesStarts sum w old new
+abbrev pub Synced : (List ℕ → ℕ) → Option WriterState → Option WriterState
+    → (cache after : CacheState) → Life → Life → Reply → Type 0
+Synced sum None now cache after old new reply = IsClosed now old new reply × (after ≡ cache)
+Synced sum (Some w) now cache after old new Done =
+    (v : WriterState) × (now ≡ Some v) × IsWriterReady sum v after new
+    × SyncSays sum w cache after old new (Ok v)
+Synced sum (Some w) now cache after old new (Fault e) =
+    (now ≡ None) × SyncSays sum w cache after old new (Err e)
+Synced sum (Some w) now cache after old new _ = ⊥
 
 -- these names, which are in order, with this one in its place, once
 abbrev pub with_name : (name : ℕ) → List ℕ → List ℕ
@@ -170,34 +159,40 @@ names_after (Named name) names = with_name name names
 
 -- there was no memory for the name: nothing was done
 pub record NamesHadNoRoom (e : Error) (w : WriterState) (now : Option WriterState)
-    (names more : List ℕ) (old new : Life) : Type 0 where
+    (names more : List ℕ) (cache after : CacheState) (old new : Life) : Type 0 where
   pub fault : e ≡ OutOfMemory
   pub writer : now ≡ Some w
   pub given : more ≡ names
+  pub cached : after ≡ cache
   pub life : new ≡ old
 
--- a start of a sync, by a session with this writer and these names
-abbrev pub Starts : (List ℕ → ℕ) → (was now : Option WriterState) → (names more : List ℕ) → Life
-    → Life → Reply → Type 0
-Starts sum None now names more old new reply = IsClosed now old new reply × (more ≡ names)
-Starts sum (Some w) now names more old new (Started sync) =
+-- a start of a sync
+abbrev pub StartSays : (List ℕ → ℕ) → WriterState → (cache after : CacheState) → Life → Life
+    → Result (WriterState × StartedSync) Error → Type 0
+StartSays sum w cache after old new result =
+    let all = content_of w old.present.readable in
+    Says (StartSyncGoes sum w old new result) (Owes sum w all cache after old new)
+    (StartSyncCosts w cache after old new result)
+
+-- by a session with this writer and these names
+abbrev pub Starts : (List ℕ → ℕ) → (was now : Option WriterState) → (names more : List ℕ)
+    → (cache after : CacheState) → Life → Life → Reply → Type 0
+Starts sum None now names more cache after old new reply =
+    IsClosed now old new reply × (more ≡ names) × (after ≡ cache)
+Starts sum (Some w) now names more cache after old new (Started sync) =
     (v : WriterState) × (now ≡ Some v) × (more ≡ names_after sync names)
-    × StartSays sum w old new (Ok (v, sync))
-Starts sum (Some w) now names more old new (Fault e) =
-    ((now ≡ None) × (more ≡ names) × StartSays sum w old new (Err e))
-    ⊎ NamesHadNoRoom e w now names more old new
-Starts sum (Some w) now names more old new _ = ⊥
+    × IsWriterReady sum v after new × StartSays sum w cache after old new (Ok (v, sync))
+Starts sum (Some w) now names more cache after old new (Fault e) =
+    ((now ≡ None) × (more ≡ names) × StartSays sum w cache after old new (Err e))
+    ⊎ NamesHadNoRoom e w now names more cache after old new
+Starts sum (Some w) now names more cache after old new _ = ⊥
 
--- what a wait says of its answer
-pub record WaitSays (sum : List ℕ → ℕ) (w : WriterState) (old new : Life)
-    (result : Result WriterState Error) : Type 0 where
-  pub waits : WaitsForSync sum w old new result
-  pub calls : AsksAtMost (wait_calls w.sync) old new
-  pub settles : wait_calls w.sync ≡ 1 → SettlesBy w.sync old new (outcome result)
-  pub idle : wait_calls w.sync ≡ 0 → (result ≡ Ok w) × (new ≡ old)
-  pub owes : OwesStarts sum w old new
+-- a wait, which has no cache
+abbrev pub WaitSays : (List ℕ → ℕ) → WriterState → Life → Life → Result WriterState Error → Type 0
+WaitSays sum w old new result =
+    Says (WaitForSyncGoes sum w old new result) (OwesWaiting sum w old new)
+    (WaitForSyncCosts w old new result)
 
--- a wait
 abbrev pub Waits : (List ℕ → ℕ) → Option WriterState → Option WriterState → Life → Life → Reply
     → Type 0
 Waits sum None now old new reply = IsClosed now old new reply
@@ -227,92 +222,95 @@ abbrev pub Begins : Option WriterState → SessionState → SessionState → Rep
 Begins None was now reply = (reply ≡ Closed) × (now ≡ was)
 Begins (Some w) was now reply = (reply ≡ Done) × (now ≡ record was { recovering = false })
 
--- what a truncate to n bytes says of its answer
-pub record TruncateSays (sum : List ℕ → ℕ) (w : WriterState) (n : ℕ) (old new : Life)
-    (result : Result WriterState Error) : Type 0 where
-  pub truncates : Truncates sum n w old new result
-  pub sound : IfOk result (λ v. IsSound sum v new.present)
-  pub within : IfOk result (λ v. HoldsWithin v)
-  pub calls : AsksAtMost (truncate_calls w n) old new
-  pub durable : let kept = take n (content_of w old.present.readable) in
-      OnOk result (KeepsAll sum w.page_size kept new)
-  pub floors : KeepsFloorsWithin n sum w.page_size old new
-  pub only : let held = content_of w old.present.readable in
-      LeavesOnly sum w.page_size held (take n held) old new
-  pub covers : CoversThrough sum w.page_size (take n (content_of w old.present.readable)) old new
-  pub starts : StartsStand new.present
+-- a truncate to n bytes
+abbrev pub TruncateSays : (List ℕ → ℕ) → WriterState → (n : ℕ) → (cache after : CacheState) → Life
+    → Life → Result WriterState Error → Type 0
+TruncateSays sum w n cache after old new result =
+    Says (TruncateGoes sum n w cache after old new result)
+    (OwesCutting sum n w cache after old new) (TruncateCosts n w cache after old new result)
 
--- a truncate by a session with a writer in recovery
-abbrev pub Cuts : (List ℕ → ℕ) → WriterState → Option WriterState → (n : ℕ) → Life → Life → Reply
-    → Type 0
-Cuts sum w now n old new (Length m) =
-    (v : WriterState) × (now ≡ Some v) × (m ≡ size_of v) × TruncateSays sum w n old new (Ok v)
-Cuts sum w now n old new (Fault e) = (now ≡ None) × TruncateSays sum w n old new (Err e)
-Cuts sum w now n old new _ = ⊥
+-- by a session with a writer in recovery
+abbrev pub Cuts : (List ℕ → ℕ) → WriterState → Option WriterState → (n : ℕ)
+    → (cache after : CacheState) → Life → Life → Reply → Type 0
+Cuts sum w now n cache after old new (Length m) =
+    (v : WriterState) × (now ≡ Some v) × (m ≡ size_of v)
+    × TruncateSays sum w n cache after old new (Ok v)
+Cuts sum w now n cache after old new (Fault e) =
+    (now ≡ None) × TruncateSays sum w n cache after old new (Err e)
+Cuts sum w now n cache after old new _ = ⊥
 
 -- a truncate, by whether the session is in recovery, and its writer
 abbrev pub Truncated : (List ℕ → ℕ) → (recovering : Bool) → Option WriterState → Option WriterState
-    → (n : ℕ) → Life → Life → Reply → Type 0
-Truncated sum recovering None now n old new reply = IsClosed now old new reply
-Truncated sum true (Some w) now n old new reply = Cuts sum w now n old new reply
-Truncated sum false (Some w) now n old new reply =
-    (reply ≡ NotRecovering) × (now ≡ Some w) × (new ≡ old)
+    → (n : ℕ) → (cache after : CacheState) → Life → Life → Reply → Type 0
+Truncated sum recovering None now n cache after old new reply =
+    IsClosed now old new reply × (after ≡ cache)
+Truncated sum true (Some w) now n cache after old new reply =
+    Cuts sum w now n cache after old new reply
+Truncated sum false (Some w) now n cache after old new reply =
+    (reply ≡ NotRecovering) × (now ≡ Some w) × (new ≡ old) × (after ≡ cache)
 
 -- the size
 abbrev pub Sized : Option WriterState → Reply → Type 0
 Sized None reply = reply ≡ Closed
 Sized (Some w) reply = reply ≡ Length (size_of w)
 
--- a read's bytes, or why it is refused
-abbrev pub ReadsBytes : (List ℕ → ℕ) → Tail → CacheState → (offset len : ℕ) → Life → Life → Reply
-    → Type 0
-ReadsBytes sum t cache offset len old new (Bytes bytes) =
-    (bufs : List (List ℕ)) × (bytes.items ≡ concat bufs)
-    × Reads sum t cache (offset, len) concat old new (Ok bufs)
-ReadsBytes sum t cache offset len old new (Fault e) =
-    Reads sum t cache (offset, len) concat old new (Err e)
-ReadsBytes sum t cache offset len old new _ = ⊥
+-- what a read says of its answer: which bytes, and what it asks of the device and puts in the cache
+pub record ReadSays (sum : List ℕ → ℕ) (t : Tail) (cache after : CacheState) (offset len : ℕ)
+    (old new : Life) (result : Result (Vec ℕ Global) Error) : Type 0 where
+  pub goes : ReadGoes {A = Vec ℕ Global} sum t cache (offset, len) (λ bytes. bytes.items) old new
+      result
+  pub costs : ReadCosts sum t (offset, len) cache after old new result
 
--- what a read of a writer's blob, or of a snapshot, says of its answer
-pub record ReadSays (sum : List ℕ → ℕ) (t : Tail) (cache : CacheState) (offset len : ℕ)
+-- a read's bytes, or why it is refused
+abbrev pub ReadsBytes : (List ℕ → ℕ) → Tail → (cache after : CacheState) → (offset len : ℕ) → Life
+    → Life → Reply → Type 0
+ReadsBytes sum t cache after offset len old new (Bytes bytes) =
+    ReadSays sum t cache after offset len old new (Ok bytes)
+ReadsBytes sum t cache after offset len old new (Fault e) =
+    ReadSays sum t cache after offset len old new (Err e)
+ReadsBytes sum t cache after offset len old new _ = ⊥
+
+-- a read of a writer's blob, or of a snapshot: the blob is only looked at
+pub record ReadsRange (sum : List ℕ → ℕ) (t : Tail) (cache after : CacheState) (offset len : ℕ)
     (old new : Life) (reply : Reply) : Type 0 where
-  pub reads : ReadsBytes sum t cache offset len old new reply
-  pub full : reply ≡ Fault InvalidChecksum → ⊥
-  pub overflow : 2 ^ 64 ≤ offset + len → reply ≡ Fault OffsetOverflow
-  pub end : offset + len < 2 ^ 64 → size_of_tail t < offset + len
-      → reply ≡ Fault BlobInsufficientLength
+  pub reads : ReadsBytes sum t cache after offset len old new reply
   pub looked : Looked old new
 
 -- a read
-abbrev pub DidRead : (List ℕ → ℕ) → Option WriterState → CacheState → (offset len : ℕ) → Life → Life
-    → Reply → Type 0
-DidRead sum None cache offset len old new reply = (reply ≡ Closed) × (new ≡ old)
-DidRead sum (Some w) cache offset len old new reply =
-    ReadSays sum (tail_of w) cache offset len old new reply
-
--- at most so many bytes, or why a read of them is refused
-abbrev pub ReadsBytesUpTo : (List ℕ → ℕ) → WriterState → CacheState → (offset len : ℕ) → Life → Life
-    → Reply → Type 0
-ReadsBytesUpTo sum w cache offset len old new (Bytes bytes) =
-    (count : ℕ) × ReadsUpTo sum (tail_of w) cache offset len old new (Ok (bytes, count))
-ReadsBytesUpTo sum w cache offset len old new (Fault e) =
-    ReadsUpTo sum (tail_of w) cache offset len old new (Err e)
-ReadsBytesUpTo sum w cache offset len old new _ = ⊥
+abbrev pub DidRead : (List ℕ → ℕ) → Option WriterState → (cache after : CacheState)
+    → (offset len : ℕ) → Life → Life → Reply → Type 0
+DidRead sum None cache after offset len old new reply =
+    (reply ≡ Closed) × (new ≡ old) × (after ≡ cache)
+DidRead sum (Some w) cache after offset len old new reply =
+    ReadsRange sum (tail_of w) cache after offset len old new reply
 
 -- what a read of at most so many bytes says of its answer
-pub record ReadUpToSays (sum : List ℕ → ℕ) (w : WriterState) (cache : CacheState)
+pub record ReadUpToSays (sum : List ℕ → ℕ) (t : Tail) (cache after : CacheState) (offset len : ℕ)
+    (old new : Life) (result : Result (Vec ℕ Global × ℕ) Error) : Type 0 where
+  pub goes : ReadUpToGoes sum t cache offset len old new result
+  pub costs : ReadCosts sum t (range_up_to t offset len) cache after old new result
+
+-- at most so many bytes, or why a read of them is refused
+abbrev pub ReadsBytesUpTo : (List ℕ → ℕ) → Tail → (cache after : CacheState) → (offset len : ℕ)
+    → Life → Life → Reply → Type 0
+ReadsBytesUpTo sum t cache after offset len old new (Bytes bytes) =
+    (count : ℕ) × ReadUpToSays sum t cache after offset len old new (Ok (bytes, count))
+ReadsBytesUpTo sum t cache after offset len old new (Fault e) =
+    ReadUpToSays sum t cache after offset len old new (Err e)
+ReadsBytesUpTo sum t cache after offset len old new _ = ⊥
+
+pub record ReadsUpToRange (sum : List ℕ → ℕ) (t : Tail) (cache after : CacheState)
     (offset len : ℕ) (old new : Life) (reply : Reply) : Type 0 where
-  pub reads : ReadsBytesUpTo sum w cache offset len old new reply
-  pub full : reply ≡ Fault InvalidChecksum → ⊥
-  pub end : len ≢ 0 → size_of w ≤ offset → reply ≡ Fault BlobInsufficientLength
+  pub reads : ReadsBytesUpTo sum t cache after offset len old new reply
   pub looked : Looked old new
 
 -- a read of at most so many bytes
-abbrev pub DidReadUpTo : (List ℕ → ℕ) → Option WriterState → CacheState → (offset len : ℕ) → Life
-    → Life → Reply → Type 0
-DidReadUpTo sum None cache offset len old new reply = (reply ≡ Closed) × (new ≡ old)
-DidReadUpTo sum (Some w) cache offset len old new reply =
-    ReadUpToSays sum w cache offset len old new reply
+abbrev pub DidReadUpTo : (List ℕ → ℕ) → Option WriterState → (cache after : CacheState)
+    → (offset len : ℕ) → Life → Life → Reply → Type 0
+DidReadUpTo sum None cache after offset len old new reply =
+    (reply ≡ Closed) × (new ≡ old) × (after ≡ cache)
+DidReadUpTo sum (Some w) cache after offset len old new reply =
+    ReadsUpToRange sum (tail_of w) cache after offset len old new reply
 
 -- the bytes, where they are within the size and the cache holds the pages of those below the tip;
 -- there is no memory for bytes within the size; or they can't be had without the device
@@ -339,24 +337,35 @@ ReadsRanges sum w cache ranges old new (Fault e) =
     ReadsMany sum (tail_of w) cache ranges [] old new (Err e)
 ReadsRanges sum w cache ranges old new _ = ⊥
 
+-- what it asks of the device and puts in the cache
+abbrev pub CostsRanges : (List ℕ → ℕ) → WriterState → (cache after : CacheState) → List (ℕ × ℕ)
+    → Life → Life → Reply → Type 0
+CostsRanges sum w cache after ranges old new (Served count bytes) =
+    ReadManyCosts sum (tail_of w) ranges cache after old new (Ok count)
+CostsRanges sum w cache after ranges old new (Fault e) =
+    ReadManyCosts {A = ℕ} sum (tail_of w) ranges cache after old new (Err e)
+CostsRanges sum w cache after ranges old new _ = ⊥
+
 -- what a read of ranges that one call can take says of its answer
-pub record ReadRangesSays (sum : List ℕ → ℕ) (w : WriterState) (cache : CacheState)
+pub record ReadRangesSays (sum : List ℕ → ℕ) (w : WriterState) (cache after : CacheState)
     (ranges : List (ℕ × ℕ)) (old new : Life) (reply : Reply) : Type 0 where
   pub reads : ReadsRanges sum w cache ranges old new reply
   pub full : reply ≡ Fault InvalidChecksum → ⊥
   pub overflow : RangesGo (size_of w) ranges (Err OffsetOverflow) → reply ≡ Fault OffsetOverflow
   pub end : RangesGo (size_of w) ranges (Err BlobInsufficientLength)
       → reply ≡ Fault BlobInsufficientLength
-  pub asks : AsksOnce cache (tail_of w) ranges old new
+  pub costs : CostsRanges sum w cache after ranges old new reply
   pub looked : Looked old new
 
 -- a read of ranges, by the writer, and whether one call can take them
-abbrev pub DidReadRanges : (List ℕ → ℕ) → Option WriterState → (fit : Bool) → CacheState
-    → List (ℕ × ℕ) → Life → Life → Reply → Type 0
-DidReadRanges sum None fit cache ranges old new reply = (reply ≡ Closed) × (new ≡ old)
-DidReadRanges sum (Some w) false cache ranges old new reply = (reply ≡ BadRanges) × (new ≡ old)
-DidReadRanges sum (Some w) true cache ranges old new reply =
-    ReadRangesSays sum w cache ranges old new reply
+abbrev pub DidReadRanges : (List ℕ → ℕ) → Option WriterState → (fit : Bool)
+    → (cache after : CacheState) → List (ℕ × ℕ) → Life → Life → Reply → Type 0
+DidReadRanges sum None fit cache after ranges old new reply =
+    (reply ≡ Closed) × (new ≡ old) × (after ≡ cache)
+DidReadRanges sum (Some w) false cache after ranges old new reply =
+    (reply ≡ BadRanges) × (new ≡ old) × (after ≡ cache)
+DidReadRanges sum (Some w) true cache after ranges old new reply =
+    ReadRangesSays sum w cache after ranges old new reply
 
 -- the numbers of the ranges that need the device, of all where one can't be read; or there is no
 -- memory
@@ -372,24 +381,32 @@ DidTryReadRanges None fit cache ranges reply = reply ≡ Closed
 DidTryReadRanges (Some w) false cache ranges reply = reply ≡ BadRanges
 DidTryReadRanges (Some w) true cache ranges reply = TriedRanges w cache ranges reply
 
--- what a scan says of its answer, where it is to look at the first most bytes
-abbrev pub Counts : (List ℕ → ℕ) → WriterState → (most : ℕ) → Life → Life → Reply → Type 0
-Counts sum w most old new (Length n) =
-    n ≡ min most (length (text sum w.page_size old.present.readable))
-Counts sum w most old new (Fault ReadFailed) = HasFailed ReadFailed old.present new.present
-Counts sum w most old new (Fault OutOfMemory) = most ≢ 0
-Counts sum w most old new _ = ⊥
+-- what a scan of the first most bytes says of its answer, where so many count as told: how many it
+-- counts, and in which pieces it reads
+pub record ScanSays (sum : List ℕ → ℕ) (w : WriterState) (proven most buffer_size : ℕ)
+    (old new : Life) (result : Result ℕ Error) : Type 0 where
+  pub goes : ScanFirstGoes sum w proven most old new result
+  pub costs : ScanFirstCosts sum w proven most buffer_size old new
 
-pub record ScanSays (sum : List ℕ → ℕ) (w : WriterState) (most : ℕ) (old new : Life)
-    (reply : Reply) : Type 0 where
-  pub counts : Counts sum w most old new reply
-  pub none : most ≡ 0 → new ≡ old
+abbrev pub Counts : (List ℕ → ℕ) → WriterState → (proven most buffer_size : ℕ) → Life → Life
+    → Reply → Type 0
+Counts sum w proven most buffer_size old new (Length n) =
+    ScanSays sum w proven most buffer_size old new (Ok n)
+Counts sum w proven most buffer_size old new (Fault e) =
+    ScanSays sum w proven most buffer_size old new (Err e)
+Counts sum w proven most buffer_size old new _ = ⊥
+
+pub record ScansBlob (sum : List ℕ → ℕ) (w : WriterState) (proven most buffer_size : ℕ)
+    (old new : Life) (reply : Reply) : Type 0 where
+  pub counts : Counts sum w proven most buffer_size old new reply
   pub looked : Looked old new
 
 -- a scan
-abbrev pub DidScan : (List ℕ → ℕ) → Option WriterState → (most : ℕ) → Life → Life → Reply → Type 0
-DidScan sum None most old new reply = (reply ≡ Closed) × (new ≡ old)
-DidScan sum (Some w) most old new reply = ScanSays sum w most old new reply
+abbrev pub DidScan : (List ℕ → ℕ) → Option WriterState → (proven most buffer_size : ℕ) → Life
+    → Life → Reply → Type 0
+DidScan sum None proven most buffer_size old new reply = (reply ≡ Closed) × (new ≡ old)
+DidScan sum (Some w) proven most buffer_size old new reply =
+    ScansBlob sum w proven most buffer_size old new reply
 
 -- why no room is made for the bytes of a range: overflow comes before the end, and both before
 -- memory
@@ -401,15 +418,13 @@ RefusesRoom size offset len _ = ⊥
 
 -- ---- steps of snapshots
 
--- what a snapshot says of its answer
-pub record SnapshotSays (sum : List ℕ → ℕ) (w : WriterState) (old new : Life)
-    (result : Result (WriterState × Tail) Error) : Type 0 where
-  pub makes : MakesSnapshot sum w old new result
-  pub within : IfOk result (λ r. HoldsWithin r.0)
-  pub calls : AsksAtMost (snapshot_calls w) old new
-  pub idle : has_work w false ≡ false → CopiesTail w result × (new ≡ old)
-  pub dirty : has_work w false ≡ true → IfOk result (λ r. r.0.sync ≡ Dirty)
-  pub owes : OwesStarts sum w old new
+-- a snapshot
+abbrev pub SnapshotSays : (List ℕ → ℕ) → WriterState → (cache after : CacheState) → Life → Life
+    → Result (WriterState × Tail) Error → Type 0
+SnapshotSays sum w cache after old new result =
+    let all = content_of w old.present.readable in
+    Says (SnapshotGoes sum w after old new result) (Owes sum w all cache after old new)
+    (SnapshotCosts w cache after old new result)
 
 -- the session with another writer and one snapshot more
 abbrev pub with_snapshot : SessionState → Option WriterState → Tail → SessionState
@@ -419,20 +434,22 @@ with_snapshot was writer t = record was {
 }
 
 -- there was no memory for a snapshot, or its name: nothing was done
-abbrev pub HadNoRoomFor : Error → SessionState → SessionState → Life → Life → Type 0
-HadNoRoomFor e was now old new = (e ≡ OutOfMemory) × (now ≡ was) × (new ≡ old)
+abbrev pub HadNoRoomFor : Error → SessionState → SessionState → (cache after : CacheState) → Life
+    → Life → Type 0
+HadNoRoomFor e was now cache after old new =
+    (e ≡ OutOfMemory) × (now ≡ was) × (new ≡ old) × (after ≡ cache)
 
--- a snapshot by a session with a writer that appends: it tells the content, and can be read
-abbrev pub TakesSnapshot : (List ℕ → ℕ) → WriterState → (was now : SessionState) → CacheState → Life
-    → Life → Reply → Type 0
-TakesSnapshot sum w was now after old new (Taken index) =
+-- by a session with a writer that appends
+abbrev pub TakesSnapshot : (List ℕ → ℕ) → WriterState → (was now : SessionState)
+    → (cache after : CacheState) → Life → Life → Reply → Type 0
+TakesSnapshot sum w was now cache after old new (Taken index) =
     (v : WriterState) × (t : Tail) × (index ≡ length was.snapshots)
-    × (now ≡ with_snapshot was (Some v) t) × SnapshotSays sum w old new (Ok (v, t))
-    × StandsOn sum t (content_of w old.present.readable) after new.present
-TakesSnapshot sum w was now after old new (Fault e) =
-    ((now ≡ record was { writer = None }) × SnapshotSays sum w old new (Err e))
-    ⊎ HadNoRoomFor e was now old new
-TakesSnapshot sum w was now after old new _ = ⊥
+    × (now ≡ with_snapshot was (Some v) t) × IsWriterReady sum v after new
+    × SnapshotSays sum w cache after old new (Ok (v, t))
+TakesSnapshot sum w was now cache after old new (Fault e) =
+    ((now ≡ record was { writer = None }) × SnapshotSays sum w cache after old new (Err e))
+    ⊎ HadNoRoomFor e was now cache after old new
+TakesSnapshot sum w was now cache after old new _ = ⊥
 
 -- one for which nothing is written
 abbrev pub TriesSnapshot : WriterState → (was now : SessionState) → Reply → Type 0
@@ -443,14 +460,13 @@ TriesSnapshot w was now Nothing = (w.page_size ≤ length w.tip) × (now ≡ was
 TriesSnapshot w was now (Fault e) = (e ≡ OutOfMemory) × (now ≡ was)
 TriesSnapshot w was now _ = ⊥
 
--- what sealing a writer says of its answer
-pub record SealSays (sum : List ℕ → ℕ) (w : WriterState) (old new : Life)
-    (result : Result (Tail × StartedSync) Error) : Type 0 where
-  pub seals : SealsWriter sum w old new result
-  pub calls : AsksAtMost (seal_calls w) old new
-  pub answers : IfOk result (λ r. r.1 ≡ answer_of_seal w old)
-  pub idle : seal_calls w ≡ 0 → (result ≡ Ok (tail_of w, AllDone)) × (new ≡ old)
-  pub owes : OwesStarts sum w old new
+-- the end of a writer
+abbrev pub SealSays : (List ℕ → ℕ) → WriterState → (cache after : CacheState) → Life → Life
+    → Result (Tail × StartedSync) Error → Type 0
+SealSays sum w cache after old new result =
+    let all = content_of w old.present.readable in
+    Says (SealGoes sum w after old new result) (Owes sum w all cache after old new)
+    (SealCosts w cache after old new result)
 
 -- the session without a writer, with one snapshot more, and one name more or none
 abbrev pub sealed_with : SessionState → Tail → StartedSync → SessionState
@@ -460,17 +476,16 @@ sealed_with was t sync = record was {
   snapshots = was.snapshots ++ Some t ∷ [];
 }
 
--- the end of a writer that appends: the snapshot that it leaves tells the content, and can be read
-abbrev pub SealsSession : (List ℕ → ℕ) → WriterState → (was now : SessionState) → CacheState → Life
-    → Life → Reply → Type 0
-SealsSession sum w was now after old new (Sealed index sync) =
+-- of one that appends, by its session
+abbrev pub SealsSession : (List ℕ → ℕ) → WriterState → (was now : SessionState)
+    → (cache after : CacheState) → Life → Life → Reply → Type 0
+SealsSession sum w was now cache after old new (Sealed index sync) =
     (t : Tail) × (index ≡ length was.snapshots) × (now ≡ sealed_with was t sync)
-    × SealSays sum w old new (Ok (t, sync))
-    × StandsOn sum t (content_of w old.present.readable) after new.present
-SealsSession sum w was now after old new (Fault e) =
-    ((now ≡ record was { writer = None }) × SealSays sum w old new (Err e))
-    ⊎ HadNoRoomFor e was now old new
-SealsSession sum w was now after old new _ = ⊥
+    × SealSays sum w cache after old new (Ok (t, sync))
+SealsSession sum w was now cache after old new (Fault e) =
+    ((now ≡ record was { writer = None }) × SealSays sum w cache after old new (Err e))
+    ⊎ HadNoRoomFor e was now cache after old new
+SealsSession sum w was now cache after old new _ = ⊥
 
 -- the reply to a step of a writer that appends, by one in recovery
 abbrev pub RefusesAppending : Option WriterState → Reply → Type 0
@@ -486,63 +501,67 @@ IfAppending true (Some w) reply turned goes = (reply ≡ NotAppending) × turned
 IfAppending false (Some w) reply turned goes = goes w
 
 -- each of the three that there are
-abbrev pub DidSnapshot : (List ℕ → ℕ) → (was now : SessionState) → CacheState → Life → Life → Reply
-    → Type 0
-DidSnapshot sum was now after old new reply =
-    IfAppending was.recovering was.writer reply ((now ≡ was) × (new ≡ old)) (λ w.
-    TakesSnapshot sum w was now after old new reply)
+abbrev pub DidSnapshot : (List ℕ → ℕ) → (was now : SessionState) → (cache after : CacheState)
+    → Life → Life → Reply → Type 0
+DidSnapshot sum was now cache after old new reply =
+    let turned = (now ≡ was) × (new ≡ old) × (after ≡ cache) in
+    IfAppending was.recovering was.writer reply turned (λ w.
+    TakesSnapshot sum w was now cache after old new reply)
 
 abbrev pub DidTrySnapshot : (was now : SessionState) → Reply → Type 0
 DidTrySnapshot was now reply =
     IfAppending was.recovering was.writer reply (now ≡ was) (λ w.
     TriesSnapshot w was now reply)
 
-abbrev pub DidSeal : (List ℕ → ℕ) → (was now : SessionState) → CacheState → Life → Life → Reply
-    → Type 0
-DidSeal sum was now after old new reply =
-    IfAppending was.recovering was.writer reply ((now ≡ was) × (new ≡ old)) (λ w.
-    SealsSession sum w was now after old new reply)
+abbrev pub DidSeal : (List ℕ → ℕ) → (was now : SessionState) → (cache after : CacheState) → Life
+    → Life → Reply → Type 0
+DidSeal sum was now cache after old new reply =
+    let turned = (now ≡ was) × (new ≡ old) × (after ≡ cache) in
+    IfAppending was.recovering was.writer reply turned (λ w.
+    SealsSession sum w was now cache after old new reply)
 
 -- a read of the snapshot of this number, if it stands
-abbrev pub DidSnap : (List ℕ → ℕ) → Option Tail → CacheState → (offset len : ℕ) → Life → Life
-    → Reply → Type 0
-DidSnap sum None cache offset len old new reply = (reply ≡ NoSuch) × (new ≡ old)
-DidSnap sum (Some t) cache offset len old new reply =
-    ReadSays sum t cache offset len old new reply
+abbrev pub DidSnap : (List ℕ → ℕ) → Option Tail → (cache after : CacheState) → (offset len : ℕ)
+    → Life → Life → Reply → Type 0
+DidSnap sum None cache after offset len old new reply =
+    (reply ≡ NoSuch) × (new ≡ old) × (after ≡ cache)
+DidSnap sum (Some t) cache after offset len old new reply =
+    ReadsRange sum t cache after offset len old new reply
 
 -- ---- steps of replays
 
--- what the beginning of a replay, with a buffer of this size, says of its answer
-pub record ReplaySays (sum : List ℕ → ℕ) (w : WriterState) (buffer_size : ℕ) (old new : Life)
-    (result : Result (WriterState × ReplayState) Error) : Type 0 where
-  pub begins : BeginsReplay sum w buffer_size old new result
-  pub within : IfOk result (λ r. HoldsWithin r.0)
-  pub calls : AsksAtMost (replay_calls w) old new
-  pub idle : has_work w true ≡ false → BeginsAtOnce w buffer_size result × (new ≡ old)
-  pub dirty : has_work w true ≡ true → IfOk result (λ r. r.0.sync ≡ Dirty)
-  pub owes : OwesStarts sum w old new
+-- the beginning of a replay, with a buffer of this size
+abbrev pub ReplaySays : (List ℕ → ℕ) → WriterState → (buffer_size : ℕ) → (cache after : CacheState)
+    → Life → Life → Result (WriterState × ReplayState) Error → Type 0
+ReplaySays sum w buffer_size cache after old new result =
+    let all = content_of w old.present.readable in
+    Says (ReplayGoes sum w buffer_size after old new result) (Owes sum w all cache after old new)
+    (ReplayCosts w buffer_size cache after old new result)
 
 -- there was no memory for a replay: nothing was done
 pub record HadNoRoomForReplay (e : Error) (w : WriterState) (now : Option WriterState)
-    (replays more : List (Option ReplayState)) (old new : Life) : Type 0 where
+    (replays more : List (Option ReplayState)) (cache after : CacheState) (old new : Life)
+    : Type 0 where
   pub fault : e ≡ OutOfMemory
   pub writer : now ≡ Some w
   pub given : more ≡ replays
+  pub cached : after ≡ cache
   pub life : new ≡ old
 
--- a replay by a session with this writer and these replays: it gives the content
+-- by a session with this writer and these replays
 abbrev pub TakesReplay : (List ℕ → ℕ) → (was now : Option WriterState)
-    → (replays more : List (Option ReplayState)) → (buffer_size : ℕ) → Life → Life → Reply → Type 0
-TakesReplay sum None now replays more buffer_size old new reply =
-    IsClosed now old new reply × (more ≡ replays)
-TakesReplay sum (Some w) now replays more buffer_size old new (Replaying index) =
+    → (replays more : List (Option ReplayState)) → (buffer_size : ℕ) → (cache after : CacheState)
+    → Life → Life → Reply → Type 0
+TakesReplay sum None now replays more buffer_size cache after old new reply =
+    IsClosed now old new reply × (more ≡ replays) × (after ≡ cache)
+TakesReplay sum (Some w) now replays more buffer_size cache after old new (Replaying index) =
     (v : WriterState) × (r : ReplayState) × (now ≡ Some v) × (index ≡ length replays)
-    × (more ≡ replays ++ Some r ∷ []) × ReplaySays sum w buffer_size old new (Ok (v, r))
-    × IsReplayOf sum r (content_of w old.present.readable) new.present
-TakesReplay sum (Some w) now replays more buffer_size old new (Fault e) =
-    ((now ≡ None) × (more ≡ replays) × ReplaySays sum w buffer_size old new (Err e))
-    ⊎ HadNoRoomForReplay e w now replays more old new
-TakesReplay sum (Some w) now replays more buffer_size old new _ = ⊥
+    × (more ≡ replays ++ Some r ∷ []) × IsWriterReady sum v after new
+    × ReplaySays sum w buffer_size cache after old new (Ok (v, r))
+TakesReplay sum (Some w) now replays more buffer_size cache after old new (Fault e) =
+    ((now ≡ None) × (more ≡ replays) × ReplaySays sum w buffer_size cache after old new (Err e))
+    ⊎ HadNoRoomForReplay e w now replays more cache after old new
+TakesReplay sum (Some w) now replays more buffer_size cache after old new _ = ⊥
 
 -- what each step of a replay does to it: it goes on as q
 abbrev pub EnsuresOf : (List ℕ → ℕ) → (r q : ReplayState) → (count : ℕ) → Life → Life → Reply
@@ -646,38 +665,41 @@ pub record LeavesWriterState (was now : Option WriterState) (names more : List �
 
 -- such a step, by a session with this writer and these names
 abbrev pub TakenBy : (List ℕ → ℕ) → Step → (was now : Option WriterState) → (names more : List ℕ)
-    → CacheState → Life → Life → Reply → Type 0
-TakenBy sum (Append bytes) was now names more cache old new reply =
-    Appended sum was now bytes.items old new reply × (more ≡ names)
-TakenBy sum (Owned bytes) was now names more cache old new reply =
-    Appended sum was now bytes.items old new reply × (more ≡ names)
-TakenBy sum (TryAppend bytes) was now names more cache old new reply =
-    TriedAppend sum was now bytes.items reply × (more ≡ names) × (new ≡ old)
-TakenBy sum Sync was now names more cache old new reply =
-    Synced sum was now old new reply × (more ≡ names)
-TakenBy sum StartSync was now names more cache old new reply =
-    Starts sum was now names more old new reply
-TakenBy sum Wait was now names more cache old new reply =
-    Waits sum was now old new reply × (more ≡ names)
-TakenBy sum Needs was now names more cache old new reply =
-    NeedsSync was reply × LeavesWriterState was now names more × (new ≡ old)
-TakenBy sum Size was now names more cache old new reply =
-    Sized was reply × LeavesWriterState was now names more × (new ≡ old)
-TakenBy sum (Read offset len) was now names more cache old new reply =
-    DidRead sum was cache offset len old new reply × LeavesWriterState was now names more
-TakenBy sum (ReadUpTo offset len) was now names more cache old new reply =
-    DidReadUpTo sum was cache offset len old new reply × LeavesWriterState was now names more
-TakenBy sum (TryRead offset len) was now names more cache old new reply =
-    DidTryRead was cache offset len reply × LeavesWriterState was now names more × (new ≡ old)
-TakenBy sum (ReadRanges ranges) was now names more cache old new reply =
-    DidReadRanges sum was (fit_together ranges.items) cache ranges.items old new reply
+    → (cache after : CacheState) → Life → Life → Reply → Type 0
+TakenBy sum (Append bytes) was now names more cache after old new reply =
+    Appended sum was now bytes.items cache after old new reply × (more ≡ names)
+TakenBy sum (Owned bytes) was now names more cache after old new reply =
+    Appended sum was now bytes.items cache after old new reply × (more ≡ names)
+TakenBy sum (TryAppend bytes) was now names more cache after old new reply =
+    TriedAppend sum was now bytes.items reply × (more ≡ names) × (new ≡ old) × (after ≡ cache)
+TakenBy sum Sync was now names more cache after old new reply =
+    Synced sum was now cache after old new reply × (more ≡ names)
+TakenBy sum StartSync was now names more cache after old new reply =
+    Starts sum was now names more cache after old new reply
+TakenBy sum Wait was now names more cache after old new reply =
+    Waits sum was now old new reply × (more ≡ names) × (after ≡ cache)
+TakenBy sum Needs was now names more cache after old new reply =
+    NeedsSync was reply × LeavesWriterState was now names more × (new ≡ old) × (after ≡ cache)
+TakenBy sum Size was now names more cache after old new reply =
+    Sized was reply × LeavesWriterState was now names more × (new ≡ old) × (after ≡ cache)
+TakenBy sum (Read offset len) was now names more cache after old new reply =
+    DidRead sum was cache after offset len old new reply × LeavesWriterState was now names more
+TakenBy sum (ReadUpTo offset len) was now names more cache after old new reply =
+    DidReadUpTo sum was cache after offset len old new reply
     × LeavesWriterState was now names more
-TakenBy sum (TryReadRanges ranges) was now names more cache old new reply =
+TakenBy sum (TryRead offset len) was now names more cache after old new reply =
+    DidTryRead was cache offset len reply × LeavesWriterState was now names more × (new ≡ old)
+    × (after ≡ cache)
+TakenBy sum (ReadRanges ranges) was now names more cache after old new reply =
+    DidReadRanges sum was (fit_together ranges.items) cache after ranges.items old new reply
+    × LeavesWriterState was now names more
+TakenBy sum (TryReadRanges ranges) was now names more cache after old new reply =
     DidTryReadRanges was (fit_together ranges.items) cache ranges.items reply
-    × LeavesWriterState was now names more × (new ≡ old)
-TakenBy sum (Scan proven most buffer_size) was now names more cache old new reply =
-    DidScan sum was most old new reply × LeavesWriterState was now names more
-TakenBy sum step was now names more cache old new reply = ⊥
+    × LeavesWriterState was now names more × (new ≡ old) × (after ≡ cache)
+TakenBy sum (Scan proven most buffer_size) was now names more cache after old new reply =
+    DidScan sum was proven most (non_zero_usize_get buffer_size) old new reply
+    × LeavesWriterState was now names more × (after ≡ cache)
+TakenBy sum step was now names more cache after old new reply = ⊥
 
 -- what a step of the writer leaves of the session but the writer and the names
 abbrev pub KeepsSnapshots : SessionState → SessionState → Type 0
@@ -704,3 +726,66 @@ pub record Steps (sum : List ℕ → ℕ) (step : Step) (reply : Reply) (was now
     (old new : Life) : Type 0 where
   pub ready : IsReady sum now new.present
   pub always : StepsAlways sum step reply was now old new
+
+-- ---- what each step of a run says
+
+-- one step: what the call that it makes answers, owes and costs
+abbrev pub DidCall : (List ℕ → ℕ) → Step → Reply → (was now : SessionState)
+    → (cache after : CacheState) → Life → Life → Type 0
+DidCall sum (WaitSync name) reply was now cache after old new =
+    WaitsFor (is_given was.names name) name old new reply × (now ≡ was) × (after ≡ cache)
+DidCall sum Begin reply was now cache after old new =
+    Begins was.writer was now reply × (new ≡ old) × (after ≡ cache)
+DidCall sum (Truncate n) reply was now cache after old new =
+    Truncated sum was.recovering was.writer now.writer n cache after old new reply
+    × KeepsUncut was now
+DidCall sum Snapshot reply was now cache after old new =
+    DidSnapshot sum was now cache after old new reply
+DidCall sum TrySnapshot reply was now cache after old new =
+    DidTrySnapshot was now reply × (new ≡ old) × (after ≡ cache)
+DidCall sum (Snap index offset len) reply was now cache after old new =
+    DidSnap sum (numbered was.snapshots index) cache after offset len old new reply
+    × (now ≡ was)
+DidCall sum Seal reply was now cache after old new =
+    DidSeal sum was now cache after old new reply
+DidCall sum (Replay buffer_size) reply was now cache after old new =
+    TakesReplay sum was.writer now.writer was.replays now.replays
+    (non_zero_usize_get buffer_size) cache after old new reply × KeepsButReplays was now
+DidCall sum (Ensure index count) reply was now cache after old new =
+    AtReplay index was.replays now.replays reply (new ≡ old) (λ r q.
+    EnsureSays sum r q count old new reply) × KeepsAllButReplays was now × (after ≡ cache)
+DidCall sum (Take index count) reply was now cache after old new =
+    AtReplay index was.replays now.replays reply ⊤ (λ r q. TakesOf r q count reply × ReplaysOn r q)
+    × KeepsAllButReplays was now × (new ≡ old) × (after ≡ cache)
+DidCall sum (Seek index offset) reply was now cache after old new =
+    AtReplay index was.replays now.replays reply ⊤ (λ r q.
+    SeeksOf r q offset reply × ReplaysOn r q)
+    × KeepsAllButReplays was now × (new ≡ old) × (after ≡ cache)
+DidCall sum (DropSnapshot index) reply was now cache after old new =
+    LetsGo index was.snapshots now.snapshots reply × KeepsAllButSnapshots was now × (new ≡ old)
+    × (after ≡ cache)
+DidCall sum (DropReplay index) reply was now cache after old new =
+    LetsGo index was.replays now.replays reply × KeepsAllButReplays was now × (new ≡ old)
+    × (after ≡ cache)
+DidCall sum step reply was now cache after old new =
+    TakenBy sum step was.writer now.writer was.names now.names cache after old new reply
+    × KeepsSnapshots was now
+
+-- a list of steps, one after the other, over one blob and one cache: each begins where the one
+-- before ended, with a session that is ready
+abbrev pub RanCalls : (List ℕ → ℕ) → List Step → List Reply → (was now : SessionState)
+    → (cache after : CacheState) → Life → Life → Type 0
+RanCalls sum [] [] was now cache after old new = (now ≡ was) × (after ≡ cache) × (new ≡ old)
+RanCalls sum (step ∷ steps) (reply ∷ replies) was now cache after old new =
+    IsSessionReady sum was cache old.present × (mid : SessionState) × (held : CacheState)
+    × (life : Life) × DidCall sum step reply was mid cache held old life
+    × RanCalls sum steps replies mid now held after life new
+RanCalls sum [] (reply ∷ replies) was now cache after old new = ⊥
+RanCalls sum (step ∷ steps) [] was now cache after old new = ⊥
+
+-- a run: what came of it, whatever the session stood for when it began, and what each step's call
+-- said
+pub record RunGoes (sum : List ℕ → ℕ) (steps : List Step) (was now : SessionState)
+    (cache after : CacheState) (old new : Life) (earlier replies : List Reply) : Type 0 where
+  pub always : RunsAlways sum steps was now old new earlier replies
+  pub calls : RanCalls sum steps always.added was now cache after old new

@@ -1,10 +1,10 @@
 // The writer of a session, in one of its two phases.
-ghost use Rattle.std.specs.Prelude.{◌≡◌, ◌++◌, option_map, IfOk};
+ghost use Rattle.std.specs.Prelude.{◌≡◌, option_map, IfOk};
 ghost use Rattle.cache.specs.Pages.{IsFresh};
-ghost use Rattle.writer_state.specs.Sound.{IsSound, content};
+ghost use Rattle.writer_state.specs.Sound.{IsSound};
 ghost use Rattle.paged_read.specs.Tail.{CanRead};
 ghost use Rattle.paged.specs.Caches.{tail_of};
-ghost use Rattle.paged.specs.Owes.{Owes};
+ghost use Rattle.paged.specs.Ready.{IsReady};
 ghost use Rattle.paged.specs.Reads.{size_of};
 ghost use Rattle.session.specs.Calls.{Appended, AppendSays, LeavesTaken, NeedsSync, Sized};
 ghost use Rattle.session.specs.Calls.{Starts, Synced, TriedAppend, Waits};
@@ -89,7 +89,7 @@ impl<B: Blob, H: Sum, Phase> Held<B, H, Phase> {
         requires fresh { IsFresh cache.old }
         ensures goes { let old = B.life blob.old in let new = B.life blob.new in
             TakenBy H.sum_of step.now self.old self.new names.old.items names.new.items cache.old
-            old new result }
+            cache.new old new result }
         ensures cached { FitsWriter self.new cache.new (B.life blob.new).present }
         ensures fresh_ids { IsFresh cache.old → IsFresh cache.new }
         ensures tails { let old = B.life blob.old in let new = B.life blob.new in
@@ -119,7 +119,7 @@ impl<B: Blob, H: Sum, Phase> Held<B, H, Phase> {
         requires cached { FitsWriter self.old cache.old (B.life blob.old).present }
         requires fresh { IsFresh cache.old }
         ensures goes { let old = B.life blob.old in let new = B.life blob.new in
-            Appended H.sum_of self.old self.new bytes.now old new result }
+            Appended H.sum_of self.old self.new bytes.now cache.old cache.new old new result }
         ensures cached { FitsWriter self.new cache.new (B.life blob.new).present }
         ensures fresh_ids { IsFresh cache.old → IsFresh cache.new }
         ensures tails { let old = B.life blob.old in let new = B.life blob.new in
@@ -142,7 +142,7 @@ impl<B: Blob, H: Sum, Phase> Held<B, H, Phase> {
         requires cached { FitsWriter self.old cache.old (B.life blob.old).present }
         requires fresh { IsFresh cache.old }
         ensures goes { let old = B.life blob.old in let new = B.life blob.new in
-            Appended H.sum_of self.old self.new bytes.now old new result }
+            Appended H.sum_of self.old self.new bytes.now cache.old cache.new old new result }
         ensures cached { FitsWriter self.new cache.new (B.life blob.new).present }
         ensures fresh_ids { IsFresh cache.old → IsFresh cache.new }
         ensures tails { let old = B.life blob.old in let new = B.life blob.new in
@@ -179,7 +179,7 @@ impl<B: Blob, H: Sum, Phase> Held<B, H, Phase> {
         requires cached { FitsWriter self.old cache.old (B.life blob.old).present }
         requires fresh { IsFresh cache.old }
         ensures goes { let old = B.life blob.old in let new = B.life blob.new in
-            Synced H.sum_of self.old self.new old new result }
+            Synced H.sum_of self.old self.new cache.old cache.new old new result }
         ensures cached { FitsWriter self.new cache.new (B.life blob.new).present }
         ensures fresh_ids { IsFresh cache.old → IsFresh cache.new }
         ensures tails { let old = B.life blob.old in let new = B.life blob.new in
@@ -203,7 +203,8 @@ impl<B: Blob, H: Sum, Phase> Held<B, H, Phase> {
         requires cached { FitsWriter self.old cache.old (B.life blob.old).present }
         requires fresh { IsFresh cache.old }
         ensures goes { let old = B.life blob.old in let new = B.life blob.new in
-            Starts H.sum_of self.old self.new names.old.items names.new.items old new result }
+            Starts H.sum_of self.old self.new names.old.items names.new.items cache.old cache.new
+            old new result }
         ensures cached { FitsWriter self.new cache.new (B.life blob.new).present }
         ensures fresh_ids { IsFresh cache.old → IsFresh cache.new }
         ensures tails { let old = B.life blob.old in let new = B.life blob.new in
@@ -264,11 +265,8 @@ fn append_copy<B: Blob, H: Sum, Phase>(
     requires can { CanRead (tail_of writer) cache.old (B.life blob.old).present }
     requires fresh { IsFresh cache.old }
     ensures says { let old = B.life blob.old in let new = B.life blob.new in
-        AppendSays H.sum_of writer bytes.now old new result }
-    ensures can { let new = B.life blob.new in
-        IfOk result (λ r. CanRead (tail_of r.0) cache.new new.present) }
-    ensures owes { let all = content writer (B.life blob.old).present.readable ++ bytes.now in
-        Owes H.sum_of writer all cache.old cache.new (B.life blob.old) (B.life blob.new) }
+        AppendSays H.sum_of writer bytes.now cache.old cache.new old new result }
+    ensures ready { IfOk result (λ r. IsReady H.sum_of r.0 cache.new (B.life blob.new)) }
 {
     match IoBuf::copy_from_slice(alloc, bytes) {
         Ok(bytes) => writer.append_owned(blob, cache, bytes),

@@ -1,6 +1,7 @@
 // Steps that read.
 ghost use Rattle.std.specs.Prelude.{◌≡◌, ◌≤◌, ◌+◌, IfSome, IfOk, IsOkUnless, length, IsTrue, ◌↔◌};
 ghost use Rattle.std.specs.Prelude.{IfErr, is_some, sum_by};
+ghost use Rattle.std.specs.Int.NonZero.{non_zero_usize_get};
 ghost use Rattle.std.specs.List.{range_with_len};
 ghost use Rattle.page.specs.Geometry.{AreInOrder};
 ghost use Rattle.cache.specs.Pages.{IsFresh};
@@ -30,7 +31,7 @@ impl<B: Blob, H: Sum, Phase> Held<B, H, Phase> {
         requires sound { HasSoundWriter H.sum_of self.now (B.life blob.old).present }
         requires cached { FitsWriter self.now cache.old (B.life blob.old).present }
         ensures goes { let old = B.life blob.old in let new = B.life blob.new in
-            DidRead H.sum_of self.now cache.old offset len old new result }
+            DidRead H.sum_of self.now cache.old cache.new offset len old new result }
         ensures cached { FitsWriter self.now cache.new (B.life blob.new).present }
         ensures fresh_ids { IsFresh cache.old → IsFresh cache.new }
         ensures tails { let old = B.life blob.old in let new = B.life blob.new in
@@ -58,7 +59,8 @@ impl<B: Blob, H: Sum, Phase> Held<B, H, Phase> {
     ) -> Reply
         requires sound { HasSoundWriter H.sum_of self.now (B.life blob.old).present }
         ensures goes { let old = B.life blob.old in let new = B.life blob.new in
-            DidScan H.sum_of self.now most old new result }
+            let size = non_zero_usize_get buffer_size in
+            DidScan H.sum_of self.now proven most size old new result }
         ensures cached { let old = B.life blob.old in let new = B.life blob.new in
             FitsOn self.now self.now old.present new.present }
         ensures tails { let old = B.life blob.old in let new = B.life blob.new in
@@ -84,7 +86,7 @@ impl<B: Blob, H: Sum, Phase> Held<B, H, Phase> {
         requires sound { HasSoundWriter H.sum_of self.now (B.life blob.old).present }
         requires cached { FitsWriter self.now cache.old (B.life blob.old).present }
         ensures goes { let old = B.life blob.old in let new = B.life blob.new in
-            DidReadUpTo H.sum_of self.now cache.old offset len old new result }
+            DidReadUpTo H.sum_of self.now cache.old cache.new offset len old new result }
         ensures cached { FitsWriter self.now cache.new (B.life blob.new).present }
         ensures fresh_ids { IsFresh cache.old → IsFresh cache.new }
         ensures tails { let old = B.life blob.old in let new = B.life blob.new in
@@ -131,7 +133,7 @@ impl<B: Blob, H: Sum, Phase> Held<B, H, Phase> {
         requires cached { FitsWriter self.now cache.old (B.life blob.old).present }
         ensures goes { let old = B.life blob.old in let new = B.life blob.new in
             let fit = fit_together ranges.now in
-            DidReadRanges H.sum_of self.now fit cache.old ranges.now old new result }
+            DidReadRanges H.sum_of self.now fit cache.old cache.new ranges.now old new result }
         ensures cached { FitsWriter self.now cache.new (B.life blob.new).present }
         ensures fresh_ids { IsFresh cache.old → IsFresh cache.new }
         ensures tails { let old = B.life blob.old in let new = B.life blob.new in
@@ -158,7 +160,7 @@ impl<B: Blob, H: Sum, Phase> Held<B, H, Phase> {
         requires in_order { AreInOrder ranges.now }
         requires filled { len ≡ sum_by (λ range. range.1) ranges.now }
         ensures says { let old = B.life blob.old in let new = B.life blob.new in
-            ReadRangesSays H.sum_of writer.now cache.old ranges.now old new result }
+            ReadRangesSays H.sum_of writer.now cache.old cache.new ranges.now old new result }
         ensures leaves { let old = B.life blob.old in let new = B.life blob.new in
             LeavesAll (tail_of writer.now) cache.old cache.new old new }
         ensures tails { let old = B.life blob.old in let new = B.life blob.new in

@@ -33,7 +33,7 @@ impl<B: Blob, H: Sum, Phase> Held<B, H, Phase> {
         requires fresh { IsFresh cache.old }
         ensures goes { let old = B.life blob.old in let new = B.life blob.new in
             TakesReplay H.sum_of self.old self.new replays.old.items replays.new.items
-            (non_zero_usize_get buffer_size) old new result }
+            (non_zero_usize_get buffer_size) cache.old cache.new old new result }
         ensures cached { FitsWriter self.new cache.new (B.life blob.new).present }
         ensures fresh_ids { IsFresh cache.old → IsFresh cache.new }
         ensures tails { let old = B.life blob.old in let new = B.life blob.new in
@@ -89,7 +89,7 @@ impl<B: Blob, H: Sum> Session<B, H> {
         requires fresh { IsFresh cache.old }
         ensures goes { let old = B.life blob.old in let new = B.life blob.new in
             TakesReplay H.sum_of self.old.writer self.new.writer self.old.replays self.new.replays
-            (non_zero_usize_get buffer_size) old new result }
+            (non_zero_usize_get buffer_size) cache.old cache.new old new result }
         ensures rest { KeepsButReplays self.old self.new }
         ensures cached { FitsWriter self.new.writer cache.new (B.life blob.new).present }
         ensures fresh_ids { IsFresh cache.old → IsFresh cache.new }

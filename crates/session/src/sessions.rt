@@ -10,12 +10,13 @@ ghost use Rattle.disk.specs.Disk.{Disk};
 ghost use Rattle.paged.specs.Caches.{tail_of};
 ghost use Rattle.paged.specs.Reads.{size_of};
 ghost use Rattle.session.specs.Others.{LeavesOtherBlobs, WriterLeavesOthers};
-ghost use Rattle.session.specs.Run.{CacheFits, FitsWriter, HasSoundWriter, IsReady, RunsAlways};
+ghost use Rattle.session.specs.Run.{CacheFits, FitsWriter, HasSoundWriter, IsReady};
 ghost use Rattle.session.specs.Run.{IsSessionReady, TookNone};
 ghost use Rattle.session.specs.Promise.{Promises, StandsWhereSound, closed, session_of};
 ghost use Rattle.session.specs.Calls.{Begins, is_given, IsOfEither, KeepsRest, KeepsSnapshots};
 ghost use Rattle.session.specs.Calls.{KeepsUncut};
-ghost use Rattle.session.specs.Calls.{LeavesTaken, Steps, TakenBy, Truncated, WaitsFor};
+ghost use Rattle.session.specs.Calls.{DidCall, LeavesTaken, RunGoes, Steps, TakenBy, Truncated};
+ghost use Rattle.session.specs.Calls.{WaitsFor};
 
 use crate::held::Held;
 use crate::names::Names;
@@ -121,6 +122,8 @@ impl<B: Blob, H: Sum> Session<B, H> {
         requires fresh { IsFresh cache.old }
         ensures goes { let old = B.life blob.old in let new = B.life blob.new in
             Steps H.sum_of step.now result self.old self.new old new }
+        ensures calls { let old = B.life blob.old in let new = B.life blob.new in
+            DidCall H.sum_of step.now result self.old self.new cache.old cache.new old new }
         ensures cached { CacheFits self.new cache.new (B.life blob.new).present }
         ensures fresh_ids { IsFresh cache.old → IsFresh cache.new }
         ensures others { LeavesOtherBlobs self.old self.new cache.old cache.new }
@@ -151,7 +154,7 @@ impl<B: Blob, H: Sum> Session<B, H> {
         requires fresh { IsFresh cache.old }
         ensures goes { let old = B.life blob.old in let new = B.life blob.new in
             TakenBy H.sum_of step.now self.old.writer self.new.writer self.old.names self.new.names
-            cache.old old new result }
+            cache.old cache.new old new result }
         ensures rest { KeepsSnapshots self.old self.new }
         ensures cached { FitsWriter self.new.writer cache.new (B.life blob.new).present }
         ensures fresh_ids { IsFresh cache.old → IsFresh cache.new }
@@ -207,8 +210,8 @@ impl<B: Blob, H: Sum> Session<B, H> {
         requires sound { HasSoundWriter H.sum_of self.old.writer (B.life blob.old).present }
         requires cached { FitsWriter self.old.writer cache.old (B.life blob.old).present }
         ensures goes { let old = B.life blob.old in let new = B.life blob.new in
-            Truncated H.sum_of self.old.recovering self.old.writer self.new.writer size old new
-            result }
+            Truncated H.sum_of self.old.recovering self.old.writer self.new.writer size cache.old
+            cache.new old new result }
         ensures rest { KeepsUncut self.old self.new }
         ensures cached { FitsWriter self.new.writer cache.new (B.life blob.new).present }
         ensures fresh_ids { IsFresh cache.old → IsFresh cache.new }
@@ -225,8 +228,8 @@ impl<B: Blob, H: Sum> Session<B, H> {
         requires sound { HasSoundWriter H.sum_of self.old.writer (B.life blob.old).present }
         requires cached { FitsWriter self.old.writer cache.old (B.life blob.old).present }
         ensures goes { let old = B.life blob.old in let new = B.life blob.new in
-            Truncated H.sum_of self.old.recovering self.old.writer self.new.writer size old new
-            result }
+            Truncated H.sum_of self.old.recovering self.old.writer self.new.writer size cache.old
+            cache.new old new result }
         ensures rest { KeepsRest self.old self.new }
         ensures cached { FitsWriter self.new.writer cache.new (B.life blob.new).present }
         ensures fresh_ids { IsFresh cache.old → IsFresh cache.new }
@@ -284,10 +287,11 @@ pub fn run<B: Blob, H: Sum>(
     ensures ready { let new = (B.life blob.new).present in
         IsSessionReady H.sum_of session.new cache.new new }
 
-    // Whatever the session stood for before, at each moment of each step.
+    // Whatever the session stood for before, at each moment of each step; and of each step what
+    // the call that it makes says: which bytes, how many device calls, what is put in the cache.
     ensures runs { let old = B.life blob.old in let new = B.life blob.new in
-        OnOk result (RunsAlways H.sum_of steps.now session.old session.new old new
-        replies.old.items replies.new.items) }
+        OnOk result (RunGoes H.sum_of steps.now session.old session.new cache.old cache.new
+        old new replies.old.items replies.new.items) }
 
     // And whatever comes back from any of them after crashes and recoveries keeps what stood then.
     ensures promises { let old = B.life blob.old in let new = B.life blob.new in

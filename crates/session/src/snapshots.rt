@@ -36,7 +36,7 @@ impl<B: Blob, H: Sum> Session<B, H> {
         requires cached { FitsWriter self.old.writer cache.old (B.life blob.old).present }
         requires fresh { IsFresh cache.old }
         ensures goes { let old = B.life blob.old in let new = B.life blob.new in
-            DidSnapshot H.sum_of self.old self.new cache.new old new result }
+            DidSnapshot H.sum_of self.old self.new cache.old cache.new old new result }
         ensures cached { FitsWriter self.new.writer cache.new (B.life blob.new).present }
         ensures fresh_ids { IsFresh cache.old → IsFresh cache.new }
         ensures tails { let old = B.life blob.old in let new = B.life blob.new in
@@ -92,7 +92,7 @@ impl<B: Blob, H: Sum> Session<B, H> {
         requires cached { FitsWriter self.old.writer cache.old (B.life blob.old).present }
         requires fresh { IsFresh cache.old }
         ensures goes { let old = B.life blob.old in let new = B.life blob.new in
-            DidSeal H.sum_of self.old self.new cache.new old new result }
+            DidSeal H.sum_of self.old self.new cache.old cache.new old new result }
         ensures cached { FitsWriter self.new.writer cache.new (B.life blob.new).present }
         ensures fresh_ids { IsFresh cache.old → IsFresh cache.new }
         ensures tails { let old = B.life blob.old in let new = B.life blob.new in
@@ -135,8 +135,8 @@ impl<B: Blob, H: Sum> Session<B, H> {
         requires can { let old = (B.life blob.old).present in
             All (λ o. IfSome o (λ t. CanRead t cache.old old)) self.now.snapshots }
         ensures goes { let old = B.life blob.old in let new = B.life blob.new in
-            DidSnap H.sum_of (numbered self.now.snapshots index) cache.old offset len old new
-            result }
+            DidSnap H.sum_of (numbered self.now.snapshots index) cache.old cache.new offset len old
+            new result }
         ensures fresh_ids { IsFresh cache.old → IsFresh cache.new }
         ensures writers { LeavesWriters H.sum_of (B.life blob.old) (B.life blob.new) }
         ensures tails { let old = B.life blob.old in let new = B.life blob.new in

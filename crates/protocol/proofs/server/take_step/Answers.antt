@@ -20,6 +20,6 @@ returns-then-is_err-clause-takes g c =
 pub returns-clause-takes : goal.returns-clause-takes
 returns-clause-takes g c =
     let one : c.run.new.replies.items ≡ c.reply-item.result ∷ [] = sym c.as_slice.ensures.value ∙ one_of c.as_slice.result.now c.reply-item.result c.in-len1.len_at_least c.in-len1.len_below c.reply-item.is in
-    takes_step g.H.Sum.sum_of c.args.setting.now c.args.step c.reply-item.result c.args.session.now c.run.new.session (g.B.Blob.life c.args.blob.now) (g.B.Blob.life c.run.new.blob) c.args.replies.now.items c.run.new.replies.items
+    takes_step g.H.Sum.sum_of c.args.setting.now c.args.step c.reply-item.result c.args.session.now c.run.new.session c.args.cache.now c.run.new.cache (g.B.Blob.life c.args.blob.now) (g.B.Blob.life c.run.new.blob) c.args.replies.now.items c.run.new.replies.items
     (g.W.Write.contents c.args.out.now) (g.W.Write.contents c.write_reply-written.new.out) c.run.result c.write_reply-written.result (search rules) (sym c.if-is_err.ensures.value) c.run.ensures.runs c.requires.none one
     c.write_reply-written.ensures

@@ -2,10 +2,10 @@ use Rattle.std.proofs.Common.{rules, ◌≡◌, ◌+◌, List, [], ◌∷◌, �
 use Rattle.std.proofs.lemmas.List.{take_more, take_all}
 use Rattle.session.specs.declared.steps.Step.{Step}
 use Rattle.session.specs.declared.steps.Reply.{Reply}
-use Rattle.session.specs.Run.{RunsAlways}
+use Rattle.session.specs.Calls.{RunGoes}
 use Rattle.session.specs.Promise.{Promises}
 use Rattle.session.proofs.OtherLaws.{others_idle, others_then}
-use Rattle.session.proofs.RunLaws.{runs_none, runs_more}
+use Rattle.session.proofs.RunLaws.{goes_none, goes_more}
 use Rattle.session.proofs.PromiseLaws.{promises}
 use Rattle.session.proofs.sessions.run.Goals as goal
 
@@ -13,7 +13,7 @@ pub loop-step-init : goal.loop-step-init
 loop-step-init g c = record {
   room = search rules;
   ready = c.requires.ready;
-  runs = runs_none g.H.Sum.sum_of c.args.session.now (g.B.Blob.life c.args.blob.now) c.try_reserve.new.self.items;
+  runs = goes_none g.H.Sum.sum_of c.args.session.now c.args.cache.now (g.B.Blob.life c.args.blob.now) c.try_reserve.new.self.items;
   others = others_idle c.args.session.now c.args.session.now c.args.cache.now refl refl;
 }
 
@@ -35,9 +35,9 @@ loop-step-preserved g c =
     record {
       room = omega (arith, c.loop-step.invariant.room, c.push_reserved.ensures.len, c.push_reserved.ensures.capacity, c.loop-step-test.true);
       ready = record { steps = c.step-reply.ensures.goes.ready; cached = c.step-reply.ensures.cached; fresh = c.step-reply.ensures.fresh_ids c.loop-step.invariant.ready.fresh };
-      runs = subst (λ (taken : List Step). RunsAlways sum taken c.args.session.now c.step-reply.new.self old new c.try_reserve.new.self.items c.push_reserved.new.self.items) (sym one)
-          (runs_more sum before c.step-item.result c.step-reply.result c.args.session.now c.loop-step.session c.step-reply.new.self old between new c.try_reserve.new.self.items c.loop-step.replies.items c.push_reserved.new.self.items
-          c.loop-step.invariant.runs c.step-reply.ensures.goes c.push_reserved.ensures.items);
+      runs = subst (λ (taken : List Step). RunGoes sum taken c.args.session.now c.step-reply.new.self c.args.cache.now c.step-reply.new.cache old new c.try_reserve.new.self.items c.push_reserved.new.self.items) (sym one)
+          (goes_more sum before c.step-item.result c.step-reply.result c.args.session.now c.loop-step.session c.step-reply.new.self c.args.cache.now c.loop-step.cache c.step-reply.new.cache old between new c.try_reserve.new.self.items c.loop-step.replies.items c.push_reserved.new.self.items
+          c.loop-step.invariant.runs c.loop-step.invariant.ready c.step-reply.ensures.goes c.step-reply.ensures.calls c.push_reserved.ensures.items);
       others = others_then c.args.session.now c.loop-step.session c.step-reply.new.self c.args.cache.now c.loop-step.cache c.step-reply.new.cache c.loop-step.invariant.others c.step-reply.ensures.others;
     }
 
@@ -47,10 +47,10 @@ returns-clause-promises g c =
     let new = g.B.Blob.life c.loop-step.blob in
     let steps = c.args.steps.now in
     let all : take c.loop-step.step-index steps ≡ steps = take_all c.loop-step.step-index steps (omega (arith, c.loop-step-test.false)) in
-    let runs : RunsAlways g.H.Sum.sum_of steps c.args.session.now c.loop-step.session old new c.try_reserve.new.self.items c.loop-step.replies.items =
-    subst (λ (taken : List Step). RunsAlways g.H.Sum.sum_of taken c.args.session.now c.loop-step.session old new c.try_reserve.new.self.items c.loop-step.replies.items) all c.loop-step.invariant.runs in
+    let runs : RunGoes g.H.Sum.sum_of steps c.args.session.now c.loop-step.session c.args.cache.now c.loop-step.cache old new c.try_reserve.new.self.items c.loop-step.replies.items =
+    subst (λ (taken : List Step). RunGoes g.H.Sum.sum_of taken c.args.session.now c.loop-step.session c.args.cache.now c.loop-step.cache old new c.try_reserve.new.self.items c.loop-step.replies.items) all c.loop-step.invariant.runs in
     subst (λ (earlier : List Reply). Promises g.H.Sum.sum_of steps c.args.session.now c.loop-step.session old new earlier c.loop-step.replies.items) c.try_reserve.ensures.items
-    (promises g.H.Sum.sum_of steps c.args.session.now c.loop-step.session old new c.try_reserve.new.self.items c.loop-step.replies.items runs)
+    (promises g.H.Sum.sum_of steps c.args.session.now c.loop-step.session old new c.try_reserve.new.self.items c.loop-step.replies.items runs.always)
 
 pub returns-clause-others : goal.returns-clause-others
 returns-clause-others g c = c.loop-step.invariant.others

@@ -1,15 +1,14 @@
-use Rattle.std.proofs.Common.{◌≡◌, ◌∙◌, ℕ, length, sym, ap, subst, arith, Ok}
+use Rattle.std.proofs.Common.{◌≡◌, ◌∙◌, length, sym, ap, subst, arith}
 use Rattle.std.specs.Prelude.{Option}
 use Rattle.std.specs.Vec.{with_items}
 use Rattle.std.proofs.lemmas.List.{with_items_is}
 use Rattle.writer_state.specs.WriterState.{WriterState}
-use Rattle.paged_read.specs.Ranges.{Reads}
 use Rattle.paged.specs.Caches.{tail_of}
 use Rattle.session.specs.declared.steps.Reply.TheVariants.{Bytes, Fault}
 use Rattle.session.specs.Calls.{DidRead}
 use Rattle.session.specs.Run.{FitsWriter}
 use Rattle.session.proofs.Below.{can_in, leaves_same}
-use Rattle.session.proofs.SizeLaws.{read_says, room_refused}
+use Rattle.session.proofs.SizeLaws.{read_fails, read_says, room_refused}
 use Rattle.session.proofs.held.Held.read.Goals as goal
 
 pub returns-in-Err-clause-goes : goal.returns-in-Err-clause-goes
@@ -17,7 +16,7 @@ returns-in-Err-clause-goes g c =
     let sum = g.H.Sum.sum_of in
     let life = g.B.Blob.life c.args.blob.now in
     let at = sym c.self.view_is ∙ c.in-Some.is in
-    subst (λ (o : Option WriterState). DidRead sum o c.args.cache.now c.args.offset c.args.len life life (Fault c.in-Err.error)) (sym at)
+    subst (λ (o : Option WriterState). DidRead sum o c.args.cache.now c.args.cache.now c.args.offset c.args.len life life (Fault c.in-Err.error)) (sym at)
     (room_refused sum (tail_of c.in-Some.writer) c.args.cache.now c.args.offset c.args.len c.size.result life c.in-Err.error c.size.ensures c.size.type_inv c.in-Err.ensures.err)
 
 pub returns-in-Ok-read_into-clause-goes : goal.returns-in-Ok-read_into-clause-goes
@@ -31,10 +30,20 @@ returns-in-Ok-read_into-clause-goes g c =
     let bytes = with_items c.in-Ok.bytes buf in
     let room : length c.deref_mut.result.now ≡ c.args.len = omega (arith, ap length c.deref_mut.ensures.value, c.in-Ok.ensures.len) in
     let long : length buf ≡ c.in-Ok.bytes.len = omega (arith, is.goes.size, ap length c.deref_mut.ensures.value, c.in-Ok.bytes.ok.0) in
-    let reads = subst (λ (n : ℕ). Reads {A = Unit {0}} sum t c.args.cache.now (c.args.offset, n) (λ u. buf) old new (Ok tt)) room is.goes.answers in
     let at = sym c.self.view_is ∙ c.in-Some.is in
-    subst (λ (o : Option WriterState). DidRead sum o c.args.cache.now c.args.offset c.args.len old new (Bytes bytes)) (sym at)
-    (read_says sum t c.args.cache.now c.args.offset c.args.len c.size.result old new buf bytes c.size.ensures c.size.type_inv (with_items_is c.in-Ok.bytes buf long) reads is.leaves.looked)
+    subst (λ (o : Option WriterState). DidRead sum o c.args.cache.now c.read_into.new.cache c.args.offset c.args.len old new (Bytes bytes)) (sym at)
+    (read_says sum t c.args.cache.now c.read_into.new.cache c.args.offset c.args.len c.size.result old new c.deref_mut.result.now buf bytes c.size.ensures c.size.type_inv (with_items_is c.in-Ok.bytes buf long) room is.goes is.costs is.leaves.looked)
+
+pub returns-in-Err-read_into-clause-goes : goal.returns-in-Err-read_into-clause-goes
+returns-in-Err-read_into-clause-goes g c =
+    let sum = g.H.Sum.sum_of in
+    let old = g.B.Blob.life c.args.blob.now in
+    let new = g.B.Blob.life c.read_into.new.blob in
+    let is = c.in-Err-read_into.ensures in
+    let room : length c.deref_mut.result.now ≡ c.args.len = omega (arith, ap length c.deref_mut.ensures.value, c.in-Ok.ensures.len) in
+    let at = sym c.self.view_is ∙ c.in-Some.is in
+    subst (λ (o : Option WriterState). DidRead sum o c.args.cache.now c.read_into.new.cache c.args.offset c.args.len old new (Fault c.in-Err-read_into.error)) (sym at)
+    (read_fails sum (tail_of c.in-Some.writer) c.args.cache.now c.read_into.new.cache c.args.offset c.args.len old new c.deref_mut.result.now c.read_into.new.buf c.in-Err-read_into.error room is.goes is.costs is.leaves.looked)
 
 pub returns-in-Ok-read_into-clause-tails : goal.returns-in-Ok-read_into-clause-tails
 returns-in-Ok-read_into-clause-tails g c =

@@ -23,15 +23,15 @@ returns-in-Ok-read_ranges_into-clause-says g c =
     let is = c.in-Ok-read_ranges_into.ensures in
     let buf = c.read_ranges_into.new.buf in
     let long : length buf ≡ c.in-Ok.bytes.len = omega (arith, is.goes.size, ap length c.deref_mut.ensures.value, c.in-Ok.bytes.ok.0) in
-    served_says g.H.Sum.sum_of w c.args.cache.now c.args.ranges.now buf (g.B.Blob.life c.args.blob.now) (g.B.Blob.life c.read_ranges_into.new.blob) c.in-Ok-read_ranges_into.count (with_items c.in-Ok.bytes buf) small (with_items_is c.in-Ok.bytes buf long) is.goes.answers is.costs.asks is.leaves.looked
+    served_says g.H.Sum.sum_of w c.args.cache.now c.read_ranges_into.new.cache c.args.ranges.now buf (g.B.Blob.life c.args.blob.now) (g.B.Blob.life c.read_ranges_into.new.blob) c.in-Ok-read_ranges_into.count (with_items c.in-Ok.bytes buf) small (with_items_is c.in-Ok.bytes buf long) is.goes.answers is.costs is.leaves.looked
 
 pub returns-in-Err-read_ranges_into-clause-says : goal.returns-in-Err-read_ranges_into-clause-says
 returns-in-Err-read_ranges_into-clause-says g c =
     let w = c.args.writer.now in
     let small : size_of w < 2 ^ 64 = omega (arith, c.size.ensures) in
     let is = c.in-Err-read_ranges_into.ensures in
-    fault_says g.H.Sum.sum_of w c.args.cache.now c.args.ranges.now c.read_ranges_into.new.buf (g.B.Blob.life c.args.blob.now) (g.B.Blob.life c.read_ranges_into.new.blob) c.in-Err-read_ranges_into.error small
-    (λ same. is.goes.never_if_sound w c.requires.sound refl (omega arith) (ap Err same)) is.goes.answers is.costs.asks is.leaves.looked
+    fault_says g.H.Sum.sum_of w c.args.cache.now c.read_ranges_into.new.cache c.args.ranges.now c.read_ranges_into.new.buf (g.B.Blob.life c.args.blob.now) (g.B.Blob.life c.read_ranges_into.new.blob) c.in-Err-read_ranges_into.error small
+    (λ same. is.goes.never_if_sound w c.requires.sound refl (omega arith) (ap Err same)) is.goes.answers is.costs is.leaves.looked
 
 pub returns-in-Err-clause-leaves : goal.returns-in-Err-clause-leaves
 returns-in-Err-clause-leaves g c = leaves_none (tail_of c.args.writer.now) c.args.cache.now (g.B.Blob.life c.args.blob.now) c.requires.can

@@ -1,11 +1,11 @@
-use Rattle.std.proofs.Common.{sym, ◌∙◌, refl, subst, arith}
+use Rattle.std.proofs.Common.{sym, ◌∙◌, subst}
 use Rattle.std.specs.Prelude.{Option}
 use Rattle.writer_state.specs.WriterState.{WriterState}
 use Rattle.paged.specs.Caches.{tail_of}
 use Rattle.session.specs.declared.steps.Reply.TheVariants.{Bytes, Fault}
 use Rattle.session.specs.Run.{FitsWriter}
 use Rattle.session.specs.Calls.{DidReadUpTo}
-use Rattle.session.proofs.Below.{can_in, leaves_same, sound_in}
+use Rattle.session.proofs.Below.{can_in, leaves_same}
 use Rattle.session.proofs.held.Held.read_up_to.Goals as goal
 
 pub returns-in-Ok-clause-tails : goal.returns-in-Ok-clause-tails
@@ -23,8 +23,8 @@ returns-in-Ok-clause-goes g c =
     let new = g.B.Blob.life c.read_up_to.new.blob in
     let at = sym c.self.view_is ∙ c.in-Some.is in
     let is = c.in-Ok.ensures in
-    subst (λ (o : Option WriterState). DidReadUpTo sum o c.args.cache.now c.args.offset c.args.len old new (Bytes c.in-Ok.bytes)) (sym at)
-    (record { reads = (c.in-Ok.field-0-1, is.goes.answers); full = λ same. cc same; end = λ some past. cc (is.goes.end some past); looked = is.leaves.looked })
+    subst (λ (o : Option WriterState). DidReadUpTo sum o c.args.cache.now c.read_up_to.new.cache c.args.offset c.args.len old new (Bytes c.in-Ok.bytes)) (sym at)
+    (record { reads = (c.in-Ok.field-0-1, record { goes = is.goes; costs = is.costs }); looked = is.leaves.looked })
 
 pub returns-in-Ok-clause-cached : goal.returns-in-Ok-clause-cached
 returns-in-Ok-clause-cached g c =
@@ -39,9 +39,8 @@ returns-in-Err-clause-goes g c =
     let new = g.B.Blob.life c.read_up_to.new.blob in
     let at = sym c.self.view_is ∙ c.in-Some.is in
     let is = c.in-Err.ensures in
-    let sound = sound_in sum c.args.self.now c.in-Some.writer old.present at c.requires.sound in
-    subst (λ (o : Option WriterState). DidReadUpTo sum o c.args.cache.now c.args.offset c.args.len old new (Fault c.in-Err.error)) (sym at)
-    (record { reads = is.goes.answers; full = λ same. is.goes.never_if_sound c.in-Some.writer sound refl (omega arith) (cc same); end = λ some past. cc (is.goes.end some past); looked = is.leaves.looked })
+    subst (λ (o : Option WriterState). DidReadUpTo sum o c.args.cache.now c.read_up_to.new.cache c.args.offset c.args.len old new (Fault c.in-Err.error)) (sym at)
+    (record { reads = record { goes = is.goes; costs = is.costs }; looked = is.leaves.looked })
 
 pub returns-in-Err-clause-cached : goal.returns-in-Err-clause-cached
 returns-in-Err-clause-cached g c =

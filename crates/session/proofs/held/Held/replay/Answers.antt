@@ -5,7 +5,6 @@ use Rattle.writer_state.specs.WriterState.{WriterState}
 use Rattle.session.specs.declared.steps.Reply.TheVariants.{Fault, Replaying}
 use Rattle.session.specs.Calls.{TakesReplay}
 use Rattle.session.proofs.Below.{can_in, leaves_on, leaves_gone, sound_in}
-use Rattle.session.proofs.WordLaws.{replay_says}
 use Rattle.session.proofs.held.Held.replay.Goals as goal
 
 pub replay-requires : goal.replay-requires
@@ -21,14 +20,14 @@ returns-in-Ok-clause-goes g c =
     let old = g.B.Blob.life c.args.blob.now in
     let new = g.B.Blob.life c.replay.new.blob in
     let size = non_zero_usize_get c.args.buffer_size in
-    subst (λ (o : Option WriterState). TakesReplay g.H.Sum.sum_of o (Some c.in-Ok.writer) c.args.replays.now.items c.push_reserved.new.self.items size old new (Replaying c.len-index.result)) (sym at) (
+    subst (λ (o : Option WriterState). TakesReplay g.H.Sum.sum_of o (Some c.in-Ok.writer) c.args.replays.now.items c.push_reserved.new.self.items size c.args.cache.now c.replay.new.cache old new (Replaying c.len-index.result)) (sym at) (
       c.in-Ok.writer,
       c.in-Ok.replay,
       refl,
       search rules,
       search rules,
-      replay_says g.H.Sum.sum_of c.in-Some.writer c.args.cache.now c.replay.new.cache old new size (Ok (c.in-Ok.writer, c.in-Ok.replay)) is.goes (is.ready.0 (record { sound = sound_in g.H.Sum.sum_of c.args.self.now c.in-Some.writer (g.B.Blob.life c.args.blob.now).present at c.requires.sound; can = can_in c.args.self.now c.in-Some.writer c.args.cache.now (g.B.Blob.life c.args.blob.now).present at c.requires.cached; fresh = c.requires.fresh })) is.owes is.costs,
-      is.goes.gives (sound_in g.H.Sum.sum_of c.args.self.now c.in-Some.writer (g.B.Blob.life c.args.blob.now).present at c.requires.sound),
+      is.ready.0 (record { sound = sound_in g.H.Sum.sum_of c.args.self.now c.in-Some.writer (g.B.Blob.life c.args.blob.now).present at c.requires.sound; can = can_in c.args.self.now c.in-Some.writer c.args.cache.now (g.B.Blob.life c.args.blob.now).present at c.requires.cached; fresh = c.requires.fresh }),
+      record { goes = is.goes; owes = is.owes; costs = is.costs },
     )
 
 pub returns-in-Err-clause-goes : goal.returns-in-Err-clause-goes
@@ -39,8 +38,8 @@ returns-in-Err-clause-goes g c =
     let old = g.B.Blob.life c.args.blob.now in
     let new = g.B.Blob.life c.replay.new.blob in
     let size = non_zero_usize_get c.args.buffer_size in
-    subst (λ (o : Option WriterState). TakesReplay g.H.Sum.sum_of o c.take.new.self c.args.replays.now.items c.try_reserve.new.self.items size old new (Fault c.in-Err.error)) (sym at)
-    (inl (none, search rules, replay_says g.H.Sum.sum_of c.in-Some.writer c.args.cache.now c.replay.new.cache old new size (Err c.in-Err.error) is.goes tt is.owes is.costs))
+    subst (λ (o : Option WriterState). TakesReplay g.H.Sum.sum_of o c.take.new.self c.args.replays.now.items c.try_reserve.new.self.items size c.args.cache.now c.replay.new.cache old new (Fault c.in-Err.error)) (sym at)
+    (inl (none, search rules, record { goes = is.goes; owes = is.owes; costs = is.costs }))
 
 pub returns-in-Ok-clause-tails : goal.returns-in-Ok-clause-tails
 returns-in-Ok-clause-tails g c =

@@ -2,9 +2,8 @@ use Rattle.std.proofs.Common.{rules, ◌≡◌, inl, Some, None, Ok, Err, sym, s
 use Rattle.std.specs.Prelude.{Option}
 use Rattle.writer_state.specs.WriterState.{WriterState}
 use Rattle.session.specs.declared.steps.Reply.TheVariants.{Fault}
-use Rattle.session.specs.Calls.{Starts}
+use Rattle.session.specs.Calls.{Starts, StartSays}
 use Rattle.session.proofs.Below.{can_in, leaves_on, leaves_gone, sound_in}
-use Rattle.session.proofs.WordLaws.{start_says}
 use Rattle.session.proofs.held.Held.start_sync.Goals as goal
 
 pub start_sync-requires : goal.start_sync-requires
@@ -19,7 +18,8 @@ returns-after-started-clause-goes g c =
     let is = c.in-Ok.ensures in
     let old = g.B.Blob.life c.args.blob.now in
     let new = g.B.Blob.life c.start_sync.new.blob in
-    let says = start_says g.H.Sum.sum_of c.in-Some.writer c.args.cache.now c.start_sync.new.cache old new (sound_in g.H.Sum.sum_of c.args.self.now c.in-Some.writer (g.B.Blob.life c.args.blob.now).present at c.requires.sound) (Ok (c.in-Ok.writer, c.in-Ok.started)) is.goes (is.ready.0 (record { sound = sound_in g.H.Sum.sum_of c.args.self.now c.in-Some.writer (g.B.Blob.life c.args.blob.now).present at c.requires.sound; can = can_in c.args.self.now c.in-Some.writer c.args.cache.now (g.B.Blob.life c.args.blob.now).present at c.requires.cached; fresh = c.requires.fresh })) is.owes is.costs in
+    let whole = is.ready.0 (record { sound = sound_in g.H.Sum.sum_of c.args.self.now c.in-Some.writer (g.B.Blob.life c.args.blob.now).present at c.requires.sound; can = can_in c.args.self.now c.in-Some.writer c.args.cache.now (g.B.Blob.life c.args.blob.now).present at c.requires.cached; fresh = c.requires.fresh }) in
+    let says : StartSays g.H.Sum.sum_of c.in-Some.writer c.args.cache.now c.start_sync.new.cache old new (Ok (c.in-Ok.writer, c.in-Ok.started)) = record { goes = is.goes; owes = is.owes; costs = is.costs } in
     search rules
 
 pub returns-in-Err-clause-goes : goal.returns-in-Err-clause-goes
@@ -29,8 +29,8 @@ returns-in-Err-clause-goes g c =
     let is = c.in-Err.ensures in
     let old = g.B.Blob.life c.args.blob.now in
     let new = g.B.Blob.life c.start_sync.new.blob in
-    subst (λ (o : Option WriterState). Starts g.H.Sum.sum_of o c.take.new.self c.args.names.now.items c.make_room.new.self.items old new (Fault c.in-Err.error)) (sym at)
-    (inl (none, search rules, start_says g.H.Sum.sum_of c.in-Some.writer c.args.cache.now c.start_sync.new.cache old new (sound_in g.H.Sum.sum_of c.args.self.now c.in-Some.writer (g.B.Blob.life c.args.blob.now).present at c.requires.sound) (Err c.in-Err.error) is.goes tt is.owes is.costs))
+    subst (λ (o : Option WriterState). Starts g.H.Sum.sum_of o c.take.new.self c.args.names.now.items c.make_room.new.self.items c.args.cache.now c.start_sync.new.cache old new (Fault c.in-Err.error)) (sym at)
+    (inl (none, search rules, record { goes = is.goes; owes = is.owes; costs = is.costs }))
 
 pub returns-after-started-clause-tails : goal.returns-after-started-clause-tails
 returns-after-started-clause-tails g c =

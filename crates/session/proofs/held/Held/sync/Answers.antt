@@ -4,7 +4,6 @@ use Rattle.writer_state.specs.WriterState.{WriterState}
 use Rattle.session.specs.declared.steps.Reply.TheVariants.{Done, Fault}
 use Rattle.session.specs.Calls.{Synced}
 use Rattle.session.proofs.Below.{can_in, leaves_on, leaves_gone, sound_in}
-use Rattle.session.proofs.WordLaws.{sync_says}
 use Rattle.session.proofs.held.Held.sync.Goals as goal
 
 pub sync-requires : goal.sync-requires
@@ -19,10 +18,11 @@ returns-in-Ok-clause-goes g c =
     let is = c.in-Ok.ensures in
     let old = g.B.Blob.life c.args.blob.now in
     let new = g.B.Blob.life c.sync.new.blob in
-    subst (λ (o : Option WriterState). Synced g.H.Sum.sum_of o (Some c.in-Ok.writer) old new Done) (sym at) (
+    subst (λ (o : Option WriterState). Synced g.H.Sum.sum_of o (Some c.in-Ok.writer) c.args.cache.now c.sync.new.cache old new Done) (sym at) (
       c.in-Ok.writer,
       refl,
-      sync_says g.H.Sum.sum_of c.in-Some.writer c.args.cache.now c.sync.new.cache old new (Ok c.in-Ok.writer) is.goes (is.ready.0 (record { sound = sound_in g.H.Sum.sum_of c.args.self.now c.in-Some.writer (g.B.Blob.life c.args.blob.now).present at c.requires.sound; can = can_in c.args.self.now c.in-Some.writer c.args.cache.now (g.B.Blob.life c.args.blob.now).present at c.requires.cached; fresh = c.requires.fresh })) is.owes is.costs,
+      is.ready.0 (record { sound = sound_in g.H.Sum.sum_of c.args.self.now c.in-Some.writer (g.B.Blob.life c.args.blob.now).present at c.requires.sound; can = can_in c.args.self.now c.in-Some.writer c.args.cache.now (g.B.Blob.life c.args.blob.now).present at c.requires.cached; fresh = c.requires.fresh }),
+      record { goes = is.goes; owes = is.owes; costs = is.costs },
     )
 
 pub returns-in-Err-clause-goes : goal.returns-in-Err-clause-goes
@@ -32,9 +32,9 @@ returns-in-Err-clause-goes g c =
     let is = c.in-Err.ensures in
     let old = g.B.Blob.life c.args.blob.now in
     let new = g.B.Blob.life c.sync.new.blob in
-    subst (λ (o : Option WriterState). Synced g.H.Sum.sum_of o c.take.new.self old new (Fault c.in-Err.error)) (sym at) (
+    subst (λ (o : Option WriterState). Synced g.H.Sum.sum_of o c.take.new.self c.args.cache.now c.sync.new.cache old new (Fault c.in-Err.error)) (sym at) (
       none,
-      sync_says g.H.Sum.sum_of c.in-Some.writer c.args.cache.now c.sync.new.cache old new (Err c.in-Err.error) is.goes tt is.owes is.costs,
+      record { goes = is.goes; owes = is.owes; costs = is.costs },
     )
 
 pub returns-in-Ok-clause-tails : goal.returns-in-Ok-clause-tails

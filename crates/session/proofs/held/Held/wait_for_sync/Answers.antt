@@ -5,7 +5,7 @@ use Rattle.session.specs.declared.steps.Reply.TheVariants.{Done, Fault}
 use Rattle.session.specs.Calls.{Waits}
 use Rattle.session.proofs.Below.{can_in, leaves_on, leaves_gone, sound_in}
 use Rattle.session.proofs.OtherWriters.{settings_same}
-use Rattle.session.proofs.WordLaws.{wait_reads, wait_says}
+use Rattle.session.proofs.WordLaws.{wait_reads}
 use Rattle.session.proofs.held.Held.wait_for_sync.Goals as goal
 
 pub wait_for_sync-requires : goal.wait_for_sync-requires
@@ -20,7 +20,7 @@ returns-in-Ok-clause-goes g c =
     let old = g.B.Blob.life c.args.blob.now in
     let new = g.B.Blob.life c.wait_for_sync.new.blob in
     subst (λ (o : Option WriterState). Waits g.H.Sum.sum_of o (Some c.in-Ok.writer) old new Done) (sym at)
-    (c.in-Ok.writer, refl, wait_says g.H.Sum.sum_of c.in-Some.writer old new (sound_in g.H.Sum.sum_of c.args.self.now c.in-Some.writer (g.B.Blob.life c.args.blob.now).present at c.requires.sound) (Ok c.in-Ok.writer) is.goes is.owes is.costs)
+    (c.in-Ok.writer, refl, record { goes = is.goes; owes = is.owes; costs = is.costs })
 
 pub returns-in-Err-clause-goes : goal.returns-in-Err-clause-goes
 returns-in-Err-clause-goes g c =
@@ -30,7 +30,7 @@ returns-in-Err-clause-goes g c =
     let old = g.B.Blob.life c.args.blob.now in
     let new = g.B.Blob.life c.wait_for_sync.new.blob in
     subst (λ (o : Option WriterState). Waits g.H.Sum.sum_of o c.take.new.self old new (Fault c.in-Err.error)) (sym at)
-    (none, wait_says g.H.Sum.sum_of c.in-Some.writer old new (sound_in g.H.Sum.sum_of c.args.self.now c.in-Some.writer (g.B.Blob.life c.args.blob.now).present at c.requires.sound) (Err c.in-Err.error) is.goes is.owes is.costs)
+    (none, record { goes = is.goes; owes = is.owes; costs = is.costs })
 
 pub returns-in-Ok-clause-cached : goal.returns-in-Ok-clause-cached
 returns-in-Ok-clause-cached g c =

@@ -8,7 +8,6 @@ use Rattle.session.specs.Others.{WriterLeavesOthers}
 use Rattle.session.proofs.Below.{sound_in, can_in, in_recovery}
 use Rattle.session.proofs.OtherWriters.{others_gone, others_on}
 use Rattle.session.proofs.TruncateLaws.{cuts_here}
-use Rattle.session.proofs.WordLaws.{truncate_says}
 use Rattle.session.proofs.sessions.Session.cut.Goals as goal
 
 pub returns-in-Ok-clause-goes : goal.returns-in-Ok-clause-goes
@@ -17,15 +16,14 @@ returns-in-Ok-clause-goes g c =
     let old = g.B.Blob.life c.args.blob.now in
     let phase : c.args.self.now.recovering ≡ true = search rules in
     let at : c.args.self.now.writer ≡ Some c.in-Some-take.writer = search rules in
-    let sound = sound_in sum c.args.self.now.writer c.in-Some-take.writer old.present at c.requires.sound in
     let is = c.in-Ok.ensures in
     let inside = c.self-inside.inside in
-    subst (λ (o : Option WriterState). Truncated sum c.args.self.now.recovering c.args.self.now.writer o c.args.size old (g.B.Blob.life c.truncate.new.blob) (Length c.size-size.result)) (sym (in_recovery inside.0.1.0 (Some c.in-Ok.writer) inside.0.1.1.1.0.writer (search rules)))
-    (cuts_here sum c.args.self.now.recovering c.args.self.now.writer c.in-Some-take.writer (Some c.in-Ok.writer) c.args.size old (g.B.Blob.life c.truncate.new.blob) (Length c.size-size.result) phase at (
+    subst (λ (o : Option WriterState). Truncated sum c.args.self.now.recovering c.args.self.now.writer o c.args.size c.args.cache.now c.truncate.new.cache old (g.B.Blob.life c.truncate.new.blob) (Length c.size-size.result)) (sym (in_recovery inside.0.1.0 (Some c.in-Ok.writer) inside.0.1.1.1.0.writer (search rules)))
+    (cuts_here sum c.args.self.now.recovering c.args.self.now.writer c.in-Some-take.writer (Some c.in-Ok.writer) c.args.size c.args.cache.now c.truncate.new.cache old (g.B.Blob.life c.truncate.new.blob) (Length c.size-size.result) phase at (
       c.in-Ok.writer,
       refl,
       search rules,
-      truncate_says g.H.Sum.sum_of c.in-Some-take.writer c.args.cache.now c.truncate.new.cache old (g.B.Blob.life c.truncate.new.blob) c.args.size (Ok c.in-Ok.writer) sound is.goes is.owes is.costs,
+      record { goes = is.goes; owes = is.owes; costs = is.costs },
     ))
 
 pub returns-in-Ok-clause-cached : goal.returns-in-Ok-clause-cached
@@ -42,13 +40,12 @@ returns-in-Err-clause-goes g c =
     let phase : c.args.self.now.recovering ≡ true = search rules in
     let at : c.args.self.now.writer ≡ Some c.in-Some-take.writer = search rules in
     let none : c.take.new.self ≡ None = search rules in
-    let sound = sound_in sum c.args.self.now.writer c.in-Some-take.writer old.present at c.requires.sound in
     let is = c.in-Err.ensures in
     let inside = c.self-inside.inside in
-    subst (λ (o : Option WriterState). Truncated sum c.args.self.now.recovering c.args.self.now.writer o c.args.size old (g.B.Blob.life c.truncate.new.blob) (Fault c.in-Err.error)) (sym (in_recovery inside.0.1.0 c.take.new.self inside.0.1.1.1.0.writer (search rules)))
-    (cuts_here sum c.args.self.now.recovering c.args.self.now.writer c.in-Some-take.writer c.take.new.self c.args.size old (g.B.Blob.life c.truncate.new.blob) (Fault c.in-Err.error) phase at (
+    subst (λ (o : Option WriterState). Truncated sum c.args.self.now.recovering c.args.self.now.writer o c.args.size c.args.cache.now c.truncate.new.cache old (g.B.Blob.life c.truncate.new.blob) (Fault c.in-Err.error)) (sym (in_recovery inside.0.1.0 c.take.new.self inside.0.1.1.1.0.writer (search rules)))
+    (cuts_here sum c.args.self.now.recovering c.args.self.now.writer c.in-Some-take.writer c.take.new.self c.args.size c.args.cache.now c.truncate.new.cache old (g.B.Blob.life c.truncate.new.blob) (Fault c.in-Err.error) phase at (
       none,
-      truncate_says g.H.Sum.sum_of c.in-Some-take.writer c.args.cache.now c.truncate.new.cache old (g.B.Blob.life c.truncate.new.blob) c.args.size (Err c.in-Err.error) sound is.goes is.owes is.costs,
+      record { goes = is.goes; owes = is.owes; costs = is.costs },
     ))
 
 pub returns-in-Ok-clause-fresh_ids : goal.returns-in-Ok-clause-fresh_ids

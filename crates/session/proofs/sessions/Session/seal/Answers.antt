@@ -1,9 +1,8 @@
 use Rattle.std.proofs.Common.{rules, ◌≡◌, inl, Some, None, Ok, Err, sym, subst}
 use Rattle.std.specs.Prelude.{Option}
 use Rattle.writer_state.specs.WriterState.{WriterState}
-use Rattle.session.specs.Calls.{LeavesTaken}
+use Rattle.session.specs.Calls.{LeavesTaken, SealSays}
 use Rattle.session.proofs.Below.{can_in, in_appending, leaves_gone, sound_in}
-use Rattle.session.proofs.WordLaws.{seal_says}
 use Rattle.session.proofs.sessions.Session.seal.Goals as goal
 
 pub seal-requires : goal.seal-requires
@@ -16,7 +15,7 @@ pub returns-after-started-clause-goes : goal.returns-after-started-clause-goes
 returns-after-started-clause-goes g c =
     let at : c.args.self.now.writer ≡ Some c.in-Some.writer = search rules in
     let is = c.in-Ok.ensures in
-    let says = seal_says g.H.Sum.sum_of c.in-Some.writer c.args.cache.now c.seal.new.cache (g.B.Blob.life c.args.blob.now) (g.B.Blob.life c.seal.new.blob) (sound_in g.H.Sum.sum_of c.args.self.now.writer c.in-Some.writer (g.B.Blob.life c.args.blob.now).present at c.requires.sound) (Ok (c.in-Ok.snapshot, c.in-Ok.started)) is.goes is.owes is.costs in
+    let says : SealSays g.H.Sum.sum_of c.in-Some.writer c.args.cache.now c.seal.new.cache (g.B.Blob.life c.args.blob.now) (g.B.Blob.life c.seal.new.blob) (Ok (c.in-Ok.snapshot, c.in-Ok.started)) = record { goes = is.goes; owes = is.owes; costs = is.costs } in
     let stands = is.goes.stands (sound_in g.H.Sum.sum_of c.args.self.now.writer c.in-Some.writer (g.B.Blob.life c.args.blob.now).present at c.requires.sound) in
     search rules
 
@@ -24,7 +23,7 @@ pub returns-in-Err-clause-goes : goal.returns-in-Err-clause-goes
 returns-in-Err-clause-goes g c =
     let at : c.args.self.now.writer ≡ Some c.in-Some.writer = search rules in
     let is = c.in-Err.ensures in
-    let says = seal_says g.H.Sum.sum_of c.in-Some.writer c.args.cache.now c.seal.new.cache (g.B.Blob.life c.args.blob.now) (g.B.Blob.life c.seal.new.blob) (sound_in g.H.Sum.sum_of c.args.self.now.writer c.in-Some.writer (g.B.Blob.life c.args.blob.now).present at c.requires.sound) (Err c.in-Err.error) is.goes is.owes is.costs in
+    let says : SealSays g.H.Sum.sum_of c.in-Some.writer c.args.cache.now c.seal.new.cache (g.B.Blob.life c.args.blob.now) (g.B.Blob.life c.seal.new.blob) (Err c.in-Err.error) = record { goes = is.goes; owes = is.owes; costs = is.costs } in
     search rules
 
 pub returns-after-started-clause-tails : goal.returns-after-started-clause-tails

@@ -27,7 +27,7 @@ returns-in-Err-clause-goes g c =
     let life = g.B.Blob.life c.args.blob.now in
     let at = at_offset c.deref.result.now c.args.self.now.snapshots c.args.index c.in-Some-Some.field-0.now (c.deref.ensures.value ∙ ap (λ (s : SessionState). s.snapshots) c.self.view_is) c.in-Some-Some.ensures.lookup.0 c.in-Some-Some.ensures.lookup.1
     ∙ ap Some c.in-Some-Some.field-0-is in
-    subst (λ (o : Option Tail). DidSnap sum o c.args.cache.now c.args.offset c.args.len life life (Fault c.in-Err.error)) (sym (stands_at c.args.self.now.snapshots c.args.index c.in-Some-Some.snapshot at))
+    subst (λ (o : Option Tail). DidSnap sum o c.args.cache.now c.args.cache.now c.args.offset c.args.len life life (Fault c.in-Err.error)) (sym (stands_at c.args.self.now.snapshots c.args.index c.in-Some-Some.snapshot at))
     (room_refused sum c.in-Some-Some.snapshot c.args.cache.now c.args.offset c.args.len c.size.result life c.in-Err.error c.size.ensures c.size.type_inv c.in-Err.ensures.err)
 
 pub returns-in-Ok-read_into-clause-goes : goal.returns-in-Ok-read_into-clause-goes
@@ -43,9 +43,8 @@ returns-in-Ok-read_into-clause-goes g c =
     let bytes = with_items c.in-Ok.bytes buf in
     let room : length c.deref_mut.result.now ≡ c.args.len = omega (arith, ap length c.deref_mut.ensures.value, c.in-Ok.ensures.len) in
     let long : length buf ≡ c.in-Ok.bytes.len = omega (arith, is.goes.size, ap length c.deref_mut.ensures.value, c.in-Ok.bytes.ok.0) in
-    let reads = subst (λ (n : ℕ). Reads {A = Unit {0}} sum t c.args.cache.now (c.args.offset, n) (λ u. buf) old new (Ok tt)) room is.goes.answers in
-    subst (λ (o : Option Tail). DidSnap sum o c.args.cache.now c.args.offset c.args.len old new (Bytes bytes)) (sym (stands_at c.args.self.now.snapshots c.args.index t at))
-    (read_says sum t c.args.cache.now c.args.offset c.args.len c.size.result old new buf bytes c.size.ensures c.size.type_inv (with_items_is c.in-Ok.bytes buf long) reads is.leaves.looked)
+    subst (λ (o : Option Tail). DidSnap sum o c.args.cache.now c.read_into.new.cache c.args.offset c.args.len old new (Bytes bytes)) (sym (stands_at c.args.self.now.snapshots c.args.index t at))
+    (read_says sum t c.args.cache.now c.read_into.new.cache c.args.offset c.args.len c.size.result old new c.deref_mut.result.now buf bytes c.size.ensures c.size.type_inv (with_items_is c.in-Ok.bytes buf long) room is.goes is.costs is.leaves.looked)
 
 pub returns-in-Err-read_into-clause-goes : goal.returns-in-Err-read_into-clause-goes
 returns-in-Err-read_into-clause-goes g c =
@@ -55,12 +54,10 @@ returns-in-Err-read_into-clause-goes g c =
     let at = at_offset c.deref.result.now c.args.self.now.snapshots c.args.index c.in-Some-Some.field-0.now (c.deref.ensures.value ∙ ap (λ (s : SessionState). s.snapshots) c.self.view_is) c.in-Some-Some.ensures.lookup.0 c.in-Some-Some.ensures.lookup.1
     ∙ ap Some c.in-Some-Some.field-0-is in
     let t = c.in-Some-Some.snapshot in
-    let full = of_each (λ o. IfSome o (λ t. HasFullPages sum t old.present)) c.args.self.now.snapshots c.args.index (Some t) at c.requires.full in
     let is = c.in-Err-read_into.ensures in
     let room : length c.deref_mut.result.now ≡ c.args.len = omega (arith, ap length c.deref_mut.ensures.value, c.in-Ok.ensures.len) in
-    subst (λ (o : Option Tail). DidSnap sum o c.args.cache.now c.args.offset c.args.len old new (Fault c.in-Err-read_into.error)) (sym (stands_at c.args.self.now.snapshots c.args.index t at))
-    (subst (λ (n : ℕ). DidSnap sum (Some t) c.args.cache.now c.args.offset n old new (Fault c.in-Err-read_into.error)) room
-    (read_fails sum t c.args.cache.now c.args.offset (length c.deref_mut.result.now) old new c.read_into.new.buf c.in-Err-read_into.error is.goes.answers is.goes.overflow is.goes.end (λ same. is.goes.never full (ap Err same)) is.leaves.looked))
+    subst (λ (o : Option Tail). DidSnap sum o c.args.cache.now c.read_into.new.cache c.args.offset c.args.len old new (Fault c.in-Err-read_into.error)) (sym (stands_at c.args.self.now.snapshots c.args.index t at))
+    (read_fails sum t c.args.cache.now c.read_into.new.cache c.args.offset c.args.len old new c.deref_mut.result.now c.read_into.new.buf c.in-Err-read_into.error room is.goes is.costs is.leaves.looked)
 
 pub returns-in-Ok-read_into-clause-fresh_ids : goal.returns-in-Ok-read_into-clause-fresh_ids
 returns-in-Ok-read_into-clause-fresh_ids g c = c.in-Ok-read_into.ensures.leaves.fresh

@@ -1,9 +1,8 @@
 use Rattle.std.proofs.Common.{rules, ◌≡◌, inl, Some, None, Ok, Err, sym, subst}
 use Rattle.std.specs.Prelude.{Option}
 use Rattle.writer_state.specs.WriterState.{WriterState}
-use Rattle.session.specs.Calls.{LeavesTaken}
+use Rattle.session.specs.Calls.{LeavesTaken, SnapshotSays}
 use Rattle.session.proofs.Below.{can_in, in_appending, leaves_on, leaves_gone, sound_in}
-use Rattle.session.proofs.WordLaws.{snapshot_says}
 use Rattle.session.proofs.sessions.Session.snapshot.Goals as goal
 
 pub snapshot-requires : goal.snapshot-requires
@@ -16,7 +15,8 @@ pub returns-in-Ok-clause-goes : goal.returns-in-Ok-clause-goes
 returns-in-Ok-clause-goes g c =
     let at : c.args.self.now.writer ≡ Some c.in-Some.writer = search rules in
     let is = c.in-Ok.ensures in
-    let says = snapshot_says g.H.Sum.sum_of c.in-Some.writer c.args.cache.now c.snapshot.new.cache (g.B.Blob.life c.args.blob.now) (g.B.Blob.life c.snapshot.new.blob) (Ok (c.in-Ok.writer, c.in-Ok.snapshot)) is.goes (is.ready.0 (record { sound = sound_in g.H.Sum.sum_of c.args.self.now.writer c.in-Some.writer (g.B.Blob.life c.args.blob.now).present at c.requires.sound; can = can_in c.args.self.now.writer c.in-Some.writer c.args.cache.now (g.B.Blob.life c.args.blob.now).present at c.requires.cached; fresh = c.requires.fresh })) is.owes is.costs in
+    let says : SnapshotSays g.H.Sum.sum_of c.in-Some.writer c.args.cache.now c.snapshot.new.cache (g.B.Blob.life c.args.blob.now) (g.B.Blob.life c.snapshot.new.blob) (Ok (c.in-Ok.writer, c.in-Ok.snapshot)) = record { goes = is.goes; owes = is.owes; costs = is.costs } in
+    let whole = is.ready.0 (record { sound = sound_in g.H.Sum.sum_of c.args.self.now.writer c.in-Some.writer (g.B.Blob.life c.args.blob.now).present at c.requires.sound; can = can_in c.args.self.now.writer c.in-Some.writer c.args.cache.now (g.B.Blob.life c.args.blob.now).present at c.requires.cached; fresh = c.requires.fresh }) in
     let stands = is.goes.stands (sound_in g.H.Sum.sum_of c.args.self.now.writer c.in-Some.writer (g.B.Blob.life c.args.blob.now).present at c.requires.sound) in
     search rules
 
@@ -24,7 +24,7 @@ pub returns-in-Err-clause-goes : goal.returns-in-Err-clause-goes
 returns-in-Err-clause-goes g c =
     let at : c.args.self.now.writer ≡ Some c.in-Some.writer = search rules in
     let is = c.in-Err.ensures in
-    let says = snapshot_says g.H.Sum.sum_of c.in-Some.writer c.args.cache.now c.snapshot.new.cache (g.B.Blob.life c.args.blob.now) (g.B.Blob.life c.snapshot.new.blob) (Err c.in-Err.error) is.goes tt is.owes is.costs in
+    let says : SnapshotSays g.H.Sum.sum_of c.in-Some.writer c.args.cache.now c.snapshot.new.cache (g.B.Blob.life c.args.blob.now) (g.B.Blob.life c.snapshot.new.blob) (Err c.in-Err.error) = record { goes = is.goes; owes = is.owes; costs = is.costs } in
     search rules
 
 pub returns-in-Ok-clause-tails : goal.returns-in-Ok-clause-tails

@@ -3,7 +3,7 @@ use Rattle.session.proofs.DropLaws.{drop_replay_takes, drop_snapshot_takes}
 use Rattle.session.proofs.OtherLaws.{begin_others, cut_others, drop_others, others_idle, others_taken, replay_others, replayed_others, seal_others, snapshot_others, try_snapshot_others}
 use Rattle.session.proofs.ReplayLaws.{all_can_go_on, ensure_takes, replay_takes, seek_takes, take_takes}
 use Rattle.session.proofs.SnapshotLaws.{snapshot_takes, try_snapshot_takes, seal_takes, snap_takes}
-use Rattle.session.proofs.WholeLaws.{begin_takes, cut_takes, name_takes, writer_takes}
+use Rattle.session.proofs.WholeLaws.{begin_takes, cut_takes, name_takes, taken_call, writer_takes}
 use Rattle.session.proofs.sessions.Session.step.Goals as goal
 
 pub returns-in-WaitSync-clause-goes : goal.returns-in-WaitSync-clause-goes
@@ -79,9 +79,16 @@ returns-in-Seal-clause-cached g c =
 pub returns-in_default : goal.returns-in_default
 returns-in_default g c =
     let is = c.step_writer.ensures in
-    let takes =
-    writer_takes g.H.Sum.sum_of c.args.step.now c.args.self.now c.step_writer.new.self c.args.cache.now c.step_writer.new.cache (g.B.Blob.life c.args.blob.now) (g.B.Blob.life c.step_writer.new.blob) c.step_writer.result c.requires.ready c.requires.cached is.goes is.rest is.cached is.tails in
-    record { goes = takes.0; cached = takes.1; fresh_ids = is.fresh_ids; others = others_taken c.args.self.now c.step_writer.new.self c.args.cache.now c.step_writer.new.cache is.rest is.tails.others }
+    let old = g.B.Blob.life c.args.blob.now in
+    let new = g.B.Blob.life c.step_writer.new.blob in
+    let takes = writer_takes g.H.Sum.sum_of c.args.step.now c.args.self.now c.step_writer.new.self c.args.cache.now c.step_writer.new.cache old new c.step_writer.result c.requires.ready c.requires.cached is.goes is.rest is.cached is.tails in
+    record {
+      goes = takes.0;
+      calls = taken_call g.H.Sum.sum_of c.args.step.now c.args.self.now c.step_writer.new.self c.args.cache.now c.step_writer.new.cache old new c.step_writer.result is.goes is.rest;
+      cached = takes.1;
+      fresh_ids = is.fresh_ids;
+      others = others_taken c.args.self.now c.step_writer.new.self c.args.cache.now c.step_writer.new.cache is.rest is.tails.others;
+    }
 
 pub returns-in-Replay-clause-goes : goal.returns-in-Replay-clause-goes
 returns-in-Replay-clause-goes g c =
@@ -184,3 +191,42 @@ returns-in-Seek-clause-others g c = replayed_others c.args.self.now c.seek.new.s
 
 pub returns-in-DropReplay-clause-others : goal.returns-in-DropReplay-clause-others
 returns-in-DropReplay-clause-others g c = replayed_others c.args.self.now c.drop_replay.new.self c.args.cache.now c.drop_replay.ensures.rest
+
+pub returns-in-WaitSync-clause-calls : goal.returns-in-WaitSync-clause-calls
+returns-in-WaitSync-clause-calls g c = rw c.in-WaitSync.is (c.wait_sync.ensures.goes, refl, refl)
+
+pub returns-in-Begin-clause-calls : goal.returns-in-Begin-clause-calls
+returns-in-Begin-clause-calls g c = rw c.in-Begin.is (c.begin.ensures.goes, refl, refl)
+
+pub returns-in-Truncate-clause-calls : goal.returns-in-Truncate-clause-calls
+returns-in-Truncate-clause-calls g c = rw c.in-Truncate.is (c.truncate.ensures.goes, c.truncate.ensures.rest)
+
+pub returns-in-Snapshot-clause-calls : goal.returns-in-Snapshot-clause-calls
+returns-in-Snapshot-clause-calls g c = rw c.in-Snapshot.is c.snapshot.ensures.goes
+
+pub returns-in-TrySnapshot-clause-calls : goal.returns-in-TrySnapshot-clause-calls
+returns-in-TrySnapshot-clause-calls g c = rw c.in-TrySnapshot.is (c.try_snapshot.ensures, refl, refl)
+
+pub returns-in-Snap-clause-calls : goal.returns-in-Snap-clause-calls
+returns-in-Snap-clause-calls g c = rw c.in-Snap.is (c.snap.ensures.goes, refl)
+
+pub returns-in-Seal-clause-calls : goal.returns-in-Seal-clause-calls
+returns-in-Seal-clause-calls g c = rw c.in-Seal.is c.seal.ensures.goes
+
+pub returns-in-DropSnapshot-clause-calls : goal.returns-in-DropSnapshot-clause-calls
+returns-in-DropSnapshot-clause-calls g c = rw c.in-DropSnapshot.is (c.drop_snapshot.ensures.goes, c.drop_snapshot.ensures.rest, refl, refl)
+
+pub returns-in-Replay-clause-calls : goal.returns-in-Replay-clause-calls
+returns-in-Replay-clause-calls g c = rw c.in-Replay.is (c.replay.ensures.goes, c.replay.ensures.rest)
+
+pub returns-in-Ensure-clause-calls : goal.returns-in-Ensure-clause-calls
+returns-in-Ensure-clause-calls g c = rw c.in-Ensure.is (c.ensure.ensures.goes, c.ensure.ensures.rest, refl)
+
+pub returns-in-Take-clause-calls : goal.returns-in-Take-clause-calls
+returns-in-Take-clause-calls g c = rw c.in-Take.is (c.take.ensures.goes, c.take.ensures.rest, refl, refl)
+
+pub returns-in-Seek-clause-calls : goal.returns-in-Seek-clause-calls
+returns-in-Seek-clause-calls g c = rw c.in-Seek.is (c.seek.ensures.goes, c.seek.ensures.rest, refl, refl)
+
+pub returns-in-DropReplay-clause-calls : goal.returns-in-DropReplay-clause-calls
+returns-in-DropReplay-clause-calls g c = rw c.in-DropReplay.is (c.drop_replay.ensures.goes, c.drop_replay.ensures.rest, refl, refl)
