@@ -8,8 +8,7 @@ use crate::reads::are_in_order;
 use cache::CacheRef;
 use disk::{Blob, Error, IoBuf, ReadOptions};
 use page::Sum;
-use paged::Writer;
-use paged_read::Replay;
+use paged::{Replay, Writer};
 use std::num::NonZeroUsize;
 
 /// So many appends of a record.

@@ -16,7 +16,7 @@ use crate::words::{out_of_memory, say_done, say_error, say_whether, unreadable};
 use cache::CacheRef;
 use disk::{Blob, Error, IoBufs, MemBlob};
 use page::{AddSum, Buffer, CHECKSUM_SIZE, Checksum, Sum};
-use paged_read::View;
+use paged::View;
 use std::alloc::{AllocError, Global};
 use std::io;
 use std::io::Write;

@@ -1,6 +1,5 @@
 -- What a device call does to the life of a blob in memory.
-use Rattle.std.proofs.Common.{◌≡◌, ℕ, ◌==◌, List, length, Bool, true, false, Ok, Err, refl, arith}
-use Rattle.std.proofs.lemmas.Bool.Decides.{nat_tests}
+use Rattle.std.proofs.Common.{◌≡◌, ℕ, ◌==◌, List, length, Bool, true, false, Ok, Err, refl}
 use Rattle.disk.specs.Disk.{Operation, Write, Resize, Request, WriteAt, ResizeTo, Disk, Life, Operated, WriteGoes, ResizeGoes}
 use Rattle.disk.specs.Images.{done_is_partial, same_is_partial}
 use Rattle.disk.specs.declared.error.Error.TheVariants.{WriteFailed, ResizeFailed}

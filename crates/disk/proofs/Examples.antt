@@ -5,6 +5,7 @@ use Rattle.std.proofs.lemmas.Map.Keys.{IsDistinct-head}
 use Rattle.disk.specs.Disk.{Life, Write, Resize, settled_disk, logged, ReadMany, StartReadMany, StartReadGoes, SyncAll, next, coverings, Delivers}
 use Rattle.disk.specs.declared.action.Action.TheVariants as actions
 use Rattle.disk.specs.History.{History, begun, life_of, told}
+use Rattle.disk.specs.Memory.{delivery}
 use Rattle.disk.specs.Past.{history_with}
 use Rattle.disk.specs.Torn.{torn}
 use Rattle.disk.proofs.Deliveries.{rising, delivers_rising, delivers_moved}
@@ -23,7 +24,7 @@ flags_in_turn = refl
 
 -- a blob that began with one byte, and was asked for nothing
 abbrev pub at_first : History
-at_first = record { first = 1 ∷ []; earlier = []; events = []; failing = 0 }
+at_first = record { first = 1 ∷ []; earlier = []; events = []; failing = 0; backwards = false }
 
 -- its life has just begun
 pub a_begun_life : life_of at_first ≡ begun (1 ∷ []) []
@@ -83,7 +84,7 @@ pub a_failed_start : (life_of (history_with (actions.WaitSync 0) false (history_
 a_failed_start = refl
 
 -- names go on in the next life, and an earlier sync covers nothing there
-pub names_go_on : map (λ s. s.covers) (life_of (history_with actions.StartSync false (record { first = 1 ∷ []; earlier = (life_of started).present.log; events = []; failing = 0 }))).present.started ≡ 0 ∷ 0 ∷ []
+pub names_go_on : map (λ s. s.covers) (life_of (history_with actions.StartSync false (record { first = 1 ∷ []; earlier = (life_of started).present.log; events = []; failing = 0; backwards = false }))).present.started ≡ 0 ∷ 0 ∷ []
 names_go_on = refl
 
 -- two ranges of four bytes, and an empty one after the last byte
@@ -99,6 +100,13 @@ three_in_order = delivers_rising three four_bytes
 
 pub last_one_first : Delivers three four_bytes ((2, []) ∷ (1, 8 ∷ []) ∷ (0, 5 ∷ 6 ∷ []) ∷ [])
 last_one_first = delivers_moved three four_bytes (rising three four_bytes) ((2, []) ∷ (1, 8 ∷ []) ∷ (0, 5 ∷ 6 ∷ []) ∷ []) (IsPermutation-reverse (rising three four_bytes)) three_in_order
+
+-- these are the two orders that can be set
+pub it_rises : delivery false three four_bytes ≡ (0, 5 ∷ 6 ∷ []) ∷ (1, 8 ∷ []) ∷ (2, []) ∷ []
+it_rises = refl
+
+pub it_falls : delivery true three four_bytes ≡ (2, []) ∷ (1, 8 ∷ []) ∷ (0, 5 ∷ 6 ∷ []) ∷ []
+it_falls = refl
 
 -- no range is delivered under the number of another
 pub no_other_number : Delivers ((0, 1) ∷ (1, 1) ∷ []) (5 ∷ 6 ∷ []) ((1, 5 ∷ []) ∷ (0, 6 ∷ []) ∷ []) → ⊥

@@ -128,15 +128,15 @@ faults_le h readable calls failed faults earlier settled starts k =
     omega (arith, k.failures, ap failures k.log, failures_le (entries_of calls failed), length-entries_of calls failed k.outcomes)
 
 -- the history of the fields with one event more
-pub history_more : (first : List ℕ) (earlier : ℕ) (calls : List Call) (failed : List Bool) (events : List Event) (failing : ℕ) (a : Action) (c : Call) → earlier ≤ length calls → length failed ≡ length calls → history_of first earlier (calls ++ c ∷ []) (failed ++ (failing == 1) ∷ []) (events ++ event a (failing == 1) ∷ []) (failing - 1) ≡ told a (history_of first earlier calls failed events failing)
-history_more first earlier calls failed events failing a c before outcomes =
+pub history_more : (first : List ℕ) (earlier : ℕ) (calls : List Call) (failed : List Bool) (events : List Event) (failing : ℕ) (backwards : Bool) (a : Action) (c : Call) → earlier ≤ length calls → length failed ≡ length calls → history_of first earlier (calls ++ c ∷ []) (failed ++ (failing == 1) ∷ []) (events ++ event a (failing == 1) ∷ []) (failing - 1) backwards ≡ told a (history_of first earlier calls failed events failing backwards)
+history_more first earlier calls failed events failing backwards a c before outcomes =
     rw (take-append-le earlier calls (c ∷ []) before, take-append-le earlier failed ((failing == 1) ∷ []) (omega arith)) refl
 
 -- the same with the fields after it by name
-pub told_next : (first : List ℕ) (calls calls' : List Call) (failed failed' : List Bool) (events events' : List Event) (earlier failing failing' : ℕ) (a : Action) (c : Call) (h : History) → earlier ≤ length calls → length failed ≡ length calls → history_of first earlier calls failed events failing ≡ h
-    → calls' ≡ calls ++ c ∷ [] → failed' ≡ failed ++ (failing == 1) ∷ [] → events' ≡ events ++ event a (failing == 1) ∷ [] → failing' ≡ failing - 1 → history_of first earlier calls' failed' events' failing' ≡ told a h
-told_next first calls calls' failed failed' events events' earlier failing failing' a c h before outcomes same ec ef ee en =
-    rw (ec, ef, ee, en, history_more first earlier calls failed events failing a c before outcomes) (ap (told a) same)
+pub told_next : (first : List ℕ) (calls calls' : List Call) (failed failed' : List Bool) (events events' : List Event) (earlier failing failing' : ℕ) (backwards : Bool) (a : Action) (c : Call) (h : History) → earlier ≤ length calls → length failed ≡ length calls → history_of first earlier calls failed events failing backwards ≡ h
+    → calls' ≡ calls ++ c ∷ [] → failed' ≡ failed ++ (failing == 1) ∷ [] → events' ≡ events ++ event a (failing == 1) ∷ [] → failing' ≡ failing - 1 → history_of first earlier calls' failed' events' failing' backwards ≡ told a h
+told_next first calls calls' failed failed' events events' earlier failing failing' backwards a c h before outcomes same ec ef ee en =
+    rw (ec, ef, ee, en, history_more first earlier calls failed events failing backwards a c before outcomes) (ap (told a) same)
 
 -- the life of a history with one event more
 pub life_told : (a : Action) (h : History) → life_of (told a h) ≡ life_after_action a (h.failing == 1) (life_of h)
@@ -478,10 +478,10 @@ kept_more h a readable calls failed faults earlier settled starts c k same =
     }
 
 -- the fields after one action more
-pub kept_next : (first readable readable' : List ℕ) (calls calls' : List Call) (failed failed' : List Bool) (events events' : List Event) (earlier settled settled' faults faults' failing failing' : ℕ) (starts starts' : List Start) (a : Action) (c : Call)
-    → TellsHistory (history_of first earlier calls failed events failing) readable calls failed faults earlier settled starts → request_of c ≡ asked a → calls' ≡ calls ++ c ∷ [] → failed' ≡ failed ++ (failing == 1) ∷ [] → events' ≡ events ++ event a (failing == 1) ∷ [] → readable' ≡ redone (event a (failing == 1)) readable → failing' ≡ failing - 1 → faults' ≡ faults + (if failing == 1 then 1 else 0)
+pub kept_next : (first readable readable' : List ℕ) (calls calls' : List Call) (failed failed' : List Bool) (events events' : List Event) (earlier settled settled' faults faults' failing failing' : ℕ) (backwards : Bool) (starts starts' : List Start) (a : Action) (c : Call)
+    → TellsHistory (history_of first earlier calls failed events failing backwards) readable calls failed faults earlier settled starts → request_of c ≡ asked a → calls' ≡ calls ++ c ∷ [] → failed' ≡ failed ++ (failing == 1) ∷ [] → events' ≡ events ++ event a (failing == 1) ∷ [] → readable' ≡ redone (event a (failing == 1)) readable → failing' ≡ failing - 1 → faults' ≡ faults + (if failing == 1 then 1 else 0)
     → settled' ≡ settled_after a (failing == 1) starts settled (length events) → starts' ≡ starts_after a (failing == 1) starts (length events)
-    → TellsHistory (history_of first earlier calls' failed' events' failing') readable' calls' failed' faults' earlier settled' starts'
-kept_next first readable readable' calls calls' failed failed' events events' earlier settled settled' faults faults' failing failing' starts starts' a c k same ec ef ee er en eu es et =
-    rw (ec, ef, ee, er, en, eu, es, et, history_more first earlier calls failed events failing a c k.before k.outcomes)
-    (kept_more (history_of first earlier calls failed events failing) a readable calls failed faults earlier settled starts c k same)
+    → TellsHistory (history_of first earlier calls' failed' events' failing' backwards) readable' calls' failed' faults' earlier settled' starts'
+kept_next first readable readable' calls calls' failed failed' events events' earlier settled settled' faults faults' failing failing' backwards starts starts' a c k same ec ef ee er en eu es et =
+    rw (ec, ef, ee, er, en, eu, es, et, history_more first earlier calls failed events failing backwards a c k.before k.outcomes)
+    (kept_more (history_of first earlier calls failed events failing backwards) a readable calls failed faults earlier settled starts c k same)

@@ -136,15 +136,15 @@ pub length-started : (h : History) (starts : List Start) → (life_of h).present
 length-started h starts is = ap length is ∙ length-map starts (started_by h)
 
 -- a life that begins with what a crash left
-pub begun_kept : (first readable : List ℕ) (calls : List Call) (failed : List Bool) (failing faults earlier : ℕ) (starts starts' : List Start) (events : List Event) → events ≡ [] → readable ≡ first → earlier ≡ length calls → length failed ≡ length calls
+pub begun_kept : (first readable : List ℕ) (calls : List Call) (failed : List Bool) (failing faults earlier : ℕ) (backwards : Bool) (starts starts' : List Start) (events : List Event) → events ≡ [] → readable ≡ first → earlier ≡ length calls → length failed ≡ length calls
     → faults ≡ failures (entries_of calls failed) → length starts ≡ names_in (entries_of calls failed) → starts' ≡ replicate (length starts) (record { events = 0; failed = true })
-    → TellsHistory (history_of first earlier calls failed events failing) readable calls failed faults earlier 0 starts'
-begun_kept first readable calls failed failing faults earlier starts starts' events none same before outcomes few names is =
+    → TellsHistory (history_of first earlier calls failed events failing backwards) readable calls failed faults earlier 0 starts'
+begun_kept first readable calls failed failing faults earlier backwards starts starts' events none same before outcomes few names is =
     rw (none, same, is, before) (
     let all_calls : take (length calls) calls ≡ calls = take_all (length calls) calls (omega arith) in
     let all_failed : take (length calls) failed ≡ failed = take_all (length calls) failed (omega (arith, outcomes)) in
     let log : entries_of (take (length calls) calls) (take (length calls) failed) ≡ entries_of calls failed = rw (all_calls, all_failed) refl in
-    let h = history_of first (length calls) calls failed [] failing in
+    let h = history_of first (length calls) calls failed [] failing backwards in
     record {
       bytes = refl;
       base = refl;

@@ -145,6 +145,8 @@ pub record History : Type 0 where
   pub events : List Event
   -- the device call that is to fail, counted from now on; 0 for none
   pub failing : ℕ
+  -- whether a read of several ranges delivers the last one first
+  pub backwards : Bool
 
 -- its life
 abbrev pub life_of : History → Life

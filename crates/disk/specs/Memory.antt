@@ -1,6 +1,7 @@
 -- A blob in memory: what its fields stand for, and what they say of one another.
-use Rattle.std.specs.Prelude.{◌≡◌, ◌≤◌, ◌<◌, ◌≢◌, ◌⊎◌, ℕ, ◌+◌, ◌-◌, List, [], ◌∷◌}
-use Rattle.std.specs.Prelude.{length, take, drop}
+use Rattle.std.specs.Prelude.{◌≡◌, ◌≤◌, ◌<◌, ◌≢◌, ◌⊎◌, ℕ, ◌+◌, List, [], ◌∷◌}
+use Rattle.std.specs.Prelude.{length, take, drop, reverse}
+use Rattle.std.specs.List.{enumerate_from}
 use Rattle.std.specs.Prelude.{Bool, true, false, Result, Ok, Err, if◌then◌else◌, ◌++◌, suc, zero}
 use Rattle.std.specs.Prelude.{Option, Some, None, slice_get, max, map}
 use Rattle.disk.specs.Disk.{Entry, Started, Delivers, IsWithin, bytes_of, failures, had_failed}
@@ -9,7 +10,6 @@ use Rattle.disk.specs.declared.action.Call.{Call}
 use Rattle.disk.specs.declared.error.Error.{Error}
 use Rattle.disk.specs.declared.started_sync.StartedSync.{StartedSync}
 use Rattle.disk.specs.declared.started_sync.StartedSync.TheVariants.{Done, Named}
-use Rattle.disk.specs.declared.error.Error.TheVariants.{ReadFailed, WriteFailed, ResizeFailed}
 use Rattle.disk.specs.declared.error.Error.TheVariants.{SyncFailed, BlobInsufficientLength}
 use Rattle.disk.specs.declared.error.Error.TheVariants.{OutOfMemory, OffsetOverflow}
 use Rattle.disk.specs.History.{History, life_of, request_of, replayed, operations_of}
@@ -31,14 +31,21 @@ entries_of (call ∷ calls) (fault ∷ failed) =
     record { request = request_of call; failed = fault } ∷ entries_of calls failed
 
 -- the history of these fields: so many of the calls were made in earlier lives
-abbrev pub history_of : List ℕ → ℕ → List Call → List Bool → List Event → ℕ → History
-history_of first earlier calls failed events failing =
+abbrev pub history_of : List ℕ → ℕ → List Call → List Bool → List Event → ℕ → Bool → History
+history_of first earlier calls failed events failing backwards =
     record {
       first = first;
       earlier = entries_of (take earlier calls) (take earlier failed);
       events = events;
       failing = failing;
+      backwards = backwards;
     }
+
+-- what was set of a blob stays: which device call is to fail, and in which order several ranges are
+-- delivered
+pub record KeepsSettings (old new : History) : Type 0 where
+  pub failing : new.failing ≡ old.failing
+  pub backwards : new.backwards ≡ old.backwards
 
 -- a started sync of a history, that stands after so many of its events
 abbrev pub started_by : History → Start → Started
@@ -142,6 +149,12 @@ IsRange offset len readable (Ok bytes) =
 IsRange offset len readable (Err BlobInsufficientLength) = length readable < offset + len
 IsRange offset len readable (Err OutOfMemory) = offset + len ≤ length readable
 IsRange offset len readable (Err _) = ⊥
+
+-- the bytes of several ranges, each with its number, in rising order, or the last one
+-- first
+abbrev pub delivery : (backwards : Bool) → List (ℕ × ℕ) → List ℕ → List (ℕ × List ℕ)
+delivery false ranges readable = enumerate_from 0 (bytes_of ranges readable)
+delivery true ranges readable = reverse (enumerate_from 0 (bytes_of ranges readable))
 
 -- the bytes of several ranges, or none where one passes the end, or no memory
 abbrev pub AreRanges : List (ℕ × ℕ) → List ℕ → List (ℕ × List ℕ) → Result (Unit {0}) Error → Type 0

@@ -1,5 +1,5 @@
 -- The history that a ghost past stands for.
-use Rattle.std.specs.Prelude.{ℕ, List, [], ◌∷◌, ◌++◌, Bool}
+use Rattle.std.specs.Prelude.{ℕ, List, [], ◌∷◌, ◌++◌, Bool, false}
 use Rattle.std.specs.List.{concat}
 use Rattle.disk.specs.declared.action.Action.{Action}
 use Rattle.disk.specs.declared.action.Action.TheVariants as actions
@@ -22,7 +22,8 @@ history_with action failed h =
 
 -- the history of a device that was asked for nothing yet
 abbrev pub begun_history : List ℕ → History
-begun_history bytes = record { first = bytes; earlier = []; events = []; failing = 0 }
+begun_history bytes =
+    record { first = bytes; earlier = []; events = []; failing = 0; backwards = false }
 
 -- a past as a history
 abbrev pub past_of : Asked → History

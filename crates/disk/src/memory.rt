@@ -1,6 +1,6 @@
 // A blob in memory, whose calls can be made to fail, and which can crash.
 ghost use Rattle.std.specs.Prelude.{◌≡◌, ◌≤◌, ◌<◌, ◌+◌, ◌-◌, ◌==◌, ◌++◌, [], ◌∷◌};
-ghost use Rattle.std.specs.Prelude.{length, map, replicate, true};
+ghost use Rattle.std.specs.Prelude.{length, map, replicate, true, false};
 ghost use Rattle.std.specs.Prelude.{vec_len, vec_capacity, if◌then◌else◌, IfOk, OnOk, OnErr};
 ghost use Rattle.std.specs.Prelude.{IsOkUnless};
 ghost use Rattle.std.specs.List.{concat};
@@ -10,7 +10,7 @@ ghost use Rattle.disk.specs.Disk.{StartReadGoes, StartGoes, WaitsFor};
 ghost use Rattle.disk.specs.History.{life_of, begun, told, request_of};
 ghost use Rattle.disk.specs.declared.action.Action.TheVariants as actions;
 ghost use Rattle.disk.specs.Memory.{Asks, AsksStart, AsksWait, waits_in_vain, IsRange};
-ghost use Rattle.disk.specs.Memory.{AreRanges};
+ghost use Rattle.disk.specs.Memory.{AreRanges, KeepsSettings, delivery};
 ghost use Rattle.disk.specs.StartedRead.{answer_of};
 ghost use Rattle.disk.specs.Torn.{torn};
 
@@ -55,10 +55,11 @@ impl Model for MemBlob {
     ghost Value = { History };
 
     ghost view = { λ m. history_of m.first.items m.earlier m.calls.items m.failed.items
-        m.events.items m.failing };
+        m.events.items m.failing m.backwards };
 
     ghost invariant = { λ m. TellsHistory
-        (history_of m.first.items m.earlier m.calls.items m.failed.items m.events.items m.failing)
+        (history_of m.first.items m.earlier m.calls.items m.failed.items m.events.items m.failing
+        m.backwards)
         m.readable.items m.calls.items m.failed.items m.failures m.earlier m.settled
         m.starts.items };
 }
@@ -68,6 +69,7 @@ impl MemBlob {
     pub fn new(alloc: Global) -> Self
         ensures life { life_of result ≡ begun [] [] }
         ensures failing { result.failing ≡ 0 }
+        ensures backwards { result.backwards ≡ false }
     {
         MemBlob::with_bytes(alloc, Vec::new(alloc), Vec::new(alloc))
     }
@@ -76,6 +78,7 @@ impl MemBlob {
     pub fn from_bytes(alloc: Global, bytes: &[u8]) -> Result<Self, Error>
         ensures life { IfOk result (λ blob. life_of blob ≡ begun bytes.now []) }
         ensures failing { IfOk result (λ blob. blob.failing ≡ 0) }
+        ensures backwards { IfOk result (λ blob. blob.backwards ≡ false) }
         ensures err { IsOkUnless result Error.OutOfMemory }
     {
         let first = Vec::from_slice(alloc, bytes)?;
@@ -88,6 +91,7 @@ impl MemBlob {
         requires { readable.items ≡ first.items }
         ensures life { life_of result ≡ begun first.items [] }
         ensures failing { result.failing ≡ 0 }
+        ensures backwards { result.backwards ≡ false }
     {
         MemBlob {
             alloc,
@@ -133,6 +137,7 @@ impl MemBlob {
         requires { 1 ≤ n }
         ensures life { life_of self.new ≡ life_of self.old }
         ensures failing { self.new.failing ≡ n }
+        ensures backwards { self.new.backwards ≡ self.old.backwards }
     {
         self.failing = n;
     }
@@ -140,7 +145,8 @@ impl MemBlob {
     /// Whether each later [`Blob::read_many`] delivers the last range first. Until it is said they
     /// come in rising order.
     pub fn deliver_backwards(&mut self, backwards: bool)
-        ensures { self.new ≡ self.old }
+        ensures life { life_of self.new ≡ life_of self.old }
+        ensures set { self.new ≡ record self.old { backwards = backwards } }
     {
         self.backwards = backwards;
     }
@@ -158,7 +164,7 @@ impl MemBlob {
         ensures image { let old = (life_of self.old).present in
             IsImage old (torn keep.now old.since old.base) }
         ensures leaves { LeavesNoMore (life_of self.old).present (life_of self.new).present }
-        ensures failing { self.new.failing ≡ self.old.failing }
+        ensures settings { KeepsSettings self.old self.new }
         ensures same { OnErr result (self.new ≡ self.old) }
         ensures err { IsOkUnless result Error.OutOfMemory }
     {
@@ -199,8 +205,10 @@ impl MemBlob {
         ranges: &[(u64, usize)],
         out: &mut Vec<(usize, IoBuf)>,
     ) -> Result<(), Error>
-        ensures { let readable = (life_of self.now).present.readable in
+        ensures ranges { let readable = (life_of self.now).present.readable in
             AreRanges ranges.now readable out.new.items result }
+        ensures order { let readable = (life_of self.now).present.readable in
+            OnOk result (out.new.items ≡ delivery self.now.backwards ranges.now readable) }
     {
         copy_ranges(alloc, self.bytes(), ranges, out)?;
         if self.backwards {
@@ -297,6 +305,8 @@ impl Blob for MemBlob {
         ensures goes { let old = life_of self.old in let new = life_of self.new in
             ReadManyGoes ranges.now old new out.new.items result }
         ensures asks { Asks (actions.ReadMany ranges.now) self.old self.new result }
+        ensures order { let readable = (life_of self.old).present.readable in
+            OnOk result (out.new.items ≡ delivery self.old.backwards ranges.now readable) }
     {
         self.ranges(alloc, ranges, out)?;
         let asked = Ranges::from_slice(alloc, ranges)?;

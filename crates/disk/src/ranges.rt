@@ -1,7 +1,7 @@
 // Several ranges of bytes: lists of them, and the bytes that stand there.
-ghost use Rattle.std.specs.Prelude.{◌≡◌, ◌↔◌, ◌++◌, ◌∷◌, [], IfOk, true};
+ghost use Rattle.std.specs.Prelude.{◌≡◌, ◌↔◌, ◌++◌, ◌∷◌, [], IfOk, OnOk, true, false};
 ghost use Rattle.disk.specs.Disk.{IsWithin};
-ghost use Rattle.disk.specs.Memory.{AreRanges, AreRangesInOrder};
+ghost use Rattle.disk.specs.Memory.{AreRanges, AreRangesInOrder, delivery};
 ghost use Rattle.disk.specs.StartedRead.{answer_of};
 
 use crate::{Error, IoBuf};
@@ -114,7 +114,8 @@ pub fn copy_ranges(
     ranges: &[(u64, usize)],
     out: &mut Vec<(usize, IoBuf)>,
 ) -> Result<(), Error>
-    ensures { AreRanges ranges.now bytes.now out.new.items result }
+    ensures ranges { AreRanges ranges.now bytes.now out.new.items result }
+    ensures rising { OnOk result (out.new.items ≡ delivery false ranges.now bytes.now) }
 {
     // No memory is asked for before all ranges are known to lie within.
     if !are_within(ranges, bytes) {

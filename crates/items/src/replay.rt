@@ -7,7 +7,7 @@ ghost use Rattle.items.specs.Standing.{IsItemsReplay, OnlyReadsOn, count_along};
 
 use disk::{Blob, Error, IoBuf};
 use page::Sum;
-use paged_read::Replay;
+use paged::Replay;
 use std::marker::Model;
 use std::num::NonZeroUsize;
 

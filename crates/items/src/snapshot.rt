@@ -9,7 +9,7 @@ use crate::locate::{offset_of, offsets_of};
 use cache::CacheRef;
 use disk::{Blob, Error};
 use page::Sum;
-use paged_read::Sealed;
+use paged::Sealed;
 use std::alloc::Global;
 use std::marker::Model;
 use std::num::NonZeroUsize;

@@ -11,7 +11,7 @@ use bytes::Bytes;
 use cache::CacheRef;
 use disk::{Blob, Error, IoBuf};
 use page::Sum;
-use paged_read::View;
+use paged::View;
 use std::alloc::Global;
 
 // Reads bytes of the content, in one buffer.

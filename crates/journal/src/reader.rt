@@ -10,7 +10,7 @@ use crate::lookup::frame_at;
 use cache::CacheRef;
 use disk::{Blob, Error, IoBuf};
 use page::Sum;
-use paged_read::Sealed;
+use paged::Sealed;
 use std::alloc::Global;
 use std::marker::{Model, PhantomData};
 

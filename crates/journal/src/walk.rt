@@ -7,7 +7,7 @@ ghost use Rattle.journal.specs.Walk.{PassesFrame};
 use crate::frame::{AFTER, Found, IN_FRONT, record_before, record_len_of};
 use disk::{Error, IoBuf};
 use page::Sum;
-use paged_read::Hand;
+use paged::Hand;
 use std::alloc::Global;
 
 // Takes as many of the bytes at hand as the slice has room for, which are there, without memory.

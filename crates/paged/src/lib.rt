@@ -20,6 +20,7 @@ mod within;
 mod writer;
 
 pub use outlook::{Outlook, look, survey};
+pub use paged_read::{Hand, Replay, Sealed, TooFew, View, physical_page_size};
 pub use recovery::{recover, recover_keeping};
 pub use start::wait_sync;
 pub use verdict::{Survey, Verdict};

@@ -14,7 +14,8 @@ use crate::recovery::size_of;
 use crate::verdict::Survey;
 use disk::{Blob, Error, ReadOptions};
 use page::{Checksum, Sum};
-use paged_read::{pages_of, physical_page_size, scan_from};
+use paged_read::for_paged::{pages_of, scan_from};
+use paged_read::physical_page_size;
 use std::alloc::Global;
 use std::num::{NonZeroU16, NonZeroUsize};
 

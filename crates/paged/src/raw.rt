@@ -10,6 +10,7 @@ ghost use Rattle.paged_read.specs.Snapshots.{LeavesWriters};
 use crate::Writer;
 use disk::{Blob, Error, IoBufs, ReadOptions};
 use page::Sum;
+use paged_read::for_paged;
 use std::alloc::Global;
 use std::num::NonZeroU16;
 
@@ -44,7 +45,7 @@ impl<B: Blob, H: Sum> Writer<B, H> {
         ensures costs { let old = B.life blob.old in let new = B.life blob.new in
             ReadsRange (non_zero_u16_get page_size) offset len old new }
     {
-        paged_read::read_range::<B, H>(alloc, blob, page_size, offset, len, options)
+        for_paged::read_range::<B, H>(alloc, blob, page_size, offset, len, options)
     }
 
     /// The logical size of a blob of `physical_size` bytes that nobody opened, with pages of
@@ -74,6 +75,6 @@ impl<B: Blob, H: Sum> Writer<B, H> {
         ensures costs { let old = B.life blob.old in let new = B.life blob.new in
             ReadsTail H.sum_of (non_zero_u16_get page_size) physical_size len old new }
     {
-        paged_read::read_tail::<B, H>(alloc, blob, physical_size, page_size, len, options)
+        for_paged::read_tail::<B, H>(alloc, blob, physical_size, page_size, len, options)
     }
 }

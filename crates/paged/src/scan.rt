@@ -15,7 +15,8 @@ use crate::Writer;
 use crate::recovery::size_of;
 use disk::{Blob, Error, ReadOptions};
 use page::Sum;
-use paged_read::{physical_page_size, scan_from};
+use paged_read::for_paged::scan_from;
+use paged_read::physical_page_size;
 use std::num::NonZeroUsize;
 
 impl<B, H, Phase> Writer<B, H, Phase> {

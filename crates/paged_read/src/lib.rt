@@ -19,9 +19,15 @@ mod search;
 mod view;
 
 pub use hand::{Hand, TooFew};
-pub use prefix::{Partial, Prefix};
-pub use raw::{read_range, read_tail};
 pub use replay::Replay;
 pub use sealed::Sealed;
-pub use search::{last_pages, pages_of, physical_page_size, scan, scan_from};
+pub use search::physical_page_size;
 pub use view::View;
+
+/// For the crate `paged` alone, whose calls offer them to callers: the searches through a blob that
+/// nobody opened, and reads of it. `conformance` plays them too.
+pub mod for_paged {
+    pub use crate::prefix::{Partial, Prefix};
+    pub use crate::raw::{read_range, read_tail};
+    pub use crate::search::{last_pages, pages_of, scan, scan_from};
+}

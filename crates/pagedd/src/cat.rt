@@ -5,7 +5,7 @@ use crate::request::Request;
 use crate::status::Status;
 use disk::VecBlob;
 use page::Sum;
-use paged_read::physical_page_size;
+use paged::physical_page_size;
 use std::io::{self, BufWriter, Write};
 
 /// Writes the content of a file to standard output, at most `len` bytes from an offset on. The file

@@ -3,7 +3,7 @@ use crate::look::Look;
 use crate::pages::{Page, tell_progress};
 use crate::status::Status;
 use page::Sum;
-use paged_read::physical_page_size;
+use paged::physical_page_size;
 
 /// So many pages of a kind are named.
 const MOST: usize = 20;

@@ -3,7 +3,7 @@ use crate::pages::value_of;
 use crate::request::{Checksum, Shape};
 use crc32c::Crc32c;
 use page::{AddSum, Sum};
-use paged_read::physical_page_size;
+use paged::physical_page_size;
 use std::alloc::{AllocError, Global};
 use std::fmt;
 use std::num::NonZeroU16;

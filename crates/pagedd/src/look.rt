@@ -6,8 +6,7 @@ use crate::status::Status;
 use disk::{Blob, VecBlob};
 use file::FileBlob;
 use page::Sum;
-use paged::{Outlook, Survey, Verdict, survey};
-use paged_read::physical_page_size;
+use paged::{Outlook, Survey, Verdict, physical_page_size, survey};
 use std::fmt;
 
 /// What a survey found in a file, and the two pages that its words are about.

@@ -6,7 +6,7 @@ use crate::request::{Request, Shape};
 use crate::status::Status;
 use disk::VecBlob;
 use page::Sum;
-use paged_read::physical_page_size;
+use paged::physical_page_size;
 use std::alloc::{AllocError, Global};
 use std::{io, str};
 

@@ -2,7 +2,7 @@
 use crate::ending::or_end;
 use crate::status::Status;
 use page::{Checksum, Slot, Sum};
-use paged_read::physical_page_size;
+use paged::physical_page_size;
 use std::fmt;
 use std::io::IsTerminal;
 use std::num::NonZeroU16;

@@ -3,7 +3,7 @@ use crate::pages::{Page, tell_progress};
 use crate::request::Shape;
 use crate::status::Status;
 use page::Sum;
-use paged_read::physical_page_size;
+use paged::physical_page_size;
 use std::alloc::{AllocError, Global};
 use std::fmt;
 

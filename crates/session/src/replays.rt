@@ -15,7 +15,7 @@ use crate::steps::Reply;
 use cache::CacheRef;
 use disk::{Blob, Error, ReadOptions};
 use page::Sum;
-use paged_read::Replay;
+use paged::Replay;
 use std::alloc::Global;
 use std::num::NonZeroUsize;
 

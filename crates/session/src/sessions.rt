@@ -25,8 +25,7 @@ use crate::steps::{Reply, Step};
 use cache::CacheRef;
 use disk::{Blob, Error, StartedSync};
 use page::Sum;
-use paged::{Append, Recovering, Recovery, Writer, wait_sync};
-use paged_read::{Replay, Sealed};
+use paged::{Append, Recovering, Recovery, Replay, Sealed, Writer, wait_sync};
 use std::alloc::Global;
 use std::marker::Model;
 

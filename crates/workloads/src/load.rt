@@ -13,8 +13,7 @@ use anyhow::Result;
 use cache::CacheRef;
 use disk::{Blob, Error, IoBuf, ReadOptions};
 use page::Sum;
-use paged::{Writer, wait_sync};
-use paged_read::Replay;
+use paged::{Replay, Writer, wait_sync};
 use std::alloc::Global;
 use std::num::NonZeroUsize;
 

@@ -642,11 +642,6 @@ module _ (sum : List ℕ → ℕ) (w : WriterState) (old new : Life) (sound : Co
   pub looked_content : content w new.present.readable ≡ content w old.present.readable
   looked_content = ap (λ (l : List ℕ). content w l) (same_parts old.present new.present looked.same).0
 
-  -- and owes nothing
-  pub looked_stays : StaysThrough sum w.page_size (content w old.present.readable) old new
-  looked_stays = through_then (SameButLog old.present) (Stays sum w.page_size (content w old.present.readable) old.present) old new
-      (λ d is. let same = same_parts old.present d is in alike_stays sum w old.present d sound same.0 same.1 same.2) looked.through
-
 -- ---- a blob in which no page is damaged
 
 pub consistent_of : (sum : List ℕ → ℕ) (w : WriterState) (d : Disk) → Soundness sum w d → Consistency sum w d

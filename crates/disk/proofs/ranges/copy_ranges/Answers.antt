@@ -15,10 +15,16 @@ loop-index-preserved c =
     ∙ ap₂ (λ (l : List (ℕ × List ℕ)) (b : List ℕ). l ++ (i, b) ∷ []) c.loop-index.invariant range
     ∙ sym (rising_more c.args.ranges.now bytes i (0, 0) c.loop-index-test.true)
 
-pub returns : goal.returns
-returns c =
+pub returns-clause-ranges : goal.returns-clause-ranges
+returns-clause-ranges c =
     let ranges = c.args.ranges.now in
     let bytes = c.args.bytes.now in
     let whole : take c.loop-index.index ranges ≡ ranges = take_all c.loop-index.index ranges (omega (arith, c.loop-index-test.false)) in
     let is = c.loop-index.invariant ∙ ap (λ (rs : List (ℕ × ℕ)). rising rs bytes) whole in
     (c.are_within.ensures.0 c.if-not-are_within.false, subst (Delivers ranges bytes) (sym is) (delivers_rising ranges bytes))
+
+pub returns-clause-rising : goal.returns-clause-rising
+returns-clause-rising c =
+    let ranges = c.args.ranges.now in
+    let whole : take c.loop-index.index ranges ≡ ranges = take_all c.loop-index.index ranges (omega (arith, c.loop-index-test.false)) in
+    c.loop-index.invariant ∙ ap (λ (rs : List (ℕ × ℕ)). rising rs c.args.bytes.now) whole

@@ -19,7 +19,7 @@ pub invariant_of-self : goal.invariant_of-self
 invariant_of-self c =
     let old = c.self.inside in
     let is = c.self.invariant in
-    begun_kept c.in_ok-image.image.items c.in_ok-readable.readable.items old.calls.items old.failed.items old.failing old.failures c.len-self-inside.result old.starts.items c.in_ok-starts.starts.items c.clear.new.self.items
+    begun_kept c.in_ok-image.image.items c.in_ok-readable.readable.items old.calls.items old.failed.items old.failing old.failures c.len-self-inside.result old.backwards old.starts.items c.in_ok-starts.starts.items c.clear.new.self.items
     c.clear.ensures.items (c.in_ok-readable.ensures.items ∙ c.deref.ensures.value) (omega (arith, c.len-self-inside.ensures, old.calls.ok.0)) is.outcomes
     (is.failures ∙ ap failures (sym is.log)) (is.names ∙ ap names_in (sym is.log))
     (c.in_ok-starts.ensures ∙ ap (λ (n : ℕ). replicate n (record { events = 0; failed = true })) (omega (arith, c.len.ensures, old.starts.ok.0)))
@@ -31,5 +31,5 @@ pub returns-clause-leaves : goal.returns-clause-leaves
 returns-clause-leaves c =
     let old = c.self.inside in
     begun_leaves c.args.keep.now (life_of c.args.self.now).present
-    (history_of c.in_ok-image.image.items c.len-self-inside.result old.calls.items old.failed.items c.clear.new.self.items old.failing)
+    (history_of c.in_ok-image.image.items c.len-self-inside.result old.calls.items old.failed.items c.clear.new.self.items old.failing old.backwards)
     c.clear.ensures.items c.in_ok-image.ensures

@@ -13,7 +13,7 @@ returns-then-branch-clause-goes c =
 pub returns-clause-goes : goal.returns-clause-goes
 returns-clause-goes c =
     let now = c.args.self.now in
-    let given = c.in_ok-ranges.ensures in
+    let given = c.in_ok-ranges.ensures.ranges in
     let asked = life_after (actions.ReadMany c.in_ok-asked.asked) false now c.ask.new.self (sym c.if-branch.false ∙ c.in_ok-ask.ensures.failed) c.in_ok-ask.ensures.told
     ∙ ap (λ (ranges : List (ℕ × ℕ)). life_after_action (actions.ReadMany ranges) false (life_of now)) c.in_ok-asked.ensures in
     (given.0, given.1, asked)

@@ -27,7 +27,7 @@ pub returns-clause-goes : goal.returns-clause-goes
 returns-clause-goes c =
     let ranges = c.args.ranges.now in
     let a = actions.ReadMany ranges in
-    let copied = c.in_ok-copy_ranges.ensures in
+    let copied = c.in_ok-copy_ranges.ensures.ranges in
     let same = c.deref.ensures.value ∙ c.self.invariant.reads ∙ ap (λ (s : VecState). (life_of s.history).present.readable) c.self.view_is in (
       subst (λ (l : List ℕ). IsWithin ranges l) same copied.0,
       subst (λ (l : List ℕ). Delivers ranges l c.copy_ranges.new.out.items) same copied.1,
