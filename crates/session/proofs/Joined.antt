@@ -121,6 +121,7 @@ pub goes_join : (sum : List ℕ → ℕ) (steps more : List Step) (was mid now :
     → RunGoes sum steps was mid cache held old between earlier replies
     → RunGoes sum more mid now held after between new [] others
     → RunGoes sum (steps ++ more) was now cache after old new earlier (replies ++ others)
+unfolding runs_join
 goes_join sum steps more was mid now cache held after old between new earlier replies others first
     second = record {
       always = runs_join sum steps more was mid now old between new earlier replies others first.always

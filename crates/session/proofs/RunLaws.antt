@@ -161,12 +161,14 @@ calls_more sum (x ∷ xs) [] step reply was mid now cache held after old between
 
 -- a run of no step
 pub goes_none : (sum : List ℕ → ℕ) (was : SessionState) (cache : CacheState) (life : Life) (replies : List Reply) → RunGoes sum [] was was cache cache life life replies replies
+unfolding runs_none
 goes_none sum was cache life replies = record { always = runs_none sum was life replies; calls = (refl, refl, refl) }
 
 -- and one step more
 pub goes_more : (sum : List ℕ → ℕ) (steps : List Step) (step : Step) (reply : Reply) (was mid now : SessionState) (cache held after : CacheState) (old between new : Life) (earlier replies more : List Reply)
     → RunGoes sum steps was mid cache held old between earlier replies → IsSessionReady sum mid held between.present → Steps sum step reply mid now between new → DidCall sum step reply mid now held after between new → more ≡ replies ++ reply ∷ []
     → RunGoes sum (steps ++ step ∷ []) was now cache after old new earlier more
+unfolding runs_more
 goes_more sum steps step reply was mid now cache held after old between new earlier replies more ran ready takes did is = record {
   always = runs_more sum steps step reply was mid now old between new earlier replies more ran.always takes is;
   calls = calls_more sum steps ran.always.added step reply was mid now cache held after old between new ran.calls ready did;

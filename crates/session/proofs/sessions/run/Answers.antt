@@ -41,6 +41,14 @@ loop-step-preserved g c =
       others = others_then c.args.session.now c.loop-step.session c.step-reply.new.self c.args.cache.now c.loop-step.cache c.step-reply.new.cache c.loop-step.invariant.others c.step-reply.ensures.others;
     }
 
+pub returns-clause-runs : goal.returns-clause-runs
+returns-clause-runs g c =
+    let old = g.B.Blob.life c.args.blob.now in
+    let new = g.B.Blob.life c.loop-step.blob in
+    let all : take c.loop-step.step-index c.args.steps.now ≡ c.args.steps.now = take_all c.loop-step.step-index c.args.steps.now (omega (arith, c.loop-step-test.false)) in
+    subst (λ (earlier : List Reply). RunGoes g.H.Sum.sum_of c.args.steps.now c.args.session.now c.loop-step.session c.args.cache.now c.loop-step.cache old new earlier c.loop-step.replies.items) c.try_reserve.ensures.items
+    (subst (λ (taken : List Step). RunGoes g.H.Sum.sum_of taken c.args.session.now c.loop-step.session c.args.cache.now c.loop-step.cache old new c.try_reserve.new.self.items c.loop-step.replies.items) all c.loop-step.invariant.runs)
+
 pub returns-clause-promises : goal.returns-clause-promises
 returns-clause-promises g c =
     let old = g.B.Blob.life c.args.blob.now in
