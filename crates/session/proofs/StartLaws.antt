@@ -18,7 +18,7 @@ use Rattle.writer_state.specs.declared.sync_state.SyncState.TheVariants.{Clean, 
 use Rattle.writer_state.specs.Sound.{IsSound, content as content_of}
 use Rattle.crash.specs.Stays.{StaysThrough}
 use Rattle.crash.proofs.BuiltLaws.{IsSmall}
-use Rattle.writer_state.proofs.Soundness.{consistent_of, intact_still, sound_of}
+use Rattle.writer_state.proofs.Soundness.{consistent_of, intact_still, sound_of as sound_with}
 use Rattle.paged.proofs.Waits.{wait_readable}
 use Rattle.writer_state.proofs.StartedLaws.{wait_leaves, covering_of}
 use Rattle.writer_state.proofs.StandLaws.{WaitKeeps, wait_keeps}
@@ -479,7 +479,7 @@ waited_sound : (sum : List ℕ → ℕ) (o : Option WriterState) (name : ℕ) (o
 unfolding IsSound
 waited_sound sum None name old new answer small sound goes = tt
 waited_sound sum (Some w) name old new answer small sound goes =
-    sound_of sum w new.present (wait_leaves sum w old new name small (consistent_of sum w old.present sound) answer goes).0
+    sound_with sum w new.present (wait_leaves sum w old new name small (consistent_of sum w old.present sound) answer goes).0
     (intact_still sum w old.present new.present (wait_readable name old new answer goes) sound.full)
 
 -- ---- a step of a session

@@ -42,3 +42,10 @@ returns-in-Err-clause-tails g c =
     let at : c.args.self.now ≡ Some c.in-Some.writer = search rules in
     let none : c.take.new.self ≡ None = search rules in
     leaves_gone g.H.Sum.sum_of c.args.self.now c.take.new.self c.in-Some.writer c.args.cache.now c.start_sync.new.cache (g.B.Blob.life c.args.blob.now) (g.B.Blob.life c.start_sync.new.blob) at none c.in-Err.ensures.owes.tails c.in-Err.ensures.owes.replays c.in-Err.ensures.owes.others c.in-Err.ensures.owes.cached.settings
+
+pub returns-after-started-clause-cached : goal.returns-after-started-clause-cached
+returns-after-started-clause-cached g c =
+    let at : c.args.self.now ≡ Some c.in-Some.writer = search rules in
+    let ready = c.in-Ok.ensures.ready.0 (record { sound = sound_in g.H.Sum.sum_of c.args.self.now c.in-Some.writer (g.B.Blob.life c.args.blob.now).present at c.requires.sound; can = can_in c.args.self.now c.in-Some.writer c.args.cache.now (g.B.Blob.life c.args.blob.now).present at c.requires.cached; fresh = c.requires.fresh }) in
+    let can = ready.can in
+    search rules
