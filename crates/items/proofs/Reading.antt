@@ -21,7 +21,7 @@ use Rattle.items.proofs.Laws.{item_at}
 pub got : (sum : List ℕ → ℕ) (s : ℕ) (t : Tail) (cache : CacheState) (i offset : ℕ) (buf was : List ℕ) (old new : Life) (result : Result (Unit {0}) Error) → size_of t ≡ length (told t old.present.readable)
     → length (told t old.present.readable) ≡ length (told t old.present.readable) / s * s → FindsItem s (size_of t / s) i (Ok offset) → length was ≡ s → (IsErrOf result InvalidChecksum → ⊥) → Reads sum t cache (offset, length was) (λ _. buf) old new result
     → GetsItem s (told t old.present.readable) i buf old new result
-got sum s t cache i offset buf was old new (Ok u) size whole (at, fits, there) long never (within, read, full) =
+got sum s t cache i offset buf was old new (Ok u) size whole (at, fits, there) long never (within, read, full, none) =
     item_at s i (told t old.present.readable) (omega (arith, there, ap (λ (k : ℕ). k / s) size))
     ∙ ap Some (sym (read ∙ ap₂ (λ (n k : ℕ). take n (drop k (told t old.present.readable))) long at))
 got sum s t cache i offset buf was old new (Err OffsetOverflow) size whole (at, fits, there) long never (same, passes) = absurd (omega (arith, at, fits, passes, long))
@@ -120,7 +120,7 @@ all_there s n content indices is all = λ k d less. omega (arith, (all k d less)
 pub got_many : (sum : List ℕ → ℕ) (s : ℕ) (t : Tail) (cache : CacheState) (indices at buf : List ℕ) (old new : Life) (result : Result ℕ Error) → size_of t ≡ length (told t old.present.readable)
     → length (told t old.present.readable) ≡ length (told t old.present.readable) / s * s → at ≡ map (λ i. i * s) indices → All (IsThere s (size_of t / s)) indices
     → (IsErrOf result InvalidChecksum → ⊥) → ReadsMany sum t cache (ranges_of s at) buf old new result → GetsMany s t (told t old.present.readable) indices cache buf old new result
-got_many sum s t cache indices at buf old new (Ok n) size whole is all never (within, served_is, read, full) = (
+got_many sum s t cache indices at buf old new (Ok n) size whole is all never (within, served_is, read, full, none) = (
   all_there s (size_of t) (told t old.present.readable) indices size all,
   read ∙ ap (λ (l : List ℕ). flat_map (slice (told t old.present.readable)) (ranges_of s l)) is ∙ many_bytes s (told t old.present.readable) indices,
   served_is ∙ ap (λ (l : List ℕ). served cache t (ranges_of s l)) is,
