@@ -11,7 +11,7 @@ ghost use Rattle.writer_state.specs.Sound.{IsConsistent, content};
 ghost use Rattle.crash.specs.Below.{PagesStay};
 ghost use Rattle.crash.specs.Started.{CoversThrough, StartsStand};
 ghost use Rattle.paged.specs.Writer.{physical_blob_size, FitsBlob};
-ghost use Rattle.paged.specs.Calls.{AsksAtMost, HoldsWithin, Appends, AppendsOver, BuffersAll, WaitsForNone};
+ghost use Rattle.paged.specs.Calls.{AsksAtMost, HoldsWithin, AppendsOver, BuffersAll, WaitsForNone};
 ghost use Rattle.paged.specs.Calls.{wait_calls};
 ghost use Rattle.paged.specs.Costs.{AppendCosts};
 ghost use Rattle.paged.specs.Owes.{Owes};
@@ -269,8 +269,8 @@ impl<B: Blob, H: Sum, Phase> Writer<B, H, Phase> {
         requires holds { IsConsistent H.sum_of self.old (B.life blob.old).present }
         requires direct { IsDirect self.old whole rest.now }
         ensures appends { let old = B.life blob.old in let new = B.life blob.new in
-            let at = size_of self.old in
-            AppendsOver H.sum_of self.old (whole ++ rest.now) old new (answered (self.new, at) result) }
+            let all = whole ++ rest.now in let at = size_of self.old in
+            AppendsOver H.sum_of self.old all old new (answered (self.new, at) result) }
         ensures pages { let old = B.life blob.old in let new = B.life blob.new in
             PagesStay self.old.page_size self.old.full_pages old new }
         ensures covers { let old = B.life blob.old in let new = B.life blob.new in
@@ -302,8 +302,8 @@ impl<B: Blob, H: Sum, Phase> Writer<B, H, Phase> {
         requires waited { WaitsForNone self.old.sync }
         requires direct { IsDirect self.old whole rest.now }
         ensures appends { let old = B.life blob.old in let new = B.life blob.new in
-            let at = size_of self.old in
-            AppendsOver H.sum_of self.old (whole ++ rest.now) old new (answered (self.new, at) result) }
+            let all = whole ++ rest.now in let at = size_of self.old in
+            AppendsOver H.sum_of self.old all old new (answered (self.new, at) result) }
         ensures pages { let old = B.life blob.old in let new = B.life blob.new in
             PagesStay self.old.page_size self.old.full_pages old new }
         ensures covers { let old = B.life blob.old in let new = B.life blob.new in

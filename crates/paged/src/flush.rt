@@ -10,8 +10,8 @@ ghost use Rattle.writer_state.specs.Sound.{CanWrite, IsConsistent, MayFlush, con
 ghost use Rattle.crash.specs.Below.{PagesStay};
 ghost use Rattle.crash.specs.Started.{CoversThrough, StartsStand};
 ghost use Rattle.paged.specs.Calls.{AsksAtMost, settle_calls, sync_calls, Flushes};
-ghost use Rattle.paged.specs.Calls.{Settles, SettlesBy, Syncs, SyncsOver, IsWritten, WaitsForNone, Completes};
-ghost use Rattle.paged.specs.Calls.{WaitsOver, wait_calls};
+ghost use Rattle.paged.specs.Calls.{Settles, SettlesBy, SyncsOver, IsWritten, WaitsForNone};
+ghost use Rattle.paged.specs.Calls.{Completes, WaitsOver, wait_calls};
 ghost use Rattle.paged.specs.Costs.{SyncCosts};
 ghost use Rattle.paged.specs.Owes.{Owes};
 ghost use Rattle.paged.specs.Ready.{CanGoOn, StaysUsable};

@@ -1,5 +1,6 @@
 // Syncs that are started, and waited for later.
-ghost use Rattle.std.specs.Prelude.{ℕ, ◌≡◌, ◌⊎◌, true, false, ◌<◌, ◌≤◌, Ok, IfOk, OnOk, length, nat_lt};
+ghost use Rattle.std.specs.Prelude.{ℕ, ◌≡◌, ◌⊎◌, true, false, ◌<◌, ◌≤◌, Ok, IfOk, OnOk, length};
+ghost use Rattle.std.specs.Prelude.{nat_lt};
 ghost use Rattle.disk.specs.declared.started_sync.StartedSync.TheVariants.{Named};
 ghost use Rattle.writer_state.specs.Sound.{IsSound, IsConsistent, content};
 ghost use Rattle.crash.specs.Below.{PagesStay};
