@@ -214,8 +214,8 @@ pub record CrashGoes (sum : List ℕ → ℕ) (s : ℕ) (cache after : CacheStat
 
 -- ---- reads
 
--- why a read of items that there are may answer this error: the device failed in the call, or
--- memory was refused
+-- why a read of items that there are may answer this error: a read of the device failed in the
+-- call, or memory was refused, before the device was asked or between two of its reads
 abbrev pub ReadRefused : Life → Life → Error → Type 0
 ReadRefused old new ReadFailed = HasFailed ReadFailed old.present new.present
 ReadRefused old new OutOfMemory = Unit {0}

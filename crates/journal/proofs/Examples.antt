@@ -2,6 +2,8 @@
 use Rattle.std.proofs.Common.{◌≡◌, ℕ, List, [], ◌∷◌, ◌++◌, refl}
 use Rattle.std.specs.Prelude.{Some, None, false}
 use Rattle.page.specs.Sums.{add_sum, const_sum}
+use Rattle.paged_read.specs.Tail.{Tail}
+use Rattle.journal.specs.Costs.{after_frames, frame_calls, frame_range, frames_calls, pages_met}
 use Rattle.journal.specs.Frame.{frame, record_len, frame_len, is_record, record_of, frames, records, whole_frames, IsWhole, IsPrefix}
 
 -- the frame of "ab": its length, its bytes, their sum 195, and the mark
@@ -94,3 +96,43 @@ a_whole = refl
 
 pub a_prefix : IsPrefix ((97 ∷ 98 ∷ []) ∷ []) ((97 ∷ 98 ∷ []) ∷ (99 ∷ []) ∷ [])
 a_prefix = ((99 ∷ []) ∷ [], refl)
+
+-- two frames, of 9 bytes and of 8, in pages of 4: the first 16 bytes are in full pages, and one is after them
+abbrev pub two : List ℕ
+two = ab_frame ++ c_frame
+
+abbrev pub in_pages : Tail
+in_pages = record { page_size = 4; id = 0; full_pages = 4; bytes = 1 ∷ [] }
+
+-- the bytes from 3 to before 9 are in three pages; those from 15 to before 17 in one
+pub three_met : pages_met in_pages (3, 6) ≡ 3
+three_met = refl
+
+pub one_met : pages_met in_pages (15, 2) ≡ 1
+one_met = refl
+
+pub none_met : pages_met in_pages (3, 0) ≡ 0
+none_met = refl
+
+-- the second frame
+pub where_it_is : frame_range two 9 ≡ (9, 8)
+unfolding record_len
+where_it_is = refl
+
+-- one of which five bytes are missing
+pub where_it_ends : frame_range (0 ∷ 2 ∷ 97 ∷ 98 ∷ []) 0 ≡ (0, 4)
+unfolding record_len
+where_it_ends = refl
+
+-- the first has bytes of three pages, and two bytes of one tell its length; the second begins in the third
+pub calls_of_the_first : frame_calls in_pages two 0 ≡ 4
+unfolding record_len
+calls_of_the_first = refl
+
+pub calls_of_both : frames_calls in_pages two 0 2 ≡ 7
+unfolding record_len
+calls_of_both = refl
+
+pub after_both : after_frames two 0 2 ≡ 17
+unfolding record_len
+after_both = refl

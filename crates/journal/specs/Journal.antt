@@ -156,8 +156,8 @@ abbrev pub CommitGoes : (sum own : List ℕ → ℕ) → WriterState → CacheSt
 CommitGoes sum own w after old new (Ok now) = IsCommitted sum own w after old new now
 CommitGoes sum own w after old new (Err e) = CallCause w.sync old new e
 
--- why a read within the content may answer this error: the device failed in the call, or memory was
--- refused
+-- why a read within the content may answer this error: a read of the device failed in the call, or
+-- memory was refused, before the device was asked or between two of its reads
 abbrev pub ReadRefused : Life → Life → Error → Type 0
 ReadRefused old new ReadFailed = HasFailed ReadFailed old.present new.present
 ReadRefused old new OutOfMemory = Unit {0}

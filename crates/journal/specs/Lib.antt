@@ -3,3 +3,4 @@ pub mod Journal
 pub mod Reader
 pub mod Calls
 pub mod Walk
+pub mod Costs

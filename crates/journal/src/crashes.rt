@@ -1,8 +1,10 @@
 // Journals whose blob crashed.
 ghost use Rattle.std.specs.Prelude.{IfOk};
+ghost use Rattle.std.specs.Int.NonZero.{non_zero_usize_get};
 ghost use Rattle.disk.specs.History.{life_of};
 ghost use Rattle.disk.specs.Torn.{torn};
 ghost use Rattle.cache.specs.Pages.{IsFresh};
+ghost use Rattle.paged_read.specs.Searches.{ReadsWithin, scan_bytes};
 ghost use Rattle.journal.specs.Journal.{IsJournal};
 ghost use Rattle.journal.specs.Calls.{CrashGoes, CrashLeaves};
 
@@ -36,6 +38,8 @@ pub fn crash_and_recover<H: Sum, R: Sum>(
     ensures ready { IfOk result (λ r. IsJournal H.sum_of r.0 cache.new (life_of blob.new)) }
     ensures leaves { let was = (life_of blob.old).present in let is = (life_of blob.new).present in
         CrashLeaves H.sum_of R.sum_of cache.old cache.new was is }
+    ensures costs { let most = scan_bytes cache.old.page_size (non_zero_usize_get buffer_size) in
+        ReadsWithin most (life_of blob.old) (life_of blob.new) }
 {
     blob.crash(keep)?;
     let size = blob.len();

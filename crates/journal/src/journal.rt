@@ -1,9 +1,13 @@
 // Journals: records over a paged blob.
-ghost use Rattle.std.specs.Prelude.{◌≡◌, ◌≤◌, ◌++◌, ◌∷◌, [], length, IfOk};
+ghost use Rattle.std.specs.Prelude.{◌≡◌, ◌≤◌, ◌+◌, ◌++◌, ◌∷◌, [], length, true, false, IfOk};
+ghost use Rattle.std.specs.Int.NonZero.{non_zero_usize_get};
 ghost use Rattle.cache.specs.Pages.{IsFresh};
 ghost use Rattle.writer_state.specs.Sound.{content};
 ghost use Rattle.crash.specs.Stays.{LeavesOnly};
+ghost use Rattle.paged.specs.Caches.{tail_of};
 ghost use Rattle.paged.specs.Calls.{BuffersOver, TryAppends};
+ghost use Rattle.paged.specs.Costs.{AppendCosts, SnapshotCosts, SyncCosts};
+ghost use Rattle.paged.specs.Flush.{has_work};
 ghost use Rattle.paged.specs.Goes.{AppendGoes, SnapshotGoes, SyncAllGoes};
 ghost use Rattle.paged.specs.Owes.{Owes};
 ghost use Rattle.paged.specs.Ready.{IsReady};
@@ -16,6 +20,8 @@ ghost use Rattle.journal.specs.Journal.{AppendsRecord, CommitGoes, ReadsRecord, 
 ghost use Rattle.journal.specs.Journal.{IsBetweenCalls, IsJournal, OnlyReads, records_in};
 ghost use Rattle.journal.specs.Reader.{IsReader, MakesReader};
 ghost use Rattle.journal.specs.Calls.{CallLeaves, RecordReadLeaves, RecoverGoes, RecoveryLeaves};
+ghost use Rattle.journal.specs.Costs.{FrameCosts, ReaderCosts};
+ghost use Rattle.paged_read.specs.Searches.{ReadsWithin, scan_bytes};
 
 use crate::frame::{Found, Framed, frame_of};
 use crate::lookup::frame_at;
@@ -61,6 +67,7 @@ fn trim<B: Blob, H: Sum, R: Sum>(
 ) -> Result<(Recovery<B, H>, Vec<IoBuf>), Error>
     requires between { IsBetweenCalls H.sum_of recovery cache.old (B.life blob.old) }
     requires held { held.bytes ≡ content recovery (B.life blob.old).present.readable }
+    requires idle { has_work recovery true ≡ false }
     ensures trims { let old = B.life blob.old in let new = B.life blob.new in
         Trims H.sum_of R.sum_of recovery cache.new old new result }
     ensures fresh { IsFresh cache.new }
@@ -72,6 +79,7 @@ fn trim<B: Blob, H: Sum, R: Sum>(
         let held = content recovery old.present.readable in
         let P = recovery.page_size in
         LeavesOnly H.sum_of P held (whole_frames held) old (B.life blob.new) }
+    ensures costs { ReadsWithin (recovery.page_size + 12) (B.life blob.old) (B.life blob.new) }
 {
     let (found, end) = records_of::<R>(alloc, held)?;
     if end == recovery.size() {
@@ -104,7 +112,8 @@ impl<B, H, R> Journal<B, H, R> {
 
 impl<B: Blob, H: Sum, R: Sum> Journal<B, H, R> {
     /// Appends a record, and answers the offset of its frame, in logical bytes. It is committed by
-    /// the next [`Journal::commit`].
+    /// the next [`Journal::commit`]. No device is asked where the frame fits what is buffered, and
+    /// else at most three calls are made.
     ///
     /// `OffsetOverflow` where the blob has no room for the frame, `WriteFailed` where the device
     /// failed, `OutOfMemory`. The journal is gone then.
@@ -122,6 +131,8 @@ impl<B: Blob, H: Sum, R: Sum> Journal<B, H, R> {
         ensures leaves { let old = B.life blob.old in let new = B.life blob.new in
             let all = records_in R.sum_of self old ++ bytes.now ∷ [] in
             CallLeaves H.sum_of R.sum_of self all cache.old cache.new old new }
+        ensures costs { let old = B.life blob.old in let new = B.life blob.new in
+            AppendCosts self (frame R.sum_of bytes.now) cache.old cache.new old new result }
     {
         let mut journal = self;
         if let Some(offset) = journal.try_append(bytes)? {
@@ -151,6 +162,8 @@ impl<B: Blob, H: Sum, R: Sum> Journal<B, H, R> {
         ensures ready { IfOk result (λ r. IsReady H.sum_of r.0 cache.new (B.life blob.new)) }
         ensures owes { let all = content self (B.life blob.old).present.readable ++ bytes.now in
             Owes H.sum_of self all cache.old cache.new (B.life blob.old) (B.life blob.new) }
+        ensures costs { let old = B.life blob.old in let new = B.life blob.new in
+            AppendCosts self bytes.now cache.old cache.new old new result }
     {
         let alloc = self.alloc;
         match self.writer.append(blob, cache, bytes) {
@@ -159,7 +172,8 @@ impl<B: Blob, H: Sum, R: Sum> Journal<B, H, R> {
         }
     }
 
-    /// Commits all records that were appended: whatever crashes from then on, they come back.
+    /// Commits all records that were appended: whatever crashes from then on, they come back. It
+    /// makes at most two device calls, and none where all is durable.
     ///
     /// `WriteFailed` and `SyncFailed` where the device failed, `OutOfMemory`. The journal is gone
     /// then.
@@ -171,6 +185,8 @@ impl<B: Blob, H: Sum, R: Sum> Journal<B, H, R> {
         ensures leaves { let old = B.life blob.old in let new = B.life blob.new in
             let all = records_in R.sum_of self old in
             CallLeaves H.sum_of R.sum_of self all cache.old cache.new old new }
+        ensures costs { let old = B.life blob.old in let new = B.life blob.new in
+            SyncCosts self cache.old cache.new old new result }
     {
         self.sync(blob, cache)
     }
@@ -182,6 +198,8 @@ impl<B: Blob, H: Sum, R: Sum> Journal<B, H, R> {
         ensures ready { IfOk result (λ w. IsReady H.sum_of w cache.new (B.life blob.new)) }
         ensures owes { let all = content self (B.life blob.old).present.readable in
             Owes H.sum_of self all cache.old cache.new (B.life blob.old) (B.life blob.new) }
+        ensures costs { let old = B.life blob.old in let new = B.life blob.new in
+            SyncCosts self cache.old cache.new old new result }
     {
         let alloc = self.alloc;
         match self.writer.sync(blob, cache) {
@@ -191,7 +209,8 @@ impl<B: Blob, H: Sum, R: Sum> Journal<B, H, R> {
     }
 
     /// A reader of the records that the journal has now, and the journal, which goes on. What is
-    /// buffered of whole pages is written for it, without a sync; so nothing is committed by it.
+    /// buffered of whole pages is written for it, without a sync; so nothing is committed by it. It
+    /// makes at most two device calls, and none where no whole page is buffered.
     ///
     /// `WriteFailed` where the device failed, `OutOfMemory`. The journal is gone then.
     pub fn reader(
@@ -207,6 +226,8 @@ impl<B: Blob, H: Sum, R: Sum> Journal<B, H, R> {
         ensures leaves { let old = B.life blob.old in let new = B.life blob.new in
             let all = records_in R.sum_of self old in
             CallLeaves H.sum_of R.sum_of self all cache.old cache.new old new }
+        ensures costs { let old = B.life blob.old in let new = B.life blob.new in
+            ReaderCosts self cache.old cache.new old new result }
     {
         let (journal, snapshot) = self.snapshot(blob, cache)?;
         let alloc = journal.alloc;
@@ -221,6 +242,8 @@ impl<B: Blob, H: Sum, R: Sum> Journal<B, H, R> {
         ensures ready { IfOk result (λ r. IsReady H.sum_of r.0 cache.new (B.life blob.new)) }
         ensures owes { let all = content self (B.life blob.old).present.readable in
             Owes H.sum_of self all cache.old cache.new (B.life blob.old) (B.life blob.new) }
+        ensures costs { let old = B.life blob.old in let new = B.life blob.new in
+            SnapshotCosts self cache.old cache.new old new result }
     {
         let alloc = self.alloc;
         match self.writer.snapshot(blob, cache) {
@@ -254,6 +277,10 @@ impl<B: Blob, H: Sum, R: Sum> Journal<B, H, R> {
         ensures ready { IfOk result (λ r. IsJournal H.sum_of r.0 cache.new (B.life blob.new)) }
         ensures leaves { let old = B.life blob.old in let new = B.life blob.new in
             RecoveryLeaves H.sum_of R.sum_of cache.old cache.new old new }
+
+        // No read has more pages than fit `buffer_size`, and each may have one page.
+        ensures costs { let most = scan_bytes cache.old.page_size (non_zero_usize_get buffer_size) in
+            ReadsWithin most (B.life blob.old) (B.life blob.new) }
     {
         let nothing = Hand::new(alloc, cache.page_size());
         let mut kept = Some(nothing);
@@ -278,16 +305,23 @@ impl<B: Blob, H: Sum, R: Sum> Journal<B, H, R> {
             ReadsRecord R.sum_of (content self.now old.present.readable) offset old new result }
         ensures leaves { let old = B.life blob.old in let new = B.life blob.new in
             OnlyReads H.sum_of self.now cache.old cache.new old new }
+        ensures costs { let old = B.life blob.old in let new = B.life blob.new in
+            let held = content self.now old.present.readable in
+            FrameCosts (tail_of self.now) held offset cache.old cache.new old new }
     {
         frame_at::<B, H, R>(self.alloc, self.writer.view(), blob, cache, offset)
     }
 
     /// The frame that begins at an offset, in logical bytes: one that an append answered, or the
     /// offset after another frame, the first of which begins at 0. `None` where none begins there:
-    /// at the end of the journal and after it.
+    /// at the end of the journal and after it, and then nothing is asked for.
     ///
-    /// `ReadFailed` where the device failed, `OutOfMemory`. An error leaves all as it was, but for
-    /// pages that the cache may hold now.
+    /// The two bytes that tell a frame's length are read first, and then the frame. Either read
+    /// makes at most one device call for each of its pages, and none where the cache holds them.
+    ///
+    /// `ReadFailed` where the device failed, `OutOfMemory`. Memory for the frame is asked for once
+    /// its length is known: so a call that is refused it may have read the device before. An error
+    /// leaves all as it was, but for pages that the cache may hold now.
     pub fn read_record(
         &self,
         blob: &mut B,
@@ -300,6 +334,9 @@ impl<B: Blob, H: Sum, R: Sum> Journal<B, H, R> {
         ensures ready { IsJournal H.sum_of self.now cache.new (B.life blob.new) }
         ensures leaves { let old = B.life blob.old in let new = B.life blob.new in
             RecordReadLeaves H.sum_of R.sum_of self.now cache.old cache.new old new }
+        ensures costs { let old = B.life blob.old in let new = B.life blob.new in
+            let held = content self.now old.present.readable in
+            FrameCosts (tail_of self.now) held offset cache.old cache.new old new }
     {
         self.find(blob, cache, offset)
     }

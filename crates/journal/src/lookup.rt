@@ -1,10 +1,11 @@
 // The frame at an offset of a blob's content, read through a view: that of a journal's writer, or
 // of a snapshot.
-ghost use Rattle.std.specs.Prelude.{◌≡◌, ◌+◌, ◌^◌, ◌<◌, ◌≤◌};
+ghost use Rattle.std.specs.Prelude.{◌≡◌, ◌+◌, ◌^◌, ◌<◌, ◌≤◌, min};
 ghost use Rattle.std.specs.Int.NonZero.{non_zero_u16_get};
 ghost use Rattle.paged_read.specs.Tail.{IsView, size_of, tail_at, told};
 ghost use Rattle.journal.specs.Journal.{MeasuresFrame, ReadsBytes, ReadsFrame, ReadsRecord};
 ghost use Rattle.journal.specs.Reader.{IsOpen, OnlyViews};
+ghost use Rattle.journal.specs.Costs.{FrameCosts, RangeCosts};
 
 use crate::frame::{AFTER, Found, IN_FRONT, record_at, record_len_of};
 use bytes::Bytes;
@@ -34,6 +35,9 @@ fn read_bytes<B: Blob, H: Sum>(
         ReadsBytes (told t old.present.readable) offset len old new result }
     ensures leaves { let t = tail_at view.entry.page_size view.entry.id view.entry.tip.now in
         OnlyViews H.sum_of t cache.old cache.new (B.life blob.old) (B.life blob.new) }
+    ensures costs { let t = tail_at view.entry.page_size view.entry.id view.entry.tip.now in
+        let old = B.life blob.old in let new = B.life blob.new in
+        RangeCosts t (offset, len) cache.old cache.new old new }
 {
     let mut bytes = Vec::new(alloc);
     bytes.resize(len, 0)?;
@@ -63,6 +67,9 @@ fn frame_len_at<B: Blob, H: Sum>(
         MeasuresFrame (told t old.present.readable) offset rest old new result }
     ensures leaves { let t = tail_at view.entry.page_size view.entry.id view.entry.tip.now in
         OnlyViews H.sum_of t cache.old cache.new (B.life blob.old) (B.life blob.new) }
+    ensures costs { let t = tail_at view.entry.page_size view.entry.id view.entry.tip.now in
+        let old = B.life blob.old in let new = B.life blob.new in
+        RangeCosts t (offset, min 2 rest) cache.old cache.new old new }
 {
     let mut head = [0; IN_FRONT];
     let front = &mut head[..rest.min(IN_FRONT as u64) as usize];
@@ -87,11 +94,15 @@ fn read_frame<B: Blob, H: Sum>(
     requires within { let t = tail_at view.page_size view.id view.tip.now in
         offset + rest ≡ size_of t }
     requires fits { offset + rest < 2 ^ 64 }
+    requires some { 0 < rest }
     ensures reads { let t = tail_at view.entry.page_size view.entry.id view.entry.tip.now in
         let old = B.life blob.old in let new = B.life blob.new in
         ReadsFrame (told t old.present.readable) offset rest old new result }
     ensures leaves { let t = tail_at view.entry.page_size view.entry.id view.entry.tip.now in
         OnlyViews H.sum_of t cache.old cache.new (B.life blob.old) (B.life blob.new) }
+    ensures costs { let t = tail_at view.entry.page_size view.entry.id view.entry.tip.now in
+        let old = B.life blob.old in let new = B.life blob.new in
+        FrameCosts t (told t old.present.readable) offset cache.old cache.new old new }
 {
     let len = frame_len_at(view, blob, cache, offset, rest)?;
     read_bytes(alloc, view, blob, cache, offset, len as usize)
@@ -115,6 +126,9 @@ pub fn frame_at<B: Blob, H: Sum, R: Sum>(
         ReadsRecord R.sum_of (told t old.present.readable) offset old new result }
     ensures leaves { let t = tail_at view.entry.page_size view.entry.id view.entry.tip.now in
         OnlyViews H.sum_of t cache.old cache.new (B.life blob.old) (B.life blob.new) }
+    ensures costs { let t = tail_at view.entry.page_size view.entry.id view.entry.tip.now in
+        let old = B.life blob.old in let new = B.life blob.new in
+        FrameCosts t (told t old.present.readable) offset cache.old cache.new old new }
 {
     let size = view.size();
     if size <= offset {

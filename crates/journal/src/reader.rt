@@ -4,6 +4,7 @@ ghost use Rattle.paged_read.specs.Tail.{told};
 ghost use Rattle.journal.specs.Journal.{ReadsRecord};
 ghost use Rattle.journal.specs.Reader.{FindsNext, IsOpen, IsReader, OnlyLooks, ReadsNext};
 ghost use Rattle.journal.specs.Calls.{ReaderLeaves};
+ghost use Rattle.journal.specs.Costs.{FrameCosts, NextCosts};
 
 use crate::frame::Found;
 use crate::lookup::frame_at;
@@ -52,6 +53,9 @@ fn find<B: Blob, H: Sum, R: Sum>(
         ReadsRecord R.sum_of (told snapshot.now old.present.readable) offset old new result }
     ensures leaves { let old = B.life blob.old in let new = B.life blob.new in
         OnlyLooks H.sum_of snapshot.now cache.old cache.new old new }
+    ensures costs { let old = B.life blob.old in let new = B.life blob.new in
+        let t = snapshot.now in
+        FrameCosts t (told t old.present.readable) offset cache.old cache.new old new }
 {
     frame_at::<B, H, R>(alloc, snapshot.view(), blob, cache, offset)
 }
@@ -69,6 +73,9 @@ fn find_record<B: Blob, H: Sum, R: Sum>(
         FindsNext R.sum_of (told snapshot.now old.present.readable) from old new result }
     ensures leaves { let old = B.life blob.old in let new = B.life blob.new in
         OnlyLooks H.sum_of snapshot.now cache.old cache.new old new }
+    ensures costs { let old = B.life blob.old in let new = B.life blob.new in
+        let t = snapshot.now in
+        NextCosts R.sum_of t (told t old.present.readable) from cache.old cache.new old new }
 {
     let mut offset = from;
     'frames: loop {
@@ -103,8 +110,11 @@ impl<B: Blob, H: Sum, R: Sum> Reader<B, H, R> {
     /// The next record, or `None` after the last. A frame that is no record is passed over. This
     /// isn't `Iterator::next`, since the blob and the cache are lent to each call.
     ///
-    /// `ReadFailed` where the device failed, `OutOfMemory`. An error leaves the reader where it
-    /// was, so that the call can be made again.
+    /// Each of these frames is read as [`Journal::read_record`](crate::journal::Journal::read_record)
+    /// reads it, and once; and no other is.
+    ///
+    /// `ReadFailed` where the device failed, `OutOfMemory`, also after reads of the device. An error
+    /// leaves the reader where it was, so that the call can be made again.
     pub fn next(&mut self, blob: &mut B, cache: &mut CacheRef) -> Result<Option<IoBuf>, Error>
         requires reader { IsReader H.sum_of self.old cache.old (B.life blob.old) }
         ensures goes { let old = B.life blob.old in let new = B.life blob.new in
@@ -112,6 +122,9 @@ impl<B: Blob, H: Sum, R: Sum> Reader<B, H, R> {
         ensures ready { IsReader H.sum_of self.new cache.new (B.life blob.new) }
         ensures leaves { let old = B.life blob.old in let new = B.life blob.new in
             ReaderLeaves H.sum_of R.sum_of self.old cache.old cache.new old new }
+        ensures costs { let old = B.life blob.old in let new = B.life blob.new in
+            let t = self.old.tail in let held = told t old.present.readable in
+            NextCosts R.sum_of t held self.old.offset cache.old cache.new old new }
     {
         let found = find_record::<B, H, R>(self.alloc, &self.snapshot, blob, cache, self.offset)?;
         self.offset = found.end;

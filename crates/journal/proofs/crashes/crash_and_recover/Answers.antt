@@ -3,9 +3,12 @@ use Rattle.disk.specs.Disk.{IsImage, Life}
 use Rattle.disk.specs.History.{life_of}
 use Rattle.disk.specs.Torn.{torn}
 use Rattle.crash.specs.Moments.{through_end}
+use Rattle.std.specs.Int.NonZero.{non_zero_usize_get}
+use Rattle.paged_read.specs.Searches.{ReadsWithin, scan_bytes}
 use Rattle.journal.specs.Calls.{CrashLeaves}
 use Rattle.journal.specs.Journal.{Commits}
 use Rattle.journal.proofs.Journals.{brought_back, brought_only, commits_left}
+use Rattle.journal.proofs.Costs.{same_log, unread}
 use Rattle.journal.proofs.Readers.{crash_refused, nothing_crashed}
 use Rattle.journal.proofs.crashes.crash_and_recover.Goals as goal
 
@@ -55,3 +58,14 @@ returns-clause-leaves g c =
           let first : Commits sum own P content n mid.present = commits_left sum own P content n d mid.present is_image (ap (λ (l : Life). l.present.since) life) commits in
           through_end (Commits sum own P content n) mid (life_of c.recover.new.blob) (left.kept content n first);
     }
+
+pub returns-in_err-crash-clause-costs : goal.returns-in_err-crash-clause-costs
+returns-in_err-crash-clause-costs g c =
+    let old = life_of c.args.blob.now in
+    let most = scan_bytes c.args.cache.now.page_size (non_zero_usize_get c.args.buffer_size) in
+    subst (λ (l : Life). ReadsWithin most old l) (sym (ap life_of c.in_err-crash.ensures.same)) (unread most old)
+
+pub returns-clause-costs : goal.returns-clause-costs
+returns-clause-costs g c =
+    let most = scan_bytes c.args.cache.now.page_size (non_zero_usize_get c.args.buffer_size) in
+    same_log most (life_of c.args.blob.now) (life_of c.crash.new.self) (life_of c.recover.new.blob) (ap (λ (l : Life). l.present.log) c.in_ok-crash.ensures.life) c.recover.ensures.costs

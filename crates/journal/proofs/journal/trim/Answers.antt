@@ -1,4 +1,4 @@
-use Rattle.std.proofs.Common.{◌≡◌, ◌∙◌, List, length, subst, sym, ap, ℕ}
+use Rattle.std.proofs.Common.{◌≡◌, ◌+◌, ◌∙◌, List, length, subst, sym, ap, ℕ}
 use Rattle.disk.specs.Disk.{Life}
 use Rattle.cache.specs.CacheState.{CacheState}
 use Rattle.writer_state.specs.WriterState.{WriterState}
@@ -9,6 +9,7 @@ use Rattle.paged.specs.Truncate.{KeepsFloorsWithin}
 use Rattle.journal.specs.Frame.{records, whole_frames}
 use Rattle.journal.specs.Journal.{IsBetweenCalls}
 use Rattle.journal.proofs.Journals.{floors_within, leaves_or, reads_start, trim_leaves, trim_goes, trim_stays, trim_refused, trim_unread}
+use Rattle.journal.proofs.Costs.{unread}
 use Rattle.journal.proofs.journal.trim.Given.{Over}
 use Rattle.journal.proofs.journal.trim.Goals as goal
 use Rattle.journal.proofs.journal.trim.Goals.{After-truncate, In_ok-found}
@@ -112,3 +113,15 @@ returns-in-Ok-clause-others g c = c.truncate.ensures.owes.others
 
 pub returns-in-Err-clause-others : goal.returns-in-Err-clause-others
 returns-in-Err-clause-others g c = c.truncate.ensures.owes.others
+
+pub returns-in_err-found-clause-costs : goal.returns-in_err-found-clause-costs
+returns-in_err-found-clause-costs g c = unread (c.args.recovery.page_size + 12) (g.B.Blob.life c.args.blob.now)
+
+pub returns-then-end-size-clause-costs : goal.returns-then-end-size-clause-costs
+returns-then-end-size-clause-costs g c = unread (c.args.recovery.page_size + 12) (g.B.Blob.life c.args.blob.now)
+
+pub returns-in-Ok-clause-costs : goal.returns-in-Ok-clause-costs
+returns-in-Ok-clause-costs g c = c.truncate.ensures.costs.reads c.requires.idle
+
+pub returns-in-Err-clause-costs : goal.returns-in-Err-clause-costs
+returns-in-Err-clause-costs g c = c.truncate.ensures.costs.reads c.requires.idle

@@ -1,5 +1,6 @@
 use Rattle.std.proofs.Common.{◌+◌, ◌-◌, ap, arith}
 use Rattle.paged_read.specs.Tail.{tail_at, told}
+use Rattle.journal.proofs.Costs.{frame_none}
 use Rattle.journal.proofs.Journals.{found}
 use Rattle.journal.proofs.Readers.{views_start}
 use Rattle.journal.proofs.lookup.frame_at.Goals as goal
@@ -15,3 +16,9 @@ returns-clause-reads g c =
     found g.R.Sum.sum_of held c.args.offset rest c.in_ok-framed.framed c.in_ok-bytes.bytes (c.args.offset + c.len.result)
     (omega (arith, c.if-size-offset.false, c.size-size.ensures, size)) (omega (arith, c.if-size-offset.false))
     c.in_ok-framed.ensures.reads c.in_ok-bytes.ensures.found (ap (λ n. c.args.offset + n) c.len.ensures)
+
+pub returns-then-size-offset-clause-costs : goal.returns-then-size-offset-clause-costs
+returns-then-size-offset-clause-costs g c =
+    let t = tail_at c.args.view.page_size c.args.view.id c.args.view.tip.now in
+    let life = g.B.Blob.life c.args.blob.now in
+    frame_none t (told t life.present.readable) c.args.offset c.args.cache.now life

@@ -1,5 +1,6 @@
 use Rattle.std.proofs.Common.{subst, sym}
 use Rattle.paged_read.specs.Tail.{Tail, told}
+use Rattle.journal.specs.Costs.{FrameCosts}
 use Rattle.journal.specs.Journal.{ReadsRecord}
 use Rattle.journal.specs.Reader.{IsOpen, OnlyViews}
 use Rattle.journal.proofs.Readers.{views_look}
@@ -25,3 +26,9 @@ returns-clause-leaves g c =
     let new = g.B.Blob.life c.frame_at.new.blob in
     views_look g.H.Sum.sum_of c.args.snapshot.now c.args.cache.now c.frame_at.new.cache old new c.view.ensures.short
     (subst (λ (t : Tail). OnlyViews g.H.Sum.sum_of t c.args.cache.now c.frame_at.new.cache old new) c.view.ensures.tail c.frame_at.ensures.leaves)
+
+pub returns-clause-costs : goal.returns-clause-costs
+returns-clause-costs g c =
+    let old = g.B.Blob.life c.args.blob.now in
+    let new = g.B.Blob.life c.frame_at.new.blob in
+    subst (λ (t : Tail). FrameCosts t (told t old.present.readable) c.args.offset c.args.cache.now c.frame_at.new.cache old new) c.view.ensures.tail c.frame_at.ensures.costs

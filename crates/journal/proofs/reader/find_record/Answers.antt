@@ -2,7 +2,9 @@ use Rattle.std.proofs.Common.{◌≤◌, ◌∙◌, List, ℕ, Ok, length, refl,
 use Rattle.std.specs.Prelude.{Option}
 use Rattle.paged_read.specs.Tail.{told}
 use Rattle.journal.specs.declared.frame.Found.{Found}
+use Rattle.journal.specs.Costs.{FrameCosts, NextCosts}
 use Rattle.journal.specs.Journal.{IsFound, ReadsRecord}
+use Rattle.journal.proofs.Costs.{next_costs, none_passed, passed_on}
 use Rattle.journal.specs.Reader.{OnlyLooks}
 use Rattle.journal.proofs.Readers.{looks_start, looks_join, next_later, next_none, next_refused, not_some}
 use Rattle.journal.proofs.reader.find_record.Given.{Over}
@@ -13,6 +15,7 @@ pub frames-init : goal.frames-init
 frames-init g c = record {
   looks = looks_start g.H.Sum.sum_of c.args.snapshot.now c.args.cache.now (g.B.Blob.life c.args.blob.now) c.requires.opened;
   so_far = refl;
+  passed = none_passed g.R.Sum.sum_of c.args.snapshot.now (told c.args.snapshot.now (g.B.Blob.life c.args.blob.now).present.readable) c.args.from c.args.cache.now (g.B.Blob.life c.args.blob.now);
 }
 
 -- the reads until now, and this one
@@ -20,6 +23,25 @@ looks : (g : Over) (c : After-find g) → OnlyLooks g.H.Sum.sum_of c.args.snapsh
 looks g c =
     looks_join g.H.Sum.sum_of c.args.snapshot.now c.args.cache.now c.frames.cache c.find.new.cache (g.B.Blob.life c.args.blob.now) (g.B.Blob.life c.frames.blob) (g.B.Blob.life c.find.new.blob)
     c.frames.invariant.looks c.find.ensures.leaves
+
+-- this frame, of the content that there was, and the frames until now
+frame_there : (g : Over) (c : After-find g) → FrameCosts c.args.snapshot.now (told c.args.snapshot.now (g.B.Blob.life c.args.blob.now).present.readable) c.frames.offset c.frames.cache c.find.new.cache (g.B.Blob.life c.frames.blob) (g.B.Blob.life c.find.new.blob)
+frame_there g c =
+    subst (λ (l : List ℕ). FrameCosts c.args.snapshot.now l c.frames.offset c.frames.cache c.find.new.cache (g.B.Blob.life c.frames.blob) (g.B.Blob.life c.find.new.blob)) c.frames.invariant.looks.holds c.find.ensures.costs
+
+costs : (g : Over) (c : After-find g) → NextCosts g.R.Sum.sum_of c.args.snapshot.now (told c.args.snapshot.now (g.B.Blob.life c.args.blob.now).present.readable) c.args.from c.args.cache.now c.find.new.cache (g.B.Blob.life c.args.blob.now) (g.B.Blob.life c.find.new.blob)
+costs g c =
+    next_costs g.R.Sum.sum_of c.args.snapshot.now (told c.args.snapshot.now (g.B.Blob.life c.args.blob.now).present.readable) c.args.from c.frames.offset c.args.cache.now c.frames.cache c.find.new.cache (g.B.Blob.life c.args.blob.now) (g.B.Blob.life c.frames.blob) (g.B.Blob.life c.find.new.blob)
+    c.frames.invariant.passed (frame_there g c)
+
+pub returns-in_err-found-clause-costs : goal.returns-in_err-found-clause-costs
+returns-in_err-found-clause-costs g c = costs g (goal.at.returns-in_err-found-clause-costs g c).After-find
+
+pub returns-in_default-clause-costs : goal.returns-in_default-clause-costs
+returns-in_default-clause-costs g c = costs g (goal.at.returns-in_default-clause-costs g c).After-find
+
+pub returns-then-is_some-clause-costs : goal.returns-then-is_some-clause-costs
+returns-then-is_some-clause-costs g c = costs g (goal.at.returns-then-is_some-clause-costs g c).After-find
 
 pub returns-in_err-found-clause-finds : goal.returns-in_err-found-clause-finds
 returns-in_err-found-clause-finds g c =
@@ -55,8 +77,12 @@ frames-preserved g c =
     let offset = c.frames.offset in
     let here = subst (λ (o : Option Found). ReadsRecord own (told t mid.present.readable) offset mid (g.B.Blob.life c.find.new.blob) (Ok o)) c.in-Some.is c.in_ok-found.ensures.reads in
     let there = subst (λ (l : List ℕ). IsFound own l offset f.bytes f.end) c.frames.invariant.looks.holds here in
+    let old = g.B.Blob.life c.args.blob.now in
+    let held = told t old.present.readable in
+    let new = g.B.Blob.life c.find.new.blob in
+    let so_far = next_later own held c.args.from offset f.bytes f.end c.frames.invariant.so_far there (not_some f.bytes (sym c.is_some.ensures ∙ c.if-is_some.false)) in
     record {
       looks = looks g (goal.at.frames-preserved g c).After-find;
-      so_far = next_later own (told t (g.B.Blob.life c.args.blob.now).present.readable) c.args.from offset f.bytes f.end c.frames.invariant.so_far there
-          (not_some f.bytes (sym c.is_some.ensures ∙ c.if-is_some.false));
+      so_far = so_far;
+      passed = passed_on own t held c.args.from offset c.args.cache.now c.frames.cache c.find.new.cache old mid new c.frames.invariant.passed (frame_there g (goal.at.frames-preserved g c).After-find) f.end there.after so_far;
     }

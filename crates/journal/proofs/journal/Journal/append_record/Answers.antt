@@ -3,12 +3,14 @@ use Rattle.writer_state.specs.Sound.{content}
 use Rattle.writer_state.specs.WriterState.{WriterState}
 use Rattle.paged.specs.Goes.{AppendGoes}
 use Rattle.paged.specs.Owes.{Owes}
+use Rattle.paged.specs.Costs.{AppendCosts}
 use Rattle.paged.specs.Ready.{IsReady}
 use Rattle.journal.specs.Frame.{frame}
 use Rattle.journal.specs.Calls.{CallLeaves}
 use Rattle.journal.specs.Journal.{records_in}
 use Rattle.journal.proofs.Journals.{append_goes, append_gives, buffer_refused, buffered, before_append, after_append, not_fitting, ready_of, whole_of}
 use Rattle.journal.proofs.Readers.{nothing_leaves, owed_leaves}
+use Rattle.journal.proofs.Costs.{costs_buffered, costs_refused, costs_unframed}
 use Rattle.journal.proofs.journal.Journal.append_record.Given.{Over}
 use Rattle.journal.proofs.journal.Journal.append_record.Goals as goal
 use Rattle.journal.proofs.journal.Journal.append_record.Goals.{After-append, After-try_append}
@@ -88,3 +90,23 @@ returns-clause-leaves g c =
     owed_leaves sum own w (records_in own w old ++ c.args.bytes.now ∷ []) (before ++ frame own c.args.bytes.now) cache after old new
     (before_append own before c.args.bytes.now) (after_append own before c.args.bytes.now c.requires.short (g.met.R.Sum.small c.args.bytes.now) (whole_of sum w cache old c.requires.journal))
     (subst (λ (b : List ℕ). Owes sum w (before ++ b) cache after old new) framed owes)
+
+pub returns-in_err-offset-clause-costs : goal.returns-in_err-offset-clause-costs
+returns-in_err-offset-clause-costs g c =
+    costs_refused c.args.self c.try_append.new.self (frame g.R.Sum.sum_of c.args.bytes.now) c.args.cache.now (g.B.Blob.life c.args.blob.now) c.in_err-offset.field-0.0 c.from_residual.result c.from_residual.ensures.1 c.in_err-offset.ensures.tries
+
+pub returns-in-Some-clause-costs : goal.returns-in-Some-clause-costs
+returns-in-Some-clause-costs g c =
+    costs_buffered c.args.self c.try_append.new.self (frame g.R.Sum.sum_of c.args.bytes.now) c.args.cache.now (g.B.Blob.life c.args.blob.now) c.in-Some.offset _ c.in-Some.is c.in_ok-offset.ensures.tries
+
+pub returns-in_err-framed-clause-costs : goal.returns-in_err-framed-clause-costs
+returns-in_err-framed-clause-costs g c =
+    costs_unframed c.args.self (frame g.R.Sum.sum_of c.args.bytes.now) c.args.cache.now (g.B.Blob.life c.args.blob.now) c.in_err-framed.field-0.0 c.from_residual-in_err-framed.result c.from_residual-in_err-framed.ensures.1 c.in_err-framed.ensures.err
+
+pub returns-clause-costs : goal.returns-clause-costs
+returns-clause-costs g c =
+    let old = g.B.Blob.life c.args.blob.now in
+    let new = g.B.Blob.life c.append.new.blob in
+    let framed : c.deref.result.now ≡ frame g.R.Sum.sum_of c.args.bytes.now = c.deref.ensures.value ∙ c.in_ok-framed.ensures.framed in
+    subst (λ (b : List ℕ). AppendCosts c.args.self b c.args.cache.now c.append.new.cache old new c.append.result) framed
+    (subst (λ (v : WriterState). AppendCosts v c.deref.result.now c.args.cache.now c.append.new.cache old new c.append.result) (same g (goal.at.returns-clause-costs g c).After-append) c.append.ensures.costs)

@@ -17,3 +17,6 @@ returns-clause-ready g c =
 
 pub returns-clause-leaves : goal.returns-clause-leaves
 returns-clause-leaves g c = owed_same g.H.Sum.sum_of g.R.Sum.sum_of c.args.self c.args.cache.now c.sync.new.cache (g.B.Blob.life c.args.blob.now) (g.B.Blob.life c.sync.new.blob) c.sync.ensures.owes
+
+pub returns-clause-costs : goal.returns-clause-costs
+returns-clause-costs g c = c.sync.ensures.costs

@@ -2,6 +2,7 @@ use Rattle.std.proofs.Common.{◌≡◌, ◌∙◌, ap, subst, sym}
 use Rattle.writer_state.specs.WriterState.{WriterState}
 use Rattle.paged_read.specs.Tail.{Tail, tail_at, told}
 use Rattle.paged.specs.Caches.{tail_of}
+use Rattle.journal.specs.Costs.{FrameCosts}
 use Rattle.journal.specs.Journal.{ReadsRecord}
 use Rattle.journal.specs.Reader.{IsOpen, OnlyViews}
 use Rattle.journal.proofs.Readers.{opened_writer, views_read}
@@ -33,3 +34,11 @@ returns-clause-leaves g c =
     let e : tail_at v.page_size v.id v.tip.now ≡ tail_of c.args.self.now = c.view.ensures.tail ∙ ap (λ (w : WriterState). tail_of w) c.self.view_is in
     views_read g.H.Sum.sum_of c.args.self.now c.args.cache.now c.frame_at.new.cache old new c.requires.between
     (subst (λ (t : Tail). OnlyViews g.H.Sum.sum_of t c.args.cache.now c.frame_at.new.cache old new) e c.frame_at.ensures.leaves)
+
+pub returns-clause-costs : goal.returns-clause-costs
+returns-clause-costs g c =
+    let v = c.view.result in
+    let old = g.B.Blob.life c.args.blob.now in
+    let new = g.B.Blob.life c.frame_at.new.blob in
+    let e : tail_at v.page_size v.id v.tip.now ≡ tail_of c.args.self.now = c.view.ensures.tail ∙ ap (λ (w : WriterState). tail_of w) c.self.view_is in
+    subst (λ (t : Tail). FrameCosts t (told t old.present.readable) c.args.offset c.args.cache.now c.frame_at.new.cache old new) e c.frame_at.ensures.costs

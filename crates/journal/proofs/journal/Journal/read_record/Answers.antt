@@ -15,3 +15,6 @@ returns-clause-ready g c =
 
 pub returns-clause-leaves : goal.returns-clause-leaves
 returns-clause-leaves g c = reads_leave g.H.Sum.sum_of g.R.Sum.sum_of c.args.self.now c.args.cache.now c.find.new.cache (g.B.Blob.life c.args.blob.now) (g.B.Blob.life c.find.new.blob) c.find.ensures.leaves
+
+pub returns-clause-costs : goal.returns-clause-costs
+returns-clause-costs g c = c.find.ensures.costs

@@ -2,6 +2,7 @@ use Rattle.std.proofs.Common.{inl, subst, sym}
 use Rattle.journal.specs.Reader.{HasReader, ReaderState}
 use Rattle.journal.proofs.Journals.{ready_of, whole_of}
 use Rattle.journal.proofs.Readers.{owed_same, reader_made}
+use Rattle.journal.proofs.Costs.{reader_costs, reader_refused}
 use Rattle.journal.proofs.journal.Journal.reader.Goals as goal
 
 pub snapshot-requires : goal.snapshot-requires
@@ -27,3 +28,11 @@ returns-clause-leaves g c = owed_same g.H.Sum.sum_of g.R.Sum.sum_of c.args.self 
 
 pub returns-in_err-journal-clause-leaves : goal.returns-in_err-journal-clause-leaves
 returns-in_err-journal-clause-leaves g c = owed_same g.H.Sum.sum_of g.R.Sum.sum_of c.args.self c.args.cache.now c.snapshot.new.cache (g.B.Blob.life c.args.blob.now) (g.B.Blob.life c.snapshot.new.blob) c.snapshot.ensures.owes
+
+pub returns-clause-costs : goal.returns-clause-costs
+returns-clause-costs g c =
+    reader_costs c.args.self c.args.cache.now c.snapshot.new.cache (g.B.Blob.life c.args.blob.now) (g.B.Blob.life c.snapshot.new.blob) c.in_ok-journal.journal c.in_ok-journal.snapshot c.new.result c.new.ensures c.in_ok-journal.ensures.costs
+
+pub returns-in_err-journal-clause-costs : goal.returns-in_err-journal-clause-costs
+returns-in_err-journal-clause-costs g c =
+    reader_refused c.args.self c.args.cache.now c.snapshot.new.cache (g.B.Blob.life c.args.blob.now) (g.B.Blob.life c.snapshot.new.blob) c.in_err-journal.field-0.0 c.from_residual.result c.from_residual.ensures.1 c.in_err-journal.ensures.costs

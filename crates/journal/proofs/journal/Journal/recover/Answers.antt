@@ -1,11 +1,14 @@
 use Rattle.std.proofs.Common.{◌≡◌, ◌∙◌, sym, subst, ap₂, length, ℕ, List}
+use Rattle.std.specs.Int.NonZero.{non_zero_usize_get}
 use Rattle.page.specs.Page.{text}
+use Rattle.paged_read.specs.Searches.{ReadsWithin, scan_bytes}
 use Rattle.writer_state.specs.WriterState.{WriterState}
 use Rattle.paged.specs.Truncate.{KeepsFloorsWithin}
 use Rattle.journal.specs.Calls.{RecoveryLeaves}
 use Rattle.journal.specs.Frame.{whole_frames}
 use Rattle.journal.specs.Journal.{HasRecovered}
 use Rattle.journal.proofs.Journals.{kept_held, recovery_goes, recovery_refused, recovery_unbegun}
+use Rattle.journal.proofs.Costs.{settled_idle, trim_within}
 use Rattle.journal.proofs.Readers.{owed_recovery, recovers_not, recovers_so, trim_leaves_all}
 use Rattle.journal.proofs.journal.Journal.recover.Given.{Over}
 use Rattle.journal.proofs.journal.Journal.recover.Goals as goal
@@ -38,6 +41,7 @@ trim-requires g c =
     let recovered = goes.goes.answers in
     record {
       between = record { ready = c.in_ok-recovery.ensures.ready c.requires.fresh; size = recovered.size; only = recovered.only };
+      idle = settled_idle c.in_ok-recovery.recovery recovered.settled;
       held = kept_held c.new-nothing.result c.in-Some.held c.recover_keeping.new.kept (text g.H.Sum.sum_of c.args.cache.now.page_size (g.B.Blob.life c.args.blob.now).present.readable) c.in-Some.is goes.kept c.new-nothing.ensures.bytes ∙ sym recovered.content;
     }
 
@@ -99,3 +103,18 @@ returns-clause-ready g c = (returns-clause-goes g c).answers.journal
 
 pub returns-clause-leaves : goal.returns-clause-leaves
 returns-clause-leaves g c = left g (goal.at.returns-clause-leaves g c).After-trim
+
+pub returns-in_err-recovery-clause-costs : goal.returns-in_err-recovery-clause-costs
+returns-in_err-recovery-clause-costs g c = c.recover_keeping.ensures.costs
+
+-- the reads of the recovery, and of the trim
+reads : (g : Over) (c : After-trim g) → ReadsWithin (scan_bytes c.args.cache.now.page_size (non_zero_usize_get c.args.buffer_size)) (g.B.Blob.life c.args.blob.now) (g.B.Blob.life c.trim.new.blob)
+reads g c =
+    trim_within c.args.cache.now.page_size c.in_ok-recovery.recovery.page_size (non_zero_usize_get c.args.buffer_size) (g.B.Blob.life c.args.blob.now) (g.B.Blob.life c.recover_keeping.new.blob) (g.B.Blob.life c.trim.new.blob)
+    c.in_ok-recovery.ensures.goes.goes.answers.page_size c.recover_keeping.ensures.costs c.trim.ensures.costs
+
+pub returns-in_err-recovery-2-clause-costs : goal.returns-in_err-recovery-2-clause-costs
+returns-in_err-recovery-2-clause-costs g c = reads g (goal.at.returns-in_err-recovery-2-clause-costs g c).After-trim
+
+pub returns-clause-costs : goal.returns-clause-costs
+returns-clause-costs g c = reads g (goal.at.returns-clause-costs g c).After-trim

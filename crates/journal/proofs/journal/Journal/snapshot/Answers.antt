@@ -3,6 +3,7 @@ use Rattle.writer_state.specs.Sound.{content}
 use Rattle.writer_state.specs.WriterState.{WriterState}
 use Rattle.paged.specs.Goes.{SnapshotGoes}
 use Rattle.paged.specs.Owes.{Owes}
+use Rattle.paged.specs.Costs.{SnapshotCosts}
 use Rattle.journal.proofs.journal.Journal.snapshot.Goals as goal
 
 pub returns-in-Ok-clause-goes : goal.returns-in-Ok-clause-goes
@@ -26,3 +27,15 @@ pub returns-in-Err-clause-owes : goal.returns-in-Err-clause-owes
 returns-in-Err-clause-owes g c =
     let old = g.B.Blob.life c.args.blob.now in
     subst (λ (w : WriterState). Owes g.H.Sum.sum_of w (content w old.present.readable) c.args.cache.now c.snapshot.new.cache old (g.B.Blob.life c.snapshot.new.blob)) c.self.view_is c.snapshot.ensures.owes
+
+pub returns-in-Err-clause-costs : goal.returns-in-Err-clause-costs
+returns-in-Err-clause-costs g c =
+    subst (λ (w : WriterState). SnapshotCosts w c.args.cache.now c.snapshot.new.cache (g.B.Blob.life c.args.blob.now) (g.B.Blob.life c.snapshot.new.blob) (Err c.in-Err.error)) c.self.view_is c.in-Err.ensures.costs
+
+pub returns-in-Ok-clause-costs : goal.returns-in-Ok-clause-costs
+returns-in-Ok-clause-costs g c =
+    let old = g.B.Blob.life c.args.blob.now in
+    let new = g.B.Blob.life c.snapshot.new.blob in
+    let t = c.in-Ok.snapshot in
+    subst (λ (w : WriterState). SnapshotCosts w c.args.cache.now c.snapshot.new.cache old new (Ok (c.new.result, t))) c.self.view_is
+    (subst (λ (v : WriterState). SnapshotCosts c.self.inside.writer c.args.cache.now c.snapshot.new.cache old new (Ok (v, t))) (sym c.new.ensures) c.in-Ok.ensures.costs)

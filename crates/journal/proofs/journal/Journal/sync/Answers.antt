@@ -1,7 +1,8 @@
-use Rattle.std.proofs.Common.{Ok, subst, sym}
+use Rattle.std.proofs.Common.{Ok, Err, subst, sym}
 use Rattle.writer_state.specs.Sound.{content}
 use Rattle.writer_state.specs.WriterState.{WriterState}
 use Rattle.paged.specs.Owes.{Owes}
+use Rattle.paged.specs.Costs.{SyncCosts}
 use Rattle.paged.specs.Goes.{SyncAllGoes}
 use Rattle.journal.proofs.journal.Journal.sync.Goals as goal
 
@@ -21,3 +22,14 @@ returns-in-Ok-clause-goes g c =
     let new = g.B.Blob.life c.sync.new.blob in
     subst (λ (w : WriterState). SyncAllGoes g.H.Sum.sum_of w old new (Ok c.new.result)) c.self.view_is
     (subst (λ (v : WriterState). SyncAllGoes g.H.Sum.sum_of c.self.inside.writer old new (Ok v)) (sym c.new.ensures) c.in-Ok.ensures.goes)
+
+pub returns-in-Err-clause-costs : goal.returns-in-Err-clause-costs
+returns-in-Err-clause-costs g c =
+    subst (λ (w : WriterState). SyncCosts w c.args.cache.now c.sync.new.cache (g.B.Blob.life c.args.blob.now) (g.B.Blob.life c.sync.new.blob) (Err c.in-Err.error)) c.self.view_is c.in-Err.ensures.costs
+
+pub returns-in-Ok-clause-costs : goal.returns-in-Ok-clause-costs
+returns-in-Ok-clause-costs g c =
+    let old = g.B.Blob.life c.args.blob.now in
+    let new = g.B.Blob.life c.sync.new.blob in
+    subst (λ (w : WriterState). SyncCosts w c.args.cache.now c.sync.new.cache old new (Ok c.new.result)) c.self.view_is
+    (subst (λ (v : WriterState). SyncCosts c.self.inside.writer c.args.cache.now c.sync.new.cache old new (Ok v)) (sym c.new.ensures) c.in-Ok.ensures.costs)

@@ -1,5 +1,6 @@
 use Rattle.std.proofs.Common.{ap, subst, sym}
-use Rattle.paged_read.specs.Tail.{Tail}
+use Rattle.paged_read.specs.Tail.{Tail, told}
+use Rattle.journal.specs.Costs.{NextCosts}
 use Rattle.journal.specs.Reader.{IsOpen, OnlyLooks, ReaderState}
 use Rattle.journal.proofs.Readers.{is_reader, looks_leave, opened_by}
 use Rattle.journal.proofs.reader.Reader.next.Given.{Over}
@@ -35,3 +36,18 @@ returns-in_err-found-clause-leaves g c =
 pub returns-clause-leaves : goal.returns-clause-leaves
 returns-clause-leaves g c =
     looks_leave g.H.Sum.sum_of g.R.Sum.sum_of c.args.self.now c.args.cache.now c.find_record.new.cache (g.B.Blob.life c.args.blob.now) (g.B.Blob.life c.find_record.new.blob) (looks g (goal.at.returns-clause-leaves g c).After-find_record)
+
+-- what they asked for
+costs : (g : Over) (c : After-find_record g)
+    → let old = g.B.Blob.life c.args.blob.now in
+    let t = c.args.self.now.tail in
+    NextCosts g.R.Sum.sum_of t (told t old.present.readable) c.args.self.now.offset c.args.cache.now c.find_record.new.cache old (g.B.Blob.life c.find_record.new.blob)
+costs g c =
+    let old = g.B.Blob.life c.args.blob.now in
+    subst (λ (r : ReaderState). NextCosts g.R.Sum.sum_of r.tail (told r.tail old.present.readable) r.offset c.args.cache.now c.find_record.new.cache old (g.B.Blob.life c.find_record.new.blob)) c.self.view_is c.find_record.ensures.costs
+
+pub returns-in_err-found-clause-costs : goal.returns-in_err-found-clause-costs
+returns-in_err-found-clause-costs g c = costs g (goal.at.returns-in_err-found-clause-costs g c).After-find_record
+
+pub returns-clause-costs : goal.returns-clause-costs
+returns-clause-costs g c = costs g (goal.at.returns-clause-costs g c).After-find_record
