@@ -14,7 +14,7 @@ use Rattle.paged_read.specs.Ranges.{is_served, missing, touches}
 use Rattle.paged_read.specs.Reads.{ReadCosts}
 use Rattle.paged_read.specs.Searches.{AreWithin, ReadsWithin, scan_bytes}
 use Rattle.paged_read.specs.Tail.{Tail, size_of, told}
-use Rattle.paged_read.proofs.RangedPages.{is_lacked, lacks_served, served_lacks, touch_from, touch_true}
+use Rattle.paged_read.proofs.RangedPages.{is_lacked, lacks_served, served_lacks, touches_yes, touch_true}
 use Rattle.paged_read.proofs.Searching.{cuts_within, gained_none, page_within}
 use Rattle.paged.specs.Caches.{PutsOnceWaited}
 use Rattle.paged.specs.Calls.{AsksAtMost, BuffersAll, IsSettled, TryAppends, sync_calls}
@@ -149,7 +149,7 @@ part_served cache t o n at part after ends served =
     lacks_served cache t (at, part) (λ p below. false_from_ne_true (is_lacked cache t ((at, part) ∷ []) p) (λ lacked.
     let parts = and_parts _ _ lacked in
     let met = touch_true t.page_size at part p (sym (or_false (touches t.page_size (at, part) p)) ∙ parts.1) in
-    let touched : touches t.page_size (o, n) p ≡ true = touch_from t.page_size o n p (omega (arith, after, ends, met.0)) (omega (arith, ends, met.1)) (omega (arith, after, met.2)) in
+    let touched : touches t.page_size (o, n) p ≡ true = touches_yes t.page_size o n p (omega (arith, after, ends, met.0)) (omega (arith, ends, met.1)) (omega (arith, after, met.2)) in
     both_ways (is_lacked cache t ((o, n) ∷ []) p) (served_lacks cache t (o, n) served p below)
     (and_from _ _ parts.0 (or_false (touches t.page_size (o, n) p) ∙ touched))))
 

@@ -1,4 +1,4 @@
-use Rattle.std.proofs.Common.{inl, ◌≡◌, ◌++◌, ◌∷◌, [], List, ℕ, subst, sym, ◌∙◌}
+use Rattle.std.proofs.Common.{◌≡◌, ◌++◌, ◌∷◌, [], List, ℕ, subst, sym, ◌∙◌}
 use Rattle.writer_state.specs.Sound.{content}
 use Rattle.writer_state.specs.WriterState.{WriterState}
 use Rattle.paged.specs.Goes.{AppendGoes}
@@ -56,7 +56,7 @@ append-requires g c =
     let life = g.B.Blob.life c.args.blob.now in
     let same : c.try_append.new.self ≡ c.args.self = not_fitting c.args.self c.try_append.new.self (frame g.R.Sum.sum_of c.args.bytes.now) _ c.in_default.is c.in_ok-offset.ensures.tries in
     record {
-      ready = inl (subst (λ (w : WriterState). IsReady g.H.Sum.sum_of w c.args.cache.now life) (sym same) (ready_of g.H.Sum.sum_of c.args.self c.args.cache.now life c.requires.journal));
+      ready = subst (λ (w : WriterState). IsReady g.H.Sum.sum_of w c.args.cache.now life) (sym same) (ready_of g.H.Sum.sum_of c.args.self c.args.cache.now life c.requires.journal);
     }
 
 pub returns-clause-goes : goal.returns-clause-goes
@@ -68,7 +68,7 @@ returns-clause-goes g c =
     let goes : AppendGoes g.H.Sum.sum_of w c.deref.result.now old new c.append.result =
     subst (λ (v : WriterState). AppendGoes g.H.Sum.sum_of v c.deref.result.now old new c.append.result) (same g (goal.at.returns-clause-goes g c).After-append) c.append.ensures.goes in
     append_goes g.H.Sum.sum_of g.R.Sum.sum_of w c.args.bytes.now c.append.new.cache old new c.append.result c.requires.short (g.met.R.Sum.small c.args.bytes.now) (whole_of g.H.Sum.sum_of w c.args.cache.now old c.requires.journal)
-    (subst (λ (b : List ℕ). AppendGoes g.H.Sum.sum_of w b old new c.append.result) framed goes) (c.append.ensures.ready.0 (subst (λ (w : WriterState). IsReady g.H.Sum.sum_of w c.args.cache.now old) (sym (same g (goal.at.returns-clause-goes g c).After-append)) (ready_of g.H.Sum.sum_of c.args.self c.args.cache.now old c.requires.journal)))
+    (subst (λ (b : List ℕ). AppendGoes g.H.Sum.sum_of w b old new c.append.result) framed goes) c.append.ensures.ready
 
 pub returns-clause-ready : goal.returns-clause-ready
 returns-clause-ready g c =
