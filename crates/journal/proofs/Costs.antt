@@ -14,7 +14,8 @@ use Rattle.paged_read.specs.Ranges.{is_served, missing, touches}
 use Rattle.paged_read.specs.Reads.{ReadCosts}
 use Rattle.paged_read.specs.Searches.{AreWithin, ReadsWithin, scan_bytes}
 use Rattle.paged_read.specs.Tail.{Tail, size_of, told}
-use Rattle.paged_read.proofs.RangedPages.{is_lacked, lacks_served, served_lacks, touches_yes, touch_true}
+use Rattle.paged_read.proofs.RangedPages.{is_lacked, lacks_served, served_lacks, touch_true}
+use Rattle.paged_read.proofs.Windows.{touches_yes}
 use Rattle.paged_read.proofs.Searching.{cuts_within, gained_none, page_within}
 use Rattle.paged.specs.Caches.{PutsOnceWaited}
 use Rattle.paged.specs.Calls.{AsksAtMost, BuffersAll, IsSettled, TryAppends, sync_calls}
