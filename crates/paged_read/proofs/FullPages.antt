@@ -1,5 +1,5 @@
 -- Reads of whole pages, and whether they are full.
-use Rattle.std.proofs.Common.{◌≡◌, ℕ, ◌+◌, ◌*◌, ◌-◌, ◌<◌, ◌≤◌, List, length, sym, ap, ◌∙◌, arith, Err}
+use Rattle.std.proofs.Common.{◌≡◌, ℕ, ◌+◌, ◌*◌, ◌-◌, ◌<◌, ◌≤◌, List, [], ◌∷◌, length, length-append, sym, ap, ◌∙◌, arith, false, Ok, Err}
 use Rattle.std.specs.Prelude.{Some, None}
 use Rattle.disk.specs.Disk.{Life, ReadAt, ReadGoes}
 use Rattle.disk.specs.declared.error.Error.{Error}
@@ -36,3 +36,7 @@ page_fault sum P page old new BlobInsufficientLength there goes = absurd (omega 
 page_fault sum P page old new OffsetOverflow there goes = goes
 page_fault sum P page old new OutOfMemory there goes = none_failed_same old new goes.0
 page_fault sum P page old new IdsExhausted there goes = goes
+
+-- one that is answered is one call more
+pub read_longer : (offset len : ℕ) (old new : Life) (bytes : List ℕ) → ReadGoes offset len old new (Ok bytes) → length new.present.log ≡ length old.present.log + 1
+read_longer offset len old new bytes goes = omega (arith, ap (λ (l : Life). length l.present.log) goes.2, length-append old.present.log (record { request = ReadAt offset len; failed = false } ∷ []))
