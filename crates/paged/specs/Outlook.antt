@@ -133,8 +133,8 @@ pub record LeavesAsIs (old new : Life) : Type 0 where
   pub only : (sum : List ℕ → ℕ) (P : ℕ) → LeavesText sum P old new
 
 -- what a look asks of the device: reads forward, from the first page on, the last of which has the
--- first page that isn't full; and of no more than a page or what fits the buffer; of less than a page
--- nothing
+-- first page that isn't full; and of no more than a page or what fits the buffer; of less than a
+-- page nothing
 pub record LookCosts (sum : List ℕ → ℕ) (P most size : ℕ) (old new : Life)
     (result : Result Outlook Error) : Type 0 where
   pub forward : ReadsForward most 0 (size / (P + 12) * (P + 12)) old new

@@ -1,5 +1,5 @@
 -- What a replay asks of the device, told by the log.
-use Rattle.std.proofs.Common.{◌≡◌, ◌⊎◌, inl, inr, ℕ, zero, suc, ◌+◌, ◌*◌, ◌-◌, ◌/◌, ◌<◌, ◌≤◌, min, List, [], ◌∷◌, ◌++◌, length, refl, sym, ap, ◌∙◌, subst, arith, Bool, Result, Ok, Err, Option, Some, slice_get, slice_index_or, All}
+use Rattle.std.proofs.Common.{◌≡◌, ◌⊎◌, inl, inr, ℕ, zero, suc, ◌+◌, ◌*◌, ◌<◌, ◌≤◌, List, [], ◌∷◌, ◌++◌, length, refl, ap, ◌∙◌, subst, arith, Bool, Result, Ok, Err, Option, Some, slice_get, slice_index_or, All}
 use Rattle.std.specs.Prelude.{OnOk, OnErr}
 use Rattle.std.specs.Result.{result_ok}
 use Rattle.std.specs.Int.{div_ceil}
@@ -7,12 +7,12 @@ use Rattle.std.proofs.lemmas.Grind.{div_ceil_times}
 use Rattle.std.proofs.lemmas.Bool.{cases_lt}
 use Rattle.std.proofs.Math.Nat.{mul-le-mul_right}
 use Rattle.disk.proofs.Logs.{one_more}
-use Rattle.disk.specs.Disk.{Disk, Life, Request, StartReadGoes, StartReadMany, AskedOnce, ReadAt, ReadMany, WriteAt, ResizeTo, SyncAll, StartSync, WaitSync}
+use Rattle.disk.specs.Disk.{Disk, Life, Request, StartReadGoes, StartReadMany, AskedOnce}
 use Rattle.disk.specs.declared.error.Error.{Error}
 use Rattle.disk.specs.declared.error.Error.TheVariants.{ReadFailed, BlobInsufficientLength, OutOfMemory}
 use Rattle.paged_read.specs.ReadAhead.{AreNext, AreOfBatches, HasFirst, IsBatch, ReadsBatches, after, batch_bytes, batch_range, page_after}
 use Rattle.paged_read.specs.declared.ahead.Ahead.{Ahead}
-use Rattle.paged_read.proofs.Searching.{gained_none, gained_once, gained_joins, gained_then}
+use Rattle.paged_read.proofs.Searching.{gained_none, gained_once, gained_joins}
 
 -- a start of a read makes one device call, or none
 start_asks : (ranges : List (ℕ × ℕ)) (old new : Life) (result : Result (List (List ℕ)) Error) → StartReadGoes ranges old new result → (new ≡ old) ⊎ ((failed : Bool) × AskedOnce (StartReadMany ranges) failed old new)

@@ -2,7 +2,7 @@
 use Rattle.std.proofs.Common.{◌≡◌, inl, inr, ℕ, ◌+◌, ◌-◌, ◌*◌, ◌<◌, ◌≤◌, List, [], ◌∷◌, ◌++◌, length, Result, refl, sym, ap, subst, arith}
 use Rattle.disk.specs.Disk.{Request, Life, ReadAt, ReadMany, StartReadMany, ReadGoes}
 use Rattle.disk.specs.declared.error.Error.{Error}
-use Rattle.paged_read.specs.Searches.{Gained, AreWithin, ReadsWithin}
+use Rattle.paged_read.specs.Searches.{AreWithin, ReadsWithin}
 use Rattle.paged_read.specs.Backward.{FallFrom, FallTo, ReadsBack, ReadsDownTo}
 use Rattle.paged_read.proofs.Searching.{within_joins, gained_none, gained_once, gained_joins, gained_then, read_asks}
 

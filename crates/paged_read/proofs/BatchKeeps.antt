@@ -7,19 +7,18 @@ use Rattle.std.proofs.lemmas.Option.{same_Some, slice_get-map, slice_get-get_or,
 use Rattle.std.proofs.lemmas.List.{get_or-set_same, get_or-set_other, get_or_default, take_more, map-append, length-take-le, length-map, length-take, get_or-take, get_or-map}
 use borrow.Rule.Slice.PartMut.{put_mid}
 use Rattle.disk.specs.Disk.{Life, Delivers, bytes_of}
-use Rattle.crash.specs.Looks.{Looked, looked_start}
 use Rattle.page.specs.Page.{value_len}
 use Rattle.cache.specs.CacheState.{CacheState, Puts, put_at}
 use Rattle.cache.specs.Pages.{page_of_content}
 use Rattle.cache.specs.declared.piece.Piece.{Piece}
 use Rattle.paged_read.specs.Failures.{NoneFailed}
-use Rattle.paged_read.specs.Tail.{Tail, told, CanRead}
-use Rattle.paged_read.specs.Ranges.{LeavesAll, page_ranges, page_at}
+use Rattle.paged_read.specs.Tail.{Tail, told}
+use Rattle.paged_read.specs.Ranges.{page_ranges, page_at}
 use Rattle.paged_read.specs.Parts.{with_told, ArePagesFull, PagesFault}
 use Rattle.paged_read.specs.Puts.{PutsPages, PutsFirst, numbered}
 use Rattle.paged_read.specs.Batch.{KeepsPage, AreMarked, IsDelivered, KeepsFault, IsReady, IsTold, IsLack, pieces_in, bytes_found}
 use Rattle.paged_read.specs.declared.lack.Lack.{Lack}
-use Rattle.paged_read.proofs.Leaving.{leaves_put, leaves_joins, leaves_cache, length-page_at, payload_told, put_mid_is}
+use Rattle.paged_read.proofs.Leaving.{length-page_at, payload_told}
 use Rattle.crash.proofs.Lists.{within_take}
 use Rattle.disk.specs.declared.error.Error.{Error}
 use Rattle.disk.specs.declared.error.Error.TheVariants.{ReadFailed, WriteFailed, ResizeFailed, SyncFailed, InvalidChecksum, BlobInsufficientLength, OffsetOverflow, OutOfMemory, IdsExhausted}
@@ -87,21 +86,7 @@ delivered_whole t pages readable out reach below delivers = λ k d there.
     let bytes = delivered_bytes t.page_size pages readable out k d page delivers there (slice_get-get_or pages (get_or out k d).0 0 number) in
     (number, ap length bytes ∙ length-page_at t page readable reach (below (get_or out k d).0 0 number))
 
--- one more is kept
-pub leaves_more : (t : Tail) (cache between after : CacheState) (life : Life) (pages : List ℕ) (out : List (ℕ × List ℕ)) (k : ℕ) (bytes : List ℕ) (page : ℕ) → LeavesAll t cache between life life
-    → All (λ page. page < t.full_pages) pages → Delivers (page_ranges t.page_size pages) life.present.readable out → k < length out → ((d : ℕ × List ℕ) → (get_or out k d).1 ≡ bytes)
-    → ((d : ℕ × List ℕ) → page ≡ get_or pages (get_or out k d).0 0) → Puts (t.id, page) (take t.page_size bytes) between after → LeavesAll t cache after life life
-leaves_more t cache between after life pages out k bytes page before below delivers there bytes_is page_is puts =
-    let d : ℕ × List ℕ = (0, []) in
-    let number = delivered_number t.page_size pages life.present.readable out k d delivers there in
-    let here : page ≡ get_or pages (get_or out k d).0 0 = page_is d in
-    let less : page < t.full_pages = omega (arith, here, below (get_or out k d).0 0 number) in
-    let is : bytes ≡ page_at t.page_size page life.present.readable =
-    sym (bytes_is d) ∙ delivered_bytes t.page_size pages life.present.readable out k d page delivers there (slice_get-get_or pages (get_or out k d).0 0 number ∙ ap (λ (p : ℕ). Some p) (sym here)) in
-    leaves_joins t cache between after life life life before
-    (leaves_put t between after life life page (take t.page_size bytes) before.can (looked_start life) less (ap (λ (l : List ℕ). take t.page_size l) is) puts)
-
--- so it is put
+-- one more is put
 pub puts_more : (t : Tail) (cache between after : CacheState) (readable pages : List ℕ) (out : List (ℕ × List ℕ)) (k : ℕ) (bytes : List ℕ) (page : ℕ) → t.full_pages * (t.page_size + 12) ≤ length readable → between.page_size ≡ t.page_size
     → All (λ page. page < t.full_pages) pages → Delivers (page_ranges t.page_size pages) readable out → k < length out → ((d : ℕ × List ℕ) → (get_or out k d).1 ≡ bytes)
     → ((d : ℕ × List ℕ) → page ≡ get_or pages (get_or out k d).0 0) → Puts (t.id, page) (take t.page_size bytes) between after
@@ -286,9 +271,3 @@ told_same P content at at_there out out_there lacks lacks_there same_at same_out
 
 pub marked_same : (at : List ℕ) (out out_there : List (ℕ × List ℕ)) → out_there ≡ out → AreMarked at out_there (length out_there) → AreMarked at out (length out)
 marked_same at out out_there same marked = subst (λ (o : List (ℕ × List ℕ)). AreMarked at o (length o)) same marked
-
--- a read, and what was kept after it
-pub leaves_kept : (t : Tail) (cache after : CacheState) (old new : Life) → CanRead t cache old.present → Looked old new → (CanRead t cache new.present → LeavesAll t cache after new new) → LeavesAll t cache after old new
-leaves_kept t cache after old new can looked kept =
-    let first = leaves_cache t cache old new can looked in
-    leaves_joins t cache cache after old new new first (kept first.can)

@@ -1,11 +1,13 @@
 -- Pages that a read puts, one after the other.
-use Rattle.std.proofs.Common.{◌≡◌, inl, inr, ℕ, zero, suc, ◌+◌, ◌*◌, ◌<◌, ◌≤◌, List, [], ◌∷◌, ◌++◌, length, take, map, get_or, refl, sym, ap, ◌∙◌, subst, arith, Ok, Err, Result, IsPermutation}
+use Rattle.std.proofs.Common.{◌≡◌, inl, inr, ℕ, zero, suc, ◌+◌, ◌*◌, ◌<◌, ◌≤◌, List, [], ◌∷◌, ◌++◌, length, length-append, take, map, get_or, refl, sym, ap, ◌∙◌, subst, arith, Ok, Err, Result, IsPermutation}
+use Rattle.std.specs.Prelude.{OnOk}
 use Rattle.std.specs.List.{Contains, range_with_len, remove}
 use Rattle.std.proofs.Math.Nat.{mul-le-mul_right}
 use Rattle.std.proofs.lemmas.List.{take_all, take_more, map-append, length-map, take-map}
 use Rattle.std.proofs.lemmas.List.Sorted.{IsPermutation-refl, IsPermutation-remove, IsPermutation-cons, IsPermutation-sym, IsPermutation-trans, IsPermutation-map, Contains-permutation, length_permutation}
-use Rattle.disk.specs.Disk.{Delivers}
+use Rattle.disk.specs.Disk.{Delivers, Entry, Life}
 use Rattle.disk.specs.declared.error.Error.{Error}
+use Rattle.crash.specs.Looks.{Looked}
 use Rattle.cache.specs.CacheState.{CacheState, Puts}
 use Rattle.cache.specs.declared.piece.Piece.{Piece}
 use Rattle.cache.specs.Pages.{page_of_content, CachesOnly}
@@ -13,7 +15,7 @@ use Rattle.cache.proofs.CacheLaws.{put_weakly, caches_none, caches_put, caches_j
 use Rattle.paged_read.specs.Tail.{Tail, told}
 use Rattle.paged_read.specs.Ranges.{page_ranges}
 use Rattle.paged_read.specs.Parts.{ArePagesFull, pages_of}
-use Rattle.paged_read.specs.Puts.{PutsPages, PutsFirst, PutsInOrder, PutsPage, numbered}
+use Rattle.paged_read.specs.Puts.{PutsPages, PutsAsked, PutsFirst, PutsInOrder, PutsPage, numbered}
 use Rattle.paged_read.proofs.BatchReads.{length-page_ranges}
 use Rattle.paged_read.proofs.PageReads.{has_later, first_or_later}
 
@@ -31,19 +33,35 @@ puts_one id page content bytes old new is put = (new, subst (λ (b : List ℕ). 
 pub puts_none : (sum : List ℕ → ℕ) (t : Tail) (pages readable : List ℕ) (cache : CacheState) → PutsFirst sum t pages readable cache cache
 puts_none sum t pages readable cache = record { count = 0; full = λ page has. absurd (omega (arith, has.1)); puts = refl }
 
--- so where the cache stays
-pub puts_nothing : (sum : List ℕ → ℕ) (t : Tail) (pages readable : List ℕ) (old new : CacheState) → new ≡ old → PutsFirst sum t pages readable old new
-puts_nothing sum t pages readable old new same = subst (λ (c : CacheState). PutsFirst sum t pages readable old c) (sym same) (puts_none sum t pages readable old)
-
 -- where none of them are asked for
 pub puts_empty : {A : Type 0} (sum : List ℕ → ℕ) (t : Tail) (pages readable : List ℕ) (cache : CacheState) (result : Result A Error) → pages ≡ [] → PutsInOrder sum t pages readable cache cache result
 puts_empty sum t pages readable cache (Ok a) none = subst (λ (l : List ℕ). PutsPages t.id (told t readable) l cache cache) (sym none) refl
 puts_empty sum t pages readable cache (Err e) none = puts_none sum t pages readable cache
 
+-- a read that asked for nothing
+pub asked_none : (sum : List ℕ → ℕ) (t : Tail) (pages : List ℕ) (life : Life) (cache : CacheState) (e : Error) → PutsAsked {A = Unit {0}} sum t pages life life cache cache (Err e)
+asked_none sum t pages life cache e = (record { count = 0; full = λ page has. absurd (omega (arith, has.1)); puts = refl }, omega arith, omega arith)
+
+-- or where none are missing
+pub asked_empty : {A : Type 0} (sum : List ℕ → ℕ) (t : Tail) (pages : List ℕ) (life : Life) (cache : CacheState) (a : A) → pages ≡ [] → PutsAsked {A = A} sum t pages life life cache cache (Ok a)
+asked_empty sum t pages life cache a none =
+    (subst (λ (l : List ℕ). PutsPages t.id (told t life.present.readable) l cache cache) (sym none) refl, omega (arith, ap (λ (l : List ℕ). length l) none))
+
+-- the log goes on
+pub looked_longer : (old new : Life) → Looked old new → length old.present.log ≤ length new.present.log
+looked_longer old new looked = omega (arith, ap (λ (l : List Entry). length l) looked.log.1, length-append old.present.log looked.log.0)
+
 -- a read of one page
-pub puts_page : {A : Type 0} (sum : List ℕ → ℕ) (t : Tail) (page : ℕ) (readable : List ℕ) (old new : CacheState) (result : Result A Error) → PutsPage t page readable old new result → PutsInOrder sum t (page ∷ []) readable old new result
-puts_page sum t page readable old new (Ok a) put = put
-puts_page sum t page readable old new (Err e) same = puts_nothing sum t (page ∷ []) readable old new same
+pub asked_page : {A : Type 0} (sum : List ℕ → ℕ) (t : Tail) (page : ℕ) (old new : Life) (cache after : CacheState) (result : Result A Error) → PutsPage t page old.present.readable cache after result → Looked old new → length new.present.log ≤ length old.present.log + 1
+    → OnOk result (length new.present.log ≡ length old.present.log + 1) → PutsAsked sum t (page ∷ []) old new cache after result
+asked_page sum t page old new cache after (Ok a) put looked asks answered = (put, answered)
+asked_page sum t page old new cache after (Err e) same looked asks answered =
+    (record { count = 0; full = λ p has. absurd (omega (arith, has.1)); puts = same }, omega (arith, looked_longer old new looked), omega (arith, asks))
+
+-- what a read one by one puts it puts in order
+pub asked_in_order : {A : Type 0} (sum : List ℕ → ℕ) (t : Tail) (pages : List ℕ) (old new : Life) (cache after : CacheState) (result : Result A Error) → PutsAsked sum t pages old new cache after result → PutsInOrder sum t pages old.present.readable cache after result
+asked_in_order sum t pages old new cache after (Ok a) asked = asked.0
+asked_in_order sum t pages old new cache after (Err e) asked = asked.0
 
 -- ---- pieces one by one
 
@@ -57,15 +75,19 @@ module _ (t : Tail) (pieces : List Piece) (k : ℕ) where
       (puts_joins t.id content (pages_of (take k pieces)) ((get_or pieces k d).page ∷ []) old mid new before (subst (λ (l : List ℕ). PutsPages t.id l ((get_or pieces k d).page ∷ []) mid new) same here))
 
   -- a page that can't be read
-  pub puts_first_pieces : (sum : List ℕ → ℕ) (readable : List ℕ) (old mid new : CacheState) → ArePagesFull sum t.page_size (pages_of (take k pieces)) readable → PutsPages t.id (told t readable) (pages_of (take k pieces)) old mid → new ≡ mid
-      → PutsFirst sum t (pages_of pieces) readable old new
-  puts_first_pieces sum readable old mid new full before same =
-      let first : pages_of (take k pieces) ≡ take k (pages_of pieces) = sym (take-map (λ (p : Piece). p.page) k pieces) in
-      record {
-        count = k;
-        full = subst (λ (l : List ℕ). ArePagesFull sum t.page_size l readable) first full;
-        puts = subst (λ (l : List ℕ). PutsPages t.id (told t readable) l old new) first (subst (λ (c : CacheState). PutsPages t.id (told t readable) (pages_of (take k pieces)) old c) (sym same) before);
-      }
+  pub asked_first_pieces : (sum : List ℕ → ℕ) (old between new : Life) (cache mid after : CacheState) (e : Error) → ArePagesFull sum t.page_size (pages_of (take k pieces)) old.present.readable → PutsPages t.id (told t old.present.readable) (pages_of (take k pieces)) cache mid → after ≡ mid
+      → length between.present.log ≡ length old.present.log + k → Looked between new → length new.present.log ≤ length between.present.log + 1 → PutsAsked {A = Unit {0}} sum t (pages_of pieces) old new cache after (Err e)
+  asked_first_pieces sum old between new cache mid after e full before same asks looked more =
+      let readable = old.present.readable in
+      let first : pages_of (take k pieces) ≡ take k (pages_of pieces) = sym (take-map (λ (p : Piece). p.page) k pieces) in (
+        record {
+          count = k;
+          full = subst (λ (l : List ℕ). ArePagesFull sum t.page_size l readable) first full;
+          puts = subst (λ (l : List ℕ). PutsPages t.id (told t readable) l cache after) first (subst (λ (c : CacheState). PutsPages t.id (told t readable) (pages_of (take k pieces)) cache c) (sym same) before);
+        },
+        omega (arith, asks, looked_longer between new looked),
+        omega (arith, asks, more),
+      )
 
   -- all of them
   pub puts_all_pieces : (content : List ℕ) (old new : CacheState) → length pieces ≤ k → PutsPages t.id content (pages_of (take k pieces)) old new → PutsPages t.id content (pages_of pieces) old new

@@ -6,7 +6,7 @@ use Rattle.std.proofs.lemmas.Bool.{cases_eq}
 use Rattle.std.proofs.lemmas.Nat.{div_below, le-div}
 use Rattle.disk.specs.Disk.{Request, Life, ReadAt, AskedOnce, ReadGoes}
 use Rattle.disk.specs.declared.error.Error.{Error}
-use Rattle.paged_read.specs.RawReads.{page_request, range_end, ReadsBefore, ReadsOne, ReadsPages, ReadsRange, ReadsRising}
+use Rattle.paged_read.specs.RawReads.{page_request, range_end, ReadsOne, ReadsPages, ReadsRange, ReadsRising}
 use Rattle.paged_read.proofs.Searching.{gained_none, gained_once, gained_joins, read_asks}
 
 range_append : (a k n : ℕ) → range_with_len a (k + n) ≡ range_with_len a k ++ range_with_len (a + k) n

@@ -14,7 +14,7 @@ use Rattle.cache.proofs.CacheLaws.{longer_true, fresh_stays}
 use Rattle.crash.specs.Looks.{Looked, looked_start}
 use Rattle.paged_read.specs.Tail.{Tail, told, size_of, CanRead}
 use Rattle.paged_read.specs.Ranges.{AsksForMissing, AsksTogether, ReadFault, Reads, ReadsUpTo, ReadsMany, AreMissingFull, HasServed, Misses, missing, is_served, page_ranges}
-use Rattle.paged_read.specs.Puts.{PutsPages, PutsFirst, PutsInOrder, PutsSome}
+use Rattle.paged_read.specs.Puts.{PutsPages, PutsAsked, PutsInOrder, PutsSome}
 use Rattle.paged_read.specs.Parts.{ArePagesFull, PagesFault}
 use Rattle.paged_read.specs.Reads.{ReadGoes, ReadIntoGoes, ReadUpToGoes, ReadManyGoes, ReadRangesGoes, ReadLeaves, ReadCosts, ReadManyCosts, LookLeaves, TriesMany}
 use Rattle.paged_read.proofs.BatchReads.{not_asked}
@@ -23,7 +23,7 @@ use Rattle.paged_read.proofs.Leaving.{length-told, payload_told, leaves_of}
 use Rattle.paged_read.proofs.Outliving.{look_leaves_reads, look_leaves_tails, look_leaves_writers, read_leaves_all_tails, read_leaves_all_reads, read_leaves_others}
 use Rattle.paged_read.proofs.OutlivingReplays.{look_leaves_replays}
 use Rattle.paged_read.proofs.PageReads.{has_later, first_or_later}
-use Rattle.paged_read.proofs.PutLaws.{puts_caches, puts_alike, puts_none}
+use Rattle.paged_read.proofs.PutLaws.{asked_empty, asked_in_order, asked_none, puts_caches, puts_alike, puts_none}
 use Rattle.paged_read.proofs.WholeReads.{asks_same}
 use Rattle.page.specs.Geometry.{EndWithin, RangesGo}
 use Rattle.paged_read.proofs.RangedPages.{missing_below}
@@ -161,8 +161,10 @@ module _ (sum : List ℕ → ℕ) (t : Tail) (cache after : CacheState) (old new
   read_leaves_in_order pages (Err e) below puts = read_leaves_puts (take puts.count pages) (λ page has. below page (first_has puts.count pages page has)) puts.puts
 
   -- a read of one range, and of many
-  pub read_leaves : {A : Type 0} (range : ℕ × ℕ) (result : Result A Error) → PutsInOrder sum t (missing cache t (range ∷ [])) old.present.readable cache after result → ReadLeaves sum t cache after old new
-  read_leaves range result puts = read_leaves_in_order (missing cache t (range ∷ [])) result (missing_under cache t (range ∷ [])) puts
+  pub read_leaves : {A : Type 0} (range : ℕ × ℕ) (result : Result A Error) → PutsAsked sum t (missing cache t (range ∷ [])) old new cache after result → ReadLeaves sum t cache after old new
+  read_leaves range result puts =
+      let pages = missing cache t (range ∷ []) in
+      read_leaves_in_order pages result (missing_under cache t (range ∷ [])) (asked_in_order sum t pages old new cache after result puts)
 
   pub read_many_leaves : {A : Type 0} (ranges : List (ℕ × ℕ)) (result : Result A Error) → PutsSome sum t (missing cache t ranges) old.present.readable cache after result → ReadLeaves sum t cache after old new
   read_many_leaves ranges result puts =
@@ -178,7 +180,7 @@ leaves_nothing sum t cache life some can = read_leaves_puts sum t cache cache li
 pub costs_nothing : {A : Type 0} (sum : List ℕ → ℕ) (t : Tail) (range : ℕ × ℕ) (cache : CacheState) (life : Life) (e : Error) → ReadCosts {A = A} sum t range cache cache life life (Err e)
 costs_nothing sum t range cache life e = record {
   asks = (omega arith, λ served. refl);
-  puts = puts_none sum t (missing cache t (range ∷ [])) life.present.readable cache;
+  puts = asked_none sum t (missing cache t (range ∷ [])) life cache e;
 }
 
 pub many_costs_nothing : {A : Type 0} (sum : List ℕ → ℕ) (t : Tail) (ranges : List (ℕ × ℕ)) (cache : CacheState) (life : Life) (e : Error) → ReadManyCosts {A = A} sum t ranges cache cache life life (Err e)
@@ -191,17 +193,17 @@ many_costs_nothing sum t ranges cache life e =
 
 -- what the part below the tail costs the whole costs
 pub costs_part : {B : Type 0} (sum : List ℕ → ℕ) (t : Tail) (one other : ℕ × ℕ) (cache after : CacheState) (old new : Life) (b : B) → missing cache t (other ∷ []) ≡ missing cache t (one ∷ []) → AsksForMissing cache t one old new
-    → PutsPages t.id (told t old.present.readable) (missing cache t (one ∷ [])) cache after → ReadCosts {A = B} sum t other cache after old new (Ok b)
-costs_part sum t one other cache after old new b same asks puts = record {
+    → PutsAsked {A = B} sum t (missing cache t (one ∷ [])) old new cache after (Ok b) → ReadCosts {A = B} sum t other cache after old new (Ok b)
+costs_part {B = B} sum t one other cache after old new b same asks puts = record {
   asks = asks_same cache t one other old new same asks;
-  puts = subst (λ (l : List ℕ). PutsPages t.id (told t old.present.readable) l cache after) (sym same) puts;
+  puts = subst (λ (l : List ℕ). PutsAsked {A = B} sum t l old new cache after (Ok b)) (sym same) puts;
 }
 
 pub costs_part_refused : {B : Type 0} (sum : List ℕ → ℕ) (t : Tail) (one other : ℕ × ℕ) (cache after : CacheState) (old new : Life) (f : Error) → missing cache t (other ∷ []) ≡ missing cache t (one ∷ []) → AsksForMissing cache t one old new
-    → PutsFirst sum t (missing cache t (one ∷ [])) old.present.readable cache after → ReadCosts {A = B} sum t other cache after old new (Err f)
-costs_part_refused sum t one other cache after old new f same asks puts = record {
+    → PutsAsked {A = B} sum t (missing cache t (one ∷ [])) old new cache after (Err f) → ReadCosts {A = B} sum t other cache after old new (Err f)
+costs_part_refused {B = B} sum t one other cache after old new f same asks puts = record {
   asks = asks_same cache t one other old new same asks;
-  puts = subst (λ (l : List ℕ). PutsFirst sum t l old.present.readable cache after) (sym same) puts;
+  puts = subst (λ (l : List ℕ). PutsAsked {A = B} sum t l old new cache after (Err f)) (sym same) puts;
 }
 
 -- the same under another answer
@@ -215,7 +217,7 @@ costs_refused_again sum t range cache after old new e f costs = record { asks = 
 pub costs_empty : {A : Type 0} (sum : List ℕ → ℕ) (t : Tail) (range : ℕ × ℕ) (cache : CacheState) (life : Life) (a : A) → missing cache t (range ∷ []) ≡ [] → ReadCosts {A = A} sum t range cache cache life life (Ok a)
 costs_empty sum t range cache life a none = record {
   asks = (omega arith, λ served. refl);
-  puts = subst (λ (l : List ℕ). PutsPages t.id (told t life.present.readable) l cache cache) (sym none) refl;
+  puts = asked_empty sum t (missing cache t (range ∷ [])) life cache a none;
 }
 
 -- of many ranges, whose missing pages these are
@@ -291,11 +293,15 @@ costs_refused sum t range cache after old new a e full costs =
     let all : pages ≡ take (length pages) pages = sym (take_all (length pages) pages (omega arith)) in
     record {
       asks = costs.asks;
-      puts = record {
-        count = length pages;
-        full = subst (λ (l : List ℕ). ArePagesFull sum t.page_size l old.present.readable) all full;
-        puts = subst (λ (l : List ℕ). PutsPages t.id (told t old.present.readable) l cache after) all costs.puts;
-      };
+      puts = (
+        record {
+          count = length pages;
+          full = subst (λ (l : List ℕ). ArePagesFull sum t.page_size l old.present.readable) all full;
+          puts = subst (λ (l : List ℕ). PutsPages t.id (told t old.present.readable) l cache after) all costs.puts.0;
+        },
+        omega (arith, costs.puts.1),
+        omega (arith, costs.puts.1),
+      );
     }
 
 -- ---- a call that only looked

@@ -1,6 +1,7 @@
 -- What a read puts in the cache: the pages that it read.
 use Rattle.std.specs.Prelude.{◌≡◌, ℕ, List, [], ◌∷◌, take, map, slice_index_or, IsPermutation}
-use Rattle.std.specs.Prelude.{Result, Ok, Err}
+use Rattle.std.specs.Prelude.{◌≤◌, ◌+◌, length, Result, Ok, Err}
+use Rattle.disk.specs.Disk.{Life}
 use Rattle.disk.specs.declared.error.Error.{Error}
 use Rattle.cache.specs.CacheState.{CacheState, Puts}
 use Rattle.cache.specs.Pages.{page_of_content}
@@ -40,6 +41,18 @@ abbrev pub PutsPage : {A : Type 0} → Tail → (page : ℕ) → List ℕ → Ca
 PutsPage t page readable old new (Ok _) =
     PutsPages t.id (told t readable) (page ∷ []) old new
 PutsPage t page readable old new (Err _) = new ≡ old
+
+-- a read of these pages one by one: each is asked for once, and put. Where it fails, those are put
+-- that were asked for before the last device call, or before none.
+abbrev pub PutsAsked : {A : Type 0} → (List ℕ → ℕ) → Tail → List ℕ → Life → Life → CacheState
+    → CacheState → Result A Error → Type 0
+PutsAsked sum t pages old new cache after (Ok _) =
+    PutsPages t.id (told t old.present.readable) pages cache after
+    × (length new.present.log ≡ length old.present.log + length pages)
+PutsAsked sum t pages old new cache after (Err _) =
+    (first : PutsFirst sum t pages old.present.readable cache after)
+    × (length old.present.log + first.count ≤ length new.present.log)
+    × (length new.present.log ≤ length old.present.log + first.count + 1)
 
 -- the pages that were delivered, in the order in which they came
 abbrev pub numbered : (pages : List ℕ) → List (ℕ × List ℕ) → List ℕ

@@ -59,8 +59,8 @@ AreMissingFull sum cache t ranges readable =
     (page : ℕ) → Contains (missing cache t ranges) page
     → value_len sum t.page_size (page_at t.page_size page readable) ≡ t.page_size
 
--- why a read within the size may answer this error: a read of the device failed in the call; or none
--- did, and a page that was missing isn't full, or memory was refused
+-- why a read within the size may answer this error: a read of the device failed in the call; or
+-- none did, and a page that was missing isn't full, or memory was refused
 abbrev pub ReadFault : (List ℕ → ℕ) → CacheState → Tail → List (ℕ × ℕ) → Life → Life → Error
     → Type 0
 ReadFault sum cache t ranges old new ReadFailed = HasFailed ReadFailed old.present new.present

@@ -15,7 +15,7 @@ use Rattle.writer_state.specs.Sound.{IsSound}
 use Rattle.paged_read.specs.Tail.{Tail, told, size_of, CanRead, HasFullPages}
 use Rattle.paged_read.specs.Ranges.{Reads, ReadsUpTo, ReadsMany, missing, is_served}
 use Rattle.paged_read.specs.Ranges.{AsksForMissing, AsksOnce, HasServed, Misses}
-use Rattle.paged_read.specs.Puts.{PutsInOrder, PutsSome}
+use Rattle.paged_read.specs.Puts.{PutsAsked, PutsSome}
 use Rattle.paged_read.specs.Replay.{LeavesAllReplays}
 use Rattle.paged_read.specs.Snapshots.{LeavesAllReads, LeavesAllTails, LeavesOthers}
 use Rattle.paged_read.specs.Snapshots.{LeavesWriters}
@@ -129,8 +129,7 @@ pub record LookLeaves (sum : List ℕ → ℕ) (old new : Life) : Type 0 where
 pub record ReadCosts {A : Type 0} (sum : List ℕ → ℕ) (t : Tail) (range : ℕ × ℕ)
     (cache after : CacheState) (old new : Life) (result : Result A Error) : Type 0 where
   pub asks : AsksForMissing cache t range old new
-  pub puts : PutsInOrder sum t (missing cache t (range ∷ [])) old.present.readable cache after
-      result
+  pub puts : PutsAsked sum t (missing cache t (range ∷ [])) old new cache after result
 
 -- a read of many
 pub record ReadManyCosts {A : Type 0} (sum : List ℕ → ℕ) (t : Tail) (ranges : List (ℕ × ℕ))

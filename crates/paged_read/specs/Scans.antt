@@ -92,8 +92,8 @@ pub record ReadsUpToEnd (sum : List ℕ → ℕ) (P most first pages : ℕ) (old
   pub stops : StopsAt P (prefix_from sum P first pages old.present.readable).full_pages old new
 
 -- a look through pages that end at this offset: it gives this, and only reads; where the blob is
--- too short for them, a read of what isn't there may end it. Unless it answers that the device failed
--- no device call did.
+-- too short for them, a read of what isn't there may end it. Unless it answers that the device
+-- failed no device call did.
 abbrev pub LooksThrough : {A : Type 0} (reach : ℕ) (a : A) → Life → Life → Result A Error → Type 0
 LooksThrough reach a old new (Ok found) =
     (found ≡ a) × Looked old new × NoneFailed old.present new.present

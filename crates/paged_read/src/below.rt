@@ -3,10 +3,11 @@ ghost use Rattle.std.specs.Prelude.{◌≡◌, ◌+◌, ◌*◌, ◌<◌, ◌≤
 ghost use Rattle.std.specs.Int.NonZero.{non_zero_u16_get};
 ghost use Rattle.cache.specs.CacheState.{IsMissing};
 ghost use Rattle.paged_read.specs.Tail.{tail_at, IsView, CanRead};
-ghost use Rattle.paged_read.specs.Ranges.{LeavesAll, AsksForMissing, missing, is_served};
-ghost use Rattle.std.specs.Prelude.{Ok, true};
+ghost use Rattle.crash.specs.Looks.{Looked};
+ghost use Rattle.paged_read.specs.Ranges.{AsksForMissing, missing, is_served};
+ghost use Rattle.std.specs.Prelude.{Ok, OnOk, true};
 ghost use Rattle.paged_read.specs.Parts.{IsPieceOf, ReadsPieces, ReadsBelow, pages_of};
-ghost use Rattle.paged_read.specs.Puts.{PutsInOrder, PutsPage};
+ghost use Rattle.paged_read.specs.Puts.{PutsAsked, PutsPage};
 
 use crate::View;
 use crate::full::read_page;
@@ -34,8 +35,11 @@ impl<B: Blob, H: Sum> View<'_, B, H> {
             ReadsPieces H.sum_of t (piece ∷ []) buf.old buf.new old new result }
         ensures asks { let old = B.life blob.old in let new = B.life blob.new in
             length new.present.log ≤ length old.present.log + 1 }
-        ensures leaves { let t = tail_at self.entry.page_size self.entry.id self.entry.tip.now in
-            LeavesAll t cache.old cache.new (B.life blob.old) (B.life blob.new) }
+        ensures answered { let old = B.life blob.old in let new = B.life blob.new in
+            OnOk result (length new.present.log ≡ length old.present.log + 1) }
+        ensures looked { Looked (B.life blob.old) (B.life blob.new) }
+        ensures can { let t = tail_at self.entry.page_size self.entry.id self.entry.tip.now in
+            CanRead t cache.new (B.life blob.new).present }
         ensures puts { let t = tail_at self.entry.page_size self.entry.id self.entry.tip.now in
             PutsPage t piece.page (B.life blob.old).present.readable cache.old cache.new result }
         ensures size { length buf.new ≡ length buf.old }
@@ -67,11 +71,10 @@ impl<B: Blob, H: Sum> View<'_, B, H> {
             ReadsPieces H.sum_of t pieces.now buf.old buf.new old new result }
         ensures asks { let old = B.life blob.old in let new = B.life blob.new in
             length new.present.log ≤ length old.present.log + length pieces.now }
-        ensures leaves { let t = tail_at self.entry.page_size self.entry.id self.entry.tip.now in
-            LeavesAll t cache.old cache.new (B.life blob.old) (B.life blob.new) }
+        ensures looked { Looked (B.life blob.old) (B.life blob.new) }
         ensures puts { let t = tail_at self.entry.page_size self.entry.id self.entry.tip.now in
-            let readable = (B.life blob.old).present.readable in
-            PutsInOrder H.sum_of t (pages_of pieces.now) readable cache.old cache.new result }
+            let old = B.life blob.old in let new = B.life blob.new in
+            PutsAsked H.sum_of t (pages_of pieces.now) old new cache.old cache.new result }
         ensures size { length buf.new ≡ length buf.old }
     {
         for piece in pieces {
@@ -104,12 +107,11 @@ impl<B: Blob, H: Sum> View<'_, B, H> {
             let count = length (missing cache.old t ((offset, length buf.old) ∷ [])) in
             let old = B.life blob.old in let new = B.life blob.new in
             length new.present.log ≤ length old.present.log + count }
-        ensures leaves { let t = tail_at self.entry.page_size self.entry.id self.entry.tip.now in
-            LeavesAll t cache.old cache.new (B.life blob.old) (B.life blob.new) }
+        ensures looked { Looked (B.life blob.old) (B.life blob.new) }
         ensures puts { let t = tail_at self.entry.page_size self.entry.id self.entry.tip.now in
             let pages = missing cache.old t ((offset, length buf.old) ∷ []) in
-            let readable = (B.life blob.old).present.readable in
-            PutsInOrder H.sum_of t pages readable cache.old cache.new result }
+            let old = B.life blob.old in let new = B.life blob.new in
+            PutsAsked H.sum_of t pages old new cache.old cache.new result }
         ensures size { length buf.new ≡ length buf.old }
     {
         if let Some(piece) = only_piece(self.page_size, offset, buf.len()) {
@@ -141,12 +143,11 @@ impl<B: Blob, H: Sum> View<'_, B, H> {
         ensures asks { let t = tail_at self.entry.page_size self.entry.id self.entry.tip.now in
             let old = B.life blob.old in let new = B.life blob.new in
             AsksForMissing cache.old t (offset, length buf.old) old new }
-        ensures leaves { let t = tail_at self.entry.page_size self.entry.id self.entry.tip.now in
-            LeavesAll t cache.old cache.new (B.life blob.old) (B.life blob.new) }
+        ensures looked { Looked (B.life blob.old) (B.life blob.new) }
         ensures puts { let t = tail_at self.entry.page_size self.entry.id self.entry.tip.now in
             let pages = missing cache.old t ((offset, length buf.old) ∷ []) in
-            let readable = (B.life blob.old).present.readable in
-            PutsInOrder H.sum_of t pages readable cache.old cache.new result }
+            let old = B.life blob.old in let new = B.life blob.new in
+            PutsAsked H.sum_of t pages old new cache.old cache.new result }
         ensures served { let t = tail_at self.entry.page_size self.entry.id self.entry.tip.now in
             is_served cache.old t (offset, length buf.old) ≡ true → result ≡ Ok tt }
         ensures size { length buf.new ≡ length buf.old }

@@ -6,7 +6,7 @@ ghost use Rattle.disk.specs.Disk.{Life, Delivers};
 ghost use Rattle.page.specs.Page.{value_len};
 ghost use Rattle.crash.specs.Looks.{Looked};
 ghost use Rattle.paged_read.specs.Tail.{tail_at, IsView, CanRead};
-ghost use Rattle.paged_read.specs.Ranges.{AsksTogether, page_ranges, LeavesAll};
+ghost use Rattle.paged_read.specs.Ranges.{AsksTogether, page_ranges};
 ghost use Rattle.paged_read.specs.Parts.{with_told};
 ghost use Rattle.paged_read.specs.Batch.{DeliversPages, KeepsPage, IsDelivered, AreMarked};
 ghost use Rattle.paged_read.specs.Batch.{KeepsFault, IsReady, IsTold, IsLack, ReadsLacks};
@@ -90,10 +90,6 @@ impl<B, H: Sum> View<'_, B, H> {
             All (λ page. page < t.full_pages) pages.now }
         requires delivered { let P = non_zero_u16_get self.page_size in
             All (IsDelivered P (length pages.now)) out.now }
-        ensures leaves { let t = tail_at self.entry.page_size self.entry.id self.entry.tip.now in
-            (life : Life) → CanRead t cache.old life.present
-            → Delivers (page_ranges t.page_size pages.now) life.present.readable out.now
-            → LeavesAll t cache.old cache.new life life }
         ensures puts { let t = tail_at self.entry.page_size self.entry.id self.entry.tip.now in
             (life : Life) → CanRead t cache.old life.present
             → Delivers (page_ranges t.page_size pages.now) life.present.readable out.now
@@ -156,8 +152,7 @@ impl<B: Blob, H: Sum> View<'_, B, H> {
         ensures asks { let P = non_zero_u16_get self.entry.page_size in
             let asked = page_ranges P batch.now.pages.items in
             AsksTogether asked (B.life blob.old) (B.life blob.new) }
-        ensures leaves { let t = tail_at self.entry.page_size self.entry.id self.entry.tip.now in
-            LeavesAll t cache.old cache.new (B.life blob.old) (B.life blob.new) }
+        ensures looked { Looked (B.life blob.old) (B.life blob.new) }
         ensures puts { let t = tail_at self.entry.page_size self.entry.id self.entry.tip.now in
             let readable = (B.life blob.old).present.readable in
             PutsSome H.sum_of t batch.now.pages.items readable cache.old cache.new result }

@@ -128,7 +128,7 @@ pub fn read_range<B: Blob, H: Sum>(
 
 /// The logical size of a blob of `physical_size` bytes that nobody opened, with pages of
 /// `page_size` logical bytes, and its last `len` bytes. The last page is read first, and what lies
-/// before it as by [`read_range`]; of an empty blob no device is asked.
+/// before it as by [`read_range`]; of an empty blob no device is asked, and no memory.
 ///
 /// `BlobInsufficientLength` where `physical_size` isn't whole pages, or they hold fewer than `len`
 /// bytes by what the last one says; `InvalidChecksum` where that has no value. The other errors are

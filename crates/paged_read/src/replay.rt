@@ -191,7 +191,8 @@ impl<B: Blob, H: Sum> Replay<B, H> {
     /// hand that is left. Each batch is read ahead, in one read of the device, before it is needed,
     /// or on demand where that failed or the replay went elsewhere; what is at hand was found full,
     /// page by page. Where they are at hand already, or all that is left is after the full pages,
-    /// the device isn't asked.
+    /// the device isn't asked. Else it is asked four times at most for each batch that comes to
+    /// hand, and once more where the call fails.
     ///
     /// `ReadFailed` where a read failed that was needed, `InvalidChecksum` where a page isn't full,
     /// which it always is in a sound blob, `OutOfMemory`. The replay then stands where it stood,

@@ -1,6 +1,7 @@
 use Rattle.std.proofs.Common.{rules, ◌+◌, ◌*◌, Ok, Err}
 use Rattle.crash.proofs.LookLaws.{looked_read}
 use Rattle.paged_read.proofs.Failing.{none_failed_read}
+use Rattle.paged_read.proofs.FullPages.{read_longer}
 use Rattle.paged_read.proofs.full.read_page.Goals as goal
 
 pub returns-in_err-bytes-clause-looked : goal.returns-in_err-bytes-clause-looked
@@ -19,3 +20,6 @@ returns-then-is_full-clause-reads g c =
 pub returns-else-is_full-clause-reads : goal.returns-else-is_full-clause-reads
 returns-else-is_full-clause-reads g c =
     (search rules, none_failed_read (c.args.page * (c.from.result + 12)) (c.from.result + 12) (g.B.Blob.life c.args.blob.now) (g.B.Blob.life c.read_at.new.self) c.in_ok-bytes.bytes c.in_ok-bytes.ensures.goes)
+
+pub returns-then-is_full-clause-answered : goal.returns-then-is_full-clause-answered
+returns-then-is_full-clause-answered g c = read_longer (c.args.page * (c.from.result + 12)) (c.from.result + 12) (g.B.Blob.life c.args.blob.now) (g.B.Blob.life c.read_at.new.self) c.in_ok-bytes.bytes c.in_ok-bytes.ensures.goes

@@ -107,11 +107,10 @@ returns-clause-told g c =
     let reads : ReadsTold concat (range_told sum P offset before readable) mid new (Ok c.in_ok-bytes.bytes) = range_before sum P offset before old mid new (Ok c.in_ok-bytes.bytes) first c.in_ok-bytes.ensures.told in
     let given = after_given sum P c.args.last c.args.len start end offset before c.in_ok-tail.tail_len readable tail (start_is g at) c.in_ok-tail.ensures.within (ap (λ (n : ℕ). start + n) c.from-2.ensures) (omega (arith, c.if-end-len.false))
     refl c.saturating_sub-before.ensures c.in_ok-tail.ensures.told.0 skip (concat c.in_ok-bytes.bytes) c.saturating_sub-skip.ensures reads.0 in
-    let cut : slice_range tail skip c.in_ok-tail.tail_len ≡ c.in_ok-slice.field-0 = ap (λ (n : ℕ). slice_range tail skip n) (sym c.from-3.ensures) ∙ sym c.in_ok-slice.ensures.ok in
-    (
-        given ∙ ap (λ (l : List ℕ). Ok (end, concat c.in_ok-bytes.bytes ++ l)) cut ∙ ap (λ (l : List ℕ). Ok (end, l)) (sym c.in_ok-append.ensures.bytes),
-        looks g at first,
-        answered g at c.in_ok-tail.ensures.told.2 reads.2,
+    let cut : slice_range tail skip c.in_ok-tail.tail_len ≡ c.in_ok-slice.field-0 = ap (λ (n : ℕ). slice_range tail skip n) (sym c.from-3.ensures) ∙ sym c.in_ok-slice.ensures.ok in (
+      given ∙ ap (λ (l : List ℕ). Ok (end, concat c.in_ok-bytes.bytes ++ l)) cut ∙ ap (λ (l : List ℕ). Ok (end, l)) (sym c.in_ok-append.ensures.bytes),
+      looks g at first,
+      answered g at c.in_ok-tail.ensures.told.2 reads.2,
     )
 
 pub returns-in_err-bytes-clause-reads : goal.returns-in_err-bytes-clause-reads

@@ -5,18 +5,13 @@ use Rattle.std.proofs.lemmas.List.{take_all}
 use Rattle.paged_read.specs.Puts.{PutsPages, numbered}
 use Rattle.paged_read.specs.Tail.{tail_at, told}
 use Rattle.cache.proofs.CacheLaws.{put_weakly}
-use Rattle.paged_read.proofs.Leaving.{leaves_none}
-use Rattle.paged_read.proofs.BatchKeeps.{marked_more, full_more, leaves_more, puts_more, puts_refused, refused_not_put}
+use Rattle.paged_read.proofs.BatchKeeps.{marked_more, full_more, puts_more, puts_refused, refused_not_put}
 use Rattle.paged_read.proofs.PutLaws.{puts_none}
 use Rattle.std.proofs.lemmas.Result.{err_from_is_err_and}
 use Rattle.paged_read.proofs.view.View.keep_all.Goals as goal
 
-pub returns-in_err-resize-clause-leaves : goal.returns-in_err-resize-clause-leaves
-returns-in_err-resize-clause-leaves g c = λ life can delivered. leaves_none _ _ life can
-
 pub loop-index-init : goal.loop-index-init
 loop-index-init g c = record {
-  leaves = λ life can delivered. leaves_none _ _ life can;
   puts = λ life can delivered. refl;
   size = c.requires.size;
   full = λ k d less. absurd (omega (arith, less));
@@ -36,8 +31,6 @@ loop-index-preserved g c =
     let bytes : (d : ℕ × List ℕ) → (get_or c.args.out.now k d).1 ≡ entry.1 = λ d. ap (λ (r : ℕ × List ℕ). r.1) (here d) in
     let fits : entry.0 < length c.args.pages.now = omega (arith, (c.requires.delivered k entry c.loop-index-test.true).0, number entry) in
     record {
-      leaves = λ life can delivered. leaves_more t c.args.cache.now c.loop-index.cache c.keep_page.new.cache life c.args.pages.now c.args.out.now k entry.1 (get_or c.args.pages.now entry.0 0) (inv.leaves life can delivered) c.requires.below delivered c.loop-index-test.true bytes
-          (λ d. ap (λ (n : ℕ). get_or c.args.pages.now n 0) (sym (number d))) kept.1;
       puts = λ life can delivered. puts_more t c.args.cache.now c.loop-index.cache c.keep_page.new.cache life.present.readable c.args.pages.now c.args.out.now k entry.1 (get_or c.args.pages.now entry.0 0) can.there inv.size c.requires.below delivered c.loop-index-test.true bytes
           (λ d. ap (λ (n : ℕ). get_or c.args.pages.now n 0) (sym (number d))) kept.1 (inv.puts life can delivered);
       size = (put_weakly (c.args.self.id, get_or c.args.pages.now entry.0 0) (take t.page_size entry.1) c.loop-index.cache c.keep_page.new.cache kept.1).settings.page_size ∙ inv.size;

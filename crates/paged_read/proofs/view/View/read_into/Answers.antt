@@ -65,7 +65,7 @@ returns-in_err-read_below-clause-goes g c =
 pub returns-in_err-read_below-clause-leaves : goal.returns-in_err-read_below-clause-leaves
 returns-in_err-read_below-clause-leaves g c =
     let t = tail_at c.args.self.page_size c.args.self.id c.args.self.tip.now in
-    read_leaves g.H.Sum.sum_of t c.args.cache.now c.read_below.new.cache (g.B.Blob.life c.args.blob.now) (g.B.Blob.life c.read_below.new.blob) c.args.self.page_size.ok c.requires.can c.read_below.ensures.leaves.looked (c.args.offset, length (take c.len_below-below.result c.args.buf.now)) c.read_below.result c.read_below.ensures.puts
+    read_leaves g.H.Sum.sum_of t c.args.cache.now c.read_below.new.cache (g.B.Blob.life c.args.blob.now) (g.B.Blob.life c.read_below.new.blob) c.args.self.page_size.ok c.requires.can c.read_below.ensures.looked (c.args.offset, length (take c.len_below-below.result c.args.buf.now)) c.read_below.result c.read_below.ensures.puts
 
 pub returns-in_err-read_below-clause-costs : goal.returns-in_err-read_below-clause-costs
 returns-in_err-read_below-clause-costs g c =
@@ -114,7 +114,7 @@ returns-clause-goes g c =
 pub returns-clause-leaves : goal.returns-clause-leaves
 returns-clause-leaves g c =
     let t = tail_at c.args.self.page_size c.args.self.id c.args.self.tip.now in
-    read_leaves g.H.Sum.sum_of t c.args.cache.now c.read_below.new.cache (g.B.Blob.life c.args.blob.now) (g.B.Blob.life c.read_below.new.blob) c.args.self.page_size.ok c.requires.can c.read_below.ensures.leaves.looked (c.args.offset, length (take c.len_below-below.result c.args.buf.now)) c.read_below.result c.read_below.ensures.puts
+    read_leaves g.H.Sum.sum_of t c.args.cache.now c.read_below.new.cache (g.B.Blob.life c.args.blob.now) (g.B.Blob.life c.read_below.new.blob) c.args.self.page_size.ok c.requires.can c.read_below.ensures.looked (c.args.offset, length (take c.len_below-below.result c.args.buf.now)) c.read_below.result c.read_below.ensures.puts
 
 pub returns-clause-costs : goal.returns-clause-costs
 returns-clause-costs g c =

@@ -1,18 +1,17 @@
 use Rattle.std.proofs.Common.{Ok, arith, ◌≡◌, ◌∙◌, refl, sym, ap, subst, ℕ, List, length, IsPermutation}
 use Rattle.std.specs.Prelude.{All}
 use Rattle.std.proofs.lemmas.Result.{err_from_is_err_and}
-use Rattle.crash.proofs.LookLaws.{looked_readable}
+use Rattle.crash.specs.Looks.{looked_start}
 use Rattle.page.specs.Page.{value_len}
 use Rattle.paged_read.specs.Failures.{none_failed_start}
 use Rattle.paged_read.specs.Tail.{tail_at, told}
 use Rattle.paged_read.specs.Batch.{KeepsFault, pieces_in}
 use Rattle.paged_read.specs.Parts.{with_told, ArePagesFull}
 use Rattle.paged_read.specs.declared.lack.Lack.{Lack}
-use Rattle.paged_read.proofs.BatchKeeps.{no_lacks, delivers_same, whole_same, ready_same, told_same, marked_same, leaves_kept, delivered_whole, lacks_ready, lacks_told, pages_full, keeps_fault}
+use Rattle.paged_read.proofs.BatchKeeps.{no_lacks, delivers_same, whole_same, ready_same, told_same, marked_same, delivered_whole, lacks_ready, lacks_told, pages_full, keeps_fault}
 use Rattle.paged_read.proofs.PutLaws.{puts_empty, puts_none, numbered_each}
 use Rattle.std.proofs.lemmas.List.Sorted.{IsPermutation-refl}
 use Rattle.paged_read.specs.Puts.{numbered}
-use Rattle.paged_read.proofs.Leaving.{leaves_none}
 use Rattle.paged_read.proofs.BatchReads.{not_asked, no_pages, some_pages}
 use Rattle.paged_read.specs.Ranges.{page_ranges}
 use Rattle.paged_read.proofs.view.View.read_lacks.Goals as goal
@@ -38,17 +37,6 @@ returns-in_err-at-clause-reads g c =
     let fault = subst (λ (o : List (ℕ × List ℕ)). KeepsFault g.H.Sum.sum_of t.page_size o c.in_err-at.field-0.0) c.deref-3.ensures.value c.in_err-at.ensures.err in
     let error = err_from_is_err_and c.from_residual-in_err-at.result c.from_residual-in_err-at.ensures.1 in
     rw (error.1, error.2) (keeps_fault g.H.Sum.sum_of t.page_size pages out old new c.in_err-at.field-0.0 delivers c.in_ok-out.ensures.reads.1 fault)
-
-pub returns-in_err-at-clause-leaves : goal.returns-in_err-at-clause-leaves
-returns-in_err-at-clause-leaves g c =
-    let t = tail_at c.args.self.page_size c.args.self.id c.args.self.tip.now in
-    let old = g.B.Blob.life c.args.blob.now in
-    let new = g.B.Blob.life c.fetch.new.blob in
-    let pages = c.args.batch.now.pages.items in
-    let out = c.in_ok-out.out.items in
-    let delivers = delivers_same t.page_size c.deref.result.now pages old.present.readable old.present.readable out out (sym c.deref.ensures.value) refl refl c.in_ok-out.ensures.reads.0 in
-    leaves_kept t c.args.cache.now c.keep_all.new.cache old new c.requires.can c.fetch.ensures.looked
-    (λ can. c.keep_all.ensures.leaves new can (delivers_same t.page_size pages c.deref-2.result.now old.present.readable new.present.readable out c.deref-3.result.now c.deref-2.ensures.value (looked_readable old new c.fetch.ensures.looked) c.deref-3.ensures.value delivers))
 
 pub fill-requires : goal.fill-requires
 fill-requires g c =
@@ -80,17 +68,6 @@ returns-clause-reads g c =
       pages_full g.H.Sum.sum_of t.page_size pages old.present.readable c.in_ok-at.at.items out delivers marked full,
       c.in_ok-out.ensures.reads.1,
     )
-
-pub returns-clause-leaves : goal.returns-clause-leaves
-returns-clause-leaves g c =
-    let t = tail_at c.args.self.page_size c.args.self.id c.args.self.tip.now in
-    let old = g.B.Blob.life c.args.blob.now in
-    let new = g.B.Blob.life c.fetch.new.blob in
-    let pages = c.args.batch.now.pages.items in
-    let out = c.in_ok-out.out.items in
-    let delivers = delivers_same t.page_size c.deref.result.now pages old.present.readable old.present.readable out out (sym c.deref.ensures.value) refl refl c.in_ok-out.ensures.reads.0 in
-    leaves_kept t c.args.cache.now c.keep_all.new.cache old new c.requires.can c.fetch.ensures.looked
-    (λ can. c.keep_all.ensures.leaves new can (delivers_same t.page_size pages c.deref-2.result.now old.present.readable new.present.readable out c.deref-3.result.now c.deref-2.ensures.value (looked_readable old new c.fetch.ensures.looked) c.deref-3.ensures.value delivers))
 
 pub returns-in_err-out-clause-puts : goal.returns-in_err-out-clause-puts
 returns-in_err-out-clause-puts g c =
@@ -137,10 +114,6 @@ returns-then-is_empty-clause-asks g c =
     let t = tail_at c.args.self.page_size c.args.self.id c.args.self.tip.now in
     not_asked (page_ranges t.page_size c.args.batch.now.pages.items) (g.B.Blob.life c.args.blob.now) (g.B.Blob.life c.args.blob.now) refl
 
-pub returns-then-is_empty-clause-leaves : goal.returns-then-is_empty-clause-leaves
-returns-then-is_empty-clause-leaves g c =
-    leaves_none (tail_at c.args.self.page_size c.args.self.id c.args.self.tip.now) c.args.cache.now (g.B.Blob.life c.args.blob.now) c.requires.can
-
 pub returns-then-is_empty-clause-puts : goal.returns-then-is_empty-clause-puts
 returns-then-is_empty-clause-puts g c =
     let t = tail_at c.args.self.page_size c.args.self.id c.args.self.tip.now in
@@ -158,3 +131,6 @@ pub returns-in_err-at-clause-refused : goal.returns-in_err-at-clause-refused
 returns-in_err-at-clause-refused g c =
     let p = err_from_is_err_and c.from_residual-in_err-at.result c.from_residual-in_err-at.ensures.1 in
     rw p.1 (some_pages c.as_slice.result.now c.args.batch.now.pages.items (sym c.is_empty.ensures ∙ c.if-is_empty.false) c.as_slice.ensures.value)
+
+pub returns-then-is_empty-clause-looked : goal.returns-then-is_empty-clause-looked
+returns-then-is_empty-clause-looked g c = looked_start (g.B.Blob.life c.args.blob.now)

@@ -8,19 +8,13 @@ use Rattle.disk.specs.declared.error.Error.{Error}
 use Rattle.disk.specs.declared.error.Error.TheVariants.{OutOfMemory}
 use Rattle.paged_read.specs.Failures.{none_failed_start}
 use Rattle.paged_read.specs.Parts.{IsPieceOf, ReadsBelow}
-use Rattle.paged_read.proofs.Leaving.{leaves_none}
+use Rattle.crash.specs.Looks.{looked_start}
 use Rattle.paged_read.proofs.BelowReads.{pieces_are, left_are, left_many, missing_read, page_lacks, left_pages, only_page, only_is, only_many, only_read, offsets_fit}
-use Rattle.paged_read.proofs.PutLaws.{puts_none, puts_page}
-use Rattle.paged_read.specs.Puts.{PutsInOrder}
+use Rattle.paged_read.proofs.PutLaws.{asked_none, asked_page}
+use Rattle.paged_read.specs.Puts.{PutsAsked}
 use Rattle.paged_read.specs.Ranges.{missing}
 use Rattle.std.proofs.lemmas.Result.{err_from_is_err_and}
 use Rattle.paged_read.proofs.view.View.read_missing.Goals as goal
-
-pub returns-in_err-push_pieces-clause-leaves : goal.returns-in_err-push_pieces-clause-leaves
-returns-in_err-push_pieces-clause-leaves g c = leaves_none (tail_at c.args.self.page_size c.args.self.id c.args.self.tip.now) c.args.cache.now (g.B.Blob.life c.args.blob.now) c.requires.can
-
-pub returns-in_err-left-clause-leaves : goal.returns-in_err-left-clause-leaves
-returns-in_err-left-clause-leaves g c = leaves_none (tail_at c.args.self.page_size c.args.self.id c.args.self.tip.now) c.args.cache.now (g.B.Blob.life c.args.blob.now) c.requires.can
 
 pub read_cached_many-requires : goal.read_cached_many-requires
 read_cached_many-requires g c =
@@ -83,32 +77,32 @@ pub returns-in_err-push_pieces-clause-puts : goal.returns-in_err-push_pieces-cla
 returns-in_err-push_pieces-clause-puts g c =
     let t = tail_at c.args.self.page_size c.args.self.id c.args.self.tip.now in
     let p = err_from_is_err_and c.from_residual.result c.from_residual.ensures.1 in
-    rw p.1 (puts_none g.H.Sum.sum_of t (missing c.args.cache.now t ((c.args.offset, length c.args.buf.now) ∷ [])) (g.B.Blob.life c.args.blob.now).present.readable c.args.cache.now)
+    rw p.1 (asked_none g.H.Sum.sum_of t (missing c.args.cache.now t ((c.args.offset, length c.args.buf.now) ∷ [])) (g.B.Blob.life c.args.blob.now) c.args.cache.now p.0)
 
 pub returns-in_err-left-clause-puts : goal.returns-in_err-left-clause-puts
 returns-in_err-left-clause-puts g c =
     let t = tail_at c.args.self.page_size c.args.self.id c.args.self.tip.now in
     let p = err_from_is_err_and c.from_residual-in_err-left.result c.from_residual-in_err-left.ensures.1 in
-    rw p.1 (puts_none g.H.Sum.sum_of t (missing c.args.cache.now t ((c.args.offset, length c.args.buf.now) ∷ [])) (g.B.Blob.life c.args.blob.now).present.readable c.args.cache.now)
+    rw p.1 (asked_none g.H.Sum.sum_of t (missing c.args.cache.now t ((c.args.offset, length c.args.buf.now) ∷ [])) (g.B.Blob.life c.args.blob.now) c.args.cache.now p.0)
 
 pub returns-in-Some-clause-puts : goal.returns-in-Some-clause-puts
 returns-in-Some-clause-puts g c =
     let t = tail_at c.args.self.page_size c.args.self.id c.args.self.tip.now in
     let len = length c.args.buf.now in
-    let readable = (g.B.Blob.life c.args.blob.now).present.readable in
+    let old = g.B.Blob.life c.args.blob.now in
+    let new = g.B.Blob.life c.read_piece.new.blob in
     let fits = offsets_fit t.page_size t.full_pages (c.args.offset + len) c.requires.view.fits c.requires.below in
     let lacks = page_lacks t c.args.cache.now c.args.offset len c.args.self.page_size.ok c.requires.below c.in-Some.piece.page c.in-Some.ensures.0 c.requires.some fits c.requires.can.page_size c.requires.lacks in
-    subst (λ (l : List ℕ). PutsInOrder g.H.Sum.sum_of t l readable c.args.cache.now c.read_piece.new.cache c.read_piece.result)
+    subst (λ (l : List ℕ). PutsAsked g.H.Sum.sum_of t l old new c.args.cache.now c.read_piece.new.cache c.read_piece.result)
     (only_page t c.args.cache.now c.args.offset len c.args.self.page_size.ok c.requires.below c.in-Some.piece lacks c.in-Some.ensures.1)
-    (puts_page g.H.Sum.sum_of t c.in-Some.piece.page readable c.args.cache.now c.read_piece.new.cache c.read_piece.result c.read_piece.ensures.puts)
+    (asked_page g.H.Sum.sum_of t c.in-Some.piece.page old new c.args.cache.now c.read_piece.new.cache c.read_piece.result c.read_piece.ensures.puts c.read_piece.ensures.looked c.read_piece.ensures.asks c.read_piece.ensures.answered)
 
 pub returns-clause-puts : goal.returns-clause-puts
 returns-clause-puts g c =
     let t = tail_at c.args.self.page_size c.args.self.id c.args.self.tip.now in
     let len = length c.args.buf.now in
-    let readable = (g.B.Blob.life c.args.blob.now).present.readable in
     let items : c.deref.result.now ≡ pieces_of t.page_size (c.args.offset, len) 0 = c.deref.ensures.value ∙ c.in_ok-push_pieces.ensures.ok ∙ ap (λ (l : List Piece). l ++ pieces_of t.page_size (c.args.offset, len) 0) c.new-pieces.ensures.items in
-    subst (λ (l : List ℕ). PutsInOrder g.H.Sum.sum_of t l readable c.args.cache.now c.read_pieces.new.cache c.read_pieces.result)
+    subst (λ (l : List ℕ). PutsAsked g.H.Sum.sum_of t l (g.B.Blob.life c.args.blob.now) (g.B.Blob.life c.read_pieces.new.blob) c.args.cache.now c.read_pieces.new.cache c.read_pieces.result)
     (left_pages t c.args.cache.now c.args.offset len c.args.self.page_size.ok c.requires.below c.deref.result.now c.deref-2.result.now items (c.deref-2.ensures.value ∙ c.in_ok-left.ensures.reads.0))
     c.read_pieces.ensures.puts
 
@@ -125,3 +119,9 @@ returns-in_err-left-clause-reads g c =
     let old = g.B.Blob.life c.args.blob.now in
     let is : c.from_residual-in_err-left.result ≡ Err OutOfMemory = search rules in
     subst (λ (r : Result (Unit {0}) Error). ReadsBelow g.H.Sum.sum_of t c.args.cache.now (c.args.offset, length c.args.buf.now) c.read_cached_many.new.buf old old r) (sym is) (none_failed_start old.present)
+
+pub returns-in_err-push_pieces-clause-looked : goal.returns-in_err-push_pieces-clause-looked
+returns-in_err-push_pieces-clause-looked g c = looked_start (g.B.Blob.life c.args.blob.now)
+
+pub returns-in_err-left-clause-looked : goal.returns-in_err-left-clause-looked
+returns-in_err-left-clause-looked g c = looked_start (g.B.Blob.life c.args.blob.now)

@@ -3,7 +3,7 @@ use Rattle.std.proofs.lemmas.List.{length-take-le}
 use Rattle.cache.specs.Pages.{page_of_content}
 use Rattle.paged_read.specs.Tail.{tail_at, told}
 use Rattle.paged_read.specs.Ranges.{page_at}
-use Rattle.paged_read.proofs.Leaving.{piece_told, length-page_at, leaves_put, payload_told}
+use Rattle.paged_read.proofs.Leaving.{piece_told, length-page_at, leaves_cache, leaves_put, payload_told}
 use Rattle.paged_read.proofs.PageReads.{page_full}
 use Rattle.paged_read.proofs.PutLaws.{puts_one}
 use Rattle.paged_read.proofs.view.View.read_piece.Goals as goal
@@ -31,13 +31,13 @@ returns-clause-reads g c =
       c.in_ok-bytes.ensures.reads.2,
     )
 
-pub returns-clause-leaves : goal.returns-clause-leaves
-returns-clause-leaves g c =
+pub returns-clause-can : goal.returns-clause-can
+returns-clause-can g c =
     let t = tail_at c.args.self.page_size c.args.self.id c.args.self.tip.now in
     let readable = (g.B.Blob.life c.args.blob.now).present.readable in
     let size : c.from.result ≡ t.page_size = c.from.ensures ∙ c.get.ensures.value in
-    leaves_put t c.args.cache.now c.keep.new.self (g.B.Blob.life c.args.blob.now) (g.B.Blob.life c.read_page.new.blob) c.args.piece.page (take c.from.result c.as_ref.result.now) c.requires.can c.read_page.ensures.looked c.requires.piece.below
-    (ap (λ k. take k c.as_ref.result.now) size ∙ ap (λ (l : List ℕ). take t.page_size l) (c.as_ref.ensures ∙ c.in_ok-bytes.ensures.reads.0)) c.keep.ensures.puts
+    (leaves_put t c.args.cache.now c.keep.new.self (g.B.Blob.life c.args.blob.now) (g.B.Blob.life c.read_page.new.blob) c.args.piece.page (take c.from.result c.as_ref.result.now) c.requires.can c.read_page.ensures.looked c.requires.piece.below
+    (ap (λ k. take k c.as_ref.result.now) size ∙ ap (λ (l : List ℕ). take t.page_size l) (c.as_ref.ensures ∙ c.in_ok-bytes.ensures.reads.0)) c.keep.ensures.puts).can
 
 pub returns-clause-puts : goal.returns-clause-puts
 returns-clause-puts g c =
@@ -50,3 +50,8 @@ returns-clause-puts g c =
     ap (λ k. take k c.as_ref.result.now) size ∙ ap (λ (l : List ℕ). take t.page_size l) (c.as_ref.ensures ∙ c.in_ok-bytes.ensures.reads.0)
     ∙ payload_told t readable c.requires.can.there page c.requires.piece.below ∙ ap (λ P. page_of_content P (told t readable) page) (sym c.requires.can.page_size) in
     puts_one t.id page (told t readable) payload c.args.cache.now c.keep.new.self is c.keep.ensures.puts
+
+pub returns-in_err-bytes-clause-can : goal.returns-in_err-bytes-clause-can
+returns-in_err-bytes-clause-can g c =
+    let t = tail_at c.args.self.page_size c.args.self.id c.args.self.tip.now in
+    (leaves_cache t c.args.cache.now (g.B.Blob.life c.args.blob.now) (g.B.Blob.life c.read_page.new.blob) c.requires.can c.read_page.ensures.looked).can

@@ -1,5 +1,5 @@
 use Rattle.std.proofs.Common.{◌≡◌, ◌∙◌, List, ℕ, [], ◌∷◌, take, drop, sym, ap, subst, arith, refl, get_or}
-use Rattle.std.proofs.lemmas.List.{take_all, drop_all}
+use Rattle.std.proofs.lemmas.List.{take_all, drop_all, length-map}
 use Rattle.std.proofs.lemmas.Result.{err_from_is_err_and}
 use Rattle.std.specs.List.{Contains}
 use Rattle.crash.proofs.LookLaws.{looked_readable}
@@ -7,9 +7,10 @@ use Rattle.cache.specs.declared.piece.Piece.{Piece}
 use Rattle.paged_read.specs.Failures.{none_failed_start, none_failed_joins}
 use Rattle.paged_read.specs.Tail.{tail_at, told}
 use Rattle.paged_read.specs.Parts.{with_told, pages_of, ArePagesFull}
-use Rattle.paged_read.proofs.Leaving.{leaves_none, leaves_joins, told_later}
+use Rattle.crash.specs.Looks.{looked_joins, looked_start}
+use Rattle.paged_read.proofs.Leaving.{told_later}
 use Rattle.paged_read.proofs.PageReads.{one_page, piece_among, told_step, full_step, full_same, faults_later}
-use Rattle.paged_read.proofs.PutLaws.{puts_all_pieces, puts_first_pieces, puts_piece_more}
+use Rattle.paged_read.proofs.PutLaws.{asked_first_pieces, puts_all_pieces, puts_piece_more}
 use Rattle.paged_read.proofs.view.View.read_pieces.Goals as goal
 
 none_full : (sum : List ℕ → ℕ) (P : ℕ) (readable : List ℕ) → ArePagesFull sum P [] readable
@@ -20,10 +21,12 @@ loop-piece-init g c = record {
   bytes = refl;
   size = refl;
   full = none_full g.H.Sum.sum_of (tail_at c.args.self.page_size c.args.self.id c.args.self.tip.now).page_size (g.B.Blob.life c.args.blob.now).present.readable;
+  within = omega arith;
   asks = omega arith;
   puts = refl;
   none_failed = none_failed_start (g.B.Blob.life c.args.blob.now).present;
-  leaves = leaves_none (tail_at c.args.self.page_size c.args.self.id c.args.self.tip.now) c.args.cache.now (g.B.Blob.life c.args.blob.now) c.requires.can;
+  looked = looked_start (g.B.Blob.life c.args.blob.now);
+  can = c.requires.can;
 }
 
 pub returns-in_err-read_piece-clause-reads : goal.returns-in_err-read_piece-clause-reads
@@ -34,12 +37,8 @@ returns-in_err-read_piece-clause-reads g c =
     let d : Piece = record { page = 0; skip = 0; buf_offset = 0; len = 0 } in
     let item : Piece = get_or c.args.pieces.now k d in
     let here = piece_among c.args.pieces.now k d c.loop-piece-test.true in
-    rw (p.1, p.2) (faults_later g.H.Sum.sum_of t.page_size (item.page ∷ []) (pages_of c.args.pieces.now) (g.B.Blob.life c.args.blob.now) (g.B.Blob.life c.loop-piece.blob) (g.B.Blob.life c.read_piece.new.blob) c.in_err-read_piece.field-0.0 c.loop-piece.invariant.leaves.looked c.loop-piece.invariant.none_failed
+    rw (p.1, p.2) (faults_later g.H.Sum.sum_of t.page_size (item.page ∷ []) (pages_of c.args.pieces.now) (g.B.Blob.life c.args.blob.now) (g.B.Blob.life c.loop-piece.blob) (g.B.Blob.life c.read_piece.new.blob) c.in_err-read_piece.field-0.0 c.loop-piece.invariant.looked c.loop-piece.invariant.none_failed
     (λ page has. subst (λ q. Contains (pages_of c.args.pieces.now) q) (sym (one_page item.page page has)) here) c.in_err-read_piece.ensures.reads)
-
-pub returns-in_err-read_piece-clause-leaves : goal.returns-in_err-read_piece-clause-leaves
-returns-in_err-read_piece-clause-leaves g c =
-    leaves_joins (tail_at c.args.self.page_size c.args.self.id c.args.self.tip.now) c.args.cache.now c.loop-piece.cache c.read_piece.new.cache (g.B.Blob.life c.args.blob.now) (g.B.Blob.life c.loop-piece.blob) (g.B.Blob.life c.read_piece.new.blob) c.loop-piece.invariant.leaves c.read_piece.ensures.leaves
 
 pub loop-piece-preserved : goal.loop-piece-preserved
 loop-piece-preserved g c =
@@ -49,7 +48,7 @@ loop-piece-preserved g c =
     let k = c.loop-piece.piece-index in
     let d : Piece = record { page = 0; skip = 0; buf_offset = 0; len = 0 } in
     let item : Piece = get_or c.args.pieces.now k d in
-    let looked = c.loop-piece.invariant.leaves.looked in
+    let looked = c.loop-piece.invariant.looked in
     record {
       bytes =
           told_step t.page_size (told t old.present.readable) c.args.pieces.now k d c.loop-piece.buf c.read_piece.new.buf (with_told t.page_size (told t old.present.readable) c.args.pieces.now c.args.buf.now) c.loop-piece-test.true
@@ -59,10 +58,12 @@ loop-piece-preserved g c =
       full =
           full_step g.H.Sum.sum_of t.page_size c.args.pieces.now k d old.present.readable c.loop-piece-test.true c.loop-piece.invariant.full
           (full_same g.H.Sum.sum_of t.page_size (item.page ∷ []) mid.present.readable old.present.readable (sym (looked_readable old mid looked)) c.in_ok-read_piece.ensures.reads.1);
-      asks = omega (arith, c.loop-piece.invariant.asks, c.read_piece.ensures.asks);
+      within = omega (arith, c.loop-piece-test.true);
+      asks = omega (arith, c.loop-piece.invariant.asks, c.in_ok-read_piece.ensures.answered);
       puts = puts_piece_more t c.args.pieces.now k d (told t old.present.readable) (told t mid.present.readable) c.args.cache.now c.loop-piece.cache c.read_piece.new.cache c.loop-piece-test.true (told_later t old mid looked) c.loop-piece.invariant.puts c.in_ok-read_piece.ensures.puts;
       none_failed = none_failed_joins old.present mid.present (g.B.Blob.life c.read_piece.new.blob).present c.loop-piece.invariant.none_failed c.in_ok-read_piece.ensures.reads.2;
-      leaves = leaves_joins t c.args.cache.now c.loop-piece.cache c.read_piece.new.cache old mid (g.B.Blob.life c.read_piece.new.blob) c.loop-piece.invariant.leaves c.read_piece.ensures.leaves;
+      looked = looked_joins old mid (g.B.Blob.life c.read_piece.new.blob) looked c.read_piece.ensures.looked;
+      can = c.read_piece.ensures.can;
     }
 
 pub returns-clause-reads : goal.returns-clause-reads
@@ -81,9 +82,18 @@ pub returns-in_err-read_piece-clause-puts : goal.returns-in_err-read_piece-claus
 returns-in_err-read_piece-clause-puts g c =
     let t = tail_at c.args.self.page_size c.args.self.id c.args.self.tip.now in
     let p = err_from_is_err_and c.from_residual.result c.from_residual.ensures.1 in
-    rw p.1 (puts_first_pieces t c.args.pieces.now c.loop-piece.piece-index g.H.Sum.sum_of (g.B.Blob.life c.args.blob.now).present.readable c.args.cache.now c.loop-piece.cache c.read_piece.new.cache c.loop-piece.invariant.full c.loop-piece.invariant.puts c.in_err-read_piece.ensures.puts)
+    let inv = c.loop-piece.invariant in
+    rw p.1 (asked_first_pieces t c.args.pieces.now c.loop-piece.piece-index g.H.Sum.sum_of (g.B.Blob.life c.args.blob.now) (g.B.Blob.life c.loop-piece.blob) (g.B.Blob.life c.read_piece.new.blob) c.args.cache.now c.loop-piece.cache c.read_piece.new.cache p.0
+    inv.full inv.puts c.in_err-read_piece.ensures.puts inv.asks c.read_piece.ensures.looked c.read_piece.ensures.asks)
 
 pub returns-clause-puts : goal.returns-clause-puts
 returns-clause-puts g c =
     let t = tail_at c.args.self.page_size c.args.self.id c.args.self.tip.now in
-    puts_all_pieces t c.args.pieces.now c.loop-piece.piece-index (told t (g.B.Blob.life c.args.blob.now).present.readable) c.args.cache.now c.loop-piece.cache c.loop-piece-test.false c.loop-piece.invariant.puts
+    let pieces = c.args.pieces.now in (
+      puts_all_pieces t pieces c.loop-piece.piece-index (told t (g.B.Blob.life c.args.blob.now).present.readable) c.args.cache.now c.loop-piece.cache c.loop-piece-test.false c.loop-piece.invariant.puts,
+      omega (arith, c.loop-piece.invariant.asks, c.loop-piece.invariant.within, c.loop-piece-test.false, length-map pieces (λ (piece : Piece). piece.page)),
+    )
+
+pub returns-in_err-read_piece-clause-looked : goal.returns-in_err-read_piece-clause-looked
+returns-in_err-read_piece-clause-looked g c =
+    looked_joins (g.B.Blob.life c.args.blob.now) (g.B.Blob.life c.loop-piece.blob) (g.B.Blob.life c.read_piece.new.blob) c.loop-piece.invariant.looked c.read_piece.ensures.looked

@@ -1,7 +1,7 @@
 use Rattle.std.proofs.Common.{◌≡◌, ◌≤◌, ◌+◌, length, take, drop}
 use Rattle.paged_read.specs.Failures.{NoneFailed}
-use Rattle.paged_read.specs.Tail.{tail_at, told}
-use Rattle.paged_read.specs.Ranges.{LeavesAll}
+use Rattle.paged_read.specs.Tail.{tail_at, told, CanRead}
+use Rattle.crash.specs.Looks.{Looked}
 use Rattle.paged_read.specs.Parts.{with_told, pages_of, ArePagesFull}
 use Rattle.paged_read.specs.Puts.{PutsPages}
 use Rattle.paged_read.proofs.view.View.read_pieces.Given as goal
@@ -15,8 +15,10 @@ invariant-loop-piece g l =
       bytes : with_told t.page_size content (drop l.piece-index l.pieces) l.buf ≡ with_told t.page_size content l.pieces l.initial.buf;
       size : length l.buf ≡ length l.initial.buf;
       full : ArePagesFull g.H.Sum.sum_of t.page_size (pages_of (take l.piece-index l.pieces)) old.present.readable;
-      asks : length (g.B.Blob.life l.blob).present.log ≤ length old.present.log + l.piece-index;
+      within : l.piece-index ≤ length l.pieces;
+      asks : length (g.B.Blob.life l.blob).present.log ≡ length old.present.log + l.piece-index;
       puts : PutsPages t.id content (pages_of (take l.piece-index l.pieces)) l.initial.cache l.cache;
       none_failed : NoneFailed old.present (g.B.Blob.life l.blob).present;
-      leaves : LeavesAll t l.initial.cache l.cache old (g.B.Blob.life l.blob);
+      looked : Looked old (g.B.Blob.life l.blob);
+      can : CanRead t l.cache (g.B.Blob.life l.blob).present;
     }

@@ -76,7 +76,7 @@ returns-in_err-read_lacks-clause-leaves g c =
     let new = g.B.Blob.life c.read_lacks.new.blob in
     let pages = c.in_ok-batch.batch.pages.items in
     let wanted = c.in_ok-batch.ensures.gathered.wanted in
-    read_many_leaves g.H.Sum.sum_of t c.args.cache.now c.read_lacks.new.cache old new c.args.self.page_size.ok c.requires.can c.read_lacks.ensures.leaves.looked c.args.ranges.now c.read_lacks.result (subst (λ (l : List ℕ). PutsSome g.H.Sum.sum_of t l old.present.readable c.args.cache.now c.read_lacks.new.cache c.read_lacks.result) wanted c.read_lacks.ensures.puts)
+    read_many_leaves g.H.Sum.sum_of t c.args.cache.now c.read_lacks.new.cache old new c.args.self.page_size.ok c.requires.can c.read_lacks.ensures.looked c.args.ranges.now c.read_lacks.result (subst (λ (l : List ℕ). PutsSome g.H.Sum.sum_of t l old.present.readable c.args.cache.now c.read_lacks.new.cache c.read_lacks.result) wanted c.read_lacks.ensures.puts)
 
 pub returns-in_err-read_lacks-clause-costs : goal.returns-in_err-read_lacks-clause-costs
 returns-in_err-read_lacks-clause-costs g c =
@@ -117,7 +117,7 @@ returns-clause-leaves g c =
     let new = g.B.Blob.life c.read_lacks.new.blob in
     let pages = c.in_ok-batch.batch.pages.items in
     let wanted = c.in_ok-batch.ensures.gathered.wanted in
-    read_many_leaves g.H.Sum.sum_of t c.args.cache.now c.read_lacks.new.cache old new c.args.self.page_size.ok c.requires.can c.read_lacks.ensures.leaves.looked c.args.ranges.now c.read_lacks.result (subst (λ (l : List ℕ). PutsSome g.H.Sum.sum_of t l old.present.readable c.args.cache.now c.read_lacks.new.cache c.read_lacks.result) wanted c.read_lacks.ensures.puts)
+    read_many_leaves g.H.Sum.sum_of t c.args.cache.now c.read_lacks.new.cache old new c.args.self.page_size.ok c.requires.can c.read_lacks.ensures.looked c.args.ranges.now c.read_lacks.result (subst (λ (l : List ℕ). PutsSome g.H.Sum.sum_of t l old.present.readable c.args.cache.now c.read_lacks.new.cache c.read_lacks.result) wanted c.read_lacks.ensures.puts)
 
 pub returns-clause-costs : goal.returns-clause-costs
 returns-clause-costs g c =
