@@ -15,15 +15,15 @@ use Rattle.journal.specs.Frame.{frame_len, records}
 use Rattle.journal.specs.Reader.{ReaderState}
 
 -- a journal and its reader, as a writer and the snapshot that the reader goes over
-abbrev pub with_snapshot : Result (WriterState × ReaderState) Error
+abbrev pub writer_and_tail : Result (WriterState × ReaderState) Error
     → Result (WriterState × Tail) Error
-with_snapshot (Ok r) = Ok (r.0, r.1.tail)
-with_snapshot (Err e) = Err e
+writer_and_tail (Ok r) = Ok (r.0, r.1.tail)
+writer_and_tail (Err e) = Err e
 
 -- the making of a reader
 abbrev pub ReaderCosts : WriterState → (cache after : CacheState) → Life → Life
     → Result (WriterState × ReaderState) Error → Type 0
-ReaderCosts w cache after old new result = SnapshotCosts w cache after old new (with_snapshot result)
+ReaderCosts w cache after old new result = SnapshotCosts w cache after old new (writer_and_tail result)
 
 -- how many pages below a tail a range has bytes of
 abbrev pub pages_met : Tail → ℕ × ℕ → ℕ
