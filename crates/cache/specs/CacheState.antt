@@ -11,8 +11,8 @@ use Rattle.disk.specs.declared.error.Error.{Error}
 use Rattle.disk.specs.declared.error.Error.TheVariants.{OutOfMemory}
 use Rattle.cache.specs.declared.piece.Piece.{Piece}
 
--- its logical page size in bytes, the pages that it may hold, how many ids it has given, and the
--- pages that it holds. Their order says nothing.
+-- a cache as contracts see it: its logical page size in bytes, the pages that it may hold, how many
+-- ids it has given, and the pages that it holds, in no particular order
 pub record CacheState : Type 0 where
   pub page_size : ℕ
   pub capacity : ℕ
@@ -125,7 +125,7 @@ pub record ReadsCached (cache : CacheState) (id offset : ℕ) (old new : List �
 abbrev pub put_at : (offset : ℕ) → List ℕ → List ℕ → List ℕ
 put_at offset bytes buf = take offset buf ++ bytes ++ drop (offset + length bytes) buf
 
--- they are of one page, and there is room for them
+-- a piece's bytes are of one page of P bytes, and a buffer of this size has room for them
 pub record IsPiece (P room : ℕ) (piece : Piece) : Type 0 where
   pub within : piece.skip + piece.len ≤ P
   pub fits : piece.buf_offset + piece.len ≤ room
@@ -136,7 +136,8 @@ with_piece None piece buf = buf
 with_piece (Some page) piece buf =
     put_at piece.buf_offset (take piece.len (drop piece.skip page)) buf
 
--- so for each of them, in order
+-- a buffer once each of these pieces was tried, in order: the bytes of the pages that are held are
+-- copied, the others left out
 abbrev pub with_pieces : CacheState → (id : ℕ) → List Piece → List ℕ → List ℕ
 with_pieces cache id [] buf = buf
 with_pieces cache id (piece ∷ pieces) buf =

@@ -24,7 +24,7 @@ abbrev pub Stands : (slots : List ℕ) → ℕ → Type 0
 Stands [] s = ⊥
 Stands (x ∷ xs) s = (s ≡ x) ⊎ Stands xs s
 
--- none of these slots holds the key
+-- none of these slots holds this key
 abbrev pub NoneHolds : (keys : List (ℕ × ℕ)) → ℕ × ℕ → (slots : List ℕ) → Type 0
 NoneHolds keys key [] = Unit {0}
 NoneHolds keys key (s ∷ ss) = (slice_index_or keys s (0, 0) ≢ key) × NoneHolds keys key ss

@@ -26,7 +26,8 @@ KeyGoes id from content key old new =
     ⊎ ((key.0 ≡ id) × (from ≤ key.1) × ((key.1 + 1) * old.page_size ≤ length content)
     × (held new key ≡ Some (page_of_content old.page_size content key.1)))
 
--- and to all of them
+-- what a call of a blob's writer or reader does to a cache: its settings stay, and each key goes as
+-- `KeyGoes` says
 pub record CachesOnly (id from : ℕ) (content : List ℕ) (old new : CacheState) : Type 0 where
   pub settings : SameSettings old new
   pub each : (key : ℕ × ℕ) → KeyGoes id from content key old new

@@ -48,7 +48,7 @@ pub record AreSlotsBut (but : ℕ) (t : Slots) : Type 0 where
   pub linked : AreLinked t.keys.items t.nexts.items t.firsts.items (length t.keys.items)
       (length t.firsts.items) t.used but
 
--- and of the whole table: no used slot has the number of them all
+-- the invariant of the whole table, with no slot left out
 abbrev pub AreSlots : Slots → Type 0
 AreSlots t = AreSlotsBut (length t.keys.items) t
 
@@ -56,7 +56,7 @@ AreSlots t = AreSlotsBut (length t.keys.items) t
 abbrev pub IsNowhere : Slots → ℕ × ℕ → Type 0
 IsNowhere t key = (s : ℕ) → s < t.used → key_at t s ≢ key
 
--- this one does
+-- this used slot holds the key
 abbrev pub HoldsKey : Slots → ℕ × ℕ → (slot : ℕ) → Type 0
 HoldsKey t key slot = (slot < t.used) × (key_at t slot ≡ key)
 
@@ -66,14 +66,14 @@ IsAbsent slot key t = (s : ℕ) → s < t.used → s ≢ slot → key_at t s ≢
 
 -- ---- what each step of a put leaves
 
--- this page was written over the slot's
+-- a page's bytes were written over those of this slot, and nothing else changed
 pub record Overwritten (slot : ℕ) (bytes : List ℕ) (old new : Slots) : Type 0 where
   pub same : new ≡ record old { bytes = new.bytes }
   pub written : new.bytes.items
       ≡ put_at (slot * non_zero_u16_get old.page_size) bytes old.bytes.items
   pub room : vec_capacity new.bytes ≡ vec_capacity old.bytes
 
--- this slot was taken for the page: no chain has it, its key is the one before, and each other page
+-- a slot was taken for a page: no chain has it yet, its key is the one before, and each other page
 -- stays in its slot
 pub record Taken (slot : ℕ) (bytes : List ℕ) (old new : Slots) : Type 0 where
   pub are : AreSlotsBut slot new

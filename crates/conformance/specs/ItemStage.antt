@@ -10,7 +10,7 @@ use Rattle.items.specs.Standing.{AreItems, IsItemsReplay, IsItemsSnapshot}
 abbrev pub IsBelow : ItemsState → ItemsSnapshotState → Type 0
 IsBelow s r = r.tail.full_pages ≤ s.writer.full_pages
 
--- nor are the replay's, whose pages have the same size
+-- the replay's pages have the size of the items' pages, and its full pages are not past theirs
 abbrev pub IsAlong : ItemsState → ItemsReplayState → Type 0
 IsAlong s r =
     (r.replay.tail.page_size ≡ s.writer.page_size)

@@ -16,9 +16,9 @@ pub enum Argument {
     Word,
     /// This one and all after it, if there are any, are numbers.
     Numbers,
-    /// The same of bytes.
+    /// This one and all after it, if there are any, are bytes.
     Pieces,
-    /// The same of ranges.
+    /// This one and all after it, if there are any, are ranges.
     Ranges,
 }
 
@@ -64,7 +64,7 @@ impl Arguments {
         self.numbers.get(index).copied().unwrap_or(0)
     }
 
-    /// The same as a length.
+    /// The number at an index as a length; 0 where there is none.
     pub fn length(&self, index: usize) -> usize {
         self.number(index) as usize
     }

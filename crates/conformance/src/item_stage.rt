@@ -40,7 +40,7 @@ pub enum Told {
     Served(usize, Vec<u8>),
     /// A sync was started.
     Started(StartedSync),
-    /// It is done.
+    /// The step is done.
     Done,
 }
 
@@ -279,7 +279,7 @@ impl<H: Sum> ItemStage<H> {
         Ok(Told::Done)
     }
 
-    /// The same, if nothing has to be written for it.
+    /// Makes a snapshot of the items, if nothing has to be written for it.
     pub fn try_snapshot(&mut self) -> Result<Told, Error> {
         let Some(items) = &self.items else {
             return Ok(Told::Closed);

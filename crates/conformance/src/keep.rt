@@ -10,13 +10,13 @@ pub enum Keep {
     AtOnce,
     /// The crash keeps nothing.
     Nothing,
-    /// It keeps all.
+    /// The crash keeps all.
     All,
-    /// It keeps so many of the first bytes, for each number up to this one.
+    /// The crash keeps so many of the first bytes, for each number up to this one.
     First(usize),
-    /// It keeps one byte, for each of so many.
+    /// The crash keeps one byte, for each of so many.
     One(usize),
-    /// It keeps every choice of so many bytes.
+    /// The crash keeps every choice of so many bytes.
     Every(usize),
 }
 

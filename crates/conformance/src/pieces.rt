@@ -11,7 +11,7 @@ const MOST_ROOM: usize = 65_536;
 /// What an input does apart from giving its bytes.
 #[derive(Clone, Copy)]
 pub enum Way {
-    /// It ends after them.
+    /// The input ends after its bytes.
     Ends,
     /// The read after them fails. Whoever reads on finds the end.
     Fails,

@@ -52,7 +52,7 @@ impl Plain {
         )?)
     }
 
-    // It isn't counted.
+    // Writes these pieces durably. The call isn't counted.
     fn write_durably(
         &mut self,
         alloc: Global,

@@ -7,7 +7,7 @@ pub struct Numbers {
 }
 
 impl Numbers {
-    /// Those of a seed.
+    /// The numbers of a seed.
     pub fn new(seed: u64) -> Numbers {
         Numbers { state: seed.max(1) }
     }

@@ -179,8 +179,8 @@ impl Server {
         Ok(())
     }
 
-    // The same for each count from the first to the last. Writes what all of them answer, or what
-    // the first that differs does.
+    // Serves the first so many bytes of a row, for each count from the first to the last. Writes
+    // what all of them answer, or what the first that differs does.
     fn serve_each(
         &self,
         alloc: Global,

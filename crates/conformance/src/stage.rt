@@ -49,7 +49,7 @@ impl<H: Sum> Stage<H> {
         Ok(stage)
     }
 
-    /// The same over other bytes.
+    /// A stage with the settings of this one, over other bytes.
     pub fn another(&self, alloc: Global, bytes: &[u8]) -> Result<Box<Self>, Error> {
         Stage::new(alloc, self.setting, bytes)
     }
@@ -88,7 +88,7 @@ impl<H: Sum> Stage<H> {
         Ok(recovery.size())
     }
 
-    /// The same, and cuts it.
+    /// Opens the blob as it is, without going over it, and cuts it to so many bytes.
     pub fn cut(&mut self, size: u64) -> Result<u64, Error> {
         self.session = Session::closed(self.alloc);
         let len = self.blob.len();

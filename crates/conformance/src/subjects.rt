@@ -70,7 +70,7 @@ fn play_once<S: Subject>(
     Ok(false)
 }
 
-// The same with a subject that was made for it.
+// Plays a case once with a subject that was made for it.
 fn play_made<S: Subject + Drop>(
     alloc: Global,
     made: io::Result<Box<S>>,

@@ -42,7 +42,7 @@ pub fn number(word: &[u8]) -> io::Result<u64> {
     }
 }
 
-/// The same as a length.
+/// The number that a word is, as a length.
 pub fn length(word: &[u8]) -> io::Result<usize> {
     Ok(number(word)? as usize)
 }

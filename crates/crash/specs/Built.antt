@@ -17,7 +17,7 @@ abbrev pub kept_len : Option ActiveChecksum → ℕ
 kept_len None = 0
 kept_len (Some w) = w.len
 
--- its bytes
+-- the six bytes of the slot that a flush repeats, or of an empty one
 abbrev pub kept_bytes : Option ActiveChecksum → List ℕ
 kept_bytes None = slot_bytes 0 0
 kept_bytes (Some w) = slot_bytes w.len w.crc
@@ -39,7 +39,7 @@ built_pages sum P durable zero bytes = []
 built_pages sum P durable (suc m) bytes =
     page_of sum P durable (take P bytes) ∷ built_pages sum P None m (drop P bytes)
 
--- those pages joined
+-- the first m physical pages of some bytes, joined
 abbrev pub built : (List ℕ → ℕ) → ℕ → Option ActiveChecksum → ℕ → List ℕ → List ℕ
 built sum P durable zero bytes = []
 built sum P durable (suc m) bytes =

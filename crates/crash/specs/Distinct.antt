@@ -32,7 +32,7 @@ pub record SlotIsDistinct (sum : List ℕ → ℕ) (P : ℕ) (d : Disk) (p : ℕ
       → (i byte : ℕ) → slice_get (take n page) i ≡ Some byte
       → slice_get d.base (p * (P + 12) + i) ≡ Some byte
 
--- so of each slot of the image that verifies
+-- no checksum collides in an image: each of its slots that verifies meets the three parts
 abbrev pub IsDistinct : (List ℕ → ℕ) → ℕ → Disk → List ℕ → Type 0
 IsDistinct sum P d image =
     (p : ℕ) (page : List ℕ) → slice_get (pages P image) p ≡ Some page → (s : Slot)

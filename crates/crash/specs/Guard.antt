@@ -41,7 +41,7 @@ pub record SlotGuard (sum : List ℕ → ℕ) (P : ℕ) (content : List ℕ) (d 
   pub held :
       Held sum P d full f.slot (slot_bytes f.len f.crc) (take f.len (drop (full * P) content))
 
--- so does this one, if there is one
+-- the same of an optional slot of that page; `None` asks for nothing
 abbrev pub TipGuard : (List ℕ → ℕ) → ℕ → List ℕ → Disk → ℕ → Option ActiveChecksum → Type 0
 TipGuard sum P content d full None = Unit {0}
 TipGuard sum P content d full (Some f) = SlotGuard sum P content d full f

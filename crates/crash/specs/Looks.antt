@@ -5,12 +5,12 @@ use Rattle.disk.specs.Disk.{Disk, Life, LogGrows}
 use Rattle.crash.specs.Kept.{Through}
 use Rattle.crash.specs.Moments.{through_start, through_joins, through_then}
 
--- the same disk but for its log
+-- the same disk, except for its log
 abbrev pub SameButLog : Disk → Disk → Type 0
 SameButLog d e = e ≡ record d { log = e.log }
 
--- the device was only read: at each moment since, the disk was the same but for its log, which goes
--- on
+-- the device was only read: at each moment since, the disk is the same except for its log, which
+-- goes on
 pub record Looked (old new : Life) : Type 0 where
   pub same : SameButLog old.present new.present
   pub log : LogGrows old.present new.present
@@ -24,7 +24,7 @@ looked_start life = record {
   through = through_start (SameButLog life.present) life refl;
 }
 
--- the same but for the log, twice
+-- two steps that each leave the disk the same, except for its log, leave it so together
 same_later : (a b d : Disk) → SameButLog a b → SameButLog b d → SameButLog a d
 same_later a b d first second = second ∙ ap (λ (x : Disk). record x { log = d.log }) first
 

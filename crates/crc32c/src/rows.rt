@@ -1,5 +1,5 @@
-// By rows of sixteen bytes: what each of them leaves is looked up by four bits at a time, sixteen
-// look-ups at once.
+// The checksum by rows of sixteen bytes: what each of them leaves is looked up by four bits at a
+// time, sixteen look-ups at once.
 ghost use Rattle.std.specs.Prelude.{◌≡◌, ◌<◌, ◌≤◌, ◌+◌, ◌-◌, ◌*◌, ◌/◌, ◌%◌, ◌++◌, length, map};
 ghost use Rattle.std.specs.Prelude.{get_or, replicate, take, drop};
 ghost use Rattle.std.specs.Int.Bits.{bit_xor};

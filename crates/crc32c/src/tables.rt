@@ -1,4 +1,4 @@
-// By tables: sixteen bytes a step.
+// The checksum by tables: sixteen bytes a step.
 ghost use Rattle.std.specs.Prelude.{◌≡◌, ◌<◌, ◌≤◌, ◌+◌, ◌*◌, ◌%◌, length};
 ghost use Rattle.crc32c.specs.Crc.{after_bits, after_byte, after_bytes};
 

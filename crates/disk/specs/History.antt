@@ -148,7 +148,7 @@ pub record History : Type 0 where
   -- whether a read of several ranges delivers the last one first
   pub backwards : Bool
 
--- its life
+-- the life of a blob in memory: the one that began with its first bytes, after its events
 abbrev pub life_of : History → Life
 life_of h = life_after_events (begun h.first h.earlier) h.events
 

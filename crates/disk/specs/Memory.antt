@@ -18,7 +18,7 @@ use Rattle.disk.specs.declared.action.Action.{Action}
 use Rattle.disk.specs.declared.action.Action.TheVariants as actions
 use Rattle.disk.specs.declared.action.Start.{Start}
 
--- none of them failed
+-- none of these started syncs failed
 abbrev pub AreWell : List Started → Type 0
 AreWell [] = Unit {0}
 AreWell (s ∷ ss) = (s.failed ≡ false) × AreWell ss
@@ -163,7 +163,8 @@ AreRanges ranges readable out (Err BlobInsufficientLength) = IsWithin ranges rea
 AreRanges ranges readable out (Err OutOfMemory) = IsWithin ranges readable
 AreRanges ranges readable out (Err _) = ⊥
 
--- the same, the bytes in the order of the ranges
+-- the bytes of several ranges in the order of the ranges; or the refusal of a range that passes the
+-- end, or of memory
 abbrev pub AreRangesInOrder : List (ℕ × ℕ) → List ℕ → Result (List (List ℕ)) Error → Type 0
 AreRangesInOrder ranges readable (Ok bufs) =
     IsWithin ranges readable × (bufs ≡ bytes_of ranges readable)

@@ -73,7 +73,7 @@ impl Model for Listed {
 }
 
 impl Listed {
-    /// These ranges.
+    /// The list of these ranges.
     pub fn of(ranges: &[(u64, usize)]) -> Snapshot<Self>
         ensures { result.value ≡ ranges.now }
     {
@@ -84,7 +84,7 @@ impl Listed {
         listed
     }
 
-    // None.
+    // The list of no ranges.
     fn nothing() -> Snapshot<Self>
         ensures { result.value ≡ [] }
     {

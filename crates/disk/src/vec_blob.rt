@@ -18,9 +18,9 @@ use std::alloc::{AllocError, Global};
 use std::marker::Model;
 use std::snapshot::Snapshot;
 
-/// A blob in memory, for whoever wants no more than its bytes. No call of it fails but for want of
-/// memory, until it is told to [`stop`](VecBlob::stop), and it can't crash; [`crate::MemBlob`] can
-/// do both.
+/// A blob in memory, for whoever wants no more than its bytes. No call of it fails except for want
+/// of memory, until it is told to [`stop`](VecBlob::stop), and it can't crash; [`crate::MemBlob`]
+/// can do both.
 ///
 /// Its life, which contracts speak of, is ghost data: nothing of it is kept, so it takes as much
 /// memory as its bytes however often it is called, and at most twice that where it grew. A write
@@ -146,7 +146,7 @@ fn put_over(bytes: &mut Vec<u8>, offset: usize, new: &[u8]) -> Result<(), AllocE
     bytes.extend_from_slice(after)
 }
 
-// The same with buffers, one after another.
+// Writes buffers, one after another, at an offset among other bytes.
 fn put_all(bytes: &mut Vec<u8>, offset: usize, bufs: &IoBufs) -> Result<(), AllocError>
     requires among { offset ≤ length bytes.old.items }
     requires small { offset + length (concat bufs.now) < 2 ^ 64 }

@@ -67,7 +67,7 @@ pub record WasAskedUntil (events asked : List Event) : Type 0 where
   pub just : asked ≡ asked_by before ++ last
   pub fails : FailsIn (requests_of action) last
 
--- by whether a call of it failed
+-- what a host was asked for in a blob's life, by whether a call of it failed
 abbrev pub WasAsked : (failed : Bool) → (events asked : List Event) → Type 0
 WasAsked false events asked = WasAskedAll events asked
 WasAsked true events asked = WasAskedUntil events asked
@@ -78,7 +78,8 @@ Answers actions old new (Ok _) = new ≡ old ++ all_done actions
 Answers actions old new (Err _) =
     (last : List Event) × (new ≡ old ++ last) × FailsIn actions last
 
--- the same, but nothing where a call failed before; and whether one has failed then
+-- what a host was asked for by these actions, by whether a call of it had failed before: nothing if
+-- one had; and whether one has failed then
 abbrev pub Passes : (was now : Bool) → List Action → (old new : List Event) → Type 0
 Passes false false actions old new = new ≡ old ++ all_done actions
 Passes false true actions old new =

@@ -8,7 +8,7 @@ use Rattle.disk.specs.VecBlob.{VecState}
 use Rattle.file.specs.declared.mirror.Request.{Request}
 use Rattle.file.specs.declared.mirror.Request.TheVariants.{Write, Resize, Sync}
 
--- as contracts see it: the blob in memory, and what the host was asked for
+-- a mirror as contracts see it: the blob in memory, and what the host was asked for
 pub record MirrorState : Type 0 where
   pub kept : VecState
   pub asked : List Event

@@ -22,7 +22,8 @@ PutsAll goes offset bytes old new result =
     × (events : List Event) × Answers (writes_of offset runs) [] events result
     × FoldsTo goes old events new
 
--- bytes went out so, but for the last of them, which are kept back; `next` is where they are to go
+-- bytes went out in runs, except for the last of them, which are kept back; `next` is where they
+-- are to go
 abbrev pub HasPut : {S : Type 0} → (S → Event → S → Type 0) → (offset : ℕ) → (bytes kept : List ℕ)
     → (next : ℕ) → (old new : S) → Type 0
 HasPut goes offset bytes kept next old new =
@@ -30,7 +31,7 @@ HasPut goes offset bytes kept next old new =
     × FoldsTo goes old (all_done (writes_of offset runs)) new
     × (next ≡ (offset + length (concat runs)) % 2 ^ 64)
 
--- by the answer: where the bytes that are kept back are to go, or that a run failed
+-- what puts of runs answer: where the bytes that are kept back are to go, or that a run failed
 abbrev pub PutsUpTo : {S E : Type 0} → (S → Event → S → Type 0) → (offset : ℕ)
     → (bytes kept : List ℕ) → (old new : S) → Result ℕ E → Type 0
 PutsUpTo goes offset bytes kept old new (Ok next) = HasPut goes offset bytes kept next old new

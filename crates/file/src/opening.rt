@@ -70,9 +70,9 @@ pub fn read(rt: &HostRuntime, path: &str) -> io::Result<VecBlob>
 /// With whom a lock is shared.
 #[derive(Clone, Copy)]
 pub enum Lock {
-    /// With nobody.
+    /// The lock is shared with nobody.
     Exclusive,
-    /// With others who ask for this one.
+    /// The lock is shared with others who ask for this one.
     Shared,
 }
 

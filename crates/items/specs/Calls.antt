@@ -68,7 +68,7 @@ pub record Lasts (sum : List ℕ → ℕ) (s now : ItemsState) (old new : Life) 
       → WouldBeDurable sum now.writer.page_size now.size (bytes_of now new) n name new.present
   pub completed : CompletesItems sum s now s.writer.sync old new
 
--- so the items are given back, and what was durable lasts
+-- a call gives the items back: they are ready, and what was durable of them lasts
 abbrev pub AreGivenBack : (List ℕ → ℕ) → (s now : ItemsState) → CacheState → Life → Life → Type 0
 AreGivenBack sum s now after old new = GoReady sum s now after new × Lasts sum s now old new
 

@@ -20,7 +20,7 @@ item s content i = take s (drop (i * s) content)
 abbrev pub item_floor : (s floor : ℕ) → ℕ
 item_floor s floor = floor / s
 
--- these items are the first of those
+-- these items are the first of all those
 abbrev pub AreFirst : List (List ℕ) → List (List ℕ) → Type 0
 AreFirst some all = some ≡ take (length some) all
 
@@ -30,7 +30,7 @@ ItemsKept sum P s content n d =
     (image : List ℕ) → IsImage d image
     → take n (items s (text sum P image)) ≡ take n (items s content)
 
--- and chance aside its items are the first of these
+-- each chance-free image has as its items the first of these
 abbrev pub ItemsOnly : (List ℕ → ℕ) → (P s : ℕ) → List (List ℕ) → Disk → Type 0
 ItemsOnly sum P s all d =
     (image : List ℕ) → IsImage d image → IsChanceFree sum P d image
@@ -78,7 +78,8 @@ BringsBack sum P s d back =
     (content : List ℕ) (n : ℕ) → AreDurable sum P s content n d
     → (n ≤ length back) × (take n back ≡ take n (items s content))
 
--- and, where no checksum collides in what the crash left, is the first of what was pushed
+-- absent a checksum collision in what the crash left, the items that come back are the first of
+-- those that were pushed
 abbrev pub BringsOnly : (List ℕ → ℕ) → (P s : ℕ) → Disk → List ℕ → List (List ℕ) → Type 0
 BringsOnly sum P s d image back =
     IsDistinct sum P d image

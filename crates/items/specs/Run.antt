@@ -125,7 +125,7 @@ pub data RunsItems (sum : List ℕ → ℕ) (was : Option ItemsState) (cache : C
       → DidItem sum step mid now between after then new reply
       → RunsItems sum was cache old (steps ++ step ∷ []) (replies ++ reply ∷ []) now after new
 
--- they have these sizes
+-- the items of a session, if it has some, have this page size and this item size
 abbrev pub HasSizes : (P s : ℕ) → Option ItemsState → Type 0
 HasSizes P s None = Unit {0}
 HasSizes P s (Some t) = (t.writer.page_size ≡ P) × (t.size ≡ s)

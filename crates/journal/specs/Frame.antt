@@ -30,7 +30,7 @@ unfoldable pub record_of : (List ℕ → ℕ) → List ℕ → Option (List ℕ)
 record_of sum bytes =
     if is_record sum bytes then Some (take (record_len bytes) (drop 2 bytes)) else None
 
--- some bytes as frames, of which the last may be cut short; at most n
+-- some bytes as frames, at most n of them; the last may be cut short
 abbrev pub frames_in : ℕ → List ℕ → List (List ℕ)
 frames_in zero bytes = []
 frames_in (suc n) [] = []
@@ -54,7 +54,7 @@ records sum bytes = flat_map (λ f. listed (record_of sum f)) (frames bytes)
 abbrev pub if_whole : List ℕ → List ℕ
 if_whole f = if nat_lt (length f) (frame_len f) then [] else f
 
--- the whole frames of some bytes: all of the bytes, but for a last frame that is cut short
+-- the whole frames of some bytes: all of the bytes, except for a last frame that is cut short
 unfoldable pub whole_frames : List ℕ → List ℕ
 whole_frames bytes = flat_map if_whole (frames bytes)
 
@@ -62,6 +62,6 @@ whole_frames bytes = flat_map if_whole (frames bytes)
 abbrev pub IsWhole : List ℕ → Type 0
 IsWhole bytes = whole_frames bytes ≡ bytes
 
--- these are the first of those
+-- these records are the first of all those
 abbrev pub IsPrefix : List (List ℕ) → List (List ℕ) → Type 0
 IsPrefix front all = (rest : List (List ℕ)) × (all ≡ front ++ rest)

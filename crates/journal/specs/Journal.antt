@@ -35,7 +35,7 @@ pub record IsBetweenCalls (sum : List ℕ → ℕ) (w : WriterState) (cache : Ca
   pub size : size_of w ≡ length (content w life.present.readable)
   pub only : LeavesItsContent sum w life.present
 
--- its writer is so, and its content is whole frames
+-- a journal between two calls: its writer is ready, and its content is whole frames
 pub record StandsAsJournal (sum : List ℕ → ℕ) (w : WriterState) (cache : CacheState) (life : Life)
     : Type 0 where
   pub between : IsBetweenCalls sum w cache life
@@ -206,7 +206,8 @@ pub record IsTrimmed (sum own : List ℕ → ℕ) (w : WriterState) (after : Cac
   pub page_size : now.page_size ≡ w.page_size
   pub id : now.id ≡ w.id
 
--- they aren't: a read of the content was refused, or the cut after them, where there is more
+-- a trim of a recovered content to its whole frames, by its answer: the records; or a read of the
+-- content was refused, or the cut after the frames, if there is more
 abbrev pub Trims : (sum own : List ℕ → ℕ) → WriterState → CacheState → Life → Life
     → Result (WriterState × Vec (List ℕ) Global) Error → Type 0
 Trims sum own w after old new (Ok r) = IsTrimmed sum own w after old new r.0 r.1.items
@@ -250,7 +251,8 @@ abbrev pub KeepsAllRecords : (sum own : List ℕ → ℕ) → ℕ → Life → L
 KeepsAllRecords sum own P old new =
     IsDurable old.present → Through (CommitsAll sum own P (text sum P old.present.readable)) old new
 
--- and chance aside a crash leaves only these
+-- if all was durable as a recovery began, each chance-free image at each moment since has only the
+-- first of the records of the text
 abbrev pub LeavesAllRecords : (sum own : List ℕ → ℕ) → ℕ → Life → Life → Type 0
 LeavesAllRecords sum own P old new =
     IsDurable old.present
@@ -262,7 +264,8 @@ BringsBack sum own P d back =
     (content : List ℕ) (n : ℕ) → Commits sum own P content n d
     → (n ≤ length back) × (take n back ≡ take n (records own content))
 
--- and, where no checksum collides in what the crash left, is the first of what was appended
+-- absent a checksum collision in what the crash left, the records that come back are the first of
+-- those that were appended
 abbrev pub BringsOnly : (sum own : List ℕ → ℕ) → ℕ → Disk → List ℕ → List (List ℕ) → Type 0
 BringsOnly sum own P d image back =
     IsDistinct sum P d image

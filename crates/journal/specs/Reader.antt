@@ -134,7 +134,8 @@ abbrev pub JournalsStay : (List ℕ → ℕ) → CacheState → CacheState → L
 JournalsStay sum cache after old new =
     (w : WriterState) → IsJournal sum w cache old → StaysJournal sum w after old new
 
--- and chance aside a crash at any moment since leaves only the first of its records
+-- for each journal of the cache: chance aside, a crash at any moment of the call leaves only the
+-- first of its records
 abbrev pub LeavesTheirRecords : (sum own : List ℕ → ℕ) → CacheState → Life → Life → Type 0
 LeavesTheirRecords sum own cache old new =
     (w : WriterState) → IsJournal sum w cache old → LeavesItsRecords sum own w old new

@@ -36,7 +36,7 @@ pub struct Framed<'a, R> {
 }
 
 impl<'a, R> Framed<'a, R> {
-    /// That of a record of these bytes.
+    /// The frame of a record of these bytes.
     pub fn new(bytes: &'a [u8]) -> Self
         requires { length bytes.now ≤ 65535 }
         ensures { result.bytes.now ≡ bytes.now }

@@ -314,14 +314,10 @@ impl<B: Blob, H: Sum, R: Sum> Journal<B, H, R> {
 
     /// The frame that begins at an offset, in logical bytes: one that an append answered, or the
     /// offset after another frame, the first of which begins at 0. `None` where none begins there:
-    /// at the end of the journal and after it, and then nothing is asked for.
+    /// at the end of the journal and after it.
     ///
-    /// The two bytes that tell a frame's length are read first, and then the frame. Either read
-    /// makes at most one device call for each of its pages, and none where the cache holds them.
-    ///
-    /// `ReadFailed` where the device failed, `OutOfMemory`. Memory for the frame is asked for once
-    /// its length is known: so a call that is refused it may have read the device before. An error
-    /// leaves all as it was, but for pages that the cache may hold now.
+    /// `ReadFailed` where the device failed, `OutOfMemory`. An error leaves all as it was, except
+    /// for pages that the cache may hold now.
     pub fn read_record(
         &self,
         blob: &mut B,

@@ -8,7 +8,7 @@ abbrev pub slot_offset : Slot → ℕ
 slot_offset First = 0
 slot_offset Second = 6
 
--- the other one
+-- the other slot of a footer
 abbrev pub other : Slot → Slot
 other First = Second
 other Second = First

@@ -7,7 +7,7 @@ use Rattle.std.proofs.Math.Nat.{mod-lt}
 abbrev pub add_sum : List ℕ → ℕ
 add_sum bytes = sum bytes % 2 ^ 32
 
--- it fits 32 bits
+-- the sum of the bytes fits 32 bits
 pub small_add_sum : (bytes : List ℕ) → add_sum bytes < 2 ^ 32
 small_add_sum bytes = mod-lt (sum bytes) (lit< tt)
 
@@ -15,6 +15,6 @@ small_add_sum bytes = mod-lt (sum bytes) (lit< tt)
 abbrev pub const_sum : List ℕ → ℕ
 const_sum bytes = 0
 
--- it fits 32 bits
+-- the constant fits 32 bits
 pub small_const_sum : (bytes : List ℕ) → const_sum bytes < 2 ^ 32
 small_const_sum bytes = lit< tt

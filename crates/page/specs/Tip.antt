@@ -20,7 +20,7 @@ pub record Tip : Type 0 where
 abbrev pub tip_size : Tip → ℕ
 tip_size t = t.offset + length t.bytes
 
--- with these bytes after its own
+-- a tip with these bytes after its own
 abbrev pub joined : Tip → List ℕ → Tip
 joined t more = record t { bytes = t.bytes ++ more }
 
@@ -28,7 +28,7 @@ joined t more = record t { bytes = t.bytes ++ more }
 abbrev pub full_len : Tip → ℕ
 full_len t = length t.bytes / t.page_size * t.page_size
 
--- without these
+-- a tip without its full pages: what is left begins where they ended
 abbrev pub drained : Tip → Tip
 drained t = record t { offset = t.offset + full_len t; bytes = drop (full_len t) t.bytes }
 

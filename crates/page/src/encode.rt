@@ -28,7 +28,7 @@ pub trait Write: EncodeSize {
 pub trait FixedSize: EncodeSize {
     ghost SIZE: { ℕ };
 
-    /// That size in bytes.
+    /// The size of an encoded value in bytes.
     const SIZE: usize;
 
     /// Each value is encoded as so many bytes.

@@ -44,23 +44,25 @@ wait_calls Clean = 0
 wait_calls Dirty = 0
 wait_calls (Pending name) = 1
 
--- those that start a sync of what is written, where something is unsynced that none covers
+-- the device calls that start a sync of what is written: one if something is unsynced that no
+-- started sync covers
 abbrev pub unstarted_calls : SyncState → ℕ
 unstarted_calls Clean = 0
 unstarted_calls Dirty = 1
 unstarted_calls (Pending name) = 0
 
--- those that make what is written durable: a sync, where something is unsynced, or a wait
+-- the device calls that make durable what is written: a sync if something is unsynced, or a wait
+-- for the pending sync
 abbrev pub settle_calls : SyncState → ℕ
 settle_calls Clean = 0
 settle_calls Dirty = 1
 settle_calls (Pending name) = 1
 
--- those of a sync: a write before it, where something isn't written
+-- the device calls of a sync: a write, if something isn't written, and what makes it durable
 abbrev pub sync_calls : WriterState → ℕ
 sync_calls w = (if has_work w true then 1 else 0) + settle_calls w.sync
 
--- those of starting a sync: where something isn't written, a wait, a write and the start
+-- the device calls of starting a sync: if something isn't written, a wait, a write and the start
 abbrev pub start_calls : WriterState → ℕ
 start_calls w = if has_work w true then wait_calls w.sync + 2 else unstarted_calls w.sync
 
@@ -68,7 +70,7 @@ start_calls w = if has_work w true then wait_calls w.sync + 2 else unstarted_cal
 abbrev pub HoldsWithin : WriterState → Type 0
 HoldsWithin w = length w.tip ≤ w.capacity
 
--- the writer is the same but for its pages and what it buffers, and its tip hasn't gone back
+-- the writer is the same, except for its pages and what it buffers, and its tip hasn't gone back
 pub record IsSameWriter (old new : WriterState) : Type 0 where
   pub page_size : new.page_size ≡ old.page_size
   pub id : new.id ≡ old.id
@@ -126,7 +128,7 @@ pub record IsWritten (w : WriterState) : Type 0 where
   pub short : length w.tip < w.page_size
   pub flushed : kept_len w.flushed ≡ length w.tip
 
--- and durable
+-- all that the writer stands for is written and durable
 pub record IsSettled (w : WriterState) : Type 0 where
   pub clean : w.sync ≡ Clean
   pub short : length w.tip < w.page_size

@@ -35,14 +35,14 @@ pub record Holds (sum : List ℕ → ℕ) (w : WriterState) (old : Life) (more :
   -- (last, since a field hides a definition of its name from those after it)
   pub content : content now new.present.readable ≡ content w old.present.readable ++ more
 
--- it was refused, for this
+-- a call of a writer was refused: the cause of the error, and the log
 pub record IsRefused (w : WriterState) (old new : Life) (e : Error) : Type 0 where
   pub cause : CallCause w.sync old new e
   pub log : LogGrows old.present new.present
 
 -- ---- an append
 
--- its answer is the size until then
+-- an append ended well: it answers the size until then, and the writer holds the bytes
 pub record HasAppended (sum : List ℕ → ℕ) (w : WriterState) (bytes : List ℕ) (old new : Life)
     (now : WriterState) (at : ℕ) : Type 0 where
   pub at_end : at ≡ length (content w old.present.readable)

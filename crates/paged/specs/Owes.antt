@@ -27,7 +27,7 @@ pub record Owed (sum : List ℕ → ℕ) (P full_pages : ℕ) (before after : Li
   -- what a started sync would keep it would still keep
   pub covers : CoversStay sum P before d e
 
--- so at each moment since the call began
+-- each moment since the call began owes that to the moment at which it began
 abbrev pub OwedThrough : (List ℕ → ℕ) → (P full_pages : ℕ) → (before after : List ℕ) → Life → Life
     → Type 0
 OwedThrough sum P full_pages before after old new =

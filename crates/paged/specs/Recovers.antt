@@ -21,7 +21,7 @@ recovered_writer sum cache capacity bytes =
     let opened = opened_writer sum cache capacity bytes Clean in
     cut_writer sum opened (length (text sum P bytes)) (opened_bytes sum P bytes)
 
--- and the bytes of its blob
+-- the bytes of the blob once it is recovered
 abbrev pub recovered_bytes : (List ℕ → ℕ) → CacheState → ℕ → List ℕ → List ℕ
 recovered_bytes sum cache capacity bytes =
     let P = cache.page_size in

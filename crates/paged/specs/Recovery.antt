@@ -51,7 +51,8 @@ Cuts kept old new (Err e) =
     ResizeGoes kept old new (Err e)
     ⊎ ((mid : Life) × ResizeGoes kept old mid (Ok tt) × SyncGoes mid new (Err e))
 
--- the same, where there is more
+-- a cut to so many bytes, if there are more: it leaves the blob clean. If there are no more nothing
+-- is done, and the blob may be dirty
 abbrev pub CutsBack : ℕ → Life → Life → Result SyncState Error → Type 0
 CutsBack kept old new (Ok Dirty) = (kept ≡ length old.present.readable) × (new ≡ old)
 CutsBack kept old new (Ok Clean) =
@@ -176,7 +177,8 @@ KeepsText sum P old new =
     let held = text sum P old.present.readable in
     IsDurable old.present → Through (AllKeep sum P held (length held)) old new
 
--- and the text of every chance-free one is a prefix of it
+-- if all was durable as the call began, every chance-free image at each moment since has as its
+-- text a prefix of the whole text
 abbrev pub LeavesText : (List ℕ → ℕ) → ℕ → Life → Life → Type 0
 LeavesText sum P old new =
     let held = text sum P old.present.readable in

@@ -78,7 +78,7 @@ abbrev pub shorten_calls : (P size n : ℕ) → ℕ
 shorten_calls P size n =
     (if div_ceil n P == div_ceil size P then 0 else 2) + (if n % P == 0 then 0 else 4)
 
--- those of a truncate to n bytes
+-- the device calls of a truncate to n bytes
 abbrev pub truncate_calls : WriterState → (n : ℕ) → ℕ
 truncate_calls w n =
     sync_calls w
@@ -161,7 +161,8 @@ Stages P page s crc false old new answer =
 Stages P page s crc true old new answer =
     Then (WritesSlot P page (other s) (slot_bytes 0 crc) false) SyncGoes old new answer
 
--- then its length, and then this one is emptied
+-- the rewrite of a page's value as a shorter one: the checksum into the other slot, then its
+-- length, and then this slot is emptied
 abbrev pub Rewrites : (P page : ℕ) → Slot → (len crc : ℕ) → (unsynced : Bool) → Life → Life
     → Result (Unit {0}) Error → Type 0
 Rewrites P page s len crc unsynced old new answer =
@@ -248,7 +249,7 @@ pub record Cutting (sum : List ℕ → ℕ) (P : ℕ) (told : List ℕ) (floor k
   pub started : Through (GoesOnStarted old.present) old new
   pub holds : Through (HoldsText sum P told floor) old new
 
--- the same of a cut to n bytes of a blob of which all is durable
+-- what each moment of a cut to n bytes owes, for a blob of which all is durable
 abbrev pub CutsTo : (List ℕ → ℕ) → (n : ℕ) → WriterState → Life → Life → Type 0
 CutsTo sum n w old new =
     let told = text sum w.page_size old.present.readable in

@@ -25,8 +25,9 @@ PutsAtStake sum P bytes cut =
 abbrev pub MayGo : (List ℕ → ℕ) → (P allowed : ℕ) → (bytes : List ℕ) → Type 0
 MayGo sum P allowed bytes = (cut : ℕ) × PutsAtStake sum P bytes cut × (cut ≤ allowed)
 
--- where it is done, no more was to go than is allowed; where more would go, that number is told,
--- and the blob was only looked at; after an error too, unless no more was to go
+-- a recovery within a limit, by its answer: at `Ok` no more was to go than is allowed. If more
+-- would go, the answer is that number, and the blob was only looked at. After an error too, unless
+-- no more was to go
 abbrev pub RecoversWithin : (List ℕ → ℕ) → CacheState → (capacity allowed : ℕ) → Life → Life
     → Result WriterState Refusal → Type 0
 RecoversWithin sum cache capacity allowed old new (Ok w) =

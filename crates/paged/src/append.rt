@@ -91,7 +91,7 @@ impl<B: Blob, H: Sum, Phase> Writer<B, H, Phase> {
         Ok((self, at))
     }
 
-    /// The same. After an error the writer is of no use.
+    /// [`append`](Writer::append) through `&mut`. After an error the writer is of no use.
     fn append_bytes(
         &mut self,
         blob: &mut B,

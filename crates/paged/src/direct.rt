@@ -145,7 +145,8 @@ impl<B: Blob, H: Sum, Phase> Writer<B, H, Phase> {
         Ok((self, at))
     }
 
-    /// The same. After an error the writer is of no use.
+    /// [`append_owned`](Writer::append_owned) through `&mut`. After an error the writer is of no
+    /// use.
     fn append_buf(&mut self, blob: &mut B, cache: &mut CacheRef, bytes: &IoBuf) -> Result<(), Error>
         requires cached { cache.old.page_size ≡ self.old.page_size }
         requires holds { IsConsistent H.sum_of self.old (B.life blob.old).present }
@@ -289,7 +290,7 @@ impl<B: Blob, H: Sum, Phase> Writer<B, H, Phase> {
         self.flush_direct(blob, cache, whole, rest)
     }
 
-    /// The same, where no sync is pending.
+    /// Writes whole pages past the buffer, where no sync is pending, and buffers the rest.
     fn flush_direct(
         &mut self,
         blob: &mut B,
@@ -320,7 +321,8 @@ impl<B: Blob, H: Sum, Phase> Writer<B, H, Phase> {
         self.write_taken(blob, cache, whole, rest)
     }
 
-    /// The same, where the durable slot is up to date.
+    /// Writes whole pages past the buffer, where no sync is pending and the durable slot is up to
+    /// date, and buffers the rest.
     fn write_taken(
         &mut self,
         blob: &mut B,

@@ -310,7 +310,8 @@ impl<B: Blob, H: Sum, Phase> Writer<B, H, Phase> {
         Ok(())
     }
 
-    /// The same, where no sync is pending and there is something to write.
+    /// Writes the tip's full pages, and with `rest` the bytes after them, where no sync is pending
+    /// and there is something to write.
     fn flush_pages(&mut self, blob: &mut B, cache: &mut CacheRef, rest: bool) -> Result<(), Error>
         requires cached { cache.old.page_size ≡ self.old.page_size }
         requires holds { IsConsistent H.sum_of self.old (B.life blob.old).present }
@@ -358,7 +359,7 @@ impl<B: Blob, H: Sum, Phase> Writer<B, H, Phase> {
         Ok(self)
     }
 
-    /// The same. After an error the writer is of no use.
+    /// [`sync`](Writer::sync) through `&mut`. After an error the writer is of no use.
     fn sync_all(&mut self, blob: &mut B, cache: &mut CacheRef) -> Result<(), Error>
         requires cached { cache.old.page_size ≡ self.old.page_size }
         requires holds { IsConsistent H.sum_of self.old (B.life blob.old).present }
@@ -410,8 +411,8 @@ impl<B: Blob, H: Sum, Phase> Writer<B, H, Phase> {
         self.write_durably(blob, cache)
     }
 
-    /// The same, where no sync is pending: at once where nothing was unsynced, else by a write and
-    /// a sync.
+    /// Writes what is buffered durably, where no sync is pending: at once where nothing was
+    /// unsynced, else by a write and a sync.
     fn write_durably(&mut self, blob: &mut B, cache: &mut CacheRef) -> Result<(), Error>
         requires cached { cache.old.page_size ≡ self.old.page_size }
         requires holds { IsConsistent H.sum_of self.old (B.life blob.old).present }
@@ -462,7 +463,8 @@ impl<B: Blob, H: Sum, Phase> Writer<B, H, Phase> {
         self.settle_blob(blob)
     }
 
-    /// The same, whatever the blob: it is synced, or a pending sync is waited for.
+    /// Makes durable what is written, whatever the blob: it is synced, or a pending sync is waited
+    /// for.
     pub(crate) fn settle_blob(&mut self, blob: &mut B) -> Result<(), Error>
         ensures goes { SettlesBy self.old.sync (B.life blob.old) (B.life blob.new) result }
         ensures state { OnOk result (self.new ≡ synced self.old) }

@@ -60,7 +60,8 @@ impl<B, H, Phase> Writer<B, H, Phase> {
         self.view().try_read_ranges_sync_into(cache, buf, ranges)
     }
 
-    /// The same of ranges of `len` bytes at these offsets.
+    /// [`try_read_ranges_sync_into`](Self::try_read_ranges_sync_into) for ranges of `len` bytes at
+    /// these offsets.
     pub fn try_read_many_sync_into(
         &self,
         cache: &CacheRef,
@@ -198,7 +199,8 @@ impl<B: Blob, H: Sum, Phase> Writer<B, H, Phase> {
         self.view().read_ranges_into(blob, cache, buf, ranges)
     }
 
-    /// The same of ranges of `len` bytes at these offsets. It takes memory for the ranges.
+    /// [`read_ranges_into`](Self::read_ranges_into) for ranges of `len` bytes at these offsets. It
+    /// takes memory for the ranges.
     pub fn read_many_into(
         &self,
         blob: &mut B,

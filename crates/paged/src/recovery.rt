@@ -229,7 +229,7 @@ impl<B: Blob, H: Sum> Recovery<B, H> {
         Self::open_all(alloc, blob, size, capacity, cache)
     }
 
-    /// The same, told clause by clause.
+    /// [`open`](Recovery::open), with a clause for each fact.
     pub(crate) fn open_all(
         alloc: Global,
         blob: &mut B,
@@ -267,7 +267,7 @@ impl<B: Blob, H: Sum> Recovery<B, H> {
         ensures floors { let old = B.life blob.old in let new = B.life blob.new in
             KeepsAllFloors H.sum_of cache.old.page_size old new }
 
-        // The same, where all was durable.
+        // At each of these moments, where all was durable as the call began.
         ensures kept { KeepsText H.sum_of cache.old.page_size (B.life blob.old) (B.life blob.new) }
         ensures only { LeavesText H.sum_of cache.old.page_size (B.life blob.old) (B.life blob.new) }
 
@@ -374,7 +374,7 @@ pub fn recover_keeping<B: Blob, H: Sum>(
     recover_all::<B, H>(alloc, blob, size, capacity, cache, buffer_size, kept)
 }
 
-/// The same, told clause by clause.
+/// [`recover`](crate::recover), with a clause for each fact.
 fn recover_all<B: Blob, H: Sum>(
     alloc: Global,
     blob: &mut B,
@@ -417,11 +417,11 @@ fn recover_all<B: Blob, H: Sum>(
     ensures floors { let old = B.life blob.old in let new = B.life blob.new in
         KeepsAllFloors H.sum_of cache.old.page_size old new }
 
-    // The same, where all was durable.
+    // At each of these moments, where all was durable as the call began.
     ensures kept { KeepsText H.sum_of cache.old.page_size (B.life blob.old) (B.life blob.new) }
     ensures only { LeavesText H.sum_of cache.old.page_size (B.life blob.old) (B.life blob.new) }
 
-    // No read has more pages than fit `buffer_size`, but for one page.
+    // No read has more pages than fit `buffer_size`, except that it may have one.
     ensures reads { let old = B.life blob.old in let new = B.life blob.new in
         ReadsWithin (scan_bytes cache.old.page_size (non_zero_usize_get buffer_size)) old new }
 

@@ -55,7 +55,8 @@ impl<B: Blob, H: Sum, Phase> Writer<B, H, Phase> {
         Ok((self, replay))
     }
 
-    /// The same. After an error of the device the writer is of no use.
+    /// [`replay`](Writer::replay) through `&mut`. After an error of the device the writer is of no
+    /// use.
     fn replay_all(
         &mut self,
         blob: &mut B,

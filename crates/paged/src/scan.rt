@@ -66,9 +66,10 @@ impl<B: Blob, H: Sum, Phase> Writer<B, H, Phase> {
         self.scan_to(blob, proven, self.flushed_pages(), buffer_size, options)
     }
 
-    /// The same of the first `max_size` bytes: only pages that meet them are read, and it answers
-    /// at most that. Where they are told, that is the lesser of `max_size` and what
-    /// [`Writer::recoverable_prefix_len`] answers. Of no bytes it asks no device.
+    /// How many of the first `max_size` bytes the flushed pages hold: only pages that meet them are
+    /// read, and it answers at most `max_size`. Where they are told, that is the lesser of
+    /// `max_size` and what [`Writer::recoverable_prefix_len`] answers. Of no bytes it asks no
+    /// device.
     pub fn recoverable_prefix_len_at_most(
         &self,
         blob: &mut B,

@@ -96,7 +96,8 @@ impl<B: Blob, H: Sum> Writer<B, H> {
         Ok((self, sealed))
     }
 
-    /// The same. After an error of the device the writer is of no use.
+    /// [`snapshot`](Writer::snapshot) through `&mut`. After an error of the device the writer is of
+    /// no use.
     fn snapshot_all(&mut self, blob: &mut B, cache: &mut CacheRef) -> Result<Sealed<B, H>, Error>
         requires cached { cache.old.page_size ≡ self.old.page_size }
         requires holds { IsConsistent H.sum_of self.old (B.life blob.old).present }
@@ -150,7 +151,8 @@ impl<B: Blob, H: Sum> Writer<B, H> {
         Ok((self.into_sealed(), started))
     }
 
-    /// The same, of which the writer is left. After an error it is of no use.
+    /// [`seal`](Writer::seal) through `&mut`, which leaves the writer. After an error it is of no
+    /// use.
     fn seal_all(&mut self, blob: &mut B, cache: &mut CacheRef) -> Result<StartedSync, Error>
         requires cached { cache.old.page_size ≡ self.old.page_size }
         requires holds { IsConsistent H.sum_of self.old (B.life blob.old).present }

@@ -70,7 +70,7 @@ impl<B: Blob, H: Sum, Phase> Writer<B, H, Phase> {
         Ok((self, started))
     }
 
-    /// The same. After an error the writer is of no use.
+    /// [`start_sync`](Writer::start_sync) through `&mut`. After an error the writer is of no use.
     pub(crate) fn start_all(
         &mut self,
         blob: &mut B,
@@ -100,7 +100,7 @@ impl<B: Blob, H: Sum, Phase> Writer<B, H, Phase> {
         self.start_written(blob)
     }
 
-    /// The same, where all that was appended is written.
+    /// Starts a sync, where all that was appended is written.
     fn start_written(&mut self, blob: &mut B) -> Result<StartedSync, Error>
         requires holds { IsConsistent H.sum_of self.old (B.life blob.old).present }
         requires written { IsWritten self.old }

@@ -74,7 +74,7 @@ impl<B: Blob, H: Sum> Recovery<B, H> {
         self.truncate_all(blob, cache, size)
     }
 
-    /// The same, told clause by clause.
+    /// [`truncate`](Recovery::truncate), with a clause for each fact.
     pub(crate) fn truncate_all(
         mut self,
         blob: &mut B,
@@ -205,7 +205,7 @@ impl<B: Blob, H: Sum> Recovery<B, H> {
         }
     }
 
-    /// The same, after a page.
+    /// Cuts a blob of which all is durable to its first `size` bytes, where these end with a page.
     fn cut_after(&mut self, blob: &mut B, size: u64) -> Result<(), Error>
         requires opened { IsAsOpened H.sum_of self.old (B.life blob.old).present }
         requires clean { self.old.sync ≡ Clean }
@@ -220,7 +220,8 @@ impl<B: Blob, H: Sum> Recovery<B, H> {
         self.stand_at(pages, &[], None)
     }
 
-    /// The same, within a page.
+    /// Cuts a blob of which all is durable to its first `size` bytes, where these end inside a
+    /// page.
     fn cut_within(&mut self, blob: &mut B, size: u64) -> Result<(), Error>
         requires opened { IsAsOpened H.sum_of self.old (B.life blob.old).present }
         requires clean { self.old.sync ≡ Clean }

@@ -122,7 +122,8 @@ pub fn recover_within<B: Blob, H: Sum>(
     recover_looked::<B, H>(alloc, blob, size, capacity, cache, buffer_size, allowed)
 }
 
-/// The same, told clause by clause.
+/// [`recover_within`](crate::recover_within) once the blob was looked at, with a clause for each
+/// fact.
 fn recover_looked<B: Blob, H: Sum>(
     alloc: Global,
     blob: &mut B,
@@ -164,7 +165,7 @@ fn recover_looked<B: Blob, H: Sum>(
     ensures floors { let old = B.life blob.old in let new = B.life blob.new in
         KeepsAllFloors H.sum_of cache.old.page_size old new }
 
-    // The same, where all was durable.
+    // At each of these moments, where all was durable as the call began.
     ensures kept { KeepsText H.sum_of cache.old.page_size (B.life blob.old) (B.life blob.new) }
     ensures only { LeavesText H.sum_of cache.old.page_size (B.life blob.old) (B.life blob.new) }
 

@@ -28,7 +28,8 @@ abbrev pub with_page : (page : ℕ) → List ℕ → List ℕ
 with_page page pages =
     if is_page page (slice_get pages (length pages - 1)) then pages else pages ++ page ∷ []
 
--- its page is one of these, and has these bytes, and there is room for them
+-- a piece that is lacking: its page is one of these, and has its bytes, and the buffer has room for
+-- them
 pub record IsLack (P : ℕ) (pages : List ℕ) (room : ℕ) (lack : Lack) : Type 0 where
   pub page : slice_get pages lack.number ≡ Some lack.piece.page
   pub within : lack.piece.skip + lack.piece.len ≤ P
@@ -38,8 +39,8 @@ pub record IsLack (P : ℕ) (pages : List ℕ) (room : ℕ) (lack : Lack) : Type
 abbrev pub pieces_in : List Lack → List Piece
 pieces_in lacks = map (λ lack. lack.piece) lacks
 
--- up to this offset a buffer holds these ranges, but for the pieces that are lacking; these are of
--- just the pages that the cache lacks
+-- up to this offset a buffer holds these ranges, except for the pieces that are lacking; these are
+-- of just the pages that the cache lacks
 pub record Gathered (cache : CacheState) (t : Tail) (ranges : List (ℕ × ℕ)) (buf_offset : ℕ)
     (pages : List ℕ) (lacks : List Lack) (buf : List ℕ) : Type 0 where
   pub wanted : pages ≡ missing cache t ranges
@@ -99,7 +100,7 @@ pub record IsReady (at : List ℕ) (out : List (ℕ × List ℕ)) (room : ℕ) (
   pub within : lack.piece.skip + lack.piece.len ≤ length (bytes_found at out lack.number)
   pub fits : lack.piece.buf_offset + lack.piece.len ≤ room
 
--- they are the content's
+-- the bytes that were found for a piece are the content's
 abbrev pub IsTold : (P : ℕ) → List ℕ → (at : List ℕ) → List (ℕ × List ℕ) → Lack → Type 0
 IsTold P content at out lack =
     take lack.piece.len (drop lack.piece.skip (bytes_found at out lack.number))

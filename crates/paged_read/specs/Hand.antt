@@ -10,19 +10,19 @@ use Rattle.page.specs.Page.{pieces}
 abbrev pub payloads : (P : ℕ) → List ℕ → List ℕ
 payloads P bytes = flat_map (take P) (pieces (length bytes / (P + 12) + 1) (P + 12) bytes)
 
--- the payloads of runs of pages from a page of the first one on, of which so many bytes are left,
--- from this cursor on
+-- the payloads of runs of pages from a cursor on, which stands in a page of the first run and
+-- leaves so many bytes of that page
 abbrev pub payloads_from : (P : ℕ) → List (List ℕ) → (start left : ℕ) → List ℕ
 payloads_from P [] start left = []
 payloads_from P (first ∷ runs) start left =
     let others = payloads P (drop (start + left + 12) first) ++ flat_map (payloads P) runs in
     take left (drop start first) ++ others
 
--- those from a cursor on that is in a later run
+-- the payloads of runs of pages from a cursor on, which stands in this run
 abbrev pub payloads_at : (P : ℕ) → List (List ℕ) → (run start left : ℕ) → List ℕ
 payloads_at P runs run start left = payloads_from P (drop run runs) start left
 
--- such a cursor: some bytes of its page are left, but where there is no page
+-- a cursor in runs of pages: some bytes of its page are left, unless there is no page
 abbrev pub IsCursor : List (List ℕ) → (start left : ℕ) → Type 0
 IsCursor [] start left = left ≡ 0
 IsCursor (first ∷ runs) start left = (0 < left) × (start + left ≤ length first)
@@ -46,7 +46,8 @@ abbrev pub IsEmptyHand : (P : ℕ) → Option HandState → Type 0
 IsEmptyHand P None = Unit {0}
 IsEmptyHand P (Some hand) = hand ≡ record { page_size = P; bytes = [] }
 
--- these bytes more, for a caller that wants them
+-- what a caller holds that wants the bytes, once these have been added; a caller that wants none
+-- holds nothing
 abbrev pub kept_with : List ℕ → Option HandState → Option HandState
 kept_with more None = None
 kept_with more (Some hand) = Some (record hand { bytes = hand.bytes ++ more })

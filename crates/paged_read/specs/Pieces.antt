@@ -22,7 +22,7 @@ piece_of P range buf_offset page =
 abbrev pub page_count : (P : ℕ) → ℕ × ℕ → ℕ
 page_count P range = if nat_eq range.1 0 then 0 else div_ceil (range.0 % P + range.1) P
 
--- those bytes, page by page
+-- the pieces of a range, page by page, for a buffer from this offset on
 abbrev pub pieces_of : (P : ℕ) → ℕ × ℕ → (buf_offset : ℕ) → List Piece
 pieces_of P range buf_offset =
     map (piece_of P range buf_offset) (range_with_len (range.0 / P) (page_count P range))

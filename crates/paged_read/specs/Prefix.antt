@@ -7,7 +7,7 @@ use Rattle.page.specs.declared.slot.ActiveChecksum.{ActiveChecksum}
 use Rattle.paged_read.specs.declared.prefix.Prefix.{Prefix}
 use Rattle.paged_read.specs.Ranges.{page_at}
 
--- so many full pages more in front
+-- a prefix with so many full pages more in front
 abbrev pub after : ℕ → Prefix → Prefix
 after n p = record p { full_pages = n + p.full_pages }
 
@@ -61,6 +61,6 @@ abbrev pub bad_beside_value : (List ℕ → ℕ) → ℕ → List ℕ → Option
 bad_beside_value sum P page None = None
 bad_beside_value sum P page (Some v) = bad_slot sum P page
 
--- that of the page after a prefix's full pages, in these bytes
+-- the bad slot of the page after a prefix's full pages, in these bytes
 abbrev pub bad_in : (List ℕ → ℕ) → ℕ → List ℕ → Prefix → Option Slot
 bad_in sum P bytes p = bad_beside_value sum P (page_at P p.full_pages bytes) p.partial

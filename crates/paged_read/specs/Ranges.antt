@@ -71,8 +71,8 @@ ReadFault sum cache t ranges old new InvalidChecksum =
 ReadFault sum cache t ranges old new OutOfMemory = NoneFailed old.present new.present
 ReadFault sum cache t ranges old new _ = ⊥
 
--- what a read leaves: the disk but for its log, and the cache but for full pages of the content
--- that were put, and such as went for them; and reads go on
+-- what a read leaves: the disk, except for its log, and the cache, except for full pages of the
+-- content that were put, and pages that went for them; and reads go on
 pub record LeavesAll (t : Tail) (cache cache_after : CacheState) (old new : Life) : Type 0 where
   pub looked : Looked old new
   pub cached : CachesOnly t.id 0 (told t old.present.readable) cache cache_after
@@ -96,11 +96,12 @@ Reads sum t cache range bytes old new (Err BlobInsufficientLength) =
     (new ≡ old) × (range.0 + range.1 < 2 ^ 64) × (size_of t < range.0 + range.1)
 Reads sum t cache range bytes old new (Err e) = ReadFault sum cache t (range ∷ []) old new e
 
--- as many of so many bytes as there are from an offset on
+-- the range from an offset on of at most so many bytes, as far as there are any
 abbrev pub range_up_to : Tail → (offset len : ℕ) → ℕ × ℕ
 range_up_to t offset len = (offset, min len (size_of t - offset))
 
--- they are read, and counted; none may be asked for anywhere, and some only before the end
+-- a read of at most so many bytes from an offset on: it answers those that there are, and how many.
+-- A read of no byte may begin anywhere, one of some bytes only before the end
 abbrev pub ReadsUpTo : (List ℕ → ℕ) → Tail → CacheState → (offset len : ℕ) → Life → Life
     → Result (Vec ℕ Global × ℕ) Error → Type 0
 ReadsUpTo sum t cache offset len old new (Ok r) =

@@ -23,11 +23,11 @@ value_told sum P page readable =
     else (if value_len sum P (page_at P page readable) == 0 then Err InvalidChecksum
     else Ok (value sum P (page_at P page readable))))
 
--- some bytes, where there are any
+-- these bytes, or the refusal if there is none
 abbrev pub some_of : List ℕ → Result (List ℕ) Error
 some_of bytes = if length bytes == 0 then Err BlobInsufficientLength else Ok bytes
 
--- those of a page's value that lie at or after one logical offset and before another
+-- the bytes of a page's value that lie at or after one logical offset and before another
 abbrev pub part_of : (P from to page : ℕ) → Result (List ℕ) Error → Result (List ℕ) Error
 part_of P from to page (Ok bytes) = some_of (drop (from - page * P) (take (to - page * P) bytes))
 part_of P from to page (Err e) = Err e
@@ -46,7 +46,7 @@ parts_told sum P from to (suc count) page readable =
     joined (part_of P from to page (value_told sum P page readable))
     (parts_told sum P from to count (page + 1) readable)
 
--- as many bytes as were asked for
+-- these bytes if they are as many as were asked for, and otherwise the refusal
 abbrev pub all_of : ℕ → Result (List ℕ) Error → Result (List ℕ) Error
 all_of len (Ok bytes) = if length bytes == len then Ok bytes else Err BlobInsufficientLength
 all_of len (Err e) = Err e

@@ -25,7 +25,7 @@ after batch full page = page + min batch (full - page)
 abbrev pub batch_range : (P batch full page : ℕ) → ℕ × ℕ
 batch_range P batch full page = (page * (P + 12), min batch (full - page) * (P + 12))
 
--- its bytes
+-- the bytes of that batch's range
 abbrev pub batch_bytes : (P batch full page : ℕ) → List ℕ → List (List ℕ)
 batch_bytes P batch full page readable = bytes_of (batch_range P batch full page ∷ []) readable
 
@@ -53,7 +53,7 @@ AreNext (suc n) batch full page [] = full ≤ page
 AreNext (suc n) batch full page (a ∷ rest) =
     (a.page ≡ page) × (page < full) × AreNext n batch full (after batch full page) rest
 
--- they are queued: at most three, one after another
+-- these batches are a queue: at most three, one after another
 abbrev pub IsQueue : (batch full : ℕ) → List Ahead → Type 0
 IsQueue batch full [] = Unit {0}
 IsQueue batch full (a ∷ rest) = Follow batch full a.page (a ∷ rest) × (length rest ≤ 2)
@@ -72,7 +72,7 @@ FetchesBatch P batch full page old new (Err ReadFailed) =
 FetchesBatch P batch full page old new (Err OutOfMemory) = Unit {0}
 FetchesBatch P batch full page old new (Err _) = ⊥
 
--- and its pages are full
+-- a batch is fetched, from the queue or on demand, and its pages are full
 abbrev pub ReadsBatch : (List ℕ → ℕ) → (P batch full page : ℕ) → Life → Life
     → Result (List ℕ) Error → Type 0
 ReadsBatch sum P batch full page old new (Ok bytes) =

@@ -26,7 +26,7 @@ use Rattle.paged_read.specs.Snapshots.{LeavesWriters}
 abbrev pub NeverBad : {A : Type 0} → (List ℕ → ℕ) → Tail → Disk → Result A Error → Type 0
 NeverBad sum t d result = HasFullPages sum t d → IsErrOf result InvalidChecksum → ⊥
 
--- the same, where the blob has a sound writer with at least the tail's pages
+-- no page is found that isn't full, if the blob has a sound writer with at least the tail's pages
 abbrev pub NeverBadIfSound : {A : Type 0} → (List ℕ → ℕ) → Tail → Disk → Result A Error → Type 0
 NeverBadIfSound sum t d result =
     (w : WriterState) → IsSound sum w d → w.page_size ≡ t.page_size
@@ -92,7 +92,7 @@ pub record TriedMany (t : Tail) (ranges : List (ℕ × ℕ)) (cache : CacheState
       → HasServed cache t ranges (told t d.readable) after
   pub size : length after ≡ length buf
 
--- its only error is refused memory
+-- a read of many ranges that asks no device, by its answer; its one error is `OutOfMemory`
 abbrev pub TriesMany : Tail → List (ℕ × ℕ) → CacheState → (buf after : List ℕ)
     → Result (Vec ℕ Global) Error → Type 0
 TriesMany t ranges cache buf after (Ok missed) = TriedMany t ranges cache buf after missed.items

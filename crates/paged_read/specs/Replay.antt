@@ -62,19 +62,19 @@ pub record CanReplay (r : ReplayState) (d : Disk) : Type 0 where
   pub hand : r.hand ≡ take (length r.hand) (drop r.position (told r.tail d.readable))
   pub queue : All (IsBatch r.tail.page_size r.batch r.tail.full_pages d) r.queue
 
--- it gives these bytes, and none of its fills is refused for a page
+-- a replay gives this content, and none of its batches is refused for a page
 pub record IsReplayOf (sum : List ℕ → ℕ) (r : ReplayState) (content : List ℕ) (d : Disk) :
     Type 0 where
   pub tail : IsTailOf sum r.tail content d
   pub can : CanReplay r d
   pub hand : r.hand ≡ take (length r.hand) (drop r.position content)
 
--- so many bytes are at hand, or all that is left is of the bytes after the full pages: no device
--- is needed
+-- no device is needed for so many bytes: they are at hand, or all that is left is after the full
+-- pages
 abbrev pub IsHad : ReplayState → (count : ℕ) → Type 0
 IsHad r count = (count ≤ length r.hand) ⊎ (r.tail.full_pages * r.tail.page_size ≤ end_of r)
 
--- these bytes are the content's from its position on
+-- these bytes are those of the replay's content from its position on
 abbrev pub Gives : ReplayState → List ℕ → Type 0
 Gives r bytes =
     (sum : List ℕ → ℕ) (content : List ℕ) (d : Disk) → IsReplayOf sum r content d
@@ -87,7 +87,7 @@ ReplaysOn r now =
     × ((sum : List ℕ → ℕ) (content : List ℕ) (d : Disk)
     → IsReplayOf sum r content d → IsReplayOf sum now content d)
 
--- so it does after a call that asked the device
+-- after a call that asked the device a replay gives the content that it gave
 abbrev pub ReplaysThrough : ReplayState → ReplayState → Life → Life → Type 0
 ReplaysThrough r now old new =
     (sum : List ℕ → ℕ) (content : List ℕ)
@@ -106,7 +106,7 @@ LeavesAllReplays old new =
     (sum : List ℕ → ℕ) (content : List ℕ) (r : ReplayState)
     → IsReplayOf sum r content old.present → IsReplayOf sum r content new.present
 
--- it stands where it stood, with no less at hand
+-- a replay stands where it stood, with no fewer bytes at hand
 pub record Fills (r now : ReplayState) : Type 0 where
   pub tail : now.tail ≡ r.tail
   pub batch : now.batch ≡ r.batch
@@ -132,7 +132,7 @@ HasFilled sum r now d =
 abbrev pub IsToppedUp : ReplayState → Type 0
 IsToppedUp r = AreNext 3 r.batch r.tail.full_pages (end_of r / r.tail.page_size) r.queue
 
--- so they are where the device was asked
+-- the next three batches are queued, unless no device was asked and the queue is as it was
 abbrev pub IsAhead : ReplayState → ReplayState → Life → Life → Type 0
 IsAhead r now old new = ((new ≡ old) × (now.queue ≡ r.queue)) ⊎ IsToppedUp now
 
@@ -189,9 +189,7 @@ abbrev pub vain_reads : {A : Type 0} → Result A Error → ℕ
 vain_reads (Ok _) = 0
 vain_reads (Err _) = 1
 
--- it asks no device where it needs none. Else for each batch that came to hand it makes four reads
--- at most, of that one and of the next three; for the first one alone, where that was read ahead.
--- Where it fails, one more. None is of a batch that was at hand.
+-- the costs of a call that gets so many bytes at hand: no device is asked if none is needed
 pub record EnsureCosts (r : ReplayState) (count : ℕ) (now : ReplayState) (old new : Life)
     (result : Result Bool Error) : Type 0 where
   pub idle : IsHad r count → new ≡ old
@@ -217,7 +215,7 @@ pub record Takes (r : ReplayState) (count : ℕ) (now : ReplayState) (bytes : Li
   pub moves : now ≡ advanced count r
   pub gives : Gives r bytes
 
--- they are taken, or memory is refused and nothing changes
+-- so many bytes are taken as a copy; or memory is refused, and nothing changes
 abbrev pub CopiesBytes : (r : ReplayState) (count : ℕ) (now : ReplayState)
     → Result (List ℕ) Error → Type 0
 CopiesBytes r count now (Ok bytes) = Takes r count now bytes
@@ -238,7 +236,7 @@ abbrev pub CopiesToSlice : (r now : ReplayState) (out after : List ℕ) → Resu
 CopiesToSlice r now out after (Ok _) = Takes r (length out) now after
 CopiesToSlice r now out after (Err few) = TakesNone r now out after few
 
--- it goes to an offset; what is queued stays
+-- a replay goes to an offset; what is queued stays
 abbrev pub Seeks : ReplayState → (offset : ℕ) → ReplayState → Result (Unit {0}) Error → Type 0
 Seeks r offset now (Ok _) =
     (offset ≤ size_of r.tail) × (now ≡ record r {

@@ -23,7 +23,8 @@ pages_from P count page readable = pieces count (P + 12) (drop (page * (P + 12))
 abbrev pub scan_end : (P flushed most : ℕ) → ℕ
 scan_end P flushed most = min flushed (div_ceil most P)
 
--- where it begins: at the page that holds the proven bytes' end, at most after the full pages
+-- the page at which a scan begins: the one that holds the end of the proven bytes, or the one after
+-- the full pages if that is earlier
 abbrev pub scan_start : (P full end proven : ℕ) → ℕ
 scan_start P full end proven = min (proven / P) (min full end)
 
@@ -111,7 +112,8 @@ abbrev pub Scans : (reach answer : ℕ) → Life → Life → Result ℕ Error �
 Scans reach answer old new (Err OffsetOverflow) = (2 ^ 64 ≤ reach) × (new ≡ old)
 Scans reach answer old new result = LooksThrough reach answer old new result
 
--- it isn't refused for an offset: nothing passes the greatest, and all that it is to read is there
+-- the answer is no refusal of an offset: nothing passes the greatest, and all that is to be read is
+-- there
 abbrev pub IsWithinBlob : {A : Type 0} → Result A Error → Type 0
 IsWithinBlob (Err OffsetOverflow) = ⊥
 IsWithinBlob (Err BlobInsufficientLength) = ⊥

@@ -40,7 +40,7 @@ Finds p old new (Err ReadFailed) = HasFailed ReadFailed old.present new.present 
 Finds p old new (Err OutOfMemory) = Looked old new × NoneFailed old.present new.present
 Finds p old new (Err _) = ⊥
 
--- the same, with the bad slot of the page of its partial value
+-- a search through pages that also answers the bad slot of the page of the partial value
 abbrev pub FindsLast : Prefix → Option Slot → Life → Life → Result (Prefix × Option Slot) Error
     → Type 0
 FindsLast p bad old new (Ok found) =

@@ -18,14 +18,14 @@ pub record IsSealed (P : ℕ) (tip : Tip) : Type 0 where
   pub short : length tip.bytes < P
   pub addressable : tip_size tip < 2 ^ 64
 
--- these are the logical bytes; all the pages are in the blob, and full
+-- this content is what a tail has over a disk; all its pages are in the blob, and full
 pub record IsTailOf (sum : List ℕ → ℕ) (t : Tail) (content : List ℕ) (d : Disk) : Type 0 where
   pub there : HasPages t d
   pub full : HasFullPages sum t d
   pub is : told t d.readable ≡ content
 
--- and reads may go through this cache: so each read that answers Ok gives a slice of this content,
--- and none is refused for a page
+-- a snapshot is valid: it has this content, and can be read with this cache. So each of its reads
+-- that answers `Ok` gives a slice of the content, and none is refused for a page
 pub record StandsOn (sum : List ℕ → ℕ) (t : Tail) (content : List ℕ) (cache : CacheState)
     (d : Disk) : Type 0 where
   pub tail : IsTailOf sum t content d
@@ -44,7 +44,7 @@ LeavesAllTails sum cache after old new =
     (t : Tail) (content : List ℕ)
     → StandsOn sum t content cache old.present → StandsOn sum t content after new.present
 
--- and whatever reads of the blob stand on, its writer's among them
+-- whatever could be read with the cache can still be read, the blob's writer among it
 abbrev pub LeavesAllReads : CacheState → CacheState → Life → Life → Type 0
 LeavesAllReads cache after old new =
     (t : Tail) → CanRead t cache old.present → CanRead t after new.present
@@ -71,7 +71,7 @@ pub record LeavesWriter (sum : List ℕ → ℕ) (w : WriterState) (old new : Li
   pub only : LeavesOnly sum w.page_size (content w old.present.readable)
       (content w old.present.readable) old new
 
--- so for each sound writer
+-- each sound writer of the blob stays sound, as `LeavesWriter` has it
 abbrev pub LeavesWriters : (List ℕ → ℕ) → Life → Life → Type 0
 LeavesWriters sum old new =
     (w : WriterState) → IsSound sum w old.present → LeavesWriter sum w old new

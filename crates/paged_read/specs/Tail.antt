@@ -17,7 +17,7 @@ pub record Tail : Type 0 where
   pub full_pages : ℕ
   pub bytes : List ℕ
 
--- that of a blob whose tip is this
+-- the tail of a blob whose tip is this one
 abbrev pub tail_at : NonZeroU16 → (id : ℕ) → Tip → Tail
 tail_at page_size id tip = record {
   page_size = non_zero_u16_get page_size;
@@ -43,7 +43,7 @@ size_of t = t.full_pages * t.page_size + length t.bytes
 abbrev pub HasPages : Tail → Disk → Type 0
 HasPages t d = t.full_pages * (t.page_size + 12) ≤ length d.readable
 
--- and full
+-- a tail's pages are in the blob, and full
 abbrev pub HasFullPages : (List ℕ → ℕ) → Tail → Disk → Type 0
 HasFullPages sum t d = AreFull sum t.page_size (take t.full_pages (pages t.page_size d.readable))
 

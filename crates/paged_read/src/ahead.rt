@@ -42,7 +42,7 @@ pub(crate) struct Ahead {
 }
 
 impl Ahead {
-    /// Its bytes.
+    /// The bytes of the batch, once their read has ended.
     fn wait(self) -> Result<IoBuf, Error>
         ensures ok { (bytes : List ℕ) → self.read ≡ Ok (bytes ∷ []) → result ≡ Ok bytes }
         ensures err { (error : Error) → self.read ≡ Err error → result ≡ Err error }
@@ -220,7 +220,7 @@ impl Batches {
         }
     }
 
-    /// The same, where all its pages are full.
+    /// The bytes of a batch, from the queue or on demand, where all its pages are full.
     fn read<B: Blob, H: Sum>(
         self,
         blob: &mut B,

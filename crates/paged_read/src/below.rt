@@ -52,8 +52,8 @@ impl<B: Blob, H: Sum> View<'_, B, H> {
         Ok(())
     }
 
-    /// The same for each piece, in order. Where one page can't be read, those before it stay in the
-    /// cache.
+    /// Reads each piece into its place in the buffer, in order. Where one page can't be read, those
+    /// before it stay in the cache.
     fn read_pieces(
         self,
         blob: &mut B,

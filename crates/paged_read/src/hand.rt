@@ -109,8 +109,8 @@ impl Cursor {
         }
     }
 
-    /// The same place once a run of so many bytes is added: where there was none, a byte of its
-    /// first page.
+    /// The place of this cursor once a run of so many bytes is added: where there was none, a byte
+    /// of its first page.
     fn beside(self, runs: &VecDeque<IoBuf>, page_size: usize, len: usize, skip: usize) -> Self
         requires skip { (skip < page_size) × (skip < len) }
         ensures none { runs.now.items ≡ [] → result

@@ -267,7 +267,8 @@ impl<B, H> View<'_, B, H> {
         self.try_each(cache, buf, ranges)
     }
 
-    /// The same of ranges of `len` bytes at these offsets.
+    /// [`try_read_ranges_sync_into`](Self::try_read_ranges_sync_into) for ranges of `len` bytes at
+    /// these offsets.
     pub fn try_read_many_sync_into(
         self,
         cache: &CacheRef,
@@ -329,7 +330,8 @@ impl<B: Blob, H: Sum> View<'_, B, H> {
         Ok(batch.served)
     }
 
-    /// The same of ranges of `len` bytes at these offsets. It takes memory for the ranges.
+    /// [`read_ranges_into`](Self::read_ranges_into) for ranges of `len` bytes at these offsets. It
+    /// takes memory for the ranges.
     pub fn read_many_into(
         self,
         blob: &mut B,

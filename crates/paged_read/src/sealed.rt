@@ -152,7 +152,8 @@ impl<B, H> Sealed<B, H> {
         self.view().try_read_ranges_sync_into(cache, buf, ranges)
     }
 
-    /// The same of ranges of `len` bytes at these offsets.
+    /// [`try_read_ranges_sync_into`](Self::try_read_ranges_sync_into) for ranges of `len` bytes at
+    /// these offsets.
     pub fn try_read_many_sync_into(
         &self,
         cache: &CacheRef,
@@ -275,7 +276,8 @@ impl<B: Blob, H: Sum> Sealed<B, H> {
         self.view().read_ranges_into(blob, cache, buf, ranges)
     }
 
-    /// The same of ranges of `len` bytes at these offsets. It takes memory for the ranges.
+    /// [`read_ranges_into`](Self::read_ranges_into) for ranges of `len` bytes at these offsets. It
+    /// takes memory for the ranges.
     pub fn read_many_into(
         &self,
         blob: &mut B,

@@ -158,7 +158,7 @@ pub fn scan<B: Blob, H: Sum>(
     scan_keeping::<B, H>(alloc, blob, page_size, 0, pages, buffer_size, options, kept)
 }
 
-/// The same from the page `first` on, where those before it count as full, and aren't read; with
+/// A [`scan`] from the page `first` on, where those before it count as full, and aren't read; with
 /// the caller's options for each read. Where `first` is `pages` no device is asked.
 ///
 /// `BlobInsufficientLength` where the blob is too short for its pages.
@@ -200,7 +200,7 @@ pub fn scan_from<B: Blob, H: Sum>(
     )
 }
 
-/// The same, and adds the values of the pages that it reads to those that are kept.
+/// A scan that adds the values of the pages that it reads to those that are kept.
 fn scan_keeping<B: Blob, H: Sum>(
     alloc: Global,
     blob: &mut B,

@@ -45,14 +45,14 @@ impl Numbers {
 /// The pages of a file that aren't whole.
 #[derive(Clone, Copy)]
 pub struct Census {
-    /// Those without a value.
+    /// The pages without a value.
     pub bad_pages: Numbers,
-    /// Those with a value, and a slot beside it that neither verifies nor is empty.
+    /// The pages with a value, and a slot beside it that neither verifies nor is empty.
     pub bad_slots: Numbers,
 }
 
 impl Census {
-    /// Those of the file of these bytes, of which this look was taken.
+    /// The pages that aren't whole of the file of these bytes, of which this look was taken.
     pub fn of<H: Sum>(rt: &HostRuntime, bytes: &[u8], look: &Look) -> Result<Self, Status> {
         let size = physical_page_size(look.shape.page_size) as usize;
         let count = bytes.len() / size;

@@ -40,9 +40,9 @@ const COMMANDS: [(&str, &str); 7] = [
 /// What follows an option's name. A word that has none stands on the command line by itself.
 #[derive(Clone, Copy)]
 enum Takes {
-    /// It has no name, and is one word.
+    /// The option has no name, and is one word.
     Word,
-    /// It has no name, and is any number of words.
+    /// The option has no name, and is any number of words.
     Words,
     /// Nothing.
     Nothing,

@@ -10,13 +10,13 @@ use std::num::NonZeroU16;
 /// What a slot of a page says. Lengths are bytes.
 #[derive(Clone, Copy)]
 pub enum SlotState {
-    /// It is all zero.
+    /// The slot is all zero.
     Empty,
-    /// Its checksum is that of the first bytes of this length.
+    /// The slot's checksum is that of the first bytes of this length.
     Verifies(u16),
-    /// It isn't.
+    /// The slot's checksum isn't that of the first bytes of this length.
     Fails(u16),
-    /// It says a length that no value of such a page has.
+    /// The slot has a length that no value of such a page has.
     NoLength(u16),
 }
 

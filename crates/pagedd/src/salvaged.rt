@@ -93,7 +93,7 @@ impl Gap {
         }
     }
 
-    // The same with one page more, which has no value.
+    // This gap with one page more, which has no value.
     fn and_page(self, page: usize, page_size: usize) -> Self {
         Gap {
             last: page,

@@ -60,7 +60,7 @@ refusal_bytes = frame_bytes (22 ∷ [])
 abbrev pub IsTooLong : List ℕ → Type 0
 IsTooLong answer = 2 ^ 32 + 4 ≤ length answer
 
--- nor one with so many bytes after its status
+-- no frame holds an answer with so many bytes after its status
 abbrev pub IsLong : (len : ℕ) → Type 0
 IsLong len = 2 ^ 32 ≤ len + 1
 

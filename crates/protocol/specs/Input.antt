@@ -19,7 +19,7 @@ pub record Gains (most : ℕ) (old new : Option (List ℕ)) (were are : List ℕ
   pub takes : Consumes old new added
   pub ends : more ≡ false → IsAtEnd new
 
--- these came: so many, or all that were left where there were fewer
+-- these bytes came from the input: so many, or all that were left if there were fewer
 pub record Came (count : ℕ) (old new : Option (List ℕ)) (bytes : List ℕ) : Type 0 where
   pub within : length bytes ≤ count
   pub takes : Consumes old new bytes

@@ -76,7 +76,7 @@ request_bytes request = frame_bytes (kind_of request ∷ fields_of request)
 abbrev pub IsNumber : ℕ → Type 0
 IsNumber n = n < 2 ^ 64
 
--- so many bytes fit an answer, after its status
+-- an answer holds so many bytes after its status
 abbrev pub FitsAnswer : ℕ → Type 0
 FitsAnswer len = len + 1 < 2 ^ 32
 
@@ -103,11 +103,11 @@ IsRequest _ = ⊥
 
 -- ---- kinds
 
--- these kinds have this one
+-- whether this kind is among these
 abbrev pub has_kind : List ℕ → ℕ → Bool
 has_kind kinds kind = list_any (λ k. kind == k) kinds
 
--- how many numbers a request of a kind has, but for an append; none where there is no such kind
+-- how many numbers a request of a kind has, except for an append; none where there is no such kind
 abbrev pub field_count : ℕ → Option ℕ
 field_count kind =
     if has_kind (2 ∷ 3 ∷ 5 ∷ 8 ∷ 10 ∷ 16 ∷ []) kind then Some 0
@@ -115,7 +115,7 @@ field_count kind =
     else if has_kind (6 ∷ 7 ∷ 13 ∷ 14 ∷ 15 ∷ []) kind then Some 2
     else if kind == 11 then Some 3 else None
 
--- these are as many numbers as a request of the kind has
+-- these fields are as many numbers as a request of this kind has
 pub record HasFields (kind : ℕ) (fields : List ℕ) : Type 0 where
   pub count : ℕ
   pub known : field_count kind ≡ Some count
@@ -123,7 +123,7 @@ pub record HasFields (kind : ℕ) (fields : List ℕ) : Type 0 where
 
 -- ---- what is wrong with bytes
 
--- they begin with this length, and these are after it
+-- bytes that begin with this length, and these stand after it
 abbrev pub IsFramed : (n : ℕ) → (after bytes : List ℕ) → Type 0
 IsFramed n after bytes = (n < 2 ^ 32) × (bytes ≡ length_bytes n ++ after)
 
@@ -138,7 +138,7 @@ abbrev pub EndsInside : (n : ℕ) → List ℕ → Type 0
 EndsInside n [] = 0 < n
 EndsInside n (kind ∷ fields) = (length fields + 1 < n) × TakesLength kind n
 
--- these kinds end with the number of bytes that they ask for
+-- whether a request of this kind ends with the number of bytes that it asks for
 abbrev pub asks_bytes : ℕ → Bool
 asks_bytes kind = has_kind (6 ∷ 7 ∷ 11 ∷ 14 ∷ []) kind
 
@@ -195,11 +195,11 @@ abbrev pub IsNoRequest : List ℕ → Type 0
 IsNoRequest bytes =
     (request : Request) (rest : List ℕ) → IsRequest request → bytes ≢ request_bytes request ++ rest
 
--- nor so, and this is wrong
+-- these bytes begin with no request, and this is wrong with them
 abbrev pub IsFlawed : Flaw → List ℕ → Type 0
 IsFlawed flaw bytes = IsNoRequest bytes × HasFlaw flaw bytes
 
--- this is wrong with the bytes that stand after these
+-- the known bytes after these, its first ones, are no request, and this is wrong with them
 abbrev pub HasNoRequest : Flaw → (front : List ℕ) → Option (List ℕ) → Type 0
 HasNoRequest flaw front old = IfSome old (λ bytes. IsFlawed flaw (front ++ bytes))
 

@@ -110,7 +110,7 @@ TookWith sum setting Is request was now old new =
     × Served setting request steps replies answer × Took sum steps replies was now old new
     × Is replies answer
 
--- and this is so of its answer
+-- the steps of a request were taken, and this is so of its answer
 abbrev pub TookFor : (List ℕ → ℕ) → Setting → (List ℕ → Type 0) → Request → SessionState
     → SessionState → Life → Life → Type 0
 TookFor sum setting Is request was now old new =
@@ -159,7 +159,8 @@ AnsweredThen sum setting was old input out Then =
     (mid : SessionState) × (between : Life) × (rest : Option (List ℕ)) × (written : Option (List ℕ))
     × Answered sum setting was mid old between input rest out written × Then mid between rest
 
--- and maybe with one more, whose steps were taken; nothing else was done
+-- the input begins with requests whose steps were taken and answered, and maybe with one more,
+-- whose steps were taken; nothing else was done
 abbrev pub BreaksOff : (List ℕ → ℕ) → Setting → SessionState → SessionState → Life → Life
     → (input out : Option (List ℕ)) → Type 0
 BreaksOff sum setting was now old new input out =
@@ -238,7 +239,7 @@ abbrev pub MayRecover : (List ℕ → ℕ) → Setting → Life → Life → Typ
 MayRecover sum setting old new =
     (cut : ℕ) × LookedAt sum setting old new cut × (cut ≤ setting.allowed)
 
--- or more
+-- a recovery would cut more than may go
 abbrev pub WouldCutMore : (List ℕ → ℕ) → Setting → Life → Life → ℕ → Type 0
 WouldCutMore sum setting old new cut =
     LookedAt sum setting old new cut × (setting.allowed < cut)
@@ -252,8 +253,8 @@ pub record Begun (sum : List ℕ → ℕ) (setting : Setting) (old new : Life)
   pub pages : cache.page_size ≡ page_bytes setting
   pub begins : BeginsBy sum cache setting.capacity between new (Ok was)
 
--- or none began: the blob was only looked at; or it may be recovered, and each moment since is of a
--- recovery
+-- no session began: the blob was only looked at; or it may be recovered, and each moment since is
+-- one of a recovery
 abbrev pub HasAttempted : (List ℕ → ℕ) → Setting → Life → Life → Type 0
 HasAttempted sum setting old new =
     Looked old new

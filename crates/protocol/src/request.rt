@@ -15,7 +15,7 @@ use std::num::NonZeroUsize;
 /// The most bytes that one answer may hold after its status.
 pub const MOST_BYTES: u64 = 0xFFFF_FFFE;
 
-/// The most bytes that stand after the kind of a request, but for an append: those of three
+/// The most bytes that stand after the kind of a request, except for an append: those of three
 /// numbers.
 const MOST_FIELDS: usize = 24;
 
@@ -114,7 +114,8 @@ fn read_bytes<R: BufRead>(alloc: Global, input: &mut R, len: usize) -> Result<Ve
     Ok(bytes)
 }
 
-// How many numbers a request of this kind has, but for an append; none where there is no such kind.
+// How many numbers a request of this kind has, except for an append; none where there is no such
+// kind.
 fn fields_of_kind(kind: u8) -> Option<usize>
     ensures { result ≡ field_count kind }
 {

@@ -27,7 +27,7 @@ pub enum Flaw {
 /// Why a request isn't read.
 #[derive(Clone, Copy, Debug, PartialEq, Eq)]
 pub enum ReadError {
-    /// It is no request.
+    /// The bytes are no request.
     Malformed(Flaw),
     /// The input failed.
     Failed,

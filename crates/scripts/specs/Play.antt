@@ -10,7 +10,7 @@ use Rattle.scripts.specs.Script.{ReadsScript, lines_of}
 abbrev pub IsScript : List ℕ → Type 0
 IsScript bytes = (read : Script) × ReadsScript (lines_of bytes) (Ok read)
 
--- they are none, since the line of this number can't be read
+-- these bytes are no script: the line of this number can't be read
 abbrev pub IsNoScript : ℕ → List ℕ → Type 0
 IsNoScript number bytes = ReadsScript (lines_of bytes) (Err (Unreadable number))
 

@@ -105,7 +105,7 @@ settings_words start =
 abbrev pub start_words : Start → List (List ℕ)
 start_words start = codes "start" ∷ settings_words start
 
--- where it is of items
+-- the words of a script's first line, if the script is of items
 abbrev pub item_start_words : ItemStart → List (List ℕ)
 item_start_words start =
     codes "start-items" ∷ settings_words start.settings

@@ -56,7 +56,7 @@ enum Place {
 }
 
 impl Place {
-    /// That of the line of this number, in a script whose first line has these words.
+    /// The place of the line of this number, in a script whose first line has these words.
     fn of(number: u64, first: &[&[u8]]) -> Self {
         match first {
             _ if number == 1 => Place::First,

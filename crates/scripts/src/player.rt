@@ -41,7 +41,7 @@ pub fn play_on<R: Read, W: Write, E: Write>(
     }
 }
 
-/// The same, with a reader and writers of its own.
+/// Plays a script with a reader and writers of its own.
 pub fn play<R: Read + Drop, W: Write + Drop, E: Write + Drop>(
     alloc: Global,
     mut input: R,
@@ -98,7 +98,8 @@ fn play_over<H: Sum, W: Write>(alloc: Global, script: Script, out: &mut W) -> io
     }
 }
 
-// Each line's reply is out before the next line is played.
+// Plays the lines of a script of a session. Each line's reply is out before the next line is
+// played.
 fn play_session<H: Sum, W: Write>(
     alloc: Global,
     start: Start,
@@ -115,7 +116,7 @@ fn play_session<H: Sum, W: Write>(
     Ok(())
 }
 
-// The same of items.
+// Plays the lines of a script of items. Each line's reply is out before the next line is played.
 fn play_items<H: Sum, W: Write>(
     alloc: Global,
     start: ItemStart,

@@ -63,8 +63,8 @@ impl<H: Sum> Stage<H> {
         }
     }
 
-    /// Recovers the blob, and writes how many bytes are left. A session begins, but where the
-    /// recovery is refused.
+    /// Recovers the blob, and writes how many bytes are left. A session begins, unless the recovery
+    /// is refused.
     pub fn open<W: Write>(&mut self, out: &mut W) -> io::Result<()>
         requires { IsDurable self.old.disk }
     {

@@ -25,7 +25,7 @@ const MOST_ITEM_SIZE: u64 = 65535;
 pub enum First {
     /// The lines after it are steps of a session.
     Session(Start),
-    /// They are steps of items.
+    /// The lines after it are steps of items.
     Items(ItemStart),
 }
 

@@ -17,7 +17,7 @@ use std::num::NonZeroU64;
 /// Why a word or a line can't be read.
 #[derive(Clone, Copy, Debug, PartialEq, Eq)]
 pub enum ReadError {
-    /// It is the text of nothing.
+    /// The word is the text of nothing.
     Unreadable,
     /// A request for memory was refused.
     OutOfMemory,

@@ -62,11 +62,11 @@ use Rattle.session.specs.Others.{WriterLeavesOthers}
 abbrev pub KeepsRest : SessionState → SessionState → Type 0
 KeepsRest was now = now ≡ record was { writer = now.writer }
 
--- and but the replays
+-- what a call of the writer leaves of the session, except the writer and the replays
 abbrev pub KeepsButReplays : SessionState → SessionState → Type 0
 KeepsButReplays was now = now ≡ record was { writer = now.writer; replays = now.replays }
 
--- which a truncate forgets, where it is called
+-- what a truncate leaves of the session, except the writer: it forgets the replays if it is called
 abbrev pub KeepsUncut : SessionState → SessionState → Type 0
 KeepsUncut was now =
     let cuts = was.recovering && is_some was.writer in
@@ -138,7 +138,7 @@ Synced sum (Some w) now cache after old new (Fault e) =
     (now ≡ None) × SyncSays sum w cache after old new (Err e)
 Synced sum (Some w) now cache after old new _ = ⊥
 
--- these names, which are in order, with this one in its place, once
+-- these names, which are in order, with one more in its place, once
 abbrev pub with_name : (name : ℕ) → List ℕ → List ℕ
 with_name name [] = name ∷ []
 with_name name (n ∷ names) =

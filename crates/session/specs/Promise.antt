@@ -40,7 +40,8 @@ pub record HasCrashed (d e : Disk) : Type 0 where
   pub image : IsImage d e.readable
   pub durable : IsDurable e
 
--- where it is fair, that is chance-free
+-- a crash: a new life begins with an image of the one before, all of it durable; if it is to be
+-- fair no checksum collides in the image
 pub record Crashes (sum : List ℕ → ℕ) (P : ℕ) (fair : Bool) (d e : Disk) : Type 0 where
   pub crashed : HasCrashed d e
   pub free : fair ≡ true → IsDistinct sum P d e.readable
@@ -105,10 +106,10 @@ pub record Survives (sum : List ℕ → ℕ) (P : ℕ) (content other : List ℕ
 -- ---- a run
 
 -- a run of steps with these replies, through its moments: each reply is exact; and what comes back
--- from between two steps, from any moment of one, or from the end, keeps what stood then: the
--- contents are the fold of the accepted steps, the floor is what the last sync or truncate that
--- answered Ok made durable, or a started sync that has completed, but for what a truncate was asked
--- to cut since
+-- from between two steps, from any moment of one, or from the end, keeps what stood then. The
+-- contents are the fold of the accepted steps. The floor is what the last sync or truncate that
+-- answered Ok made durable, or a started sync that has completed, except for what a truncate was
+-- asked to cut since
 abbrev pub Tells : (List ℕ → ℕ) → (P : ℕ) → List Step → List Reply → Disk → List Disk → Standing
     → Standing → Type 0
 Tells sum P [] [] from moments s after =
@@ -143,16 +144,17 @@ Promises sum steps was now old new earlier replies =
 
 -- ---- how a session begins
 
--- without a writer
+-- a session without a writer
 abbrev pub closed : SessionState
 closed = record { writer = None; recovering = false; names = []; snapshots = []; replays = [] }
 
--- with this one, in recovery
+-- a session with this writer, in recovery
 abbrev pub session_of : WriterState → SessionState
 session_of w =
     record { writer = Some w; recovering = true; names = []; snapshots = []; replays = [] }
 
--- with this content, all of it durable, and a buffer of so many bytes
+-- what a session stands for that has begun with this content, all of it durable, and a buffer of so
+-- many bytes
 abbrev pub fresh : (P capacity : ℕ) → List ℕ → Standing
 fresh P capacity content = record {
   has_writer = true;
@@ -180,7 +182,7 @@ pub record IsBegun (sum : List ℕ → ℕ) (cache : CacheState) (capacity : ℕ
       let given = text sum P old.present.readable in
       StandsFor sum P now (fresh P (adjusted capacity P) given) new.present
 
--- by its answer
+-- a recovery that begins a session, by its answer
 abbrev pub BeginsBy : (List ℕ → ℕ) → CacheState → (capacity : ℕ) → Life → Life
     → Result SessionState Error → Type 0
 BeginsBy sum cache capacity old new (Ok now) = IsBegun sum cache capacity old new now
@@ -209,7 +211,7 @@ KeepsFloor sum P d given =
     (was : SessionState) (s : Standing) → StandsFor sum P was s d
     → take s.floor given ≡ take s.floor s.content
 
--- and it is a prefix of one of the two contents
+-- whatever a session stood for over this disk, this content is a prefix of one of its two contents
 abbrev pub LeavesContent : (List ℕ → ℕ) → (P : ℕ) → Disk → List ℕ → Type 0
 LeavesContent sum P d given =
     (was : SessionState) (s : Standing) → StandsFor sum P was s d
@@ -226,7 +228,7 @@ pub record GivesBackLeft (sum : List ℕ → ℕ) (P : ℕ) (d : Disk) (left : L
   pub floor : KeepsFloor sum P d (text sum P left)
   pub content : IsDistinct sum P d left → LeavesContent sum P d (text sum P left)
 
--- and what comes back later came through that crash
+-- what comes back later from a recovery of what a crash left came through that crash
 abbrev pub LeadsOn : (List ℕ → ℕ) → (P : ℕ) → (d : Disk) → (left : List ℕ) → Disk → Type 0
 LeadsOn sum P d left m =
     (fair : Bool) → (fair ≡ true → IsDistinct sum P d left) → LeadsTo sum P fair d m

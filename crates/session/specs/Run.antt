@@ -81,7 +81,7 @@ pub record Standing : Type 0 where
   -- the replays, the oldest first; none in the place of one that was let go, or forgotten
   pub replays : List (Option Replayed)
 
--- so many bytes more fit what is buffered
+-- so many bytes more fit the buffer
 abbrev pub has_room : Standing → ℕ → Bool
 has_room s more = nat_le (s.buffered + more) s.capacity
 
@@ -98,7 +98,7 @@ written_after (byte ∷ bytes) written = false
 abbrev pub awaited_after : Standing → ℕ → Option ℕ
 awaited_after s more = if has_room s more then s.awaited else None
 
--- with these bytes after the content
+-- the standing with these bytes after the content
 abbrev pub appended : (P : ℕ) → List ℕ → Standing → Standing
 appended P bytes s = record s {
   content = s.content ++ bytes;
@@ -108,7 +108,7 @@ appended P bytes s = record s {
   awaited = awaited_after s (length bytes);
 }
 
--- with all of the content durable
+-- the standing with all of the content durable
 abbrev pub synced : (P : ℕ) → Standing → Standing
 synced P s = record s {
   floor = length s.content;
@@ -117,7 +117,8 @@ synced P s = record s {
   awaited = None;
 }
 
--- with a started sync: all of the content is durable, or is once this name has completed
+-- the standing with a started sync: all of the content is durable, or is once the sync of this name
+-- has completed
 abbrev pub starting : (P : ℕ) → StartedSync → Standing → Standing
 starting P AllDone s = synced P s
 starting P (Named name) s = record s {
@@ -127,7 +128,7 @@ starting P (Named name) s = record s {
   covers = (name, length s.content) ∷ s.covers;
 }
 
--- with its first n bytes alone, all of them durable
+-- the standing with only the first n bytes of the content, all of them durable
 abbrev pub truncated : (P n : ℕ) → Standing → Standing
 truncated P n s =
     let content = take n s.content in
@@ -140,31 +141,32 @@ truncated P n s =
       awaited = None;
     }
 
--- with one snapshot more, of all of the content
+-- the standing with one snapshot more, of all of the content
 abbrev pub noted : Standing → Standing
 noted s = record s { snapshots = s.snapshots ++ Some s.content ∷ [] }
 
--- with its full pages written, in pages of P bytes: a started sync was waited for then
+-- the standing with its full pages written, in pages of P bytes; if there was one, a started sync
+-- was waited for
 abbrev pub flushed : (P : ℕ) → Standing → Standing
 flushed P s = record s {
   buffered = if nat_lt s.buffered P then s.buffered else s.buffered % P;
   awaited = if nat_lt s.buffered P then s.awaited else None;
 }
 
--- without a writer, which left a snapshot and a started sync
+-- the standing without its writer, which left a snapshot and a started sync
 abbrev pub left_by_seal : (P : ℕ) → StartedSync → Standing → Standing
 left_by_seal P sync s = record (noted (starting P sync s)) { has_writer = false }
 
--- with all of it written, in pages of P bytes, without a sync: where something wasn't, a started
--- sync was waited for
+-- the standing with all of the content written, in pages of P bytes, without a sync; if something
+-- wasn't written, a started sync was waited for
 abbrev pub rewritten : (P : ℕ) → Standing → Standing
 rewritten P s = record s {
   buffered = s.buffered % P;
   awaited = if s.written then s.awaited else None;
 }
 
--- with a replay more, of all of the content, in batches of the pages that a buffer of this size
--- asks for
+-- the standing with one replay more, of all of the content, in batches of the pages that a buffer
+-- of this size asks for
 abbrev pub replaying : (P buffer_size : ℕ) → Standing → Standing
 replaying P buffer_size s = record s {
   replays = s.replays ++ Some (record {
@@ -176,23 +178,23 @@ replaying P buffer_size s = record s {
   }) ∷ [];
 }
 
--- with this replay in the place of the one of this number
+-- the standing with this replay in the place of the one of this number
 abbrev pub moved : (index : ℕ) → Replayed → Standing → Standing
 moved index r s = record s { replays = slice_set s.replays index (Some r) }
 
--- with nothing in the place of the snapshot of this number, which isn't given again
+-- the standing with nothing in the place of the snapshot of this number, which isn't given again
 abbrev pub without_snapshot : (index : ℕ) → Standing → Standing
 without_snapshot index s = record s { snapshots = slice_set s.snapshots index None }
 
--- with nothing in the place of the replay of this number, which isn't given again
+-- the standing with nothing in the place of the replay of this number, which isn't given again
 abbrev pub without_replay : (index : ℕ) → Standing → Standing
 without_replay index s = record s { replays = slice_set s.replays index None }
 
--- without its replays, whose numbers aren't given again
+-- the standing without its replays, whose numbers aren't given again
 abbrev pub forgetting : Standing → Standing
 forgetting s = record s { replays = map (λ r. None) s.replays }
 
--- with no started sync to wait for
+-- the standing with no started sync to wait for
 abbrev pub waited : Standing → Standing
 waited s = record s { awaited = None }
 
@@ -205,7 +207,7 @@ abbrev pub is_complete : Disk → ℕ → Bool
 is_complete d name =
     elim (slice_get (coverings d) name) [ None ↦ false | Some c ↦ nat_le c.0 d.settled ]
 
--- then what it covers is a floor
+-- a floor, raised to what each started sync that has completed covers
 abbrev pub raised_floor : Disk → List (ℕ × ℕ) → (floor : ℕ) → ℕ
 raised_floor d [] floor = floor
 raised_floor d (c ∷ covers) floor =
@@ -214,7 +216,7 @@ raised_floor d (c ∷ covers) floor =
 abbrev pub raised : Disk → Standing → Standing
 raised d s = record s { floor = raised_floor d s.covers s.floor }
 
--- without its writer, whose last step would have left this content
+-- the standing without its writer, whose last step would have left this content
 abbrev pub ended : List ℕ → Standing → Standing
 ended otherwise s = record s { has_writer = false; otherwise = otherwise }
 
@@ -308,8 +310,8 @@ abbrev pub Slices : List ℕ → (offset len : ℕ) → List ℕ → Type 0
 Slices content offset len bytes =
     (offset + len ≤ length content) × (bytes ≡ take len (drop offset content))
 
--- as many bytes as there are from an offset on, at most so many; none may be asked for anywhere,
--- and some only before the end
+-- the bytes of a content from an offset on, as many as there are and at most so many. No byte may
+-- be asked for anywhere, and some only before the end
 abbrev pub SlicesUpTo : List ℕ → (offset len : ℕ) → List ℕ → Type 0
 SlicesUpTo content offset len bytes =
     ((len ≡ 0) ⊎ (offset < length content)) × (bytes ≡ take len (drop offset content))
@@ -337,8 +339,8 @@ pub record HasFetched (was now : Replayed) : Type 0 where
   pub more : was.hand ≤ now.hand
   pub within : now.hand ≤ length now.content - now.position
 
--- whether so many are: where not, all are that are left. Not more are fetched than are asked for,
--- but for a batch
+-- whether so many bytes are at hand: if not, all are that are left. Not more are fetched than are
+-- asked for, except for the rest of a batch
 pub record HasEnsured (was : Replayed) (count : ℕ) (answer : Bool) (now : Replayed) :
     Type 0 where
   pub fetched : HasFetched was now
@@ -517,7 +519,7 @@ awaited_name P Seal s = s.awaited
 awaited_name P (Replay buffer_size) s = if s.written then None else s.awaited
 awaited_name P step s = None
 
--- it had failed
+-- the started sync of this name, if there is a name, had failed
 abbrev pub HadFailed : Option ℕ → Disk → Type 0
 HadFailed None d = ⊥
 HadFailed (Some name) d = had_failed d.started name ≡ true
@@ -596,8 +598,8 @@ pub data Touch : Type 0 where
   Looks : Touch
   Changes : (most : ℕ) → Touch
 
--- a replay has so many bytes at hand, or all that is left is after the full pages: no device is
--- needed; nor is it where there is no replay
+-- no device is needed for so many bytes of a replay: they are at hand, or all that is left is after
+-- the full pages, or there is no replay
 abbrev pub is_had : Option Replayed → (count : ℕ) → Bool
 is_had None count = true
 is_had (Some r) count = nat_le count r.hand || nat_le r.whole (r.position + r.hand)
@@ -685,8 +687,9 @@ Ran sum P (step ∷ steps) [] from moments s after = ⊥
 
 -- ---- what a session has
 
--- as contracts see it: the names of the syncs, in order, and the snapshots and the replays, the
--- oldest first; none in the place of one that was let go, or of a replay that was forgotten
+-- a session as contracts see it: the names of its syncs, in order, and its snapshots and replays,
+-- the oldest first, with none in the place of one that was let go, or of a replay that was
+-- forgotten
 pub record SessionState : Type 0 where
   pub writer : Option WriterState
   pub recovering : Bool
@@ -717,7 +720,7 @@ pub record WriterStandsFor (P : ℕ) (w : WriterState) (s : Standing) (d : Disk)
   pub written : s.written ≡ nat_eq (start_calls w) 0
   pub awaited : s.awaited ≡ pending_in w.sync
 
--- so does a session with this writer, or with none
+-- the standing has the content and the buffer of this writer, or has no writer if there is none
 abbrev pub WriterFits : (P : ℕ) → Option WriterState → Standing → Disk → Type 0
 WriterFits P None s d = s.has_writer ≡ false
 WriterFits P (Some w) s d = WriterStandsFor P w s d
@@ -763,7 +766,7 @@ abbrev pub IsBelow : Option WriterState → Tail → Type 0
 IsBelow None t = Unit {0}
 IsBelow (Some w) t = (t.page_size ≡ w.page_size) × (t.full_pages ≤ w.full_pages)
 
--- so the writer never writes them again; they are in the blob, and full
+-- a session's snapshot: its pages are in the blob and full, and the writer never writes them again
 pub record IsSnapshot (sum : List ℕ → ℕ) (writer : Option WriterState) (t : Tail)
     (d : Disk) : Type 0 where
   pub there : HasPages t d
@@ -776,9 +779,9 @@ IsReplayIn sum writer d None = Unit {0}
 IsReplayIn sum writer d (Some r) =
     IsReplayOf sum r (told r.tail d.readable) d × IsBelow writer r.tail
 
--- so a session may take steps: and the syncs that it was given may be waited for, also where the
--- writer is gone, its snapshots read, and its replays go on; a writer in recovery, which may cut
--- its blob, has no snapshot
+-- a session may take steps. The syncs that it was given may be waited for, its snapshots can be
+-- read and its replays go on, even if the writer is gone. A writer in recovery, which may cut its
+-- blob, has no snapshot
 pub record IsReady (sum : List ℕ → ℕ) (session : SessionState) (d : Disk) : Type 0 where
   pub writer : HasSoundWriter sum session.writer d
   pub starts : (session.names ≡ []) ⊎ StartsStand d
@@ -792,7 +795,7 @@ abbrev pub FitsWriter : Option WriterState → CacheState → Disk → Type 0
 FitsWriter None cache d = Unit {0}
 FitsWriter (Some w) cache d = CanRead (tail_of w) cache d
 
--- it fits the session: the writer, and each snapshot that stands
+-- the cache fits the session: its writer, and each snapshot that stands, can be read with it
 pub record CacheFits (session : SessionState) (cache : CacheState) (d : Disk) : Type 0 where
   pub writer : FitsWriter session.writer cache d
   pub snapshots : All (λ o. IfSome o (λ t. CanRead t cache d)) session.snapshots

@@ -12,8 +12,9 @@ use Rattle.session.specs.Promise.{BeginsBy, GivesBack, GivesId}
 use Rattle.disk.specs.declared.error.Error.TheVariants.{OffsetOverflow}
 use Rattle.page.specs.Geometry.{adjusted}
 
--- by its answer: where one begins, no more was to go than is allowed; where more would go, that
--- number is told, and the blob was only looked at; after an error too, unless no more was to go
+-- a recovery within a limit that begins a session, by its answer: if one begins, no more was to go
+-- than is allowed. If more would go, the answer is that number, and the blob was only looked at.
+-- After an error too, unless no more was to go
 abbrev pub BeginsWithin : (List ℕ → ℕ) → CacheState → (capacity allowed : ℕ) → Life → Life
     → Result SessionState Refusal → Type 0
 BeginsWithin sum cache capacity allowed old new (Ok now) =
@@ -31,7 +32,7 @@ GivesIdWithin (Ok now) old new = GivesId (Ok now) old new
 GivesIdWithin (Err (WouldCut cut)) old new = new ≡ old
 GivesIdWithin (Err (Failed e)) old new = GivesId (Err e) old new
 
--- its answer whole, as of a recovery without a bound
+-- all that a recovery within a limit answers, as `BeginGoes` has it of one without
 pub record BeginWithinGoes (sum : List ℕ → ℕ) (cache after : CacheState) (capacity allowed : ℕ)
     (old new : Life) (result : Result SessionState Refusal) : Type 0 where
   pub begins : BeginsWithin sum cache capacity allowed old new result

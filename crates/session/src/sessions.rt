@@ -292,7 +292,8 @@ pub fn run<B: Blob, H: Sum>(
         OnOk result (RunGoes H.sum_of steps.now session.old session.new cache.old cache.new
         old new replies.old.items replies.new.items) }
 
-    // And whatever comes back from any of them after crashes and recoveries keeps what stood then.
+    // Whatever comes back from any of these moments after crashes and recoveries keeps what stood
+    // then.
     ensures promises { let old = B.life blob.old in let new = B.life blob.new in
         OnOk result (Promises H.sum_of steps.now session.old session.new old new
         replies.old.items replies.new.items) }

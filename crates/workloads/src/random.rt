@@ -11,7 +11,7 @@ pub struct Random {
 }
 
 impl Random {
-    /// Those of a seed; another stream gives others.
+    /// The numbers of a seed; another stream gives others.
     pub fn new(seed: u64, stream: u64) -> Self {
         let mut random = Random {
             state: seed ^ stream.wrapping_mul(0xD1B5_4A32_D192_ED03),
@@ -83,7 +83,7 @@ pub struct Records {
 }
 
 impl Records {
-    /// Those of a seed; another stream gives others.
+    /// The numbers of a seed; another stream gives others.
     pub fn new(alloc: Global, seed: u64, stream: u64) -> Result<Self> {
         let mut random = Random::new(seed, stream);
         let mut pool = Vec::with_capacity(alloc, POOL as usize)?;

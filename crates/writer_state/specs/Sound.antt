@@ -55,7 +55,7 @@ StateFits d Clean = (d.since ≡ []) × (d.base ≡ d.readable)
 StateFits d Dirty = Unit {0}
 StateFits d (Pending name) = Unit {0}
 
--- and only a pending writer has a started sync that isn't settled
+-- only a pending writer has a started sync that isn't settled
 abbrev pub StartsFit : Disk → SyncState → Type 0
 StartsFit d Clean = AllSettled d
 StartsFit d Dirty = AllSettled d
@@ -83,8 +83,8 @@ guard_slot Clean flushed durable = flushed
 guard_slot Dirty flushed durable = durable
 guard_slot (Pending name) flushed durable = durable
 
--- this slot of the tip's page is that one; nothing is asked while a sync is pending, since no flush
--- comes before it has ended
+-- the tip's slot is the one that a flush is to repeat. Nothing is asked while a sync is pending,
+-- since no flush comes before it has ended
 abbrev pub IsRepeated : SyncState → (flushed durable tip : Option ActiveChecksum) → Type 0
 IsRepeated Clean flushed durable tip = tip ≡ flushed
 IsRepeated Dirty flushed durable tip = tip ≡ durable
