@@ -5,8 +5,8 @@ It begins at `Promises` in crates/session/specs/Promise.antt, and goes from each
 crates that it names, by the imports of its file. An example or a refutation is a lemma in a file of crates/*/proofs whose
 name ends in Examples.antt. Its statement counts, that is its type, and its proof doesn't:
 
-- A lemma whose statement ends in `→ ⊥` refutes the word with which the premise before the `⊥` begins: `Told .. → Tells ..
-  → ⊥` refutes `Tells`.
+- A lemma whose statement ends in `→ ⊥` refutes the word with which the premise before the `⊥` begins:
+  `RunIsExact .. → EachStepIsExact .. → ⊥` refutes `EachStepIsExact`.
 - Each other lemma is an example of each definition that its conclusion names, or that an abbreviation there names, if a
   file of examples has that abbreviation.
 

@@ -4,30 +4,30 @@ use Rattle.std.specs.Prelude.{Option, Some, None}
 use Rattle.std.proofs.lemmas.Bool.{cases_order}
 use Rattle.std.proofs.lemmas.Option.{same_Some}
 use Rattle.std.proofs.Math.Nat.{mul-le-mul_right}
-use Rattle.cache.specs.CacheState.{CacheState, held, empty_cache, SameSettings, IsHeld, PutGoes, Puts, PutsAll}
+use Rattle.cache.specs.CacheState.{CacheState, cached_page, empty_cache, SameSettings, IsHeld, PutGoes, Puts, PutsAll}
 use Rattle.cache.specs.Pages.{page_of_content, IsTrueFor, IsFresh, CachesOnly}
 use Rattle.cache.proofs.Found.{either_key}
 
 -- what one put does to a key: the page is held, or nothing; each other key stays or goes
 abbrev pub PutKey : ℕ × ℕ → List ℕ → ℕ × ℕ → CacheState → CacheState → Type 0
-PutKey key bytes other old new = (held new other ≡ held old other) ⊎ (held new other ≡ None) ⊎ ((other ≡ key) × (held new other ≡ Some bytes))
+PutKey key bytes other old new = (cached_page new other ≡ cached_page old other) ⊎ (cached_page new other ≡ None) ⊎ ((other ≡ key) × (cached_page new other ≡ Some bytes))
 
 -- in a relation that forgets which key went, and why
 pub record PutWeakly (key : ℕ × ℕ) (bytes : List ℕ) (old new : CacheState) : Type 0 where
   pub settings : SameSettings old new
-  pub here : held new key ≡ Some bytes
+  pub here : cached_page new key ≡ Some bytes
   pub each : (other : ℕ × ℕ) → PutKey key bytes other old new
 
-held_weakly : (key gone : ℕ × ℕ) (bytes : List ℕ) (count : ℕ) (old new : CacheState) → (key ≡ gone) ⊎ (held new gone ≡ None) → IsHeld key gone bytes count old new → PutWeakly key bytes old new
+held_weakly : (key gone : ℕ × ℕ) (bytes : List ℕ) (count : ℕ) (old new : CacheState) → (key ≡ gone) ⊎ (cached_page new gone ≡ None) → IsHeld key gone bytes count old new → PutWeakly key bytes old new
 held_weakly key gone bytes count old new went h = record {
   settings = h.settings;
   here = h.here;
   each = λ other. elim (either_key other key) [
-    | inl same ↦ inr (inr (same, ap (λ (k : ℕ × ℕ). held new k) same ∙ h.here))
+    | inl same ↦ inr (inr (same, ap (λ (k : ℕ × ℕ). cached_page new k) same ∙ h.here))
     | inr apart ↦ elim (either_key other gone) [
       | inl lost ↦ elim went [
         | inl same ↦ absurd (apart (lost ∙ sym same))
-        | inr none ↦ inr (inl (ap (λ (k : ℕ × ℕ). held new k) lost ∙ none))
+        | inr none ↦ inr (inl (ap (λ (k : ℕ × ℕ). cached_page new k) lost ∙ none))
       ]
       | inr kept ↦ inl (h.others other apart kept)
     ]
@@ -35,15 +35,15 @@ held_weakly key gone bytes count old new went h = record {
 }
 
 pub put_weakly : (key : ℕ × ℕ) (bytes : List ℕ) (old new : CacheState) → Puts key bytes old new → PutWeakly key bytes old new
-put_weakly key bytes old new puts = by_held (held old key) refl puts
+put_weakly key bytes old new puts = by_held (cached_page old key) refl puts
   where
-    by_held : (o : Option (List ℕ)) → held old key ≡ o → PutGoes o key bytes old new → PutWeakly key bytes old new
+    by_held : (o : Option (List ℕ)) → cached_page old key ≡ o → PutGoes o key bytes old new → PutWeakly key bytes old new
     by_held (Some page) is goes = held_weakly key key bytes (length old.pages) old new (inl refl) goes
     by_held None is (inl (room, goes)) = held_weakly key key bytes (length old.pages + 1) old new (inl refl) goes
     by_held None is (inr (full, (gone, there, none, goes))) = held_weakly key gone bytes old.capacity old new (inr none) goes
 
 -- the page put last is held
-pub put_is_held : (key : ℕ × ℕ) (bytes : List ℕ) (old new : CacheState) → Puts key bytes old new → held new key ≡ Some bytes
+pub put_is_held : (key : ℕ × ℕ) (bytes : List ℕ) (old new : CacheState) → Puts key bytes old new → cached_page new key ≡ Some bytes
 put_is_held key bytes old new puts = (put_weakly key bytes old new puts).here
 
 -- ---- true pages
@@ -53,7 +53,7 @@ pub put_true : (id page : ℕ) (content bytes : List ℕ) (old new : CacheState)
     → IsTrueFor id content page old → IsTrueFor id content (page + 1) new
 put_true id page content bytes old new is puts true_old p held_bytes below there = elim (cases_order p page) [
   | inl same ↦
-      let here : held new (id, page) ≡ Some held_bytes = ap (λ (q : ℕ). held new (id, q)) (sym same) ∙ there in
+      let here : cached_page new (id, page) ≡ Some held_bytes = ap (λ (q : ℕ). cached_page new (id, q)) (sym same) ∙ there in
       same_Some held_bytes bytes (sym here ∙ puts.here) ∙ is ∙ ap (λ (q : ℕ). page_of_content old.page_size content q) (sym same) ∙ ap (λ (P : ℕ). page_of_content P content p) (sym puts.settings.page_size)
   | inr (inl less) ↦ elim (puts.each (id, p)) [
     | inl stays ↦ true_old p held_bytes less (sym stays ∙ there) ∙ ap (λ (P : ℕ). page_of_content P content p) (sym puts.settings.page_size)
@@ -133,20 +133,20 @@ caches_join id from content old mid new first second = record {
 -- ---- wrong bodies
 
 -- a cache that skips keys that are present
-pub never_skips_present : (key : ℕ × ℕ) (was bytes : List ℕ) (cache : CacheState) → held cache key ≡ Some was → was ≢ bytes → Puts key bytes cache cache → ⊥
-never_skips_present key was bytes cache there other puts = by_held (held cache key) there puts
+pub never_skips_present : (key : ℕ × ℕ) (was bytes : List ℕ) (cache : CacheState) → cached_page cache key ≡ Some was → was ≢ bytes → Puts key bytes cache cache → ⊥
+never_skips_present key was bytes cache there other puts = by_held (cached_page cache key) there puts
   where
     by_held : (o : Option (List ℕ)) → o ≡ Some was → PutGoes o key bytes cache cache → ⊥
     by_held (Some page) is goes = other (same_Some was bytes (sym there ∙ goes.here))
     by_held None is goes = absurd (cc is)
 
 -- a cache that holds nothing
-pub never_drops : (key : ℕ × ℕ) (bytes : List ℕ) (old new : CacheState) → held new key ≡ None → Puts key bytes old new → ⊥
+pub never_drops : (key : ℕ × ℕ) (bytes : List ℕ) (old new : CacheState) → cached_page new key ≡ None → Puts key bytes old new → ⊥
 never_drops key bytes old new none puts = absurd (cc (none, put_is_held key bytes old new puts))
 
 -- a cache that empties itself before each put
-pub never_empties : (key other : ℕ × ℕ) (was bytes : List ℕ) (old new : CacheState) → other ≢ key → held old other ≡ Some was → length old.pages < old.capacity → held new other ≡ None → Puts key bytes old new → ⊥
-never_empties key other was bytes old new apart there room none puts = by_held (held old key) puts
+pub never_empties : (key other : ℕ × ℕ) (was bytes : List ℕ) (old new : CacheState) → other ≢ key → cached_page old other ≡ Some was → length old.pages < old.capacity → cached_page new other ≡ None → Puts key bytes old new → ⊥
+never_empties key other was bytes old new apart there room none puts = by_held (cached_page old key) puts
   where
     lost : (count : ℕ) → IsHeld key key bytes count old new → ⊥
     lost count goes = absurd (cc (none, there, goes.others other apart apart))
@@ -237,13 +237,13 @@ two_pages = record (empty_cache 4 2) { pages = ((0, 1), 101 ∷ 102 ∷ 103 ∷ 
 abbrev overwritten : CacheState
 overwritten = record (empty_cache 4 2) { pages = ((0, 0), 65 ∷ 66 ∷ 67 ∷ 68 ∷ []) ∷ ((0, 1), 101 ∷ 102 ∷ 103 ∷ 104 ∷ []) ∷ [] }
 
-the_second : held two_pages (0, 1) ≡ Some (101 ∷ 102 ∷ 103 ∷ 104 ∷ [])
+the_second : cached_page two_pages (0, 1) ≡ Some (101 ∷ 102 ∷ 103 ∷ 104 ∷ [])
 the_second = refl
 
-none_of_another : held two_pages (1, 1) ≡ None
+none_of_another : cached_page two_pages (1, 1) ≡ None
 none_of_another = refl
 
-a_new_page : held overwritten (0, 0) ≡ Some (65 ∷ 66 ∷ 67 ∷ 68 ∷ [])
+a_new_page : cached_page overwritten (0, 0) ≡ Some (65 ∷ 66 ∷ 67 ∷ 68 ∷ [])
 a_new_page = refl
 
 the_page_of_a_content : page_of_content 4 (97 ∷ 98 ∷ 99 ∷ 100 ∷ 101 ∷ 102 ∷ 103 ∷ 104 ∷ 105 ∷ []) 1 ≡ 101 ∷ 102 ∷ 103 ∷ 104 ∷ []

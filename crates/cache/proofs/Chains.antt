@@ -5,7 +5,7 @@ use Rattle.std.specs.List.{AllByRecursion, IsDistinct, list_any}
 use Rattle.std.proofs.lemmas.Bool.{cases_eq, eq-eqb, ne_eqb}
 use Rattle.std.proofs.lemmas.Map.Keys.{IsDistinct-cons}
 use Rattle.std.proofs.lemmas.Map.Steps.{length-le_from_distinct_below}
-use Rattle.cache.specs.Chain.{IsChain, HasChain, Stands, NoneHolds, IsLast, IsLink}
+use Rattle.cache.specs.Chain.{IsChain, HasChain, IsAmong, NoneHolds, IsLast, IsLink}
 
 -- ---- two chains from one slot are one
 
@@ -25,7 +25,7 @@ module _ (nexts : List ℕ) (capacity : ℕ) where
     pub chain : IsChain nexts capacity s slots
     pub few : length slots ≤ most
 
-  pub chain_rest : (from : ℕ) (xs : List ℕ) (s : ℕ) → IsChain nexts capacity from xs → Stands xs s → Rest s (length xs)
+  pub chain_rest : (from : ℕ) (xs : List ℕ) (s : ℕ) → IsChain nexts capacity from xs → IsAmong xs s → Rest s (length xs)
   chain_rest from [] s chain stands = absurd stands
   chain_rest from (x ∷ xs) s (is, below, rest) (inl same) = record {
     slots = x ∷ xs;
@@ -37,14 +37,14 @@ module _ (nexts : List ℕ) (capacity : ℕ) where
       record { slots = r.slots; chain = r.chain; few = omega (arith, r.few) }
 
   -- no slot stands in a chain twice
-  pub chain_no_cycle : (from x : ℕ) (xs : List ℕ) → IsChain nexts capacity from (x ∷ xs) → Stands xs x → ⊥
+  pub chain_no_cycle : (from x : ℕ) (xs : List ℕ) → IsChain nexts capacity from (x ∷ xs) → IsAmong xs x → ⊥
   chain_no_cycle from x xs (is, below, rest) stands =
       let r = chain_rest (slice_index_or nexts x 0) xs x rest stands in
       let whole : IsChain nexts capacity x (x ∷ xs) = (refl, below, rest) in
       let same : r.slots ≡ x ∷ xs = chain_once x r.slots (x ∷ xs) r.chain whole in
       omega (arith, r.few, ap length same)
 
-  all_apart : (x : ℕ) (xs : List ℕ) → (Stands xs x → ⊥) → AllByRecursion (λ y. nat_eq x y ≡ false) xs
+  all_apart : (x : ℕ) (xs : List ℕ) → (IsAmong xs x → ⊥) → AllByRecursion (λ y. nat_eq x y ≡ false) xs
   all_apart x [] apart = tt
   all_apart x (y ∷ ys) apart = (ne_eqb x y (λ same. apart (inl same)), all_apart x ys (λ stands. apart (inr stands)))
 
@@ -72,16 +72,16 @@ module _ (nexts : List ℕ) (capacity : ℕ) where
 
 -- ---- standing in a joined list
 
-pub stands_left : (xs ys : List ℕ) (s : ℕ) → Stands xs s → Stands (xs ++ ys) s
+pub stands_left : (xs ys : List ℕ) (s : ℕ) → IsAmong xs s → IsAmong (xs ++ ys) s
 stands_left [] ys s stands = absurd stands
 stands_left (x ∷ xs) ys s (inl same) = inl same
 stands_left (x ∷ xs) ys s (inr later) = inr (stands_left xs ys s later)
 
-pub stands_right : (xs ys : List ℕ) (s : ℕ) → Stands ys s → Stands (xs ++ ys) s
+pub stands_right : (xs ys : List ℕ) (s : ℕ) → IsAmong ys s → IsAmong (xs ++ ys) s
 stands_right [] ys s stands = stands
 stands_right (x ∷ xs) ys s stands = inr (stands_right xs ys s stands)
 
-pub stands_either : (xs ys : List ℕ) (s : ℕ) → Stands (xs ++ ys) s → Stands xs s ⊎ Stands ys s
+pub stands_either : (xs ys : List ℕ) (s : ℕ) → IsAmong (xs ++ ys) s → IsAmong xs s ⊎ IsAmong ys s
 stands_either [] ys s stands = inr stands
 stands_either (x ∷ xs) ys s (inl same) = inl (inl same)
 stands_either (x ∷ xs) ys s (inr later) = elim (stands_either xs ys s later) [
@@ -90,7 +90,7 @@ stands_either (x ∷ xs) ys s (inr later) = elim (stands_either xs ys s later) [
 ]
 
 -- a slot of a chain is in no other place of it
-pub chain_apart_middle : (nexts : List ℕ) (capacity from : ℕ) (xs : List ℕ) (s : ℕ) (ys : List ℕ) → IsChain nexts capacity from (xs ++ s ∷ ys) → Stands (xs ++ ys) s → ⊥
+pub chain_apart_middle : (nexts : List ℕ) (capacity from : ℕ) (xs : List ℕ) (s : ℕ) (ys : List ℕ) → IsChain nexts capacity from (xs ++ s ∷ ys) → IsAmong (xs ++ ys) s → ⊥
 chain_apart_middle nexts capacity from [] s ys chain stands = chain_no_cycle nexts capacity from s ys chain stands
 chain_apart_middle nexts capacity from (x ∷ xs) s ys chain (inl same) = chain_no_cycle nexts capacity from x (xs ++ s ∷ ys) chain (stands_right xs (s ∷ ys) x (inl (sym same)))
 chain_apart_middle nexts capacity from (x ∷ xs) s ys chain (inr later) = chain_apart_middle nexts capacity (slice_index_or nexts x 0) xs s ys chain.2 later
@@ -187,7 +187,7 @@ module _ (keys : List (ℕ × ℕ)) (nexts : List ℕ) (capacity first : ℕ) (k
           }
 
 -- a slot of a chain doesn't hold a key that none of them holds
-pub none_stands : (keys : List (ℕ × ℕ)) (key : ℕ × ℕ) (slots : List ℕ) (s : ℕ) → NoneHolds keys key slots → Stands slots s → slice_index_or keys s (0, 0) ≢ key
+pub none_stands : (keys : List (ℕ × ℕ)) (key : ℕ × ℕ) (slots : List ℕ) (s : ℕ) → NoneHolds keys key slots → IsAmong slots s → slice_index_or keys s (0, 0) ≢ key
 none_stands keys key [] s none stands = absurd stands
 none_stands keys key (x ∷ xs) s none (inl same) = λ is. none.0 (ap (λ (k : ℕ). slice_index_or keys k (0, 0)) (sym same) ∙ is)
 none_stands keys key (x ∷ xs) s none (inr later) = none_stands keys key xs s none.1 later
@@ -196,7 +196,7 @@ none_stands keys key (x ∷ xs) s none (inr later) = none_stands keys key xs s n
 
 module _ (nexts now : List ℕ) (capacity slot : ℕ) (others : (k : ℕ) → k ≢ slot → slice_index_or now k 0 ≡ slice_index_or nexts k 0) where
   -- a chain without the slot stays as it was
-  pub chain_apart : (from : ℕ) (xs : List ℕ) → (Stands xs slot → ⊥) → IsChain nexts capacity from xs → IsChain now capacity from xs
+  pub chain_apart : (from : ℕ) (xs : List ℕ) → (IsAmong xs slot → ⊥) → IsChain nexts capacity from xs → IsChain now capacity from xs
   chain_apart from [] apart chain = chain
   chain_apart from (x ∷ xs) apart (is, below, rest) =
       let other : x ≢ slot = λ same. apart (inl (sym same)) in
@@ -206,9 +206,9 @@ module _ (nexts now : List ℕ) (capacity slot : ℕ) (others : (k : ℕ) → k 
   pub chain_unlinked : (from gone : ℕ) (xs ys : List ℕ) → slice_index_or now slot 0 ≡ slice_index_or nexts gone 0
       → IsChain nexts capacity from (xs ++ slot ∷ gone ∷ ys) → IsChain now capacity from (xs ++ slot ∷ ys)
   chain_unlinked from gone [] ys is (here, below, (there, below_gone, rest)) =
-      let apart : Stands (gone ∷ ys) slot → ⊥ = chain_no_cycle nexts capacity from slot (gone ∷ ys) (here, below, (there, below_gone, rest)) in
+      let apart : IsAmong (gone ∷ ys) slot → ⊥ = chain_no_cycle nexts capacity from slot (gone ∷ ys) (here, below, (there, below_gone, rest)) in
       (here, below, subst (λ (k : ℕ). IsChain now capacity k ys) (sym is) (chain_apart (slice_index_or nexts gone 0) ys (λ stands. apart (inr stands)) rest))
   chain_unlinked from gone (x ∷ xs) ys is (here, below, rest) =
-      let apart : Stands (xs ++ slot ∷ gone ∷ ys) x → ⊥ = chain_no_cycle nexts capacity from x (xs ++ slot ∷ gone ∷ ys) (here, below, rest) in
+      let apart : IsAmong (xs ++ slot ∷ gone ∷ ys) x → ⊥ = chain_no_cycle nexts capacity from x (xs ++ slot ∷ gone ∷ ys) (here, below, rest) in
       let other : x ≢ slot = λ same. apart (stands_right xs (slot ∷ gone ∷ ys) x (inl same)) in
       (here, below, subst (λ (k : ℕ). IsChain now capacity k (xs ++ slot ∷ ys)) (sym (others x other)) (chain_unlinked (slice_index_or nexts x 0) gone xs ys is rest))

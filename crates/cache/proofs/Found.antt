@@ -5,7 +5,7 @@ use Rattle.std.specs.Map.{lookup}
 use Rattle.std.proofs.lemmas.Bool.{cases_eq, cond-true, cond-false, eq-eqb, ne_eqb}
 use Rattle.std.proofs.lemmas.List.{drop-drop}
 use Rattle.cache.specs.CacheState.{same_key}
-use Rattle.cache.specs.Slots.{page_at, pages_in}
+use Rattle.cache.specs.Slots.{page_of_slot, pages_in}
 
 same_key_ne : (a b : ℕ × ℕ) → b ≢ a → same_key a b ≡ false
 same_key_ne (a, p) (b, q) apart = elim (cases_eq a b) [
@@ -46,7 +46,7 @@ lookup_none (suc n) P (k ∷ keys) bytes key apart =
 
 -- the first that has it holds its page
 lookup_first : (n P : ℕ) (keys : List (ℕ × ℕ)) (bytes : List ℕ) (key : ℕ × ℕ) (s : ℕ) → s < n → n ≤ length keys → slice_index_or keys s (0, 0) ≡ key → ((u : ℕ) → u < s → slice_index_or keys u (0, 0) ≢ key)
-    → lookup (same_key key) (pages_in n P keys bytes) ≡ Some (page_at P bytes s)
+    → lookup (same_key key) (pages_in n P keys bytes) ≡ Some (page_of_slot P bytes s)
 lookup_first zero P keys bytes key s below many here apart = absurd (omega (arith, below))
 lookup_first (suc n) P [] bytes key s below many here apart = absurd (omega (arith, many))
 lookup_first (suc n) P (k ∷ keys) bytes key zero below many here apart =
@@ -65,7 +65,7 @@ IsOnce n keys = (s u : ℕ) → s < n → u < n → slice_index_or keys s (0, 0)
 
 -- so each that has it holds its page
 pub lookup_some : (n P : ℕ) (keys : List (ℕ × ℕ)) (bytes : List ℕ) (key : ℕ × ℕ) (s : ℕ) → IsOnce n keys → s < n → n ≤ length keys → slice_index_or keys s (0, 0) ≡ key
-    → lookup (same_key key) (pages_in n P keys bytes) ≡ Some (page_at P bytes s)
+    → lookup (same_key key) (pages_in n P keys bytes) ≡ Some (page_of_slot P bytes s)
 lookup_some n P keys bytes key s once below many here =
     lookup_first n P keys bytes key s below many here (λ u less is. let same : u ≡ s = once u s (omega (arith, less, below)) below (is ∙ sym here) in omega (arith, same, less))
 
@@ -96,11 +96,11 @@ pub record Changes (n m P : ℕ) (keys later : List (ℕ × ℕ)) (bytes now : L
   pub later_once : IsOnce m later
   pub taken : slot < m
   pub here : slice_index_or later slot (0, 0) ≡ key
-  pub page_is : page_at P now slot ≡ page
+  pub page_is : page_of_slot P now slot ≡ page
   pub stays : (s : ℕ) → s < n → s ≢ slot → s < m
   pub was : (s : ℕ) → s < m → s ≢ slot → s < n
   pub keys_stay : (s : ℕ) → s ≢ slot → slice_index_or later s (0, 0) ≡ slice_index_or keys s (0, 0)
-  pub pages_stay : (s : ℕ) → s < n → s ≢ slot → page_at P now s ≡ page_at P bytes s
+  pub pages_stay : (s : ℕ) → s < n → s ≢ slot → page_of_slot P now s ≡ page_of_slot P bytes s
 
 -- a slot got a page under a key; the other slots stayed as they were
 module _ (n m P : ℕ) (keys later : List (ℕ × ℕ)) (bytes now : List ℕ) (slot : ℕ) (key : ℕ × ℕ) (page : List ℕ) (c : Changes n m P keys later bytes now slot key page) where

@@ -3,7 +3,7 @@ use Rattle.std.proofs.Common.{◌≡◌, ◌≢◌, ◌⊎◌, inl, inr, ℕ, �
 use Rattle.std.specs.Prelude.{slice_index_or, slice_set, Option, Some, None}
 use Rattle.std.proofs.lemmas.Bool.{cases_eq}
 use Rattle.std.proofs.lemmas.List.{get_or-set_same, get_or-set_other, length-set}
-use Rattle.cache.specs.Chain.{place_of, IsChain, Stands, NoneHolds, IsLast, IsLink, ChainOf, IsAt, AreLinked}
+use Rattle.cache.specs.Chain.{place_of, IsChain, IsAmong, NoneHolds, IsLast, IsLink, ChainOf, IsAt, AreLinked}
 use Rattle.cache.specs.declared.slots.Link.{Link}
 use Rattle.cache.proofs.Chains.{none_stands, stands_left, stands_right, stands_either, chain_apart, chain_unlinked, chain_middle, chain_apart_middle}
 
@@ -20,7 +20,7 @@ module _ (keys : List (ℕ × ℕ)) (nexts firsts : List ℕ) (capacity places u
   somewhere link found =
       let chain = are.chains home below in
       let l = found chain.slots chain.chain in
-      ((chain.only link.slot (subst (λ (xs : List ℕ). Stands xs link.slot) (sym l.slots_are) (stands_right l.front (link.slot ∷ l.back) link.slot (inl refl)))).0, l.holds)
+      ((chain.only link.slot (subst (λ (xs : List ℕ). IsAmong xs link.slot) (sym l.slots_are) (stands_right l.front (link.slot ∷ l.back) link.slot (inl refl)))).0, l.holds)
 
 -- the same chain by other names
 pub chain_as : (nexts other : List ℕ) (n m from begin : ℕ) (slots : List ℕ) → other ≡ nexts → m ≡ n → begin ≡ from → IsChain nexts n from slots → IsChain other m begin slots
@@ -71,15 +71,15 @@ module _ (keys : List (ℕ × ℕ)) (nexts firsts : List ℕ) (capacity places u
       record {
         slots = front ++ back;
         chain = chain;
-        only = λ s stands. let at = whole.only s (subst (λ (l : List ℕ). Stands l s) (sym is) (more s (stands_either front back s stands))) in (at.0, (λ same. chain_apart_middle nexts capacity (slice_index_or firsts home 0) front slot back whole_chain (subst (λ (k : ℕ). Stands (front ++ back) k) same stands)), at.2);
-        all = λ s at. less s at.1 (stands_either front (slot ∷ back) s (subst (λ (l : List ℕ). Stands l s) is (whole.all s (at.0, (λ same. omega (arith, same, at.0, within)), at.2))));
+        only = λ s stands. let at = whole.only s (subst (λ (l : List ℕ). IsAmong l s) (sym is) (more s (stands_either front back s stands))) in (at.0, (λ same. chain_apart_middle nexts capacity (slice_index_or firsts home 0) front slot back whole_chain (subst (λ (k : ℕ). IsAmong (front ++ back) k) same stands)), at.2);
+        all = λ s at. less s at.1 (stands_either front (slot ∷ back) s (subst (λ (l : List ℕ). IsAmong l s) is (whole.all s (at.0, (λ same. omega (arith, same, at.0, within)), at.2))));
       }
     where
-      more : (s : ℕ) → Stands front s ⊎ Stands back s → Stands (front ++ slot ∷ back) s
+      more : (s : ℕ) → IsAmong front s ⊎ IsAmong back s → IsAmong (front ++ slot ∷ back) s
       more s (inl left) = stands_left front (slot ∷ back) s left
       more s (inr right) = stands_right front (slot ∷ back) s (inr right)
 
-      less : (s : ℕ) → s ≢ slot → Stands front s ⊎ Stands (slot ∷ back) s → Stands (front ++ back) s
+      less : (s : ℕ) → s ≢ slot → IsAmong front s ⊎ IsAmong (slot ∷ back) s → IsAmong (front ++ back) s
       less s other (inl left) = stands_left front back s left
       less s other (inr (inl same)) = absurd (other same)
       less s other (inr (inr right)) = stands_right front back s right
@@ -133,7 +133,7 @@ module _ (keys : List (ℕ × ℕ)) (nexts firsts : List ℕ) (capacity places u
           (chain_unlinked nexts now capacity before others (slice_index_or firsts home 0) slot front back (get_or-set_same nexts before (slice_index_or nexts slot 0) 0 (omega (arith, size, before_low))) whole)
 
       before_home : place_of places (slice_index_or keys before (0, 0)) ≡ home
-      before_home = ((are.chains home below).only before (subst (λ (l : List ℕ). Stands l before) (sym split) (stands_right front (before ∷ slot ∷ back) before (inl refl)))).2
+      before_home = ((are.chains home below).only before (subst (λ (l : List ℕ). IsAmong l before) (sym split) (stands_right front (before ∷ slot ∷ back) before (inl refl)))).2
 
       stays : (place : ℕ) → (low_place : place < places) → place ≢ home → ChainOf (IsAt keys used capacity places place) now capacity (slice_index_or firsts place 0)
       stays place low_place other =
@@ -152,7 +152,7 @@ module _ (keys : List (ℕ × ℕ)) (nexts firsts : List ℕ) (capacity places u
 
     the_slot : link.slot ≡ slot
     the_slot =
-        let stands : Stands (are.chains home below).slots link.slot = subst (λ (xs : List ℕ). Stands xs link.slot) (sym l.slots_are) (stands_right l.front (link.slot ∷ l.back) link.slot (inl refl)) in
+        let stands : IsAmong (are.chains home below).slots link.slot = subst (λ (xs : List ℕ). IsAmong xs link.slot) (sym l.slots_are) (stands_right l.front (link.slot ∷ l.back) link.slot (inl refl)) in
         let at = (are.chains home below).only link.slot stands in
         are.once link.slot slot at.0 low (λ is. omega (arith, is, at.0, within)) (λ is. omega (arith, is, low, within)) (l.holds ∙ sym key_is)
 
@@ -216,7 +216,7 @@ module _ (keys : List (ℕ × ℕ)) (nexts firsts : List ℕ) (capacity places u
         ];
       }
     where
-      only : (s : ℕ) → Stands (slot ∷ (are.chains home below).slots) s → IsAt (slice_set keys slot key) used capacity places home s
+      only : (s : ℕ) → IsAmong (slot ∷ (are.chains home below).slots) s → IsAt (slice_set keys slot key) used capacity places home s
       only s (inl same) = (omega (arith, same, low), (λ is. omega (arith, is, same, low, within)), ap (λ (k : ℕ). place_of places (slice_index_or (slice_set keys slot key) k (0, 0))) same ∙ ap (place_of places) key_here ∙ home_is)
       only s (inr stands) = still home s ((are.chains home below).only s stands)
 

@@ -6,8 +6,8 @@ use Rattle.std.specs.Int.NonZero.{non_zero_u16_get}
 use Rattle.std.specs.declared.alloc.Global.{Global}
 use Rattle.std.proofs.lemmas.List.{get_or-set_same, get_or-set_other, length-set}
 use Rattle.std.specs.Map.{lookup}
-use Rattle.cache.specs.CacheState.{held, same_key, IsHeld, PutGoes, Puts}
-use Rattle.cache.specs.Slots.{AreSlots, AreSlotsBut, HoldsKey, IsNowhere, Linked, Overwritten, Taken, Unlinked, cache_of, key_at, page_at, pages_in, pages_of}
+use Rattle.cache.specs.CacheState.{cached_page, same_key, IsHeld, PutGoes, Puts}
+use Rattle.cache.specs.Slots.{AreSlots, AreSlotsBut, HoldsKey, IsNowhere, Linked, Overwritten, Taken, Unlinked, cache_of, key_at, page_of_slot, pages_in, cached_pages}
 use Rattle.cache.specs.declared.slots.Slots.{Slots}
 use Rattle.cache.proofs.Found.{Changes, changes_here, changes_others, changes_gone, pages_many}
 use Rattle.cache.proofs.Table.{held_none, held_page, keys_once}
@@ -33,11 +33,11 @@ module _ (t : Slots) (slot : ℕ) (page : List ℕ) (new : Slots) (but : ℕ) (a
       let long = ap length over.written ∙ pages_long (non_zero_u16_get t.page_size) t.used slot page t.bytes.items size low are.bytes in
       subst (λ (u : Slots). AreSlotsBut but u) (sym over.same) (rewritten t but new.bytes are long over.room)
 
-  pub overwritten_page : page_at (non_zero_u16_get t.page_size) new.bytes.items slot ≡ page
-  overwritten_page = ap (λ (b : List ℕ). page_at (non_zero_u16_get t.page_size) b slot) over.written ∙ page_written (non_zero_u16_get t.page_size) t.used slot page t.bytes.items size low are.bytes
+  pub overwritten_page : page_of_slot (non_zero_u16_get t.page_size) new.bytes.items slot ≡ page
+  overwritten_page = ap (λ (b : List ℕ). page_of_slot (non_zero_u16_get t.page_size) b slot) over.written ∙ page_written (non_zero_u16_get t.page_size) t.used slot page t.bytes.items size low are.bytes
 
-  pub overwritten_others : (s : ℕ) → s ≢ slot → page_at (non_zero_u16_get t.page_size) new.bytes.items s ≡ page_at (non_zero_u16_get t.page_size) t.bytes.items s
-  overwritten_others s other = ap (λ (b : List ℕ). page_at (non_zero_u16_get t.page_size) b s) over.written ∙ page_stays (non_zero_u16_get t.page_size) t.used slot page t.bytes.items size low are.bytes s other
+  pub overwritten_others : (s : ℕ) → s ≢ slot → page_of_slot (non_zero_u16_get t.page_size) new.bytes.items s ≡ page_of_slot (non_zero_u16_get t.page_size) t.bytes.items s
+  overwritten_others s other = ap (λ (b : List ℕ). page_of_slot (non_zero_u16_get t.page_size) b s) over.written ∙ page_stays (non_zero_u16_get t.page_size) t.used slot page t.bytes.items size low are.bytes s other
 
 -- the hand goes on
 pub handed : (t : Slots) (but hand : ℕ) → AreSlotsBut but t → hand < length t.keys.items → AreSlotsBut but (record t { hand = hand })
@@ -68,12 +68,12 @@ taken_over old mid turned new slot hand page are unlinked low_hand turned_is low
       are = overwritten_are turned slot page new slot are_turned low_turned size_turned over;
       page_size = ap (λ (t : Slots). t.page_size) over.same ∙ size_is;
       keys = ap (λ (t : Slots). t.keys) over.same ∙ ap (λ (t : Slots). t.keys) turned_is ∙ ap (λ (t : Slots). t.keys) unlinked;
-      page = ap (λ (n : ℕ). page_at n new.bytes.items slot) (sym P_is) ∙ overwritten_page turned slot page new slot are_turned low_turned size_turned over;
+      page = ap (λ (n : ℕ). page_of_slot n new.bytes.items slot) (sym P_is) ∙ overwritten_page turned slot page new slot are_turned low_turned size_turned over;
       others = λ s below other.
-          ap (λ (n : ℕ). page_at n new.bytes.items s) (sym P_is)
+          ap (λ (n : ℕ). page_of_slot n new.bytes.items s) (sym P_is)
           ∙ overwritten_others turned slot page new slot are_turned low_turned size_turned over s other
-          ∙ ap (λ (n : ℕ). page_at n turned.bytes.items s) P_is
-          ∙ ap (λ (b : List ℕ). page_at (non_zero_u16_get old.page_size) b s) bytes_are;
+          ∙ ap (λ (n : ℕ). page_of_slot n turned.bytes.items s) P_is
+          ∙ ap (λ (b : List ℕ). page_of_slot (non_zero_u16_get old.page_size) b s) bytes_are;
     }
 
 -- ---- the cache after a put
@@ -83,7 +83,7 @@ module _ (ids : ℕ) (old new : Slots) (slot : ℕ) (key : ℕ × ℕ) (page : L
   same_size : non_zero_u16_get new.page_size ≡ non_zero_u16_get old.page_size
   same_size = ap (λ p. non_zero_u16_get p) size
 
-  new_pages : pages_of new ≡ pages_in new.used (non_zero_u16_get old.page_size) new.keys.items new.bytes.items
+  new_pages : cached_pages new ≡ pages_in new.used (non_zero_u16_get old.page_size) new.keys.items new.bytes.items
   new_pages = ap (λ (n : ℕ). pages_in new.used n new.keys.items new.bytes.items) same_size
 
   now_held : (gone : ℕ × ℕ) (many : ℕ) → (slot < old.used → slice_index_or old.keys.items slot (0, 0) ≡ gone) → new.used ≡ many → IsHeld key gone page many (cache_of ids old) (cache_of ids new)
@@ -96,12 +96,12 @@ module _ (ids : ℕ) (old new : Slots) (slot : ℕ) (key : ℕ × ℕ) (page : L
     count = ap length new_pages ∙ pages_many new.used (non_zero_u16_get old.page_size) new.keys.items new.bytes.items c.later_within ∙ used_is;
   }
 
-  now_gone : slot < old.used → slice_index_or old.keys.items slot (0, 0) ≢ key → held (cache_of ids new) (slice_index_or old.keys.items slot (0, 0)) ≡ None
+  now_gone : slot < old.used → slice_index_or old.keys.items slot (0, 0) ≢ key → cached_page (cache_of ids new) (slice_index_or old.keys.items slot (0, 0)) ≡ None
   now_gone below apart =
       ap (lookup (same_key (slice_index_or old.keys.items slot (0, 0)))) new_pages
       ∙ changes_gone old.used new.used (non_zero_u16_get old.page_size) old.keys.items new.keys.items old.bytes.items new.bytes.items slot key page c below apart
 
-old_many : (t : Slots) → AreSlots t → length (pages_of t) ≡ t.used
+old_many : (t : Slots) → AreSlots t → length (cached_pages t) ≡ t.used
 old_many t are = pages_many t.used (non_zero_u16_get t.page_size) t.keys.items t.bytes.items are.within
 
 -- a page that is held was written over
@@ -109,7 +109,7 @@ pub puts_over : (ids : ℕ) (old new : Slots) (slot : ℕ) (key : ℕ × ℕ) (p
     → Puts key page (cache_of ids old) (cache_of ids new)
 puts_over ids old new slot key page are holds size over =
     subst (λ (o : Option (List ℕ)). PutGoes o key page (cache_of ids old) (cache_of ids new)) (sym (held_page old key slot are holds))
-    (now_held ids old new slot key page size_is capacity changes key (length (pages_of old)) (λ below. holds.1) (used_is ∙ sym (old_many old are)))
+    (now_held ids old new slot key page size_is capacity changes key (length (cached_pages old)) (λ below. holds.1) (used_is ∙ sym (old_many old are)))
   where
     used_is : new.used ≡ old.used
     used_is = ap (λ (t : Slots). t.used) over.same
@@ -163,25 +163,25 @@ module _ (ids : ℕ) (old mid new : Slots) (slot : ℕ) (key : ℕ × ℕ) (page
     later_once = keys_once new are_new;
     taken = low;
     here = ap (λ (k : List (ℕ × ℕ)). slice_index_or k slot (0, 0)) keys_new ∙ get_or-set_same old.keys.items slot key (0, 0) (omega (arith, low, are_new.within, as_many));
-    page_is = ap (λ (b : List ℕ). page_at (non_zero_u16_get old.page_size) b slot) bytes_new ∙ taken.page;
+    page_is = ap (λ (b : List ℕ). page_of_slot (non_zero_u16_get old.page_size) b slot) bytes_new ∙ taken.page;
     stays = λ s below other. stay s below;
     was = was;
     keys_stay = λ s other. ap (λ (k : List (ℕ × ℕ)). slice_index_or k s (0, 0)) keys_new ∙ get_or-set_other old.keys.items slot s key (0, 0) other;
-    pages_stay = λ s below other. ap (λ (b : List ℕ). page_at (non_zero_u16_get old.page_size) b s) bytes_new ∙ taken.others s below other;
+    pages_stay = λ s below other. ap (λ (b : List ℕ). page_of_slot (non_zero_u16_get old.page_size) b s) bytes_new ∙ taken.others s below other;
   }
 
   -- a free one
   pub puts_free : slot ≡ old.used → new.used ≡ old.used + 1 → Puts key page (cache_of ids old) (cache_of ids new)
   puts_free slot_is used_is =
-      let room : length (pages_of old) < length old.keys.items = omega (arith, old_many old are, slot_is, low, are_new.within, as_many) in
+      let room : length (cached_pages old) < length old.keys.items = omega (arith, old_many old are, slot_is, low, are_new.within, as_many) in
       subst (λ (o : Option (List ℕ)). PutGoes o key page (cache_of ids old) (cache_of ids new)) (sym (held_none old key nowhere))
-      (inl (room, now_held ids old new slot key page size_new as_many changed key (length (pages_of old) + 1) (λ below. absurd (omega (arith, below, slot_is))) (omega (arith, used_is, old_many old are))))
+      (inl (room, now_held ids old new slot key page size_new as_many changed key (length (cached_pages old) + 1) (λ below. absurd (omega (arith, below, slot_is))) (omega (arith, used_is, old_many old are))))
 
   -- or one whose page went for it
   pub puts_used : slot < old.used → old.used ≡ length old.keys.items → new.used ≡ old.used → Puts key page (cache_of ids old) (cache_of ids new)
   puts_used below full used_is =
       let gone : ℕ × ℕ = key_at old slot in
-      let there : is_some (held (cache_of ids old) gone) ≡ true = ap is_some (held_page old gone slot are (below, refl)) in
+      let there : is_some (cached_page (cache_of ids old) gone) ≡ true = ap is_some (held_page old gone slot are (below, refl)) in
       subst (λ (o : Option (List ℕ)). PutGoes o key page (cache_of ids old) (cache_of ids new)) (sym (held_none old key nowhere))
       (inr (
         old_many old are ∙ full,

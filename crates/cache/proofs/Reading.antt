@@ -9,7 +9,7 @@ use Rattle.std.specs.Prelude.{◌≢◌, Result, Ok, Err, Vec, IsErrAnd}
 use Rattle.std.specs.declared.alloc.Global.{Global}
 use Rattle.disk.specs.declared.error.Error.{Error}
 use Rattle.disk.specs.declared.error.Error.TheVariants.{OutOfMemory}
-use Rattle.cache.specs.CacheState.{CacheState, held, HoldsByte, put_at, with_piece, with_pieces, pieces_left, ReadsPieces}
+use Rattle.cache.specs.CacheState.{CacheState, cached_page, HoldsByte, put_at, with_piece, with_pieces, pieces_left, ReadsPieces}
 use Rattle.cache.specs.declared.piece.Piece.{Piece}
 use Rattle.std.proofs.lemmas.List.{take_more, take-append-drop}
 use Rattle.disk.proofs.Lists.{joined_element, taken_element, slice_get-drop}
@@ -26,7 +26,7 @@ same_page P a j some low =
 -- the bytes copied so far, and those of one page more
 pub copied_more : (cache : CacheState) (id offset done len : ℕ) (page before : List ℕ)
     → ((i byte : ℕ) → i < done → slice_get before i ≡ Some byte → HoldsByte cache id (offset + i) byte)
-    → held cache (id, (offset + done) / cache.page_size) ≡ Some page
+    → cached_page cache (id, (offset + done) / cache.page_size) ≡ Some page
     → 0 < cache.page_size → (offset + done) % cache.page_size + len ≤ cache.page_size
     → length page ≡ cache.page_size → done ≤ length before → (i byte : ℕ) → i < done + len
     → slice_get (put_at done (take len (drop ((offset + done) % cache.page_size) page)) before) i
@@ -45,8 +45,8 @@ copied_more cache id offset done len page before so_far there some fits size wit
             let at_offset : offset + done + j ≡ offset + i =
             omega (arith, is_at, length-take done before, within) in (
               page,
-              ap (λ n. held cache (id, n / P)) (sym at_offset)
-                  ∙ ap (λ n. held cache (id, n)) parts.0 ∙ there,
+              ap (λ n. cached_page cache (id, n / P)) (sym at_offset)
+                  ∙ ap (λ n. cached_page cache (id, n)) parts.0 ∙ there,
               ap (λ n. slice_get page (n % P)) (sym at_offset)
                   ∙ ap (slice_get page) parts.1 ∙ sym (slice_get-drop skip page j)
                   ∙ taken_element len (drop skip page) j byte here,
@@ -108,7 +108,7 @@ put_rest offset bytes buf fits =
 pub come_more : (cache : CacheState) (id offset most done len p skip : ℕ)
     (page before now after : List ℕ) → HasCome cache id offset most done before now
     → p ≡ (offset + done) / cache.page_size → skip ≡ (offset + done) % cache.page_size
-    → skip < cache.page_size → held cache (id, p) ≡ Some page → length page ≡ cache.page_size
+    → skip < cache.page_size → cached_page cache (id, p) ≡ Some page → length page ≡ cache.page_size
     → len ≤ length page - skip → len ≤ most - done → most ≤ length before
     → after ≡ put_at done (take len (drop skip page)) now
     → HasCome cache id offset most (done + len) before after
@@ -116,8 +116,8 @@ come_more cache id offset most done len p skip page before now after come is_pag
     let mid : List ℕ = take len (drop skip page) in
     let long : length mid ≡ len = omega (arith, length-take len (drop skip page), length-drop skip page, few) in
     let fits : done + length mid ≤ length now = omega (arith, long, short, room, come.size, come.within) in
-    let here : held cache (id, (offset + done) / cache.page_size) ≡ Some page =
-    ap (λ n. held cache (id, n)) (sym is_page) ∙ there in
+    let here : cached_page cache (id, (offset + done) / cache.page_size) ≡ Some page =
+    ap (λ n. cached_page cache (id, n)) (sym is_page) ∙ there in
     record {
       within = omega (arith, short, come.within);
       size = ap length is ∙ put_length done mid now fits ∙ come.size;
@@ -143,11 +143,11 @@ left_of None piece = piece ∷ []
 left_of (Some page) piece = []
 
 left_one : (cache : CacheState) (id : ℕ) (piece : Piece)
-    → pieces_left cache id (piece ∷ []) ≡ left_of (held cache (id, piece.page)) piece
-left_one cache id piece = by_held (held cache (id, piece.page)) refl
+    → pieces_left cache id (piece ∷ []) ≡ left_of (cached_page cache (id, piece.page)) piece
+left_one cache id piece = by_held (cached_page cache (id, piece.page)) refl
   where
-    by_held : (o : Option (List ℕ)) → held cache (id, piece.page) ≡ o
-        → pieces_left cache id (piece ∷ []) ≡ left_of (held cache (id, piece.page)) piece
+    by_held : (o : Option (List ℕ)) → cached_page cache (id, piece.page) ≡ o
+        → pieces_left cache id (piece ∷ []) ≡ left_of (cached_page cache (id, piece.page)) piece
     by_held None is = rw is (refl)
     by_held (Some page) is = rw is (refl)
 
@@ -156,7 +156,7 @@ pub left_more : (cache : CacheState) (id : ℕ) (pieces : List Piece) (i : ℕ) 
     → i < length pieces
     → pieces_left cache id (take (i + 1) pieces)
     ≡ pieces_left cache id (take i pieces)
-    ++ left_of (held cache (id, (slice_index_or pieces i d).page)) (slice_index_or pieces i d)
+    ++ left_of (cached_page cache (id, (slice_index_or pieces i d).page)) (slice_index_or pieces i d)
 left_more cache id pieces i d below =
     ap (pieces_left cache id) (take_more pieces i d below)
     ∙ filter-append _ (take i pieces) (slice_index_or pieces i d ∷ [])
@@ -164,15 +164,15 @@ left_more cache id pieces i d below =
 
 with_joined : (cache : CacheState) (id : ℕ) (pieces : List Piece) (piece : Piece) (buf : List ℕ)
     → with_pieces cache id (pieces ++ piece ∷ []) buf
-    ≡ with_piece (held cache (id, piece.page)) piece (with_pieces cache id pieces buf)
+    ≡ with_piece (cached_page cache (id, piece.page)) piece (with_pieces cache id pieces buf)
 with_joined cache id [] piece buf = refl
 with_joined cache id (p ∷ pieces) piece buf =
-    with_joined cache id pieces piece (with_piece (held cache (id, p.page)) p buf)
+    with_joined cache id pieces piece (with_piece (cached_page cache (id, p.page)) p buf)
 
 pub with_more : (cache : CacheState) (id : ℕ) (pieces : List Piece) (i : ℕ) (d : Piece)
     (buf : List ℕ) → i < length pieces
     → with_pieces cache id (take (i + 1) pieces) buf
-    ≡ with_piece (held cache (id, (slice_index_or pieces i d).page)) (slice_index_or pieces i d)
+    ≡ with_piece (cached_page cache (id, (slice_index_or pieces i d).page)) (slice_index_or pieces i d)
     (with_pieces cache id (take i pieces) buf)
 with_more cache id pieces i d buf below =
     ap (λ l. with_pieces cache id l buf) (take_more pieces i d below)
@@ -181,7 +181,7 @@ with_more cache id pieces i d buf below =
 -- a piece whose page is held
 pub held_step : (cache : CacheState) (id : ℕ) (pieces left : List Piece) (i : ℕ) (d : Piece)
     (page buf now after : List ℕ) → i < length pieces
-    → held cache (id, (slice_index_or pieces i d).page) ≡ Some page
+    → cached_page cache (id, (slice_index_or pieces i d).page) ≡ Some page
     → left ≡ pieces_left cache id (take i pieces)
     → now ≡ with_pieces cache id (take i pieces) buf
     → after ≡ with_piece (Some page) (slice_index_or pieces i d) now
@@ -200,7 +200,7 @@ held_step cache id pieces left i d page buf now after below there is_left is_now
 -- a piece whose page isn't
 pub missing_step : (cache : CacheState) (id : ℕ) (pieces left more : List Piece) (i : ℕ) (d : Piece)
     (buf now : List ℕ) → i < length pieces
-    → held cache (id, (slice_index_or pieces i d).page) ≡ None
+    → cached_page cache (id, (slice_index_or pieces i d).page) ≡ None
     → left ≡ pieces_left cache id (take i pieces)
     → now ≡ with_pieces cache id (take i pieces) buf
     → more ≡ left ++ slice_index_or pieces i d ∷ []
@@ -220,7 +220,7 @@ missing_step cache id pieces left more i d buf now below there is_left is_now is
 pub some_left : (cache : CacheState) (id : ℕ) (pieces left : List Piece) (piece : Piece) (n : ℕ)
     → left ++ piece ∷ [] ≡ pieces_left cache id (take n pieces) → pieces_left cache id pieces ≢ []
 some_left cache id pieces left piece n first = λ none.
-    let test = λ (p : Piece). not (is_some (held cache (id, p.page))) in
+    let test = λ (p : Piece). not (is_some (cached_page cache (id, p.page))) in
     let all : pieces_left cache id (take n pieces) ++ pieces_left cache id (drop n pieces) ≡ pieces_left cache id pieces =
     sym (filter-append test (take n pieces) (drop n pieces)) ∙ ap (λ l. pieces_left cache id l) (take-append-drop n pieces) in
     let long = length-append left (piece ∷ []) in

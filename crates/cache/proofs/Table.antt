@@ -5,7 +5,7 @@ use Rattle.std.specs.Prelude.{Some, None, Vec}
 use Rattle.std.specs.Map.{lookup}
 use Rattle.std.specs.Int.NonZero.{non_zero_u16_get}
 use Rattle.cache.specs.CacheState.{same_key}
-use Rattle.cache.specs.Slots.{AreSlots, AreSlotsBut, HoldsKey, IsNowhere, page_at, pages_of}
+use Rattle.cache.specs.Slots.{AreSlots, AreSlotsBut, cached_pages, HoldsKey, IsNowhere, page_of_slot}
 use Rattle.cache.specs.Chain.{AreLinked}
 use Rattle.std.specs.declared.alloc.Global.{Global}
 use Rattle.cache.specs.declared.slots.Slots.{Slots}
@@ -15,20 +15,20 @@ pub keys_once : (t : Slots) → AreSlots t → IsOnce t.used t.keys.items
 keys_once t are s u low low_too same = are.linked.once s u low low_too (λ is. omega (arith, is, low, are.within)) (λ is. omega (arith, is, low_too, are.within)) same
 
 -- a slot with the key holds the page that is held
-pub held_page : (t : Slots) (key : ℕ × ℕ) (slot : ℕ) → AreSlots t → HoldsKey t key slot → lookup (same_key key) (pages_of t) ≡ Some (page_at (non_zero_u16_get t.page_size) t.bytes.items slot)
+pub held_page : (t : Slots) (key : ℕ × ℕ) (slot : ℕ) → AreSlots t → HoldsKey t key slot → lookup (same_key key) (cached_pages t) ≡ Some (page_of_slot (non_zero_u16_get t.page_size) t.bytes.items slot)
 held_page t key slot are holds = lookup_some t.used (non_zero_u16_get t.page_size) t.keys.items t.bytes.items key slot (keys_once t are) holds.0 are.within holds.1
 
 -- and where none has it, none is
-pub held_none : (t : Slots) (key : ℕ × ℕ) → IsNowhere t key → lookup (same_key key) (pages_of t) ≡ None
+pub held_none : (t : Slots) (key : ℕ × ℕ) → IsNowhere t key → lookup (same_key key) (cached_pages t) ≡ None
 held_none t key nowhere = lookup_none t.used (non_zero_u16_get t.page_size) t.keys.items t.bytes.items key nowhere
 
 -- the bytes that are read of a slot are its page
-pub read_page : (P size slot : ℕ) (bytes now : List ℕ) → size ≡ P → now ≡ bytes → take (slot * size + size - slot * size) (drop (slot * size) now) ≡ page_at P bytes slot
+pub read_page : (P size slot : ℕ) (bytes now : List ℕ) → size ≡ P → now ≡ bytes → take (slot * size + size - slot * size) (drop (slot * size) now) ≡ page_of_slot P bytes slot
 read_page P size slot bytes now size_is same =
     let less : slot * size + size - slot * size ≡ size = omega arith in
     ap (λ (n : ℕ). take n (drop (slot * size) now)) less
     ∙ ap (λ (n : ℕ). take n (drop (slot * n) now)) size_is
-    ∙ ap (λ (l : List ℕ). page_at P l slot) same
+    ∙ ap (λ (l : List ℕ). page_of_slot P l slot) same
 
 -- ---- a table with other chains
 

@@ -6,7 +6,7 @@ use Rattle.std.proofs.lemmas.Bool.{cases_order}
 use Rattle.std.proofs.Math.Seq.{drop-append_seam, take-append_seam}
 use Rattle.std.proofs.Math.Nat.{mul-le-mul_right}
 use Rattle.cache.specs.CacheState.{put_at}
-use Rattle.cache.specs.Slots.{page_at}
+use Rattle.cache.specs.Slots.{page_of_slot}
 
 -- bytes that lie in the front part
 front_part : (P j : ℕ) (xs ys : List ℕ) → j + P ≤ length xs → take P (drop j (xs ++ ys)) ≡ take P (drop j xs)
@@ -49,10 +49,10 @@ module _ (P used slot : ℕ) (bytes buf : List ℕ) (size : length bytes ≡ P) 
       let most : suc slot * P ≤ used * P = mul-le-mul_right P (omega (arith, low)) in
       omega (arith, most, whole)
 
-  pub page_written : page_at P (put_at (slot * P) bytes buf) slot ≡ bytes
+  pub page_written : page_of_slot P (put_at (slot * P) bytes buf) slot ≡ bytes
   page_written = put_here P (slot * P) bytes buf size fits_slot
 
-  pub page_stays : (s : ℕ) → s ≢ slot → page_at P (put_at (slot * P) bytes buf) s ≡ page_at P buf s
+  pub page_stays : (s : ℕ) → s ≢ slot → page_of_slot P (put_at (slot * P) bytes buf) s ≡ page_of_slot P buf s
   page_stays s other = elim (cases_order s slot) [
     | inl same ↦ absurd (other same)
     | inr (inl less) ↦ put_before P (slot * P) bytes buf size fits_slot (s * P) (let most : suc s * P ≤ slot * P = mul-le-mul_right P (omega (arith, less)) in omega (arith, most))

@@ -24,8 +24,8 @@ abbrev pub same_key : ℕ × ℕ → ℕ × ℕ → Bool
 same_key a b = nat_eq a.0 b.0 && nat_eq a.1 b.1
 
 -- the page that is held under a key
-abbrev pub held : CacheState → ℕ × ℕ → Option (List ℕ)
-held cache key = lookup (same_key key) cache.pages
+abbrev pub cached_page : CacheState → ℕ × ℕ → Option (List ℕ)
+cached_page cache key = lookup (same_key key) cache.pages
 
 -- the ids given before this one is next
 abbrev pub ids_given : Option ℕ → ℕ
@@ -57,20 +57,20 @@ pub record SameSettings (old new : CacheState) : Type 0 where
 -- what is held under every key but these two stays as it is
 abbrev pub OthersStay : ℕ × ℕ → ℕ × ℕ → CacheState → CacheState → Type 0
 OthersStay key gone old new =
-    (other : ℕ × ℕ) → other ≢ key → other ≢ gone → held new other ≡ held old other
+    (other : ℕ × ℕ) → other ≢ key → other ≢ gone → cached_page new other ≡ cached_page old other
 
 -- the page is held now, one key alone may be gone for it, and so many are held
 pub record IsHeld (key gone : ℕ × ℕ) (bytes : List ℕ) (many : ℕ) (old new : CacheState)
     : Type 0 where
   pub settings : SameSettings old new
-  pub here : held new key ≡ Some bytes
+  pub here : cached_page new key ≡ Some bytes
   pub others : OthersStay key gone old new
   pub count : length new.pages ≡ many
 
 -- in a full cache one held key goes, and no second one
 abbrev pub Evicts : ℕ × ℕ → List ℕ → CacheState → CacheState → Type 0
 Evicts key bytes old new =
-    (gone : ℕ × ℕ) × (is_some (held old gone) ≡ true) × (held new gone ≡ None)
+    (gone : ℕ × ℕ) × (is_some (cached_page old gone) ≡ true) × (cached_page new gone ≡ None)
     × IsHeld key gone bytes old.capacity old new
 
 -- a page is put, by what was held under its key: a present key is written over. A new one is added;
@@ -82,7 +82,7 @@ PutGoes None key bytes old new =
     ⊎ ((length old.pages ≡ old.capacity) × Evicts key bytes old new)
 
 abbrev pub Puts : ℕ × ℕ → List ℕ → CacheState → CacheState → Type 0
-Puts key bytes old new = PutGoes (held old key) key bytes old new
+Puts key bytes old new = PutGoes (cached_page old key) key bytes old new
 
 -- so many whole pages that these bytes begin with are put in order, the first under this number
 abbrev pub PutsAll : (id page count : ℕ) → List ℕ → CacheState → CacheState → Type 0
@@ -101,13 +101,13 @@ put_count P page len = min (len / P) (2 ^ 64 - page)
 -- the byte at a logical offset of a blob
 abbrev pub HoldsByte : CacheState → (id offset byte : ℕ) → Type 0
 HoldsByte cache id offset byte =
-    (page : List ℕ) × (held cache (id, offset / cache.page_size) ≡ Some page)
+    (page : List ℕ) × (cached_page cache (id, offset / cache.page_size) ≡ Some page)
     × (slice_get page (offset % cache.page_size) ≡ Some byte)
 
 -- no page holds it, or there is no such offset
 abbrev pub IsMissing : CacheState → (id offset : ℕ) → Type 0
 IsMissing cache id offset =
-    (2 ^ 64 ≤ offset) ⊎ (held cache (id, offset / cache.page_size) ≡ None)
+    (2 ^ 64 ≤ offset) ⊎ (cached_page cache (id, offset / cache.page_size) ≡ None)
 
 -- the bytes of a blob from an offset on are copied up to the first that is missing; the rest of the
 -- buffer is as it was
@@ -141,11 +141,12 @@ with_piece (Some page) piece buf =
 abbrev pub with_pieces : CacheState → (id : ℕ) → List Piece → List ℕ → List ℕ
 with_pieces cache id [] buf = buf
 with_pieces cache id (piece ∷ pieces) buf =
-    with_pieces cache id pieces (with_piece (held cache (id, piece.page)) piece buf)
+    with_pieces cache id pieces (with_piece (cached_page cache (id, piece.page)) piece buf)
 
 -- the pieces whose pages aren't held
 abbrev pub pieces_left : CacheState → (id : ℕ) → List Piece → List Piece
-pieces_left cache id pieces = filter (λ piece. not (is_some (held cache (id, piece.page)))) pieces
+pieces_left cache id pieces =
+    filter (λ piece. not (is_some (cached_page cache (id, piece.page)))) pieces
 
 -- the pieces whose pages are held are copied, the others are answered in order
 abbrev pub ReadsPieces : CacheState → (id : ℕ) → List Piece → List ℕ → List ℕ

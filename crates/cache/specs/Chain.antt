@@ -20,9 +20,9 @@ abbrev pub HasChain : (nexts : List ℕ) → (capacity from : ℕ) → Type 0
 HasChain nexts capacity from = (slots : List ℕ) × IsChain nexts capacity from slots
 
 -- one of these slots is this one
-abbrev pub Stands : (slots : List ℕ) → ℕ → Type 0
-Stands [] s = ⊥
-Stands (x ∷ xs) s = (s ≡ x) ⊎ Stands xs s
+abbrev pub IsAmong : (slots : List ℕ) → ℕ → Type 0
+IsAmong [] s = ⊥
+IsAmong (x ∷ xs) s = (s ≡ x) ⊎ IsAmong xs s
 
 -- none of these slots holds this key
 abbrev pub NoneHolds : (keys : List (ℕ × ℕ)) → ℕ × ℕ → (slots : List ℕ) → Type 0
@@ -46,8 +46,8 @@ pub record IsLink (keys : List (ℕ × ℕ)) (key : ℕ × ℕ) (slots : List �
 pub record ChainOf (In : ℕ → Type 0) (nexts : List ℕ) (capacity from : ℕ) : Type 0 where
   pub slots : List ℕ
   pub chain : IsChain nexts capacity from slots
-  pub only : (s : ℕ) → Stands slots s → In s
-  pub all : (s : ℕ) → In s → Stands slots s
+  pub only : (s : ℕ) → IsAmong slots s → In s
+  pub all : (s : ℕ) → In s → IsAmong slots s
 
 -- a used slot, another than this one, whose key stands at the place
 abbrev pub IsAt : (keys : List (ℕ × ℕ)) → (used but places place s : ℕ) → Type 0

@@ -1,7 +1,7 @@
 -- Pages of a blob's content that a cache holds.
 use Rattle.std.specs.Prelude.{◌≡◌, ◌⊎◌, ◌+◌, ◌*◌, ◌<◌, ◌≤◌, ℕ, List, length, take, drop}
 use Rattle.std.specs.Prelude.{Some, None}
-use Rattle.cache.specs.CacheState.{CacheState, held, SameSettings}
+use Rattle.cache.specs.CacheState.{cached_page, CacheState, SameSettings}
 
 -- a page of a blob's content
 abbrev pub page_of_content : (P : ℕ) → List ℕ → (page : ℕ) → List ℕ
@@ -11,20 +11,20 @@ page_of_content P content page = take P (drop (page * P) content)
 -- the content's
 abbrev pub IsTrueFor : (id : ℕ) → List ℕ → (tip : ℕ) → CacheState → Type 0
 IsTrueFor id content tip cache =
-    (page : ℕ) (bytes : List ℕ) → page < tip → held cache (id, page) ≡ Some bytes
+    (page : ℕ) (bytes : List ℕ) → page < tip → cached_page cache (id, page) ≡ Some bytes
     → bytes ≡ page_of_content cache.page_size content page
 
 -- nothing is held of a blob whose id is still to be given
 abbrev pub IsFresh : CacheState → Type 0
-IsFresh cache = (key : ℕ × ℕ) → cache.ids_given ≤ key.0 → held cache key ≡ None
+IsFresh cache = (key : ℕ × ℕ) → cache.ids_given ≤ key.0 → cached_page cache key ≡ None
 
 -- what a call of a blob's writer or reader does to one key: what it held it holds, or nothing; or
 -- it is of this blob, numbered from here on, of a full page, and holds the content's page
 abbrev pub KeyGoes : (id from : ℕ) → List ℕ → ℕ × ℕ → CacheState → CacheState → Type 0
 KeyGoes id from content key old new =
-    (held new key ≡ held old key) ⊎ (held new key ≡ None)
+    (cached_page new key ≡ cached_page old key) ⊎ (cached_page new key ≡ None)
     ⊎ ((key.0 ≡ id) × (from ≤ key.1) × ((key.1 + 1) * old.page_size ≤ length content)
-    × (held new key ≡ Some (page_of_content old.page_size content key.1)))
+    × (cached_page new key ≡ Some (page_of_content old.page_size content key.1)))
 
 -- what a call of a blob's writer or reader does to a cache: its settings stay, and each key goes as
 -- `KeyGoes` says

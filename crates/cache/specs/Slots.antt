@@ -13,8 +13,8 @@ abbrev pub key_at : Slots → (slot : ℕ) → ℕ × ℕ
 key_at t slot = slice_index_or t.keys.items slot (0, 0)
 
 -- the page of a slot among these bytes
-abbrev pub page_at : (P : ℕ) → List ℕ → (slot : ℕ) → List ℕ
-page_at P bytes slot = take P (drop (slot * P) bytes)
+abbrev pub page_of_slot : (P : ℕ) → List ℕ → (slot : ℕ) → List ℕ
+page_of_slot P bytes slot = take P (drop (slot * P) bytes)
 
 -- the finite map: the pages of the slots that are used, each under its key
 abbrev pub pages_in : (used P : ℕ) → List (ℕ × ℕ) → List ℕ → List ((ℕ × ℕ) × List ℕ)
@@ -22,8 +22,8 @@ pages_in zero P keys bytes = []
 pages_in (suc n) P [] bytes = []
 pages_in (suc n) P (key ∷ keys) bytes = (key, take P bytes) ∷ pages_in n P keys (drop P bytes)
 
-abbrev pub pages_of : Slots → List ((ℕ × ℕ) × List ℕ)
-pages_of t = pages_in t.used (non_zero_u16_get t.page_size) t.keys.items t.bytes.items
+abbrev pub cached_pages : Slots → List ((ℕ × ℕ) × List ℕ)
+cached_pages t = pages_in t.used (non_zero_u16_get t.page_size) t.keys.items t.bytes.items
 
 -- the cache with this table that has given so many ids
 abbrev pub cache_of : (ids : ℕ) → Slots → CacheState
@@ -31,7 +31,7 @@ cache_of ids t = record {
   page_size = non_zero_u16_get t.page_size;
   capacity = length t.keys.items;
   ids_given = ids;
-  pages = pages_of t;
+  pages = cached_pages t;
 }
 
 -- what holds of the table, without one slot. Of the hints nothing is asked except that there are
@@ -79,10 +79,10 @@ pub record Taken (slot : ℕ) (bytes : List ℕ) (old new : Slots) : Type 0 wher
   pub are : AreSlotsBut slot new
   pub page_size : new.page_size ≡ old.page_size
   pub keys : new.keys ≡ old.keys
-  pub page : page_at (non_zero_u16_get old.page_size) new.bytes.items slot ≡ bytes
+  pub page : page_of_slot (non_zero_u16_get old.page_size) new.bytes.items slot ≡ bytes
   pub others : (s : ℕ) → s < old.used → s ≢ slot
-      → page_at (non_zero_u16_get old.page_size) new.bytes.items s
-      ≡ page_at (non_zero_u16_get old.page_size) old.bytes.items s
+      → page_of_slot (non_zero_u16_get old.page_size) new.bytes.items s
+      ≡ page_of_slot (non_zero_u16_get old.page_size) old.bytes.items s
 
 -- the chains alone changed
 abbrev pub Unlinked : (old new : Slots) → Type 0

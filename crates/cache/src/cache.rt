@@ -3,7 +3,7 @@ ghost use Rattle.std.specs.Prelude.{◌≡◌, ◌<◌, ◌≤◌, ◌^◌, ◌/
 ghost use Rattle.std.specs.Prelude.{length, is_some};
 ghost use Rattle.std.specs.Result.{OkIff};
 ghost use Rattle.std.specs.Int.NonZero.{non_zero_u16_get, non_zero_usize_get};
-ghost use Rattle.cache.specs.CacheState.{after_next_id, empty_cache, held};
+ghost use Rattle.cache.specs.CacheState.{after_next_id, cached_page, empty_cache};
 
 use crate::slots::Slots;
 use disk::Error;
@@ -63,7 +63,7 @@ impl CacheRef {
 
     /// Whether it holds a page of a blob.
     pub fn holds(&self, id: u64, page: u64) -> bool
-        ensures { result ≡ is_some (held self.now (id, page)) }
+        ensures { result ≡ is_some (cached_page self.now (id, page)) }
     {
         self.slots.get((id, page)).is_some()
     }

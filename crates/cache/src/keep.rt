@@ -20,7 +20,7 @@ impl CacheRef {
     /// whose number would pass the greatest `u64` isn't put. It takes no memory.
     pub fn cache(&mut self, id: u64, buf: &[u8], offset: u64) -> usize
         requires { offset % self.old.page_size ≡ 0 }
-        ensures puts { let page = offset / self.old.page_size in
+        ensures puts_all { let page = offset / self.old.page_size in
             let count = put_count self.old.page_size page (length buf.now) in
             PutsAll id page count buf.now self.old self.new }
         ensures left { let page = offset / self.old.page_size in

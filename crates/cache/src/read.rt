@@ -1,6 +1,6 @@
 // Looking pages up.
 ghost use Rattle.std.specs.Prelude.{◌≡◌, length, All, IfSome, option_copied};
-ghost use Rattle.cache.specs.CacheState.{ReadsCached, IsPiece, ReadsPieces, held};
+ghost use Rattle.cache.specs.CacheState.{ReadsCached, IsPiece, ReadsPieces, cached_page};
 
 use crate::cache::CacheRef;
 use crate::fill::copy_at;
@@ -10,7 +10,7 @@ use disk::Error;
 impl CacheRef {
     /// A page that is held.
     fn page(&self, id: u64, page: u64) -> Option<&[u8]>
-        ensures page { option_copied result ≡ held self.now (id, page) }
+        ensures page { option_copied result ≡ cached_page self.now (id, page) }
         ensures size { IfSome result (λ bytes. length bytes.now ≡ self.now.page_size) }
     {
         self.slots.get((id, page))
@@ -47,7 +47,7 @@ impl CacheRef {
         pieces: &[Piece],
     ) -> Result<Vec<Piece>, Error>
         requires { All (λ piece. IsPiece self.now.page_size (length buf.old) piece) pieces.now }
-        ensures reads { ReadsPieces self.now id pieces.now buf.old buf.new result }
+        ensures copies { ReadsPieces self.now id pieces.now buf.old buf.new result }
         ensures size { length buf.new ≡ length buf.old }
     {
         let mut left = Vec::new(self.alloc);

@@ -5,7 +5,7 @@ ghost use Rattle.std.specs.Int.NonZero.{non_zero_u16_get};
 ghost use Rattle.std.specs.Map.{lookup};
 ghost use Rattle.cache.specs.CacheState.{same_key};
 ghost use Rattle.cache.specs.Chain.{HasChain, IsChain, IsLink, NoneHolds, place_of};
-ghost use Rattle.cache.specs.Slots.{AreSlots, HoldsKey, IsNowhere, pages_of};
+ghost use Rattle.cache.specs.Slots.{AreSlots, cached_pages, HoldsKey, IsNowhere};
 
 use crate::slots::{Key, Link, Slots};
 
@@ -76,7 +76,7 @@ impl Slots {
     /// The page that is held under a key.
     pub(crate) fn get(&self, key: Key) -> Option<&[u8]>
         requires { AreSlots self.now }
-        ensures page { option_copied result ≡ lookup (same_key key) (pages_of self.now) }
+        ensures page { option_copied result ≡ lookup (same_key key) (cached_pages self.now) }
         ensures size { IfSome result (λ bytes.
             length bytes.now ≡ non_zero_u16_get self.now.page_size) }
     {

@@ -7,8 +7,8 @@ use Rattle.items.specs.State.{ItemsState, ItemsReplayState, ItemsSnapshotState}
 use Rattle.items.specs.Standing.{AreItems, IsItemsReplay, IsItemsSnapshot}
 
 -- the snapshot's full pages are not past those of the items
-abbrev pub IsBelow : ItemsState → ItemsSnapshotState → Type 0
-IsBelow s r = r.tail.full_pages ≤ s.writer.full_pages
+abbrev pub IsSnapshotBelow : ItemsState → ItemsSnapshotState → Type 0
+IsSnapshotBelow s r = r.tail.full_pages ≤ s.writer.full_pages
 
 -- the replay's pages have the size of the items' pages, and its full pages are not past theirs
 abbrev pub IsAlong : ItemsState → ItemsReplayState → Type 0
@@ -24,5 +24,5 @@ pub record AreSet (sum : List ℕ → ℕ) (items : Option ItemsState)
   pub stand : IfSome items (λ s. AreItems sum s cache life)
   pub sealed : IfSome snapshot (λ r. IsItemsSnapshot sum r cache life)
   pub replays : IfSome replay (λ r. IsItemsReplay sum r life)
-  pub below : IfSome items (λ s. IfSome snapshot (IsBelow s))
+  pub below : IfSome items (λ s. IfSome snapshot (IsSnapshotBelow s))
   pub along : IfSome items (λ s. IfSome replay (IsAlong s))

@@ -11,11 +11,10 @@ use page::Sum;
 use scripts::{Hex, Line, ReadError, parse_line};
 use session::{Reply, Session, Step, run};
 use std::alloc::Global;
-use std::io;
 use std::io::Write;
 use std::marker::Model;
-use std::mem;
 use std::num::{NonZeroU16, NonZeroUsize};
+use std::{io, mem};
 
 // What a step asks of both sessions.
 #[derive(Clone, Copy)]

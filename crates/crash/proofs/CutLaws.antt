@@ -3,7 +3,7 @@ use Rattle.std.proofs.Common.{◌≡◌, ◌⊎◌, inl, inr, ℕ, zero, suc, �
 use Rattle.std.proofs.lemmas.Bool.{cases_lt}
 use Rattle.std.proofs.lemmas.List.{take_all, take-take, drop_at}
 use Rattle.std.proofs.lemmas.Option.{same_Some, slice_get_within}
-use Rattle.disk.specs.Disk.{Disk, Life, Operation, Operated, ResizeTo, SyncAll, IsImage, IsPartial, ResizeGoes, SyncGoes, applied, next, logged, settled_disk}
+use Rattle.disk.specs.Disk.{Disk, Life, Operation, HasOperated, ResizeTo, SyncAll, IsImage, IsPartial, ResizeGoes, SyncGoes, applied, next, logged, settled_disk}
 use Rattle.disk.specs.Disk.Operation.{Resize}
 use Rattle.disk.specs.declared.error.Error.{Error}
 use Rattle.disk.specs.declared.error.Error.TheVariants.{ReadFailed, WriteFailed, ResizeFailed, SyncFailed, InvalidChecksum, BlobInsufficientLength, OffsetOverflow, OutOfMemory, IdsExhausted}
@@ -238,7 +238,7 @@ partial_says sum P k content old new some within says cut_says partial =
 -- ---- lives
 
 -- a resize that failed may be cut short
-failed_resize : (len : ℕ) (old new : Life) (e : Error) → (e ≡ ResizeFailed) × ((d : Disk) × (new ≡ next old d) × Operated (Resize len) (ResizeTo len) true old.present d)
+failed_resize : (len : ℕ) (old new : Life) (e : Error) → (e ≡ ResizeFailed) × ((d : Disk) × (new ≡ next old d) × HasOperated (Resize len) (ResizeTo len) true old.present d)
     → (new ≡ old) ⊎ ((d : Disk) × (new ≡ next old d) × (d.base ≡ old.present.base) × (d.since ≡ old.present.since ++ Resize len ∷ []) × IsPartial (Resize len) old.present.readable d.readable)
 failed_resize len old new e (is, (d, goes, operated)) =
     inr (d, goes, operated_base (Resize len) (ResizeTo len) true old.present d operated, operated_since (Resize len) (ResizeTo len) true old.present d operated, operated.readable)

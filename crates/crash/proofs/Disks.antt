@@ -3,7 +3,7 @@ use Rattle.std.proofs.Common.{◌≡◌, ◌⊎◌, inl, inr, ℕ, ◌+◌, ◌-
 use Rattle.std.proofs.lemmas.Bool.{cases_lt}
 use Rattle.std.proofs.lemmas.Option.{slice_get_within, same_Some}
 use Rattle.std.proofs.lemmas.List.{length-replicate}
-use Rattle.disk.specs.Disk.{Disk, Operation, Request, Operated, IsImage, IsWhole, IsPartial, SomeWrites, Writes, applied}
+use Rattle.disk.specs.Disk.{Disk, Operation, Request, HasOperated, IsImage, IsWhole, IsPartial, SomeWrites, Writes, applied}
 use Rattle.disk.specs.Disk.Operation.{Write, Resize}
 use Rattle.disk.proofs.Lists.{slice_get-drop, joined_element, taken_element}
 use Rattle.crash.specs.Guard.{Fixed}
@@ -385,13 +385,13 @@ fixed_covered d e os ps offset bytes since base rest fixed =
     }
 
 -- an operation that was asked for leaves the base, and is unsynced
-pub operated_base : (o : Operation) (request : Request) (failed : Bool) (d e : Disk) → Operated o request failed d e → e.base ≡ d.base
+pub operated_base : (o : Operation) (request : Request) (failed : Bool) (d e : Disk) → HasOperated o request failed d e → e.base ≡ d.base
 operated_base o request failed d e operated = ap (λ (x : Disk). x.base) operated.rest
 
-pub operated_since : (o : Operation) (request : Request) (failed : Bool) (d e : Disk) → Operated o request failed d e → e.since ≡ d.since ++ o ∷ []
+pub operated_since : (o : Operation) (request : Request) (failed : Bool) (d e : Disk) → HasOperated o request failed d e → e.since ≡ d.since ++ o ∷ []
 operated_since o request failed d e operated = ap (λ (x : Disk). x.since) operated.rest
 
 -- and leaves what is readable an image
-pub operated_readable : (o : Operation) (request : Request) (failed : Bool) (d e : Disk) → Operated o request failed d e → IsImage d d.readable → IsImage e e.readable
+pub operated_readable : (o : Operation) (request : Request) (failed : Bool) (d e : Disk) → HasOperated o request failed d e → IsImage d d.readable → IsImage e e.readable
 operated_readable o request failed d e operated is_image =
     readable_stays d e o d.readable e.readable (operated_base o request failed d e operated) (operated_since o request failed d e operated) operated.readable is_image

@@ -1,6 +1,6 @@
 -- Calls that change nothing but the log.
 use Rattle.std.proofs.Common.{◌≡◌, ℕ, List, [], ◌∷◌, take, drop, refl, sym, ap, ◌∙◌, subst, Bool, true, false, Ok, Err, Result}
-use Rattle.disk.specs.Disk.{Disk, Life, Request, ReadAt, next, logged, AskedOnce, ReadGoes}
+use Rattle.disk.specs.Disk.{Disk, Life, Request, ReadAt, next, logged, AskedOnce, DeviceReadGoes}
 use Rattle.disk.specs.declared.error.Error.{Error}
 use Rattle.disk.specs.declared.error.Error.TheVariants.{ReadFailed, WriteFailed, ResizeFailed, SyncFailed, InvalidChecksum, BlobInsufficientLength, OffsetOverflow, OutOfMemory, IdsExhausted}
 use Rattle.disk.proofs.Logs.{grows_once}
@@ -23,7 +23,7 @@ pub looked_none : (old new : Life) → new ≡ old → Looked old new
 looked_none old new is = subst (λ l. Looked old l) (sym is) (looked_start old)
 
 -- a read of the device, whatever it answers
-pub looked_read : (offset len : ℕ) (old new : Life) (result : Result (List ℕ) Error) → ReadGoes offset len old new result → Looked old new
+pub looked_read : (offset len : ℕ) (old new : Life) (result : Result (List ℕ) Error) → DeviceReadGoes offset len old new result → Looked old new
 looked_read offset len old new (Ok bytes) goes = looked_asked (ReadAt offset len) false old new goes.2
 looked_read offset len old new (Err ReadFailed) goes = looked_asked (ReadAt offset len) true old new goes
 looked_read offset len old new (Err WriteFailed) goes = absurd goes
@@ -40,7 +40,7 @@ pub looked_readable : (old new : Life) → Looked old new → new.present.readab
 looked_readable old new looked = ap (λ (d : Disk). d.readable) looked.same
 
 -- what a read after a look gave
-pub read_gives : (offset len : ℕ) (start old new : Life) (bytes : List ℕ) → Looked start old → ReadGoes offset len old new (Ok bytes)
+pub read_gives : (offset len : ℕ) (start old new : Life) (bytes : List ℕ) → Looked start old → DeviceReadGoes offset len old new (Ok bytes)
     → bytes ≡ take len (drop offset start.present.readable)
 read_gives offset len start old new bytes so_far goes =
     goes.1 ∙ ap (λ (l : List ℕ). take len (drop offset l)) (looked_readable start old so_far)

@@ -7,7 +7,7 @@ use Rattle.disk.specs.Disk.Operation.{Write, Resize}
 use Rattle.page.specs.Slot.{slot_offset}
 use Rattle.page.specs.Page.{slot_of, verified_len, value, value_len, pages, text, text_of_pages}
 use Rattle.page.specs.declared.slot.Slot.{Slot}
-use Rattle.crash.specs.Guard.{Held, IsSlotFor, IsGuarded, Guards, IsTruthful, IsChanceFree}
+use Rattle.crash.specs.Guard.{IsPinned, IsSlotFor, IsGuarded, Guards, IsTruthful, IsChanceFree}
 use Rattle.crash.specs.Kept.{AllKeep, AreHeld}
 use Rattle.crash.specs.Contents.{latest}
 use Rattle.crash.proofs.Disks.{fixed_length, fixed_in_image, fixed_stays, fixed_settles, fixed_at_rest, fixed_alike, Leaves, resize_leaves, write_after_leaves, base_is_image, one_more_whole, fixed_covered}
@@ -17,17 +17,17 @@ use Rattle.crash.proofs.Texts.{verified_len_le, verified_le_value, value_len_le}
 use Rattle.crash.proofs.PageFacts.{slot_offset_le, page_begins, slot_at, slot_from_verified, value_len_slot, verified_len_held, Says, text_begins, text_within, has_part}
 
 -- where a page's end is fixed, each image has the page
-held_page : (sum : List ℕ → ℕ) (P : ℕ) (d : Disk) (p : ℕ) (s : Slot) (slot bytes image : List ℕ) → Held sum P d p s slot bytes → IsImage d image
+held_page : (sum : List ℕ → ℕ) (P : ℕ) (d : Disk) (p : ℕ) (s : Slot) (slot bytes image : List ℕ) → IsPinned sum P d p s slot bytes → IsImage d image
     → slice_get (pages P image) p ≡ Some (take (P + 12) (drop (p * (P + 12)) image))
 held_page sum P d p s slot bytes image held is_image = pages_at P p image (omega (arith, fixed_length d ((p + 1) * (P + 12)) [] image held.end is_image))
 
 -- a page that is held begins with its bytes in each image
-pub held_begins : (sum : List ℕ → ℕ) (P : ℕ) (d : Disk) (p : ℕ) (s : Slot) (slot bytes image page : List ℕ) → Held sum P d p s slot bytes → IsImage d image → slice_get (pages P image) p ≡ Some page → take (length bytes) page ≡ bytes
+pub held_begins : (sum : List ℕ → ℕ) (P : ℕ) (d : Disk) (p : ℕ) (s : Slot) (slot bytes image page : List ℕ) → IsPinned sum P d p s slot bytes → IsImage d image → slice_get (pages P image) p ≡ Some page → take (length bytes) page ≡ bytes
 held_begins sum P d p s slot bytes image page held is_image is =
     page_begins P p (length bytes) image page is (omega (arith, held.fits)) ∙ fixed_in_image d (p * (P + 12)) bytes image held.payload is_image
 
 -- and its slot verifies over them
-pub held_verifies : (sum : List ℕ → ℕ) (P : ℕ) (d : Disk) (p : ℕ) (s : Slot) (slot bytes image page : List ℕ) → Held sum P d p s slot bytes → IsImage d image → slice_get (pages P image) p ≡ Some page → verified_len sum P s page ≡ length bytes
+pub held_verifies : (sum : List ℕ → ℕ) (P : ℕ) (d : Disk) (p : ℕ) (s : Slot) (slot bytes image page : List ℕ) → IsPinned sum P d p s slot bytes → IsImage d image → slice_get (pages P image) p ≡ Some page → verified_len sum P s page ≡ length bytes
 held_verifies sum P d p s slot bytes image page held is_image is =
     let same : slot ≡ slot_of P s page =
     sym (fixed_in_image d (p * (P + 12) + P + slot_offset s) slot image held.fixed_slot is_image)
@@ -74,7 +74,7 @@ pub record LeavesPage (o : Operation) (P p : ℕ) (s : Slot) (slot bytes : List 
   pub end : Leaves o ((p + 1) * (P + 12)) []
 
 -- a page that is held stays so under an operation that leaves it
-pub held_stays : (sum : List ℕ → ℕ) (P : ℕ) (d e : Disk) (o : Operation) (p : ℕ) (s : Slot) (slot bytes : List ℕ) → e.base ≡ d.base → e.since ≡ d.since ++ o ∷ [] → LeavesPage o P p s slot bytes → Held sum P d p s slot bytes → Held sum P e p s slot bytes
+pub held_stays : (sum : List ℕ → ℕ) (P : ℕ) (d e : Disk) (o : Operation) (p : ℕ) (s : Slot) (slot bytes : List ℕ) → e.base ≡ d.base → e.since ≡ d.since ++ o ∷ [] → LeavesPage o P p s slot bytes → IsPinned sum P d p s slot bytes → IsPinned sum P e p s slot bytes
 held_stays sum P d e o p s slot bytes base since leaves held = record {
   some = held.some;
   fits = held.fits;
@@ -85,7 +85,7 @@ held_stays sum P d e o p s slot bytes base since leaves held = record {
 }
 
 -- and when an image becomes the base
-pub held_settles : (sum : List ℕ → ℕ) (P : ℕ) (d e : Disk) (p : ℕ) (s : Slot) (slot bytes : List ℕ) → IsImage d e.base → e.since ≡ [] → Held sum P d p s slot bytes → Held sum P e p s slot bytes
+pub held_settles : (sum : List ℕ → ℕ) (P : ℕ) (d e : Disk) (p : ℕ) (s : Slot) (slot bytes : List ℕ) → IsImage d e.base → e.since ≡ [] → IsPinned sum P d p s slot bytes → IsPinned sum P e p s slot bytes
 held_settles sum P d e p s slot bytes is_image at_rest held = record {
   some = held.some;
   fits = held.fits;
@@ -96,7 +96,7 @@ held_settles sum P d e p s slot bytes is_image at_rest held = record {
 }
 
 -- and where only what is readable, the started syncs or the log differ
-pub held_alike : (sum : List ℕ → ℕ) (P : ℕ) (d e : Disk) (p : ℕ) (s : Slot) (slot bytes : List ℕ) → e.base ≡ d.base → e.since ≡ d.since → Held sum P d p s slot bytes → Held sum P e p s slot bytes
+pub held_alike : (sum : List ℕ → ℕ) (P : ℕ) (d e : Disk) (p : ℕ) (s : Slot) (slot bytes : List ℕ) → e.base ≡ d.base → e.since ≡ d.since → IsPinned sum P d p s slot bytes → IsPinned sum P e p s slot bytes
 held_alike sum P d e p s slot bytes base since held = record {
   some = held.some;
   fits = held.fits;
@@ -107,7 +107,7 @@ held_alike sum P d e p s slot bytes base since held = record {
 }
 
 -- and when the operations that a sync covers become durable
-pub held_covered : (sum : List ℕ → ℕ) (P : ℕ) (d e : Disk) (os ps : List Operation) (p : ℕ) (s : Slot) (slot bytes : List ℕ) → d.since ≡ os ++ ps → e.base ≡ latest d.base os → e.since ≡ ps → Held sum P d p s slot bytes → Held sum P e p s slot bytes
+pub held_covered : (sum : List ℕ → ℕ) (P : ℕ) (d e : Disk) (os ps : List Operation) (p : ℕ) (s : Slot) (slot bytes : List ℕ) → d.since ≡ os ++ ps → e.base ≡ latest d.base os → e.since ≡ ps → IsPinned sum P d p s slot bytes → IsPinned sum P e p s slot bytes
 held_covered sum P d e os ps p s slot bytes since base rest held = record {
   some = held.some;
   fits = held.fits;
@@ -118,7 +118,7 @@ held_covered sum P d e os ps p s slot bytes since base rest held = record {
 }
 
 -- a guarded page, over to a disk on which it is held too
-guarded_on : (sum : List ℕ → ℕ) (P : ℕ) (content : List ℕ) (floor : ℕ) (d e : Disk) (p : ℕ) (g : IsGuarded sum P content floor d p) → Held sum P e p g.slot g.bytes (take g.len (drop (p * P) content)) → IsGuarded sum P content floor e p
+guarded_on : (sum : List ℕ → ℕ) (P : ℕ) (content : List ℕ) (floor : ℕ) (d e : Disk) (p : ℕ) (g : IsGuarded sum P content floor d p) → IsPinned sum P e p g.slot g.bytes (take g.len (drop (p * P) content)) → IsGuarded sum P content floor e p
 guarded_on sum P content floor d e p g held = record { slot = g.slot; bytes = g.bytes; len = g.len; enough = g.enough; there = g.there; held = held }
 
 -- guarded pages stay guarded under an operation that leaves them
@@ -202,7 +202,7 @@ guards_longer sum P content longer floor d begins guards =
       len = g.len;
       enough = g.enough;
       there = omega (arith, g.there);
-      held = subst (λ (l : List ℕ). Held sum P d p g.slot g.bytes l) (part_of_beginning g.len (p * P) content longer begins g.there) g.held;
+      held = subst (λ (l : List ℕ). IsPinned sum P d p g.slot g.bytes l) (part_of_beginning g.len (p * P) content longer begins g.there) g.held;
     }
 
 -- with nothing unsynced the whole text of the base is guarded
@@ -220,7 +220,7 @@ guards_at_rest sum P d some at_rest =
     let slot_is = slot_at P p s d.base part.page part.there in
     let is_slot : IsSlotFor sum (take len part.page) (slot_of P s part.page) =
     subst (λ (n : ℕ). IsSlotFor sum (take n part.page) (slot_of P s part.page)) (sym chosen.1) (slot_from_verified sum P s part.page whole (omega (arith, part.some, chosen.1))) in
-    let held : Held sum P d p s (slot_of P s part.page) (take len part.page) = record {
+    let held : IsPinned sum P d p s (slot_of P s part.page) (take len part.page) = record {
       some = omega (arith, part.some);
       fits = omega arith;
       payload = fixed_at_rest d (p * (P + 12)) (take len part.page) at_rest (omega arith) (ap (λ (n : ℕ). take n (drop (p * (P + 12)) d.base)) as_long ∙ sym (page_begins P p len d.base part.page part.there (omega arith)));
@@ -234,7 +234,7 @@ guards_at_rest sum P d some at_rest =
       len = len;
       enough = part.enough;
       there = part.inside;
-      held = subst (λ (l : List ℕ). Held sum P d p s (slot_of P s part.page) l) part.begins held;
+      held = subst (λ (l : List ℕ). IsPinned sum P d p s (slot_of P s part.page) l) part.begins held;
     }
 
 -- so every image has that text

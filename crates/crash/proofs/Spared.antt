@@ -10,7 +10,7 @@ use Rattle.page.specs.Page.{slot_of, slot_bytes, slot_len, verified_len, pages}
 use Rattle.page.specs.declared.slot.Slot.{Slot}
 use Rattle.page.specs.declared.slot.ActiveChecksum.{ActiveChecksum}
 use Rattle.crash.specs.Built.{kept_slot, kept_len, page_of, built_pages, built}
-use Rattle.crash.specs.Guard.{Held, IsGuarded, Guards, IsTruthful}
+use Rattle.crash.specs.Guard.{IsPinned, IsGuarded, Guards, IsTruthful}
 use Rattle.crash.specs.Contents.{latest}
 use Rattle.crash.proofs.Disks.{latest_is_whole, write_in_front_leaves, write_again_leaves}
 use Rattle.crash.proofs.Promise.{LeavesPage, held_stays, guards_below, write_leaves_below, SaysOnly, truthful_stays}
@@ -55,13 +55,13 @@ flush_leaves_tip sum P full w (suc m) tip bytes begins fits = record {
 
 -- so what the durable slot holds stays held
 pub held_through_flush : (sum : List ℕ → ℕ) (P full : ℕ) (d e : Disk) (w : ActiveChecksum) (m : ℕ) (tip bytes : List ℕ) → e.base ≡ d.base → e.since ≡ d.since ++ Write (full * (P + 12)) (built sum P (Some w) m tip) ∷ []
-    → bytes ≡ take (length bytes) tip → Held sum P d full w.slot (slot_bytes w.len w.crc) bytes → Held sum P e full w.slot (slot_bytes w.len w.crc) bytes
+    → bytes ≡ take (length bytes) tip → IsPinned sum P d full w.slot (slot_bytes w.len w.crc) bytes → IsPinned sum P e full w.slot (slot_bytes w.len w.crc) bytes
 held_through_flush sum P full d e w m tip bytes base since begins held =
     held_stays sum P d e (Write (full * (P + 12)) (built sum P (Some w) m tip)) full w.slot (slot_bytes w.len w.crc) bytes base since (flush_leaves_tip sum P full w m tip bytes begins held.fits) held
 
 -- full pages that are guarded and a page after them that is held are guarded together
 pub guards_with_tip : (sum : List ℕ → ℕ) (P full : ℕ) (content : List ℕ) (len : ℕ) (d : Disk) (s : Slot) (slot : List ℕ) → full * P + len ≤ length content → Guards sum P content (full * P) d
-    → Held sum P d full s slot (take len (drop (full * P) content)) → Guards sum P content (full * P + len) d
+    → IsPinned sum P d full s slot (take len (drop (full * P) content)) → Guards sum P content (full * P + len) d
 guards_with_tip sum P full content len d s slot there guards held =
     let as_long : length (take len (drop (full * P) content)) ≡ len = length-take-le len (drop (full * P) content) (omega (arith, length-drop (full * P) content)) in
     λ p below. elim (cases_order p full) [

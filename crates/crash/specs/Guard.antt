@@ -25,7 +25,7 @@ pub record IsSlotFor (sum : List ℕ → ℕ) (bytes slot : List ℕ) : Type 0 w
   pub crc : slot_crc slot ≡ sum bytes
 
 -- these bytes begin page p, and one of its slots verifies over them, whatever a crash leaves
-pub record Held (sum : List ℕ → ℕ) (P : ℕ) (d : Disk) (p : ℕ) (s : Slot) (slot bytes : List ℕ) :
+pub record IsPinned (sum : List ℕ → ℕ) (P : ℕ) (d : Disk) (p : ℕ) (s : Slot) (slot bytes : List ℕ) :
     Type 0 where
   pub some : 0 < length bytes
   pub fits : length bytes ≤ P
@@ -39,7 +39,7 @@ pub record SlotGuard (sum : List ℕ → ℕ) (P : ℕ) (content : List ℕ) (d 
     (f : ActiveChecksum) : Type 0 where
   pub there : full * P + f.len ≤ length content
   pub held :
-      Held sum P d full f.slot (slot_bytes f.len f.crc) (take f.len (drop (full * P) content))
+      IsPinned sum P d full f.slot (slot_bytes f.len f.crc) (take f.len (drop (full * P) content))
 
 -- the same of an optional slot of that page; `None` asks for nothing
 abbrev pub TipGuard : (List ℕ → ℕ) → ℕ → List ℕ → Disk → ℕ → Option ActiveChecksum → Type 0
@@ -54,7 +54,7 @@ pub record IsGuarded (sum : List ℕ → ℕ) (P : ℕ) (content : List ℕ) (fl
   pub len : ℕ
   pub enough : min P (floor - p * P) ≤ len
   pub there : p * P + len ≤ length content
-  pub held : Held sum P d p slot bytes (take len (drop (p * P) content))
+  pub held : IsPinned sum P d p slot bytes (take len (drop (p * P) content))
 
 -- each page that the content's first bytes touch
 abbrev pub Guards : (List ℕ → ℕ) → ℕ → List ℕ → ℕ → Disk → Type 0

@@ -1,19 +1,19 @@
 -- What a device call does to the life of a blob in memory.
 use Rattle.std.proofs.Common.{◌≡◌, ℕ, ◌==◌, List, length, Bool, true, false, Ok, Err, refl}
-use Rattle.disk.specs.Disk.{Operation, Write, Resize, Request, WriteAt, ResizeTo, Disk, Life, Operated, WriteGoes, ResizeGoes}
+use Rattle.disk.specs.Disk.{Operation, Write, Resize, Request, WriteAt, ResizeTo, Disk, Life, HasOperated, WriteGoes, ResizeGoes}
 use Rattle.disk.specs.Images.{done_is_partial, same_is_partial}
 use Rattle.disk.specs.declared.error.Error.TheVariants.{WriteFailed, ResizeFailed}
 use Rattle.disk.specs.declared.action.Action.{Action}
 use Rattle.disk.specs.declared.action.Action.TheVariants as actions
-use Rattle.disk.specs.History.{History, life_of, life_after_action, told, operated}
+use Rattle.disk.specs.History.{History, life_of, life_after_action, with_action, operated}
 use Rattle.disk.proofs.Histories.{life_told}
 
 -- the life after an action, as it went
-pub life_after : (a : Action) (failed : Bool) (old new : History) → failed ≡ (old.failing == 1) → new ≡ told a old → life_of new ≡ life_after_action a failed (life_of old)
+pub life_after : (a : Action) (failed : Bool) (old new : History) → failed ≡ (old.failing == 1) → new ≡ with_action a old → life_of new ≡ life_after_action a failed (life_of old)
 life_after a failed old new e same = rw (same, e) (life_told a old)
 
 -- an operation that was done, or failed and left all as it was
-operated_is : (o : Operation) (request : Request) (failed : Bool) (d : Disk) → Operated o request failed d (operated o request failed d)
+operated_is : (o : Operation) (request : Request) (failed : Bool) (d : Disk) → HasOperated o request failed d (operated o request failed d)
 operated_is o request true d = record { readable = same_is_partial o d.readable; done = λ h. cc; rest = refl }
 operated_is o request false d = record { readable = done_is_partial o d.readable; done = λ h. refl; rest = refl }
 

@@ -4,7 +4,7 @@ use Rattle.std.proofs.lemmas.List.Sorted.{IsPermutation-reverse}
 use Rattle.std.proofs.lemmas.Map.Keys.{IsDistinct-head}
 use Rattle.disk.specs.Disk.{Life, Write, Resize, settled_disk, logged, ReadMany, StartReadMany, StartReadGoes, SyncAll, next, coverings, Delivers}
 use Rattle.disk.specs.declared.action.Action.TheVariants as actions
-use Rattle.disk.specs.History.{History, begun, life_of, told}
+use Rattle.disk.specs.History.{History, begun, life_of, with_action}
 use Rattle.disk.specs.Memory.{delivery}
 use Rattle.disk.specs.Past.{history_with}
 use Rattle.disk.specs.Torn.{torn}
@@ -52,10 +52,10 @@ pub it_is_unsynced : length (life_of (history_with (actions.Write 1 (7 ∷ []) f
 it_is_unsynced = refl
 
 -- the call that is to fail does, and no other
-pub a_planned_failure : (told actions.Sync (record at_first { failing = 1 })).events ≡ record { action = actions.Sync; failed = true } ∷ []
+pub a_planned_failure : (with_action actions.Sync (record at_first { failing = 1 })).events ≡ record { action = actions.Sync; failed = true } ∷ []
 a_planned_failure = refl
 
-pub not_yet : told actions.Sync (record at_first { failing = 2 }) ≡ record at_first { events = record { action = actions.Sync; failed = false } ∷ []; failing = 1 }
+pub not_yet : with_action actions.Sync (record at_first { failing = 2 }) ≡ record at_first { events = record { action = actions.Sync; failed = false } ∷ []; failing = 1 }
 not_yet = refl
 
 -- a sync that is started after the write covers it, and has the bytes that are readable

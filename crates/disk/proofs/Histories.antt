@@ -9,7 +9,7 @@ use Rattle.disk.specs.declared.action.Action.{Action}
 use Rattle.disk.specs.declared.action.Action.TheVariants as actions
 use Rattle.disk.specs.declared.action.Event.{Event}
 use Rattle.disk.specs.declared.action.Call.{Call}
-use Rattle.disk.specs.History.{History, life_of, life_after_action, life_after_events, begun, told, asked, operation_of, names_in, redone, replayed, operations_of, request_of}
+use Rattle.disk.specs.History.{History, life_of, life_after_action, life_after_events, begun, with_action, asked, operation_of, names_in, redone, replayed, operations_of, request_of}
 use Rattle.disk.specs.Past.{history_with}
 use Rattle.disk.specs.declared.action.Start.{Start}
 use Rattle.disk.specs.Memory.{entries_of, history_of, TellsHistory, settled_after, starts_after, failing_at, started_by, AreWithin, settled_for}
@@ -128,18 +128,18 @@ faults_le h readable calls failed faults earlier settled starts k =
     omega (arith, k.failures, ap failures k.log, failures_le (entries_of calls failed), length-entries_of calls failed k.outcomes)
 
 -- the history of the fields with one event more
-pub history_more : (first : List ℕ) (earlier : ℕ) (calls : List Call) (failed : List Bool) (events : List Event) (failing : ℕ) (backwards : Bool) (a : Action) (c : Call) → earlier ≤ length calls → length failed ≡ length calls → history_of first earlier (calls ++ c ∷ []) (failed ++ (failing == 1) ∷ []) (events ++ event a (failing == 1) ∷ []) (failing - 1) backwards ≡ told a (history_of first earlier calls failed events failing backwards)
+pub history_more : (first : List ℕ) (earlier : ℕ) (calls : List Call) (failed : List Bool) (events : List Event) (failing : ℕ) (backwards : Bool) (a : Action) (c : Call) → earlier ≤ length calls → length failed ≡ length calls → history_of first earlier (calls ++ c ∷ []) (failed ++ (failing == 1) ∷ []) (events ++ event a (failing == 1) ∷ []) (failing - 1) backwards ≡ with_action a (history_of first earlier calls failed events failing backwards)
 history_more first earlier calls failed events failing backwards a c before outcomes =
     rw (take-append-le earlier calls (c ∷ []) before, take-append-le earlier failed ((failing == 1) ∷ []) (omega arith)) refl
 
 -- the same with the fields after it by name
 pub told_next : (first : List ℕ) (calls calls' : List Call) (failed failed' : List Bool) (events events' : List Event) (earlier failing failing' : ℕ) (backwards : Bool) (a : Action) (c : Call) (h : History) → earlier ≤ length calls → length failed ≡ length calls → history_of first earlier calls failed events failing backwards ≡ h
-    → calls' ≡ calls ++ c ∷ [] → failed' ≡ failed ++ (failing == 1) ∷ [] → events' ≡ events ++ event a (failing == 1) ∷ [] → failing' ≡ failing - 1 → history_of first earlier calls' failed' events' failing' backwards ≡ told a h
+    → calls' ≡ calls ++ c ∷ [] → failed' ≡ failed ++ (failing == 1) ∷ [] → events' ≡ events ++ event a (failing == 1) ∷ [] → failing' ≡ failing - 1 → history_of first earlier calls' failed' events' failing' backwards ≡ with_action a h
 told_next first calls calls' failed failed' events events' earlier failing failing' backwards a c h before outcomes same ec ef ee en =
-    rw (ec, ef, ee, en, history_more first earlier calls failed events failing backwards a c before outcomes) (ap (told a) same)
+    rw (ec, ef, ee, en, history_more first earlier calls failed events failing backwards a c before outcomes) (ap (with_action a) same)
 
 -- the life of a history with one event more
-pub life_told : (a : Action) (h : History) → life_of (told a h) ≡ life_after_action a (h.failing == 1) (life_of h)
+pub life_told : (a : Action) (h : History) → life_of (with_action a h) ≡ life_after_action a (h.failing == 1) (life_of h)
 life_told a h = goes_on-append h.events (begun h.first h.earlier) (event a (h.failing == 1))
 
 -- the same, whatever its outcome
@@ -156,7 +156,7 @@ pub readable_is : (h : History) → (life_of h).present.readable ≡ replayed h.
 readable_is h = goes_on_readable h.events (begun h.first h.earlier)
 
 -- the log after it
-log_more : (h : History) (a : Action) → (life_of (told a h)).present.log ≡ (life_of h).present.log ++ entry (asked a) (h.failing == 1) ∷ []
+log_more : (h : History) (a : Action) → (life_of (with_action a h)).present.log ≡ (life_of h).present.log ++ entry (asked a) (h.failing == 1) ∷ []
 log_more h a = ap (λ life. life.present.log) (life_told a h) ∙ lives_log a (h.failing == 1) (life_of h)
 
 -- so many of the events are what is durable, and those after them what isn't
@@ -454,7 +454,7 @@ names_more actions.Sync failed starts n log is = omega (arith, is, names_append 
 
 -- the fields keep a history with one event more
 pub kept_more : (h : History) (a : Action) (readable : List ℕ) (calls : List Call) (failed : List Bool) (faults earlier settled : ℕ) (starts : List Start) (c : Call) → TellsHistory h readable calls failed faults earlier settled starts → request_of c ≡ asked a
-    → TellsHistory (told a h) (redone (event a (h.failing == 1)) readable) (calls ++ c ∷ []) (failed ++ (h.failing == 1) ∷ []) (faults + (if h.failing == 1 then 1 else 0)) earlier (settled_after a (h.failing == 1) starts settled (length h.events)) (starts_after a (h.failing == 1) starts (length h.events))
+    → TellsHistory (with_action a h) (redone (event a (h.failing == 1)) readable) (calls ++ c ∷ []) (failed ++ (h.failing == 1) ∷ []) (faults + (if h.failing == 1 then 1 else 0)) earlier (settled_after a (h.failing == 1) starts settled (length h.events)) (starts_after a (h.failing == 1) starts (length h.events))
 kept_more h a readable calls failed faults earlier settled starts c k same =
     let fails = h.failing == 1 in
     let long_calls = length_push calls c in

@@ -153,8 +153,8 @@ abbrev pub life_of : History → Life
 life_of h = life_after_events (begun h.first h.earlier) h.events
 
 -- one action more, which fails if it is the one that is to fail
-abbrev pub told : Action → History → History
-told action h =
+abbrev pub with_action : Action → History → History
+with_action action h =
     record h {
       events = h.events ++
           record { action = action; failed = h.failing == 1 } ∷ [];

@@ -13,7 +13,7 @@ use Rattle.disk.specs.declared.started_sync.StartedSync.TheVariants.{Done, Named
 use Rattle.disk.specs.declared.error.Error.TheVariants.{SyncFailed, BlobInsufficientLength}
 use Rattle.disk.specs.declared.error.Error.TheVariants.{OutOfMemory, OffsetOverflow}
 use Rattle.disk.specs.History.{History, life_of, request_of, replayed, operations_of}
-use Rattle.disk.specs.History.{names_in, told}
+use Rattle.disk.specs.History.{names_in, with_action}
 use Rattle.disk.specs.declared.action.Action.{Action}
 use Rattle.disk.specs.declared.action.Action.TheVariants as actions
 use Rattle.disk.specs.declared.action.Start.{Start}
@@ -120,16 +120,16 @@ starts_after actions.Sync failed starts events = starts
 -- the device is asked for this, and fails just where it is the call that is to fail; a call that is
 -- refused before changes nothing, and doesn't count
 abbrev pub Asks : {T : Type 0} → Action → History → History → Result T Error → Type 0
-Asks action old new (Ok _) = (old.failing ≢ 1) × (new ≡ told action old)
+Asks action old new (Ok _) = (old.failing ≢ 1) × (new ≡ with_action action old)
 Asks action old new (Err BlobInsufficientLength) = new ≡ old
 Asks action old new (Err OffsetOverflow) = new ≡ old
 Asks action old new (Err OutOfMemory) = new ≡ old
-Asks action old new (Err _) = (old.failing ≡ 1) × (new ≡ told action old)
+Asks action old new (Err _) = (old.failing ≡ 1) × (new ≡ with_action action old)
 
 -- a start of a sync counts, and fails just where it is the one that is to fail; that shows at the
 -- wait
 abbrev pub AsksStart : {T : Type 0} → History → History → Result T Error → Type 0
-AsksStart old new (Ok _) = new ≡ told actions.StartSync old
+AsksStart old new (Ok _) = new ≡ with_action actions.StartSync old
 AsksStart old new (Err _) = new ≡ old
 
 -- a wait counts, and fails just where it is the one that is to fail, or the sync had failed
@@ -137,9 +137,9 @@ abbrev pub AsksWait : StartedSync → (had_failed : Bool) → History → Histor
     → Result (Unit {0}) Error → Type 0
 AsksWait Done had_failed old new result = new ≡ old
 AsksWait (Named name) had_failed old new (Ok _) =
-    (old.failing ≢ 1) × (new ≡ told (actions.WaitSync name) old)
+    (old.failing ≢ 1) × (new ≡ with_action (actions.WaitSync name) old)
 AsksWait (Named name) had_failed old new (Err SyncFailed) =
-    ((old.failing ≡ 1) ⊎ (had_failed ≡ true)) × (new ≡ told (actions.WaitSync name) old)
+    ((old.failing ≡ 1) ⊎ (had_failed ≡ true)) × (new ≡ with_action (actions.WaitSync name) old)
 AsksWait (Named name) had_failed old new (Err _) = new ≡ old
 
 -- the bytes of a range, or none where it passes the end, or no memory

@@ -1,9 +1,9 @@
 // The device.
 ghost use Rattle.std.specs.Prelude.{◌≡◌, [], length, true};
 ghost use Rattle.std.specs.List.{concat};
-ghost use Rattle.disk.specs.Disk.{Life, IsImage, AreCovered, Write, Resize, ReadGoes, WriteGoes};
-ghost use Rattle.disk.specs.Disk.{ReadManyGoes, StartReadGoes, ResizeGoes, SyncGoes, StartGoes};
-ghost use Rattle.disk.specs.Disk.{WaitsFor};
+ghost use Rattle.disk.specs.Disk.{Life, IsImage, AreCovered, Write, Resize, DeviceReadGoes};
+ghost use Rattle.disk.specs.Disk.{WriteGoes, DeviceReadManyGoes, StartReadGoes, ResizeGoes};
+ghost use Rattle.disk.specs.Disk.{SyncGoes, StartGoes, WaitStartedGoes};
 
 use crate::{Error, IoBuf, IoBufs, StartedRead, StartedSync};
 use std::alloc::Global;
@@ -55,7 +55,7 @@ pub trait Blob {
         len: usize,
         options: ReadOptions,
     ) -> Result<IoBuf, Error>
-        ensures goes { ReadGoes offset len (life self.old) (life self.new) result };
+        ensures goes { DeviceReadGoes offset len (life self.old) (life self.new) result };
 
     /// The bytes of each of the ranges, an offset and a length, in one device call. At `Ok` `out`
     /// holds the number of each range once, with its bytes, in any order; what stood in it is gone.
@@ -68,7 +68,7 @@ pub trait Blob {
         options: ReadOptions,
         out: &mut Vec<(usize, IoBuf)>,
     ) -> Result<(), Error>
-        ensures goes { ReadManyGoes ranges.now (life self.old) (life self.new) out.new.items
+        ensures goes { DeviceReadManyGoes ranges.now (life self.old) (life self.new) out.new.items
             result };
 
     /// Starts a read of each of the ranges, an offset and a length, in one device call, and answers
@@ -113,7 +113,7 @@ pub trait Blob {
     /// or at the start or an earlier wait, and where it started no such sync; `OutOfMemory`. What
     /// was durable stays so. Where there is nothing to wait for, it asks no device.
     fn wait_sync(&mut self, started: StartedSync) -> Result<(), Error>
-        ensures goes { WaitsFor started (life self.old) (life self.new) result };
+        ensures goes { WaitStartedGoes started (life self.old) (life self.new) result };
 
     /// What is readable is one of the things that a crash may leave.
     ghost readable_is_image: { (b : Self) → IsImage (life b).present (life b).present.readable };

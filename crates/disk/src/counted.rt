@@ -1,8 +1,9 @@
 // A blob that counts what it is asked for.
 ghost use Rattle.std.specs.Prelude.{◌≡◌, ◌+◌, ◌-◌, ◌^◌, [], min, length, sum_by, true};
 ghost use Rattle.std.specs.List.{concat};
-ghost use Rattle.disk.specs.Disk.{ReadGoes, ReadManyGoes, WriteGoes, ResizeGoes, SyncGoes};
-ghost use Rattle.disk.specs.Disk.{StartReadGoes, StartGoes, WaitsFor, calls_after_wait};
+ghost use Rattle.disk.specs.Disk.{DeviceReadGoes, DeviceReadManyGoes, WriteGoes, ResizeGoes};
+ghost use Rattle.disk.specs.Disk.{SyncGoes, StartReadGoes, StartGoes, WaitStartedGoes};
+ghost use Rattle.disk.specs.Disk.{calls_after_wait};
 
 use crate::{Blob, Error, IoBuf, IoBufs, ReadOptions, StartedRead, StartedSync, WriteOptions};
 use std::alloc::Global;
@@ -64,7 +65,8 @@ impl<B: Blob> Blob for Counted<B> {
         len: usize,
         options: ReadOptions,
     ) -> Result<IoBuf, Error>
-        ensures goes { ReadGoes offset len (B.life self.old.inner) (B.life self.new.inner) result }
+        ensures goes { DeviceReadGoes offset len (B.life self.old.inner) (B.life self.new.inner)
+            result }
         ensures calls { self.new.calls ≡ min (self.old.calls + 1) (2 ^ 64 - 1) }
         ensures read { self.new.read ≡ min (self.old.read + len) (2 ^ 64 - 1) }
         ensures written { self.new.written ≡ self.old.written }
@@ -82,7 +84,7 @@ impl<B: Blob> Blob for Counted<B> {
         out: &mut Vec<(usize, IoBuf)>,
     ) -> Result<(), Error>
         ensures goes { let old = B.life self.old.inner in let new = B.life self.new.inner in
-            ReadManyGoes ranges.now old new out.new.items result }
+            DeviceReadManyGoes ranges.now old new out.new.items result }
         ensures calls { self.new.calls ≡ min (self.old.calls + 1) (2 ^ 64 - 1) }
         ensures read { let bytes = sum_by (λ r. r.1) ranges.now in
             self.new.read ≡ min (self.old.read + bytes) (2 ^ 64 - 1) }
@@ -154,7 +156,8 @@ impl<B: Blob> Blob for Counted<B> {
     }
 
     fn wait_sync(&mut self, started: StartedSync) -> Result<(), Error>
-        ensures goes { WaitsFor started (B.life self.old.inner) (B.life self.new.inner) result }
+        ensures goes { WaitStartedGoes started (B.life self.old.inner) (B.life self.new.inner)
+            result }
         ensures calls { self.new.calls ≡ calls_after_wait started self.old.calls }
         ensures read { self.new.read ≡ self.old.read }
         ensures written { self.new.written ≡ self.old.written }

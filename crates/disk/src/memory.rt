@@ -5,9 +5,9 @@ ghost use Rattle.std.specs.Prelude.{vec_len, vec_capacity, if◌then◌else◌, 
 ghost use Rattle.std.specs.Prelude.{IsOkUnless};
 ghost use Rattle.std.specs.List.{concat};
 ghost use Rattle.disk.specs.Disk.{IsImage, LeavesNoMore, Life, Write, Resize, failures, had_failed};
-ghost use Rattle.disk.specs.Disk.{ReadGoes, ReadManyGoes, WriteGoes, ResizeGoes, SyncGoes};
-ghost use Rattle.disk.specs.Disk.{StartReadGoes, StartGoes, WaitsFor};
-ghost use Rattle.disk.specs.History.{life_of, begun, told, request_of};
+ghost use Rattle.disk.specs.Disk.{DeviceReadGoes, DeviceReadManyGoes, WriteGoes, ResizeGoes};
+ghost use Rattle.disk.specs.Disk.{SyncGoes, StartReadGoes, StartGoes, WaitStartedGoes};
+ghost use Rattle.disk.specs.History.{life_of, begun, with_action, request_of};
 ghost use Rattle.disk.specs.declared.action.Action.TheVariants as actions;
 ghost use Rattle.disk.specs.Memory.{Asks, AsksStart, AsksWait, waits_in_vain, IsRange};
 ghost use Rattle.disk.specs.Memory.{AreRanges, KeepsSettings, delivery};
@@ -244,7 +244,7 @@ impl MemBlob {
     // Asks the device, and answers whether it failed. An `Err` leaves all as it was.
     fn ask(&mut self, action: Action) -> Result<bool, AllocError>
         ensures failed { IfOk result (λ failed. failed ≡ (self.old.failing == 1)) }
-        ensures told { OnOk result (self.new ≡ told action self.old) }
+        ensures told { OnOk result (self.new ≡ with_action action self.old) }
         ensures same { OnErr result (self.new ≡ self.old) }
     {
         // What may fail comes before the first change, also where the device is to fail.
@@ -285,7 +285,7 @@ impl Blob for MemBlob {
         len: usize,
         _options: ReadOptions,
     ) -> Result<IoBuf, Error>
-        ensures goes { ReadGoes offset len (life_of self.old) (life_of self.new) result }
+        ensures goes { DeviceReadGoes offset len (life_of self.old) (life_of self.new) result }
         ensures asks { Asks (actions.Read offset len) self.old self.new result }
     {
         let bytes = self.range(alloc, offset, len)?;
@@ -303,7 +303,7 @@ impl Blob for MemBlob {
         out: &mut Vec<(usize, IoBuf)>,
     ) -> Result<(), Error>
         ensures goes { let old = life_of self.old in let new = life_of self.new in
-            ReadManyGoes ranges.now old new out.new.items result }
+            DeviceReadManyGoes ranges.now old new out.new.items result }
         ensures asks { Asks (actions.ReadMany ranges.now) self.old self.new result }
         ensures order { let readable = (life_of self.old).present.readable in
             OnOk result (out.new.items ≡ delivery self.old.backwards ranges.now readable) }
@@ -375,7 +375,7 @@ impl Blob for MemBlob {
     }
 
     fn wait_sync(&mut self, started: StartedSync) -> Result<(), Error>
-        ensures goes { WaitsFor started (life_of self.old) (life_of self.new) result }
+        ensures goes { WaitStartedGoes started (life_of self.old) (life_of self.new) result }
         ensures asks { let named = (life_of self.old).present.started in
             AsksWait started (waits_in_vain started named) self.old self.new result }
     {

@@ -3,8 +3,8 @@ ghost use Rattle.std.specs.Prelude.{◌≡◌, ◌≤◌, ◌<◌, ◌+◌, ◌^
 ghost use Rattle.std.specs.Prelude.{OnOk, OnErr, IsOk, IsOkUnless, vec_capacity, true, false};
 ghost use Rattle.std.specs.List.{concat};
 ghost use Rattle.disk.specs.declared.action.Action.TheVariants as actions;
-ghost use Rattle.disk.specs.Disk.{ReadGoes, ReadManyGoes, WriteGoes, ResizeGoes, SyncGoes};
-ghost use Rattle.disk.specs.Disk.{StartReadGoes, StartGoes, WaitsFor};
+ghost use Rattle.disk.specs.Disk.{DeviceReadGoes, DeviceReadManyGoes, WriteGoes, ResizeGoes};
+ghost use Rattle.disk.specs.Disk.{SyncGoes, StartReadGoes, StartGoes, WaitStartedGoes};
 ghost use Rattle.disk.specs.History.{life_of, begun};
 ghost use Rattle.disk.specs.Past.{begun_history, history_with};
 ghost use Rattle.disk.specs.StartedRead.{answer_of};
@@ -179,7 +179,7 @@ impl Blob for VecBlob {
         _options: ReadOptions,
     ) -> Result<IoBuf, Error>
         ensures goes { let old = life_of self.old.history in let new = life_of self.new.history in
-            ReadGoes offset len old new result }
+            DeviceReadGoes offset len old new result }
         ensures tells { Tells (actions.Read offset len) self.old self.new result }
         ensures stopped { self.new.stopped ≡ self.old.stopped }
     {
@@ -199,7 +199,7 @@ impl Blob for VecBlob {
         out: &mut Vec<(usize, IoBuf)>,
     ) -> Result<(), Error>
         ensures goes { let old = life_of self.old.history in let new = life_of self.new.history in
-            ReadManyGoes ranges.now old new out.new.items result }
+            DeviceReadManyGoes ranges.now old new out.new.items result }
         ensures tells { Tells (actions.ReadMany ranges.now) self.old self.new result }
         ensures stopped { self.new.stopped ≡ self.old.stopped }
     {
@@ -296,7 +296,7 @@ impl Blob for VecBlob {
 
     fn wait_sync(&mut self, started: StartedSync) -> Result<(), Error>
         ensures goes { let old = life_of self.old.history in let new = life_of self.new.history in
-            WaitsFor started old new result }
+            WaitStartedGoes started old new result }
         ensures tells { let names = length (life_of self.old.history).present.started in
             TellsWait started names self.old self.new result }
         ensures stopped { self.new.stopped ≡ self.old.stopped }

@@ -10,7 +10,7 @@ use Rattle.disk.specs.declared.action.Action.TheVariants as actions
 use Rattle.disk.specs.declared.action.Event.{Event}
 use Rattle.disk.proofs.Bufs.{concat_more}
 use Rattle.file.specs.Asked.{event, all_done, FailsIn}
-use Rattle.file.specs.Runs.{writes_of, PutsAll, HasPut, PutsUpTo}
+use Rattle.file.specs.Runs.{writes_of, WritesAll, HasPut, WritesUpTo}
 
 -- runs after others begin where those end
 writes-append : (at : ℕ) (runs more : List (List ℕ)) → writes_of at (runs ++ more) ≡ writes_of at runs ++ writes_of (at + length (concat runs)) more
@@ -65,7 +65,7 @@ joins_on runs more bytes kept after left e f =
 
 -- what went out but for what was kept back, and then that with more
 pub puts_then : {S E : Type 0} (goes : S → Event → S → Type 0) (at next : ℕ) (bytes kept more left : List ℕ) (old mid new : S) (result : Result ℕ E)
-    → HasPut goes at bytes kept next old mid → PutsUpTo goes next (kept ++ more) left mid new result → PutsUpTo goes at (bytes ++ more) left old new result
+    → HasPut goes at bytes kept next old mid → WritesUpTo goes next (kept ++ more) left mid new result → WritesUpTo goes at (bytes ++ more) left old new result
 puts_then goes at next bytes kept more left old mid new (Ok last) a b = (
   a.0 ++ b.0,
   joins_on a.0 b.0 bytes kept more left a.1 b.1,
@@ -84,7 +84,7 @@ puts_then goes at next bytes kept more left old mid new (Err e) a b = (
 
 -- a failure ends it, whatever was to follow
 pub fails_then : {S E : Type 0} (goes : S → Event → S → Type 0) (at : ℕ) (bytes kept more left : List ℕ) (old new : S) (error other : E)
-    → PutsUpTo goes at bytes kept old new (Err error) → PutsUpTo goes at (bytes ++ more) left old new (Err other)
+    → WritesUpTo goes at bytes kept old new (Err error) → WritesUpTo goes at (bytes ++ more) left old new (Err other)
 fails_then goes at bytes kept more left old new error other a = (
   a.0 ++ more ∷ [],
   concat-append a.0 (more ∷ []) ∙ ap (λ l. concat a.0 ++ l) (append-nil more) ∙ ap (λ l. l ++ more) a.1,
@@ -102,7 +102,7 @@ run_put goes at next run old new fits e h = (
   e ∙ ap (λ l. (at + length l) % 2 ^ 64) (sym (append-nil run)),
 )
 
-pub run_failed : {S E : Type 0} (goes : S → Event → S → Type 0) (at : ℕ) (run : List ℕ) (old new : S) (error : E) → at < 2 ^ 64 → goes old (event (actions.Write at run false) true) new → PutsUpTo goes at run [] old new (Err error)
+pub run_failed : {S E : Type 0} (goes : S → Event → S → Type 0) (at : ℕ) (run : List ℕ) (old new : S) (error : E) → at < 2 ^ 64 → goes old (event (actions.Write at run false) true) new → WritesUpTo goes at run [] old new (Err error)
 run_failed goes at run old new error fits h = (
   run ∷ [],
   append-nil run,
@@ -113,16 +113,16 @@ run_failed goes at run old new error fits h = (
 
 -- what went out but for what was kept back, and then that
 pub puts_last : {S E : Type 0} (goes : S → Event → S → Type 0) (at next : ℕ) (bytes kept left : List ℕ) (old mid new : S) (result : Result ℕ E)
-    → HasPut goes at bytes kept next old mid → PutsUpTo goes next kept left mid new result → PutsUpTo goes at bytes left old new result
+    → HasPut goes at bytes kept next old mid → WritesUpTo goes next kept left mid new result → WritesUpTo goes at bytes left old new result
 puts_last goes at next bytes kept left old mid new result a b =
-    subst (λ (l : List ℕ). PutsUpTo goes at l left old new result) (append-nil bytes)
-    (puts_then goes at next bytes kept [] left old mid new result a (subst (λ (l : List ℕ). PutsUpTo goes next l left mid new result) (sym (append-nil kept)) b))
+    subst (λ (l : List ℕ). WritesUpTo goes at l left old new result) (append-nil bytes)
+    (puts_then goes at next bytes kept [] left old mid new result a (subst (λ (l : List ℕ). WritesUpTo goes next l left mid new result) (sym (append-nil kept)) b))
 
 -- all of them
-pub all_put : {S : Type 0} (goes : S → Event → S → Type 0) (at next : ℕ) (bytes : List ℕ) (old new : S) → HasPut goes at bytes [] next old new → PutsAll {T = ℕ} {E = ℕ} goes at bytes old new (Ok next)
+pub all_put : {S : Type 0} (goes : S → Event → S → Type 0) (at next : ℕ) (bytes : List ℕ) (old new : S) → HasPut goes at bytes [] next old new → WritesAll {T = ℕ} {E = ℕ} goes at bytes old new (Ok next)
 all_put goes at next bytes old new a = (a.0, sym (append-nil (concat a.0)) ∙ a.1, all_done (writes_of at a.0), refl, a.2)
 
-pub all_failed : {S E : Type 0} (goes : S → Event → S → Type 0) (at : ℕ) (bytes left : List ℕ) (old new : S) (error other : E) → PutsUpTo goes at bytes left old new (Err error) → PutsAll {T = ℕ} goes at bytes old new (Err other)
+pub all_failed : {S E : Type 0} (goes : S → Event → S → Type 0) (at : ℕ) (bytes left : List ℕ) (old new : S) (error other : E) → WritesUpTo goes at bytes left old new (Err error) → WritesAll {T = ℕ} goes at bytes old new (Err other)
 all_failed goes at bytes left old new error other a = (a.0, a.1, a.2, (a.2, refl, a.3), a.4)
 
 -- the bytes of the buffers up to one, of that one, and of those after it

@@ -15,9 +15,9 @@ writes_of offset (run ∷ runs) =
 
 -- bytes went out in runs that are the bytes if they are joined: each was put, in that order; or one
 -- failed, each before it was put, and none after it was tried
-abbrev pub PutsAll : {S T E : Type 0} → (S → Event → S → Type 0) → (offset : ℕ)
+abbrev pub WritesAll : {S T E : Type 0} → (S → Event → S → Type 0) → (offset : ℕ)
     → (bytes : List ℕ) → (old new : S) → Result T E → Type 0
-PutsAll goes offset bytes old new result =
+WritesAll goes offset bytes old new result =
     (runs : List (List ℕ)) × (concat runs ≡ bytes)
     × (events : List Event) × Answers (writes_of offset runs) [] events result
     × FoldsTo goes old events new
@@ -32,9 +32,9 @@ HasPut goes offset bytes kept next old new =
     × (next ≡ (offset + length (concat runs)) % 2 ^ 64)
 
 -- what puts of runs answer: where the bytes that are kept back are to go, or that a run failed
-abbrev pub PutsUpTo : {S E : Type 0} → (S → Event → S → Type 0) → (offset : ℕ)
+abbrev pub WritesUpTo : {S E : Type 0} → (S → Event → S → Type 0) → (offset : ℕ)
     → (bytes kept : List ℕ) → (old new : S) → Result ℕ E → Type 0
-PutsUpTo goes offset bytes kept old new (Ok next) = HasPut goes offset bytes kept next old new
-PutsUpTo goes offset bytes kept old new (Err error) =
+WritesUpTo goes offset bytes kept old new (Ok next) = HasPut goes offset bytes kept next old new
+WritesUpTo goes offset bytes kept old new (Err error) =
     (runs : List (List ℕ)) × (concat runs ≡ bytes)
     × (events : List Event) × FailsIn (writes_of offset runs) events × FoldsTo goes old events new

@@ -1,8 +1,8 @@
 // A blob whose bytes stand in memory, and whose calls are passed on to a host.
 ghost use Rattle.std.specs.Prelude.{◌≡◌, [], length, is_some, false};
 ghost use Rattle.std.specs.List.{concat};
-ghost use Rattle.disk.specs.Disk.{ReadGoes, ReadManyGoes, WriteGoes, ResizeGoes, SyncGoes};
-ghost use Rattle.disk.specs.Disk.{StartReadGoes, StartGoes, WaitsFor};
+ghost use Rattle.disk.specs.Disk.{DeviceReadGoes, DeviceReadManyGoes, WriteGoes, ResizeGoes};
+ghost use Rattle.disk.specs.Disk.{SyncGoes, StartReadGoes, StartGoes, WaitStartedGoes};
 ghost use Rattle.disk.specs.History.{life_of, begun};
 ghost use Rattle.file.specs.Asked.{Answers, Passes, WasAsked};
 ghost use Rattle.file.specs.Mirror.{requested};

@@ -4,7 +4,7 @@ ghost use Rattle.std.specs.List.{concat};
 ghost use Rattle.disk.specs.declared.action.Action.TheVariants as actions;
 ghost use Rattle.disk.specs.declared.action.Event.{Event};
 ghost use Rattle.file.specs.Asked.{outcome};
-ghost use Rattle.file.specs.Runs.{PutsAll, PutsUpTo};
+ghost use Rattle.file.specs.Runs.{WritesAll, WritesUpTo};
 
 use disk::IoBuf;
 use std::fs::File;
@@ -44,7 +44,7 @@ pub fn put_runs<S: Sink>(
     offset: u64,
     bufs: &[IoBuf],
 ) -> io::Result<()>
-    ensures { PutsAll S.goes offset (concat bufs.now) sink.old sink.new result }
+    ensures { WritesAll S.goes offset (concat bufs.now) sink.old sink.new result }
 {
     gathered.clear();
     let mut next = offset;
@@ -59,7 +59,7 @@ pub fn put_runs<S: Sink>(
 // they fill a run alone.
 fn add<S: Sink>(sink: &mut S, gathered: &mut Vec<u8>, offset: u64, bytes: &[u8]) -> io::Result<u64>
     ensures { let all = gathered.old.items ++ bytes.now in
-        PutsUpTo S.goes offset all gathered.new.items sink.old sink.new result }
+        WritesUpTo S.goes offset all gathered.new.items sink.old sink.new result }
 {
     if gather(gathered, bytes) {
         return Ok(offset);
@@ -86,7 +86,7 @@ fn gather(gathered: &mut Vec<u8>, bytes: &[u8]) -> bool
 
 // Puts what was gathered, if anything was.
 fn put_gathered<S: Sink>(sink: &mut S, gathered: &mut Vec<u8>, offset: u64) -> io::Result<u64>
-    ensures puts { PutsUpTo S.goes offset gathered.old.items [] sink.old sink.new result }
+    ensures puts { WritesUpTo S.goes offset gathered.old.items [] sink.old sink.new result }
     ensures none { OnOk result (gathered.new.items ≡ []) }
 {
     if gathered.is_empty() {
@@ -100,7 +100,7 @@ fn put_gathered<S: Sink>(sink: &mut S, gathered: &mut Vec<u8>, offset: u64) -> i
 // Puts a run, and answers where it ends. After the greatest offset comes 0, but no system gets
 // there.
 fn put_run<S: Sink>(sink: &mut S, offset: u64, run: &[u8]) -> io::Result<u64>
-    ensures { PutsUpTo S.goes offset run.now [] sink.old sink.new result }
+    ensures { WritesUpTo S.goes offset run.now [] sink.old sink.new result }
 {
     sink.put(offset, run)?;
     Ok(offset.wrapping_add(run.len() as u64))

@@ -7,6 +7,6 @@ use Rattle.writer_state.specs.WriterState.{WriterState}
 use Rattle.paged.specs.Ready.{IsReady}
 
 -- the writer, if there is one, is ready; without one a recovery may begin
-abbrev pub IsJournal : (List ℕ → ℕ) → Option WriterState → CacheState → Life → Type 0
-IsJournal sum None cache life = IsFresh cache
-IsJournal sum (Some w) cache life = IsReady sum w cache life
+abbrev pub IsReadyOrNone : (List ℕ → ℕ) → Option WriterState → CacheState → Life → Type 0
+IsReadyOrNone sum None cache life = IsFresh cache
+IsReadyOrNone sum (Some w) cache life = IsReady sum w cache life

@@ -51,14 +51,14 @@ pub struct Journal<H: Sum> {
 
 impl<H: Sum> Model for Journal<H> {
     ghost use Rattle.disk.specs.History.{life_of};
-    ghost use Rattle.guide.specs.Ready.{IsJournal};
+    ghost use Rattle.guide.specs.Ready.{IsReadyOrNone};
 
     ghost Value = { Unit {0} };
 
     ghost view = { λ journal. tt };
 
     ghost invariant = { λ journal.
-        IsJournal H.sum_of journal.writer journal.cache (life_of journal.blob.inner) };
+        IsReadyOrNone H.sum_of journal.writer journal.cache (life_of journal.blob.inner) };
 }
 
 // A record as it stands in the blob.

@@ -4,7 +4,7 @@ ghost use Rattle.std.specs.Int.{to_be_bytes, w32, w64};
 ghost use Rattle.std.specs.Int.NonZero.{non_zero_usize_get};
 ghost use Rattle.cache.specs.Pages.{IsFresh};
 ghost use Rattle.disk.specs.History.{life_of};
-ghost use Rattle.items.specs.Calls.{AllDurable, Lasts};
+ghost use Rattle.items.specs.Calls.{AllDurable, DurabilityLasts};
 ghost use Rattle.items.specs.Standing.{AreItems, AreReady, count, items_of};
 ghost use Rattle.items.specs.State.{ItemsState};
 
@@ -119,7 +119,7 @@ fn note<B: Blob, H: Sum>(
         let item = to_be_bytes w64 noted.time ++ to_be_bytes w32 noted.pressure in
         IfOk result (λ r. slice_get (items_of r.0 (B.life blob.new)) r.1 ≡ Some item) }
     ensures lasts { let old = B.life blob.old in let new = B.life blob.new in
-        IfOk result (λ r. Lasts H.sum_of readings r.0 old new) }
+        IfOk result (λ r. DurabilityLasts H.sum_of readings r.0 old new) }
 {
     if let Some(i) = readings.try_push_value(reading)? {
         return Ok((readings, i));

@@ -11,10 +11,10 @@ use Rattle.page.proofs.Examples.{abcd_page, ef_page}
 use Rattle.crash.proofs.Disks.{base_is_image}
 use Rattle.crash.proofs.Promise.{keeps_less}
 use Rattle.writer_state.proofs.Examples.{a_lost_floor, all_is_covered, all_keep, before, durable, flush_started, seven, six, with_g}
-use Rattle.items.specs.Items.{items, item, item_floor, AreDurable, AreFirst, BringsBack, WouldBeDurable}
+use Rattle.items.specs.Items.{items, item, item_floor, AreDurable, AreFirst, BringsItemsBack, WouldBeDurable}
 use Rattle.items.specs.State.{ItemsState}
-use Rattle.items.specs.Standing.{AreItems, bytes_of, count, items_of}
-use Rattle.items.specs.Calls.{AreRising, FindsItem, FirstRefused, GetsItem, IsThere, TriesPush, item_ranges}
+use Rattle.items.specs.Standing.{AreItems, count, items_content, items_of}
+use Rattle.items.specs.Calls.{AreRising, ItemIsAt, FirstRefused, GetGoes, IsThere, TryPushGoes, item_ranges}
 use Rattle.items.specs.Run.{SameSizes, SaysPushed, TellsLength}
 use Rattle.items.specs.declared.run.ItemReply.TheVariants.{BadItem, Closed, Done, Length}
 use Rattle.items.proofs.Laws.{brings_back, durable_of}
@@ -72,11 +72,11 @@ pub it_would_be : WouldBeDurable add_sum 4 7 seven 1 0 flush_started
 it_would_be = record { within = omega arith; keeps = all_is_covered }
 
 -- what comes back of the durable blob begins with both
-pub both_come_back : BringsBack add_sum 4 3 durable (items 3 (text add_sum 4 (abcd_page ++ ef_page)))
+pub both_come_back : BringsItemsBack add_sum 4 3 durable (items 3 (text add_sum 4 (abcd_page ++ ef_page)))
 both_come_back = brings_back add_sum 4 3 durable (abcd_page ++ ef_page) (omega arith) (base_is_image durable)
 
 -- so one of them isn't enough
-pub one_is_too_few : BringsBack add_sum 4 3 durable ((97 ∷ 98 ∷ 99 ∷ []) ∷ []) → ⊥
+pub one_is_too_few : BringsItemsBack add_sum 4 3 durable ((97 ∷ 98 ∷ 99 ∷ []) ∷ []) → ⊥
 one_is_too_few back = omega (arith, (back six 2 two_are_durable).0)
 
 -- ---- items between two calls
@@ -85,7 +85,7 @@ one_is_too_few back = omega (arith, (back six 2 two_are_durable).0)
 abbrev pub one_of_seven : ItemsState
 one_of_seven = record { writer = with_g; size = 7 }
 
-pub its_bytes : bytes_of one_of_seven before ≡ seven
+pub its_bytes : items_content one_of_seven before ≡ seven
 its_bytes = refl
 
 pub its_item : items_of one_of_seven before ≡ seven ∷ []
@@ -101,25 +101,25 @@ not_whole cache are = omega (arith, (stand add_sum (record { writer = with_g; si
 -- ---- where items are
 
 -- of two items of three bytes, number 1 begins at 3
-pub found : FindsItem 3 2 1 (Ok 3)
+pub found : ItemIsAt 3 2 1 (Ok 3)
 found = (refl, omega arith, omega arith)
 
 pub the_last_is_there : IsThere 3 2 1
 the_last_is_there = (omega arith, omega arith)
 
 -- one past the last is refused
-pub past_the_last : FindsItem 3 2 2 (Err BlobInsufficientLength)
+pub past_the_last : ItemIsAt 3 2 2 (Err BlobInsufficientLength)
 past_the_last = (omega arith, omega arith)
 
-pub two_is_none : FindsItem 3 2 2 (Ok 6) → ⊥
+pub two_is_none : ItemIsAt 3 2 2 (Ok 6) → ⊥
 two_is_none finds = omega (arith, finds.2)
 
 -- the item of this number would begin at the greatest number of 64 bits, and end past it
-pub past_all_offsets : FindsItem 3 2 6148914691236517205 (Err OffsetOverflow)
+pub past_all_offsets : ItemIsAt 3 2 6148914691236517205 (Err OffsetOverflow)
 past_all_offsets = (omega arith, omega arith)
 
 -- that of the number before it would end there, and so it only isn't there
-pub the_last_offset : FindsItem 3 2 6148914691236517204 (Err BlobInsufficientLength)
+pub the_last_offset : ItemIsAt 3 2 6148914691236517204 (Err BlobInsufficientLength)
 the_last_offset = (omega arith, omega arith)
 
 pub the_ranges : item_ranges 3 (0 ∷ 2 ∷ []) ≡ (0, 3) ∷ (6, 3) ∷ []
@@ -127,20 +127,20 @@ the_ranges = refl
 
 -- ---- reads
 
-pub a_get : (life : Life) → GetsItem 3 seven 1 (100 ∷ 101 ∷ 102 ∷ []) life life (Ok tt)
+pub a_get : (life : Life) → GetGoes 3 seven 1 (100 ∷ 101 ∷ 102 ∷ []) life life (Ok tt)
 a_get life = refl
 
 -- another item's bytes aren't an answer
-pub another_item : (life : Life) → GetsItem 3 seven 1 (97 ∷ 98 ∷ 99 ∷ []) life life (Ok tt) → ⊥
+pub another_item : (life : Life) → GetGoes 3 seven 1 (97 ∷ 98 ∷ 99 ∷ []) life life (Ok tt) → ⊥
 another_item life gets =
     let same : 100 ∷ 101 ∷ 102 ∷ [] ≡ 97 ∷ 98 ∷ 99 ∷ [] = same_Some (100 ∷ 101 ∷ 102 ∷ []) (97 ∷ 98 ∷ 99 ∷ []) gets in
     omega (arith, ap (λ (l : List ℕ). get_or l 0 0) same)
 
 -- number 2 is refused, and not for its offset
-pub no_get : (life : Life) → GetsItem 3 seven 2 [] life life (Err BlobInsufficientLength)
+pub no_get : (life : Life) → GetGoes 3 seven 2 [] life life (Err BlobInsufficientLength)
 no_get life = (refl, omega arith, omega arith)
 
-pub no_overflow : (life : Life) → GetsItem 3 seven 2 [] life life (Err OffsetOverflow) → ⊥
+pub no_overflow : (life : Life) → GetGoes 3 seven 2 [] life life (Err OffsetOverflow) → ⊥
 no_overflow life gets = omega (arith, gets.1)
 
 pub they_rise : AreRising (0 ∷ 2 ∷ 5 ∷ [])
@@ -158,7 +158,7 @@ the_first_decides = record { at = 0; there = omega arith; before = λ k d below.
 pub a_later_does_not : FirstRefused 3 2 (2 ∷ 6148914691236517205 ∷ []) OffsetOverflow → ⊥
 a_later_does_not first = none_such first.at first.there first.before first.refused
   where
-    none_such : (at : ℕ) → at < 2 → All (IsThere 3 2) (take at (2 ∷ 6148914691236517205 ∷ [])) → FindsItem 3 2 (get_or (2 ∷ 6148914691236517205 ∷ []) at 0) (Err OffsetOverflow) → ⊥
+    none_such : (at : ℕ) → at < 2 → All (IsThere 3 2) (take at (2 ∷ 6148914691236517205 ∷ [])) → ItemIsAt 3 2 (get_or (2 ∷ 6148914691236517205 ∷ []) at 0) (Err OffsetOverflow) → ⊥
     none_such zero there before refused = omega (arith, refused.0)
     none_such (suc zero) there before refused = omega (arith, (before 0 0 (omega arith)).1)
     none_such (suc (suc at)) there before refused = omega (arith, there)
@@ -166,7 +166,7 @@ a_later_does_not first = none_such first.at first.there first.before first.refus
 -- ---- pushes and runs
 
 -- a tip of three bytes and a buffer of eight have room for five bytes more, and so none for seven
-pub no_room_for_seven : TriesPush add_sum one_of_seven seven one_of_seven (Ok None)
+pub no_room_for_seven : TryPushGoes add_sum one_of_seven seven one_of_seven (Ok None)
 no_room_for_seven = (omega arith, refl)
 
 -- a session without items is closed to each step

@@ -13,7 +13,7 @@ use Rattle.crash.proofs.Lists.{take_same, same_reach}
 use Rattle.crash.proofs.Pages.{length-pieces, pieces_at, pieces_same, pieces-append, take-pieces}
 use Rattle.crash.proofs.Promise.{keeps_less, keeps_same, keeps_settle}
 use Rattle.crash.proofs.DistinctLaws.{distinct_is_chance_free}
-use Rattle.items.specs.Items.{items, item_floor, AreFirst, AreDurable, AreOnly, WouldBeDurable, KeepsItems, KeepsStarted, LeavesItems, BringsBack, BringsOnly}
+use Rattle.items.specs.Items.{items, item_floor, AreFirst, AreDurable, AreOnly, WouldBeDurable, KeepsItems, KeepsStarted, LeavesItems, BringsItemsBack, BringsOnlyItems}
 
 -- ---- items of bytes
 
@@ -123,14 +123,14 @@ leaves_items sum P s before after all old new some first second leaves =
     through_then (AllOnly sum P before after) (AreOnly sum P s all) old new (λ d only. only_items sum P s before after all d some first second only) leaves
 
 -- what comes back begins with what was durable
-pub brings_back : (sum : List ℕ → ℕ) (P s : ℕ) (d : Disk) (image : List ℕ) → 0 < s → IsImage d image → BringsBack sum P s d (items s (text sum P image))
+pub brings_back : (sum : List ℕ → ℕ) (P s : ℕ) (d : Disk) (image : List ℕ) → 0 < s → IsImage d image → BringsItemsBack sum P s d (items s (text sum P image))
 brings_back sum P s d image some is_image = λ content n durable.
     let T = text sum P image in
     let same : take (n * s) content ≡ take (n * s) T = sym (durable.bytes.kept image is_image) in
     let there : n ≤ length T / s = items_within s n T some (same_reach (n * s) content T same durable.within) in
     (omega (arith, there, length-items s T), durable.items image is_image)
 
-pub brings_only : (sum : List ℕ → ℕ) (P s : ℕ) (d : Disk) (image : List ℕ) → IsImage d image → BringsOnly sum P s d image (items s (text sum P image))
+pub brings_only : (sum : List ℕ → ℕ) (P s : ℕ) (d : Disk) (image : List ℕ) → IsImage d image → BringsOnlyItems sum P s d image (items s (text sum P image))
 brings_only sum P s d image is_image = λ distinct all only.
     only.only image is_image (distinct_is_chance_free sum P d image only.vouched is_image distinct)
 

@@ -7,7 +7,7 @@ use Rattle.std.proofs.lemmas.List.Elements.{All-push}
 use Rattle.std.proofs.Math.Nat.{div-mul-le_self, mul-le-mul_right}
 use Rattle.disk.specs.declared.error.Error.{Error}
 use Rattle.disk.specs.declared.error.Error.TheVariants.{ReadFailed, WriteFailed, ResizeFailed, SyncFailed, InvalidChecksum, BlobInsufficientLength, OffsetOverflow, OutOfMemory, IdsExhausted}
-use Rattle.items.specs.Calls.{FindsAll, FindsItems, IsThere}
+use Rattle.items.specs.Calls.{FindsAll, IsThere, ItemsAreAt}
 
 -- a number whose bytes have no offsets is no item's
 pub no_item : (s n i : ℕ) → n * s < 2 ^ 64 → 2 ^ 64 ≤ i * s + s → n ≤ i
@@ -33,7 +33,7 @@ one_more_offset s indices before after k less is pushed =
     pushed ∙ ap (λ (l : List ℕ). l ++ i * s ∷ []) is ∙ sym (map-append (λ (n : ℕ). n * s) (take k indices) (i ∷ [])) ∙ ap (λ (l : List ℕ). map (λ (n : ℕ). n * s) l) (sym more)
 
 -- one of them is no item's
-pub not_all : (s n : ℕ) (indices : List ℕ) (e : Error) → FindsAll s n indices (Err e) → FindsItems s n indices (Err e)
+pub not_all : (s n : ℕ) (indices : List ℕ) (e : Error) → FindsAll s n indices (Err e) → ItemsAreAt s n indices (Err e)
 not_all s n indices OffsetOverflow refused = refused
 not_all s n indices BlobInsufficientLength refused = refused
 not_all s n indices OutOfMemory refused = absurd refused.refused

@@ -11,17 +11,17 @@ use Rattle.disk.specs.declared.error.Error.TheVariants.{ReadFailed, WriteFailed,
 use Rattle.page.specs.Page.{pieces}
 use Rattle.cache.specs.CacheState.{CacheState}
 use Rattle.writer_state.specs.WriterState.{WriterState}
-use Rattle.paged_read.specs.Replay.{CopiesBytes, FillFault, IsReplayOf, ReplayState, ReplaysOn, Seeks}
-use Rattle.paged_read.specs.Snapshots.{StandsOn}
-use Rattle.paged_read.specs.Tail.{Tail, size_of}
+use Rattle.paged_read.specs.Replay.{CopyToBytesGoes, FillFault, IsReplayOf, ReplayState, ReplaysOn, Seeks}
+use Rattle.paged_read.specs.Snapshots.{SnapshotReads}
+use Rattle.paged_read.specs.Tail.{Tail, tail_size}
 use Rattle.paged.specs.Goes.{HasReplay as HasWriterReplay, HasSnapshot as HasWriterSnapshot}
 use Rattle.paged.specs.Ready.{IsReady}
 use Rattle.paged.specs.Snapshots.{TriesSnapshot}
 use Rattle.items.specs.Items.{items}
 use Rattle.items.specs.State.{ItemsReplayState, ItemsSnapshotState, ItemsState}
-use Rattle.items.specs.Standing.{AreItems, IsItemsReplay, IsItemsSnapshot, ReplaysItems, bytes_along, bytes_of, bytes_over, items_left}
-use Rattle.items.specs.Calls.{ReadRefused}
-use Rattle.items.specs.Readers.{HoldsAlong, HasReplay, HasSnapshot, SeeksItem, TriesItemsSnapshot}
+use Rattle.items.specs.Standing.{AreItems, IsItemsReplay, IsItemsSnapshot, ReplaysItems, bytes_along, items_content, bytes_over, items_left}
+use Rattle.items.specs.Calls.{ItemReadRefused}
+use Rattle.items.specs.Readers.{HoldsAlong, HasItemsReplay, HasItemsSnapshot, SeekItemGoes, TriesItemsSnapshot}
 use Rattle.items.proofs.Laws.{items_within, length-items}
 use Rattle.items.proofs.Standing.{along, is_replay, is_snapshot, stand, stands_on}
 use Rattle.items.proofs.Calls.{goes_same}
@@ -29,25 +29,25 @@ use Rattle.items.proofs.Calls.{goes_same}
 -- ---- made
 
 -- a snapshot of items
-over_items : (sum : List ℕ → ℕ) (t : Tail) (s : ℕ) (held : List ℕ) (cache : CacheState) (life : Life) → 0 < s → length held ≡ length held / s * s → size_of t ≡ length held → StandsOn sum t held cache life.present
+over_items : (sum : List ℕ → ℕ) (t : Tail) (s : ℕ) (held : List ℕ) (cache : CacheState) (life : Life) → 0 < s → length held ≡ length held / s * s → tail_size t ≡ length held → SnapshotReads sum t held cache life.present
     → IsItemsSnapshot sum (record { tail = t; size = s }) cache life
 over_items sum t s held cache life some whole long stands =
     let r : ItemsSnapshotState = record { tail = t; size = s } in
     let is : bytes_over r life ≡ held = stands.tail.is in
     is_snapshot sum r cache life (record {
       some = some;
-      stands = subst (λ (l : List ℕ). StandsOn sum t l cache life.present) (sym is) stands;
+      stands = subst (λ (l : List ℕ). SnapshotReads sum t l cache life.present) (sym is) stands;
       size = long ∙ sym (ap length is);
       whole = subst (λ (l : List ℕ). length l ≡ length l / s * s) (sym is) whole;
     })
 
 pub made : (sum : List ℕ → ℕ) (s : ItemsState) (cache after : CacheState) (old new : Life) (w : WriterState) (t : Tail) (now : ItemsState) → AreItems sum s cache old → HasWriterSnapshot sum s.writer after old new w t → now.writer ≡ w → now.size ≡ s.size
-    → IsReady sum w after new → HasSnapshot sum s after old new now (record { tail = t; size = s.size })
+    → IsReady sum w after new → HasItemsSnapshot sum s after old new now (record { tail = t; size = s.size })
 made sum s cache after old new w t now items goes is size is_ready =
     let stood = stand sum s cache old items in
     let gone = goes_same sum s cache after old new w now items goes.holds is size is_ready in
-    let held = bytes_of s old in
-    let long : size_of t ≡ length held = ap (λ (u : Tail). size_of u) goes.tail ∙ goes.holds.size ∙ ap length (goes.holds.content ∙ append-nil held) in
+    let held = items_content s old in
+    let long : tail_size t ≡ length held = ap (λ (u : Tail). tail_size u) goes.tail ∙ goes.holds.size ∙ ap length (goes.holds.content ∙ append-nil held) in
     let own : w.id ≡ s.writer.id = goes.holds.same.id in
     let pages : t.full_pages ≡ now.writer.full_pages = ap (λ (u : Tail). u.full_pages) goes.tail ∙ ap (λ (v : WriterState). v.full_pages) (sym is) in
     record {
@@ -69,13 +69,13 @@ tried_snapshot sum s t (short, is) = (
   ap (λ (u : Tail). u.full_pages) is,
   λ cache life items.
       let stood = stand sum s cache life items in
-      let stands : StandsOn sum t (bytes_of s life) cache life.present = subst (λ (u : Tail). StandsOn sum u (bytes_of s life) cache life.present) (sym is) (stands_on sum s cache life items) in
-      let long : size_of t ≡ length (bytes_of s life) = ap (λ (u : Tail). size_of u) is ∙ stood.size in
-      (over_items sum t s.size (bytes_of s life) cache life stood.some stood.whole long stands, ap (λ (l : List ℕ). Rattle.items.specs.Items.items s.size l) stands.tail.is),
+      let stands : SnapshotReads sum t (items_content s life) cache life.present = subst (λ (u : Tail). SnapshotReads sum u (items_content s life) cache life.present) (sym is) (stands_on sum s cache life items) in
+      let long : tail_size t ≡ length (items_content s life) = ap (λ (u : Tail). tail_size u) is ∙ stood.size in
+      (over_items sum t s.size (items_content s life) cache life stood.some stood.whole long stands, ap (λ (l : List ℕ). Rattle.items.specs.Items.items s.size l) stands.tail.is),
 )
 
 -- a replay of items that stands between two of them
-along_items : (sum : List ℕ → ℕ) (r : ItemsReplayState) (held : List ℕ) (k : ℕ) (life : Life) → 0 < r.size → length held ≡ length held / r.size * r.size → size_of r.replay.tail ≡ length held → r.replay.position ≡ k * r.size
+along_items : (sum : List ℕ → ℕ) (r : ItemsReplayState) (held : List ℕ) (k : ℕ) (life : Life) → 0 < r.size → length held ≡ length held / r.size * r.size → tail_size r.replay.tail ≡ length held → r.replay.position ≡ k * r.size
     → IsReplayOf sum r.replay held life.present → IsItemsReplay sum r life × (bytes_along r life ≡ held)
 along_items sum r held k life some whole long at gives =
     let is : bytes_along r life ≡ held = gives.tail.is in (
@@ -90,13 +90,13 @@ along_items sum r held k life some whole long at gives =
     )
 
 pub began : (sum : List ℕ → ℕ) (s : ItemsState) (buffer_size : ℕ) (cache after : CacheState) (old new : Life) (w : WriterState) (replay : ReplayState) (now : ItemsState) → AreItems sum s cache old → HasWriterReplay sum s.writer buffer_size after old new w replay → now.writer ≡ w → now.size ≡ s.size
-    → IsReady sum w after new → HasReplay sum s after old new now (record { replay = replay; size = s.size })
+    → IsReady sum w after new → HasItemsReplay sum s after old new now (record { replay = replay; size = s.size })
 began sum s buffer_size cache after old new w replay now items goes is size is_ready =
     let stood = stand sum s cache old items in
     let gone = goes_same sum s cache after old new w now items goes.holds is size is_ready in
-    let held = bytes_of s old in
+    let held = items_content s old in
     let r : ItemsReplayState = record { replay = replay; size = s.size } in
-    let long : size_of replay.tail ≡ length held = ap (λ (x : ReplayState). size_of x.tail) goes.replay ∙ goes.holds.size ∙ ap length (goes.holds.content ∙ append-nil held) in
+    let long : tail_size replay.tail ≡ length held = ap (λ (x : ReplayState). tail_size x.tail) goes.replay ∙ goes.holds.size ∙ ap length (goes.holds.content ∙ append-nil held) in
     let start : replay.position ≡ 0 = ap (λ (x : ReplayState). x.position) goes.replay in
     let at : replay.position ≡ 0 * s.size = omega (arith, start) in
     let found = along_items sum r held 0 new stood.some stood.whole long at (goes.gives stood.ready.sound) in
@@ -160,29 +160,29 @@ module _ (sum : List ℕ → ℕ) (r : ItemsReplayState) (old new : Life) (was :
       → IsItemsReplay sum now new × (items_left now new ≡ items_left r old)
   stays_there now size tail position gives =
       let found = along_items sum now held (r.replay.position / r.size) new (subst (λ (n : ℕ). 0 < n) (sym size) was.some)
-      (subst (λ (n : ℕ). length held ≡ length held / n * n) (sym size) was.whole) (ap (λ (t : Tail). size_of t) tail ∙ was.size)
+      (subst (λ (n : ℕ). length held ≡ length held / n * n) (sym size) was.whole) (ap (λ (t : Tail). tail_size t) tail ∙ was.size)
       (position ∙ at ∙ ap (λ (n : ℕ). r.replay.position / r.size * n) (sym size)) gives in
       (found.0, ap₂ (λ (n : ℕ) (l : List ℕ). items n l) size (ap₂ (λ (i : ℕ) (l : List ℕ). drop i l) position found.1))
 
   -- it gave an item, and stands after it
   pub gave : (now : ItemsReplayState) (item : List ℕ) → now.size ≡ r.size → now.replay.tail ≡ r.replay.tail → now.replay.position ≡ r.replay.position + r.size → IsReplayOf sum now.replay held new.present
-      → r.replay.position + r.size ≤ size_of r.replay.tail → item ≡ take r.size (drop r.replay.position held) → IsItemsReplay sum now new × (items_left r old ≡ item ∷ items_left now new)
+      → r.replay.position + r.size ≤ tail_size r.replay.tail → item ≡ take r.size (drop r.replay.position held) → IsItemsReplay sum now new × (items_left r old ≡ item ∷ items_left now new)
   gave now item size tail position gives there is =
       let k = r.replay.position / r.size in
       let next : now.replay.position ≡ (k + 1) * now.size = position ∙ (let e : r.replay.position + r.size ≡ (k + 1) * r.size = omega (arith, at) in e) ∙ ap (λ (n : ℕ). (k + 1) * n) (sym size) in
       let found = along_items sum now held (k + 1) new (subst (λ (n : ℕ). 0 < n) (sym size) was.some)
-      (subst (λ (n : ℕ). length held ≡ length held / n * n) (sym size) was.whole) (ap (λ (t : Tail). size_of t) tail ∙ was.size) next gives in
+      (subst (λ (n : ℕ). length held ≡ length held / n * n) (sym size) was.whole) (ap (λ (t : Tail). tail_size t) tail ∙ was.size) next gives in
       let left : items_left now new ≡ items r.size (drop (r.replay.position + r.size) held) = ap₂ (λ (n : ℕ) (l : List ℕ). items n l) size (ap₂ (λ (i : ℕ) (l : List ℕ). drop i l) position found.1) in (
         found.0,
         items_next r.size k held r.replay.position was.some was.whole at (omega (arith, there, was.size)) ∙ ap₂ (λ (b : List ℕ) (l : List (List ℕ)). b ∷ l) (sym is) (sym left),
       )
 
   -- it had none to give
-  pub had_none : size_of r.replay.tail < r.replay.position + r.size → items_left r old ≡ []
+  pub had_none : tail_size r.replay.tail < r.replay.position + r.size → items_left r old ≡ []
   had_none past = items_end r.size (r.replay.position / r.size) held r.replay.position was.whole at (omega (arith, past, was.size))
 
   -- it wasn't refused for a page
-  pub fill_refused : (e : Error) → FillFault sum r.replay.tail old new e → ReadRefused old new e
+  pub fill_refused : (e : Error) → FillFault sum r.replay.tail old new e → ItemReadRefused old new e
   fill_refused ReadFailed fault = fault
   fill_refused OutOfMemory fault = tt
   fill_refused InvalidChecksum fault = absurd (fault was.gives.tail.full)
@@ -226,7 +226,7 @@ past_end s i held some past = elim (cases_lt (length held / s) i) [
       absurd (omega (arith, up, div-mul-le_self (length held) s, past))
 ]
 
-sought : (sum : List ℕ → ℕ) (r now : ItemsReplayState) (i offset : ℕ) → offset ≡ i * r.size → now.size ≡ r.size → Seeks r.replay offset now.replay (Ok tt) → ReplaysOn r.replay now.replay → SeeksItem sum r i now (Ok tt)
+sought : (sum : List ℕ → ℕ) (r now : ItemsReplayState) (i offset : ℕ) → offset ≡ i * r.size → now.size ≡ r.size → Seeks r.replay offset now.replay (Ok tt) → ReplaysOn r.replay now.replay → SeekItemGoes sum r i now (Ok tt)
 sought sum r now i offset is size (within, seeks) goes = λ life replay.
     let was = along sum r life replay in
     let held = bytes_along r life in
@@ -234,11 +234,11 @@ sought sum r now i offset is size (within, seeks) goes = λ life replay.
     let position : now.replay.position ≡ i * r.size = ap (λ (x : ReplayState). x.position) seeks ∙ is in
     let there : i * r.size ≤ length held = omega (arith, within, is, was.size) in
     let found = along_items sum now held i life (subst (λ (n : ℕ). 0 < n) (sym size) was.some)
-    (subst (λ (n : ℕ). length held ≡ length held / n * n) (sym size) was.whole) (ap (λ (t : Tail). size_of t) tail ∙ was.size)
+    (subst (λ (n : ℕ). length held ≡ length held / n * n) (sym size) was.whole) (ap (λ (t : Tail). tail_size t) tail ∙ was.size)
     (position ∙ ap (λ (n : ℕ). i * n) (sym size)) (goes.1 sum held life.present was.gives) in
     (found.0, ap₂ (λ (n : ℕ) (l : List ℕ). items n l) size (ap₂ (λ (k : ℕ) (l : List ℕ). drop k l) position found.1) ∙ items_from r.size i held was.some was.whole there)
 
-not_sought : (sum : List ℕ → ℕ) (r now : ItemsReplayState) (i offset : ℕ) → offset ≡ i * r.size → i * r.size < 2 ^ 64 → (now.replay ≡ r.replay → now ≡ r) → (e : Error) → Seeks r.replay offset now.replay (Err e) → SeeksItem sum r i now (Err e)
+not_sought : (sum : List ℕ → ℕ) (r now : ItemsReplayState) (i offset : ℕ) → offset ≡ i * r.size → i * r.size < 2 ^ 64 → (now.replay ≡ r.replay → now ≡ r) → (e : Error) → Seeks r.replay offset now.replay (Err e) → SeekItemGoes sum r i now (Err e)
 not_sought sum r now i offset is fits same BlobInsufficientLength (past, stays) = (
   fits,
   same stays,
@@ -255,12 +255,12 @@ not_sought sum r now i offset is fits same IdsExhausted seeks = absurd seeks
 
 -- whatever it answers
 pub seeks_item : (sum : List ℕ → ℕ) (r : ItemsReplayState) (replay : ReplayState) (i offset : ℕ) (result : Result (Unit {0}) Error) → offset ≡ i * r.size → i * r.size < 2 ^ 64 → Seeks r.replay offset replay result → ReplaysOn r.replay replay
-    → SeeksItem sum r i (record { replay = replay; size = r.size }) result
+    → SeekItemGoes sum r i (record { replay = replay; size = r.size }) result
 seeks_item sum r replay i offset (Ok u) is fits seeks goes = sought sum r (record { replay = replay; size = r.size }) i offset is refl seeks goes
 seeks_item sum r replay i offset (Err e) is fits seeks goes = not_sought sum r (record { replay = replay; size = r.size }) i offset is fits (λ same. ap (λ (x : ReplayState). record { replay = x; size = r.size }) same) e seeks
 
 -- a copy of bytes is refused for want of memory alone, and then nothing changes
-pub copy_refused : (r now : ReplayState) (count : ℕ) (e : Error) → CopiesBytes r count now (Err e) → (e ≡ OutOfMemory) × (now ≡ r)
+pub copy_refused : (r now : ReplayState) (count : ℕ) (e : Error) → CopyToBytesGoes r count now (Err e) → (e ≡ OutOfMemory) × (now ≡ r)
 copy_refused r now count OutOfMemory same = (refl, same)
 copy_refused r now count ReadFailed none = absurd none
 copy_refused r now count WriteFailed none = absurd none

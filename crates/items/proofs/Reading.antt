@@ -9,24 +9,24 @@ use Rattle.disk.specs.declared.error.Error.TheVariants.{ReadFailed, WriteFailed,
 use Rattle.page.specs.Geometry.{AreInOrder, AreInOrderFrom, EndWithin, RangesGo}
 use Rattle.cache.specs.CacheState.{CacheState}
 use Rattle.paged_read.specs.Batch.{ranges_of}
-use Rattle.paged_read.specs.Ranges.{AsksForMissing, AsksOnce, AsksTogether, Reads, ReadsMany, missing, page_ranges, served, slice}
-use Rattle.paged_read.specs.Tail.{Tail, size_of, told}
+use Rattle.paged_read.specs.Ranges.{AsksForMissing, AsksOnce, AsksTogether, Reads, ReadsMany, missing, page_ranges, served_ranges, slice}
+use Rattle.paged_read.specs.Tail.{Tail, tail_size, logical_bytes}
 use Rattle.items.specs.Items.{item}
-use Rattle.items.specs.Calls.{AreRising, AreRisingFrom, FindsItem, FindsItems, FirstRefused, GetsItem, GetsMany, IsThere, item_ranges}
+use Rattle.items.specs.Calls.{AreRising, AreRisingFrom, FirstRefused, GetGoes, GetManyGoes, IsThere, item_ranges, ItemIsAt, ItemsAreAt}
 use Rattle.items.proofs.Laws.{item_at}
 
 -- ---- one item
 
 -- an item that was read
-pub got : (sum : List ℕ → ℕ) (s : ℕ) (t : Tail) (cache : CacheState) (i offset : ℕ) (buf was : List ℕ) (old new : Life) (result : Result (Unit {0}) Error) → size_of t ≡ length (told t old.present.readable)
-    → length (told t old.present.readable) ≡ length (told t old.present.readable) / s * s → FindsItem s (size_of t / s) i (Ok offset) → length was ≡ s → (IsErrOf result InvalidChecksum → ⊥) → Reads sum t cache (offset, length was) (λ _. buf) old new result
-    → GetsItem s (told t old.present.readable) i buf old new result
+pub got : (sum : List ℕ → ℕ) (s : ℕ) (t : Tail) (cache : CacheState) (i offset : ℕ) (buf was : List ℕ) (old new : Life) (result : Result (Unit {0}) Error) → tail_size t ≡ length (logical_bytes t old.present.readable)
+    → length (logical_bytes t old.present.readable) ≡ length (logical_bytes t old.present.readable) / s * s → ItemIsAt s (tail_size t / s) i (Ok offset) → length was ≡ s → (IsErrOf result InvalidChecksum → ⊥) → Reads sum t cache (offset, length was) (λ _. buf) old new result
+    → GetGoes s (logical_bytes t old.present.readable) i buf old new result
 got sum s t cache i offset buf was old new (Ok u) size whole (at, fits, there) long never (within, read, full, none) =
-    item_at s i (told t old.present.readable) (omega (arith, there, ap (λ (k : ℕ). k / s) size))
-    ∙ ap Some (sym (read ∙ ap₂ (λ (n k : ℕ). take n (drop k (told t old.present.readable))) long at))
+    item_at s i (logical_bytes t old.present.readable) (omega (arith, there, ap (λ (k : ℕ). k / s) size))
+    ∙ ap Some (sym (read ∙ ap₂ (λ (n k : ℕ). take n (drop k (logical_bytes t old.present.readable))) long at))
 got sum s t cache i offset buf was old new (Err OffsetOverflow) size whole (at, fits, there) long never (same, passes) = absurd (omega (arith, at, fits, passes, long))
 got sum s t cache i offset buf was old new (Err BlobInsufficientLength) size whole (at, fits, there) long never (same, below, passes) =
-    let least : (i + 1) * s ≤ size_of t / s * s = mul-le-mul_right s (omega arith) in
+    let least : (i + 1) * s ≤ tail_size t / s * s = mul-le-mul_right s (omega arith) in
     absurd (omega (arith, least, passes, at, long, size, whole, ap (λ (k : ℕ). k / s * s) size))
 got sum s t cache i offset buf was old new (Err ReadFailed) size whole (at, fits, there) long never reads = (omega (arith, there, ap (λ (k : ℕ). k / s) size), reads)
 got sum s t cache i offset buf was old new (Err OutOfMemory) size whole (at, fits, there) long never reads = (omega (arith, there, ap (λ (k : ℕ). k / s) size), tt)
@@ -37,7 +37,7 @@ got sum s t cache i offset buf was old new (Err SyncFailed) size whole (at, fits
 got sum s t cache i offset buf was old new (Err IdsExhausted) size whole (at, fits, there) long never reads = absurd reads
 
 -- an item that isn't to be found
-pub not_got : (s n : ℕ) (content : List ℕ) (i : ℕ) (buf : List ℕ) (life : Life) (e : Error) → n ≡ length content → FindsItem s (n / s) i (Err e) → GetsItem s content i buf life life (Err e)
+pub not_got : (s n : ℕ) (content : List ℕ) (i : ℕ) (buf : List ℕ) (life : Life) (e : Error) → n ≡ length content → ItemIsAt s (n / s) i (Err e) → GetGoes s content i buf life life (Err e)
 not_got s n content i buf life OffsetOverflow is (passes, past) = (refl, passes, omega (arith, past, ap (λ (k : ℕ). k / s) is))
 not_got s n content i buf life BlobInsufficientLength is (fits, past) = (refl, fits, omega (arith, past, ap (λ (k : ℕ). k / s) is))
 not_got s n content i buf life ReadFailed is finds = absurd finds
@@ -49,7 +49,7 @@ not_got s n content i buf life OutOfMemory is finds = absurd finds
 not_got s n content i buf life IdsExhausted is finds = absurd finds
 
 -- one that is to be found is there
-pub there_is : (s n : ℕ) (content : List ℕ) (i offset : ℕ) → n ≡ length content → FindsItem s (n / s) i (Ok offset) → i < length content / s
+pub there_is : (s n : ℕ) (content : List ℕ) (i offset : ℕ) → n ≡ length content → ItemIsAt s (n / s) i (Ok offset) → i < length content / s
 there_is s n content i offset is finds = omega (arith, finds.2, ap (λ (k : ℕ). k / s) is)
 
 -- a read's device calls, told of the item's range
@@ -117,21 +117,21 @@ all_there : (s n : ℕ) (content indices : List ℕ) → n ≡ length content �
 all_there s n content indices is all = λ k d less. omega (arith, (all k d less).1, ap (λ (j : ℕ). j / s) is)
 
 -- items that were read
-pub got_many : (sum : List ℕ → ℕ) (s : ℕ) (t : Tail) (cache : CacheState) (indices at buf : List ℕ) (old new : Life) (result : Result ℕ Error) → size_of t ≡ length (told t old.present.readable)
-    → length (told t old.present.readable) ≡ length (told t old.present.readable) / s * s → at ≡ map (λ i. i * s) indices → All (IsThere s (size_of t / s)) indices
-    → (IsErrOf result InvalidChecksum → ⊥) → ReadsMany sum t cache (ranges_of s at) buf old new result → GetsMany s t (told t old.present.readable) indices cache buf old new result
+pub got_many : (sum : List ℕ → ℕ) (s : ℕ) (t : Tail) (cache : CacheState) (indices at buf : List ℕ) (old new : Life) (result : Result ℕ Error) → tail_size t ≡ length (logical_bytes t old.present.readable)
+    → length (logical_bytes t old.present.readable) ≡ length (logical_bytes t old.present.readable) / s * s → at ≡ map (λ i. i * s) indices → All (IsThere s (tail_size t / s)) indices
+    → (IsErrOf result InvalidChecksum → ⊥) → ReadsMany sum t cache (ranges_of s at) buf old new result → GetManyGoes s t (logical_bytes t old.present.readable) indices cache buf old new result
 got_many sum s t cache indices at buf old new (Ok n) size whole is all never (within, served_is, read, full, none) = (
-  all_there s (size_of t) (told t old.present.readable) indices size all,
-  read ∙ ap (λ (l : List ℕ). flat_map (slice (told t old.present.readable)) (ranges_of s l)) is ∙ many_bytes s (told t old.present.readable) indices,
-  served_is ∙ ap (λ (l : List ℕ). served cache t (ranges_of s l)) is,
+  all_there s (tail_size t) (logical_bytes t old.present.readable) indices size all,
+  read ∙ ap (λ (l : List ℕ). flat_map (slice (logical_bytes t old.present.readable)) (ranges_of s l)) is ∙ many_bytes s (logical_bytes t old.present.readable) indices,
+  served_is ∙ ap (λ (l : List ℕ). served_ranges cache t (ranges_of s l)) is,
 )
 got_many sum s t cache indices at buf old new (Err OffsetOverflow) size whole is all never (same, refused) =
-    absurd (not_overflown (size_of t) (item_ranges s indices) (all_fit s (size_of t / s) indices all) (subst (λ (l : List ℕ). RangesGo (size_of t) (ranges_of s l) (Err OffsetOverflow)) is refused))
+    absurd (not_overflown (tail_size t) (item_ranges s indices) (all_fit s (tail_size t / s) indices all) (subst (λ (l : List ℕ). RangesGo (tail_size t) (ranges_of s l) (Err OffsetOverflow)) is refused))
 got_many sum s t cache indices at buf old new (Err BlobInsufficientLength) size whole is all never (same, refused) =
-    let own : size_of t ≡ size_of t / s * s = size ∙ whole ∙ ap (λ (k : ℕ). k / s * s) (sym size) in
-    absurd (not_past (size_of t) (item_ranges s indices) (all_end s (size_of t) indices own all) (subst (λ (l : List ℕ). RangesGo (size_of t) (ranges_of s l) (Err BlobInsufficientLength)) is refused))
-got_many sum s t cache indices at buf old new (Err ReadFailed) size whole is all never reads = (all_there s (size_of t) (told t old.present.readable) indices size all, reads.1)
-got_many sum s t cache indices at buf old new (Err OutOfMemory) size whole is all never reads = (all_there s (size_of t) (told t old.present.readable) indices size all, tt)
+    let own : tail_size t ≡ tail_size t / s * s = size ∙ whole ∙ ap (λ (k : ℕ). k / s * s) (sym size) in
+    absurd (not_past (tail_size t) (item_ranges s indices) (all_end s (tail_size t) indices own all) (subst (λ (l : List ℕ). RangesGo (tail_size t) (ranges_of s l) (Err BlobInsufficientLength)) is refused))
+got_many sum s t cache indices at buf old new (Err ReadFailed) size whole is all never reads = (all_there s (tail_size t) (logical_bytes t old.present.readable) indices size all, reads.1)
+got_many sum s t cache indices at buf old new (Err OutOfMemory) size whole is all never reads = (all_there s (tail_size t) (logical_bytes t old.present.readable) indices size all, tt)
 got_many sum s t cache indices at buf old new (Err InvalidChecksum) size whole is all never reads = absurd (never refl)
 got_many sum s t cache indices at buf old new (Err WriteFailed) size whole is all never reads = absurd reads.1
 got_many sum s t cache indices at buf old new (Err ResizeFailed) size whole is all never reads = absurd reads.1
@@ -142,7 +142,7 @@ got_many sum s t cache indices at buf old new (Err IdsExhausted) size whole is a
 first_refused : (s n : ℕ) (content indices : List ℕ) (e : Error) → n ≡ length content → FirstRefused s (n / s) indices e → FirstRefused s (length content / s) indices e
 first_refused s n content indices e is refused = subst (λ (k : ℕ). FirstRefused s (k / s) indices e) is refused
 
-pub many_not_got : (s n : ℕ) (t : Tail) (content indices : List ℕ) (cache : CacheState) (buf : List ℕ) (life : Life) (e : Error) → n ≡ length content → FindsItems s (n / s) indices (Err e) → GetsMany s t content indices cache buf life life (Err e)
+pub many_not_got : (s n : ℕ) (t : Tail) (content indices : List ℕ) (cache : CacheState) (buf : List ℕ) (life : Life) (e : Error) → n ≡ length content → ItemsAreAt s (n / s) indices (Err e) → GetManyGoes s t content indices cache buf life life (Err e)
 many_not_got s n t content indices cache buf life OffsetOverflow is refused = (refl, first_refused s n content indices OffsetOverflow is refused)
 many_not_got s n t content indices cache buf life BlobInsufficientLength is refused = (refl, first_refused s n content indices BlobInsufficientLength is refused)
 many_not_got s n t content indices cache buf life ReadFailed is refused = absurd refused.refused

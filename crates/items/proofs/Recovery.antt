@@ -23,22 +23,22 @@ use Rattle.writer_state.specs.declared.sync_state.SyncState.{SyncState}
 use Rattle.writer_state.specs.declared.sync_state.SyncState.TheVariants.{Clean}
 use Rattle.paged_read.specs.Snapshots.{LeavesOthers}
 use Rattle.paged.specs.Caches.{tail_of}
-use Rattle.paged.specs.Calls.{HadFailed}
+use Rattle.paged.specs.Calls.{PendingSyncFailed}
 use Rattle.paged.specs.Reads.{size_of}
 use Rattle.paged.specs.Ready.{IsReady}
 use Rattle.paged.specs.RecoveryCalls.{OwesRecovering}
 use Rattle.paged.specs.Recovers.{Recovers, IsRecovered}
 use Rattle.paged.specs.Truncate.{Truncates, KeepsFloorsWithin}
-use Rattle.items.specs.Items.{items, BringsBack, BringsOnly, AreDurable, AreFirst, AreOnly, KeepsItems}
+use Rattle.items.specs.Items.{items, BringsItemsBack, BringsOnlyItems, AreDurable, AreFirst, AreOnly, KeepsItems}
 use Rattle.items.specs.State.{ItemsState}
-use Rattle.items.specs.Standing.{AreItems, CrashLeaves, RecoveryLeaves, bytes_of, items_of}
-use Rattle.items.specs.Calls.{CrashGoes, CrashesAndRecovers, HasRecovered, RecoverGoes, RecoversItems}
+use Rattle.items.specs.Standing.{AreItems, ItemsCrashLeaves, ItemsRecoveryLeaves, items_content, items_of}
+use Rattle.items.specs.Calls.{ItemsCrashGoes, CrashesAndRecovers, HaveRecovered, ItemsRecoverGoes, RecoversItems}
 use Rattle.items.proofs.Laws.{brings_back, brings_only, items_within, items_whole, durable_of, floor_durable, keeps_items, leaves_items, first_of_itself}
 use Rattle.items.proofs.Standing.{are_items, each_snapshot_stays, each_snapshot_still, new_id, new_to_snapshots, other_snapshots_stay, stand, stay_items}
 use Rattle.items.proofs.Calls.{all_durable}
 
 -- a recovery that was refused as it began
-pub refused_at_first : (sum : List ℕ → ℕ) (s : ℕ) (cache after : CacheState) (old new : Life) → 0 < s → IsFresh cache → OwesRecovering sum cache.page_size cache after old new → RecoveryLeaves sum s cache after old new
+pub refused_at_first : (sum : List ℕ → ℕ) (s : ℕ) (cache after : CacheState) (old new : Life) → 0 < s → IsFresh cache → OwesRecovering sum cache.page_size cache after old new → ItemsRecoveryLeaves sum s cache after old new
 refused_at_first sum s cache after old new some was_fresh owes =
     let P = cache.page_size in
     let T = text sum P old.present.readable in
@@ -93,7 +93,7 @@ recovered_size sum cache capacity old mid w s n recovered is = is ∙ ap (λ (k 
 -- a recovery, and the cut after it, whatever this answers
 pub cut_leaves : (sum : List ℕ → ℕ) (s n capacity : ℕ) (cache between after : CacheState) (old mid new : Life) (w : WriterState) → 0 < s → IsImage old.present old.present.readable → IsRecovered sum cache capacity old mid w → w.id ≡ cache.ids_given → n ≡ size_of w / s * s
     → OwesRecovering sum cache.page_size cache between old mid → IsFresh after → LeavesOthers w.id between after → KeepsFloorsWithin n sum w.page_size mid new → LeavesOnly sum w.page_size (content w mid.present.readable) (take n (content w mid.present.readable)) mid new
-    → RecoveryLeaves sum s cache after old new
+    → ItemsRecoveryLeaves sum s cache after old new
 cut_leaves sum s n capacity cache between after old mid new w some is_image recovered id is owes fresh others within leaves =
     let P = cache.page_size in
     let T = text sum P old.present.readable in
@@ -122,16 +122,16 @@ cut_leaves sum s n capacity cache between after old mid new w some is_image reco
 -- the items that were recovered
 pub recovered_items : (sum : List ℕ → ℕ) (s n capacity : ℕ) (cache after : CacheState) (old mid new : Life) (w v : WriterState) (now : ItemsState) → 0 < s → IsRecovered sum cache capacity old mid w → w.id ≡ cache.ids_given → n ≡ size_of w / s * s
     → now.writer ≡ v → now.size ≡ s → Truncates sum n w mid new (Ok v) → IsReady sum v after new → LeavesItsContent sum v new.present
-    → KeepsAll sum w.page_size (take n (content w mid.present.readable)) new → HasRecovered sum s cache after old new now
+    → KeepsAll sum w.page_size (take n (content w mid.present.readable)) new → HaveRecovered sum s cache after old new now
 recovered_items sum s n capacity cache after old mid new w v now some recovered id is same_writer same_size cut is_ready only keeps =
     let P = cache.page_size in
     let T = text sum P old.present.readable in
     let k = length T / s in
     let r : ItemsState = record { writer = v; size = s } in
     let to : n ≡ k * s = recovered_size sum cache capacity old mid w s n recovered is in
-    let holds : bytes_of r new ≡ take (k * s) T = cut.content ∙ ap₂ (λ (i : ℕ) (l : List ℕ). take i l) to recovered.content in
+    let holds : items_content r new ≡ take (k * s) T = cut.content ∙ ap₂ (λ (i : ℕ) (l : List ℕ). take i l) to recovered.content in
     let fits : k * s ≤ length T = div-mul-le_self (length T) s in
-    let long : length (bytes_of r new) ≡ k * s = omega (arith, ap length holds, length-take (k * s) T, fits) in
+    let long : length (items_content r new) ≡ k * s = omega (arith, ap length holds, length-take (k * s) T, fits) in
     let stood : AreItems sum r after new = are_items sum r after new (record {
       some = some;
       ready = is_ready;
@@ -139,10 +139,10 @@ recovered_items sum s n capacity cache after old mid new w v now some recovered 
       whole = long ∙ ap (λ (i : ℕ). i * s) (sym (ap (λ (i : ℕ). i / s) long ∙ mul-div_cancel k some));
       only = only;
     }) in
-    let kept : KeepsAll sum v.page_size (bytes_of r new) new =
-    subst (λ (p : ℕ). KeepsAll sum p (bytes_of r new) new) (sym cut.same.page_size) (subst (λ (l : List ℕ). KeepsAll sum w.page_size l new) (sym cut.content) keeps) in
+    let kept : KeepsAll sum v.page_size (items_content r new) new =
+    subst (λ (p : ℕ). KeepsAll sum p (items_content r new) new) (sym cut.same.page_size) (subst (λ (l : List ℕ). KeepsAll sum w.page_size l new) (sym cut.content) keeps) in
     let own_id : v.id ≡ cache.ids_given = cut.same.id ∙ id in
-    let found : HasRecovered sum s cache after old new r = record {
+    let found : HaveRecovered sum s cache after old new r = record {
       size = refl;
       page_size = cut.same.page_size ∙ recovered.page_size;
       id = own_id;
@@ -154,7 +154,7 @@ recovered_items sum s n capacity cache after old mid new w v now some recovered 
       durable = all_durable sum r after new (stand sum r after new stood) kept;
     } in
     let is_now : r ≡ now = sym (ap₂ (λ (x : WriterState) (i : ℕ). record { writer = x; size = i }) same_writer same_size) in
-    subst (λ (t : ItemsState). HasRecovered sum s cache after old new t) is_now found
+    subst (λ (t : ItemsState). HaveRecovered sum s cache after old new t) is_now found
 
 -- what failed in a later part of a log failed in all of it
 some_after : (e : Error) (xs ys : List Entry) → SomeFailed e ys → SomeFailed e (xs ++ ys)
@@ -166,8 +166,8 @@ failed_later e a b c (first, one) (second, two, some) =
     (first ++ second, two ∙ ap (λ l. l ++ second) one ∙ append_assoc a.log first second, some_after e first second some)
 
 -- nothing is pending in a settled writer
-not_pending : (s : SyncState) (d : Disk) → s ≡ Clean → HadFailed s d → ⊥
-not_pending s d is failed = subst (λ (t : SyncState). HadFailed t d) is failed
+not_pending : (s : SyncState) (d : Disk) → s ≡ Clean → PendingSyncFailed s d → ⊥
+not_pending s d is failed = subst (λ (t : SyncState). PendingSyncFailed t d) is failed
 
 -- the cut was refused
 pub cut_refused : (sum : List ℕ → ℕ) (n capacity : ℕ) (cache : CacheState) (old mid new : Life) (w : WriterState) (e : Error) → IsRecovered sum cache capacity old mid w → Truncates sum n w mid new (Err e) → Recovers sum cache capacity old new (Err e)
@@ -185,36 +185,36 @@ cut_refused sum n capacity cache old mid new w OffsetOverflow recovered (cause, 
 cut_refused sum n capacity cache old mid new w IdsExhausted recovered (cause, log) = absurd cause
 
 -- a recovery, by its answer
-pub recovers_so : (sum : List ℕ → ℕ) (s : ℕ) (cache after : CacheState) (capacity : ℕ) (old new : Life) (now : ItemsState) → 0 < s → IsImage old.present old.present.readable → HasRecovered sum s cache after old new now
-    → RecoverGoes sum s cache after capacity old new (Ok now)
+pub recovers_so : (sum : List ℕ → ℕ) (s : ℕ) (cache after : CacheState) (capacity : ℕ) (old new : Life) (now : ItemsState) → 0 < s → IsImage old.present old.present.readable → HaveRecovered sum s cache after old new now
+    → ItemsRecoverGoes sum s cache after capacity old new (Ok now)
 recovers_so sum s cache after capacity old new now some is_image has =
     let P = cache.page_size in
     let d = old.present in
     record {
       answers = has;
-      back = subst (λ (found : List (List ℕ)). BringsBack sum P s d found) (sym has.same) (brings_back sum P s d d.readable some is_image);
-      only = subst (λ (found : List (List ℕ)). BringsOnly sum P s d d.readable found) (sym has.same) (brings_only sum P s d d.readable is_image);
+      back = subst (λ (found : List (List ℕ)). BringsItemsBack sum P s d found) (sym has.same) (brings_back sum P s d d.readable some is_image);
+      only = subst (λ (found : List (List ℕ)). BringsOnlyItems sum P s d d.readable found) (sym has.same) (brings_only sum P s d d.readable is_image);
     }
 
-pub recovers_not : (sum : List ℕ → ℕ) (s : ℕ) (cache after : CacheState) (capacity : ℕ) (old new : Life) (e : Error) → Recovers sum cache capacity old new (Err e) → RecoverGoes sum s cache after capacity old new (Err e)
+pub recovers_not : (sum : List ℕ → ℕ) (s : ℕ) (cache after : CacheState) (capacity : ℕ) (old new : Life) (e : Error) → Recovers sum cache capacity old new (Err e) → ItemsRecoverGoes sum s cache after capacity old new (Err e)
 recovers_not sum s cache after capacity old new e refused = record { answers = refused; back = tt; only = tt }
 
 -- what comes back of a crash
 pub brought_back : (sum : List ℕ → ℕ) (s : ℕ) (cache after : CacheState) (capacity : ℕ) (d : Disk) (image : List ℕ) (old new : Life) (result : Result ItemsState Error) → 0 < s → IsImage d image → old.present.readable ≡ image → RecoversItems sum s cache after capacity old new result
-    → IfOk result (λ r. BringsBack sum cache.page_size s d (items_of r new))
+    → IfOk result (λ r. BringsItemsBack sum cache.page_size s d (items_of r new))
 brought_back sum s cache after capacity d image old new (Ok r) some is_image is recovered =
-    subst (λ (found : List (List ℕ)). BringsBack sum cache.page_size s d found) (sym (recovered.same ∙ ap (λ (l : List ℕ). items s (text sum cache.page_size l)) is)) (brings_back sum cache.page_size s d image some is_image)
+    subst (λ (found : List (List ℕ)). BringsItemsBack sum cache.page_size s d found) (sym (recovered.same ∙ ap (λ (l : List ℕ). items s (text sum cache.page_size l)) is)) (brings_back sum cache.page_size s d image some is_image)
 brought_back sum s cache after capacity d image old new (Err e) some is_image is recovered = tt
 
 pub brought_only : (sum : List ℕ → ℕ) (s : ℕ) (cache after : CacheState) (capacity : ℕ) (d : Disk) (image : List ℕ) (old new : Life) (result : Result ItemsState Error) → IsImage d image → old.present.readable ≡ image → RecoversItems sum s cache after capacity old new result
-    → IfOk result (λ r. BringsOnly sum cache.page_size s d image (items_of r new))
+    → IfOk result (λ r. BringsOnlyItems sum cache.page_size s d image (items_of r new))
 brought_only sum s cache after capacity d image old new (Ok r) is_image is recovered =
-    subst (λ (found : List (List ℕ)). BringsOnly sum cache.page_size s d image found) (sym (recovered.same ∙ ap (λ (l : List ℕ). items s (text sum cache.page_size l)) is)) (brings_only sum cache.page_size s d image is_image)
+    subst (λ (found : List (List ℕ)). BringsOnlyItems sum cache.page_size s d image found) (sym (recovered.same ∙ ap (λ (l : List ℕ). items s (text sum cache.page_size l)) is)) (brings_only sum cache.page_size s d image is_image)
 brought_only sum s cache after capacity d image old new (Err e) is_image is recovered = tt
 
 -- a crash, and a recovery of what it left
 pub crash_recovers : (sum : List ℕ → ℕ) (s : ℕ) (cache after : CacheState) (capacity : ℕ) (keep : List Bool) (old new : Life) (result : Result ItemsState Error) → RecoversItems sum s cache after capacity (begun (torn keep old.present.since old.present.base) old.present.log) new result
-    → RecoveryLeaves sum s cache after (begun (torn keep old.present.since old.present.base) old.present.log) new → CrashesAndRecovers sum s cache after capacity keep old new result
+    → ItemsRecoveryLeaves sum s cache after (begun (torn keep old.present.since old.present.base) old.present.log) new → CrashesAndRecovers sum s cache after capacity keep old new result
 crash_recovers sum s cache after capacity keep old new (Ok r) recovers leaves = recovers
 crash_recovers sum s cache after capacity keep old new (Err OutOfMemory) recovers leaves = inr leaves
 crash_recovers sum s cache after capacity keep old new (Err ReadFailed) recovers leaves = recovers
@@ -227,12 +227,12 @@ crash_recovers sum s cache after capacity keep old new (Err OffsetOverflow) reco
 crash_recovers sum s cache after capacity keep old new (Err IdsExhausted) recovers leaves = recovers
 
 -- no memory for the crash: nothing changed
-pub crash_refused : (sum : List ℕ → ℕ) (s : ℕ) (cache : CacheState) (capacity : ℕ) (keep : List Bool) (old new : Life) (e : Error) (result : Result ItemsState Error) → IsErrAnd result (λ x. x ≡ e) → e ≡ OutOfMemory → new ≡ old → CrashGoes sum s cache cache capacity keep old new result
+pub crash_refused : (sum : List ℕ → ℕ) (s : ℕ) (cache : CacheState) (capacity : ℕ) (keep : List Bool) (old new : Life) (e : Error) (result : Result ItemsState Error) → IsErrAnd result (λ x. x ≡ e) → e ≡ OutOfMemory → new ≡ old → ItemsCrashGoes sum s cache cache capacity keep old new result
 crash_refused sum s cache capacity keep old new e (Ok r) is out same = absurd is
 crash_refused sum s cache capacity keep old new e (Err x) is out same =
-    subst (λ (y : Error). CrashGoes sum s cache cache capacity keep old new (Err y)) (sym (is ∙ out)) (record { answers = inl (refl, same); back = tt; only = tt })
+    subst (λ (y : Error). ItemsCrashGoes sum s cache cache capacity keep old new (Err y)) (sym (is ∙ out)) (record { answers = inl (refl, same); back = tt; only = tt })
 
-pub nothing_crashed : (sum : List ℕ → ℕ) (s : ℕ) (cache : CacheState) (d : Disk) → IsFresh cache → CrashLeaves sum s cache cache d d
+pub nothing_crashed : (sum : List ℕ → ℕ) (s : ℕ) (cache : CacheState) (d : Disk) → IsFresh cache → ItemsCrashLeaves sum s cache cache d d
 nothing_crashed sum s cache d fresh = record {
   fresh = fresh;
   others = λ own t life stays. stays;

@@ -14,13 +14,13 @@ use Rattle.crash.specs.Stays.{KeepsAllFloors, LeavesOnly}
 use Rattle.writer_state.specs.Sound.{IsSound, content}
 use Rattle.paged_read.proofs.Outliving.{look_leaves_writers}
 use Rattle.paged_read.specs.Replay.{IsReplayOf, LeavesAllReplays, LeavesReplays}
-use Rattle.paged_read.specs.Snapshots.{LeavesAllTails, LeavesOthers, LeavesReads, LeavesTails, StandsOn}
+use Rattle.paged_read.specs.Snapshots.{LeavesAllTails, LeavesOthers, LeavesReads, LeavesTails, SnapshotReads}
 use Rattle.paged_read.specs.Tail.{CanRead, HasFullPages}
 use Rattle.paged.specs.Caches.{tail_of}
 use Rattle.paged.specs.Owes.{Owes, OwesWaiting, owed_covers, owed_floors, owed_only}
 use Rattle.items.specs.Items.{items, AreFirst}
 use Rattle.items.specs.State.{ItemsReplayState, ItemsSnapshotState, ItemsState}
-use Rattle.items.specs.Standing.{AllReplaysStay, AllSnapshotsStay, AreItems, CallLeaves, EachSnapshotStays, IsItemsReplay, IsItemsSnapshot, IsNewId, IsNewToSnapshots, OnlyReads, OnlyReadsOn, OtherSnapshotsStay, OthersStay, ReplaysItems, ReplaysStay, SnapshotsStay, StandAsItems, StandsOverItems, bytes_along, bytes_of, bytes_over, items_left, items_of, items_over}
+use Rattle.items.specs.Standing.{AllReplaysStay, AllSnapshotsStay, AreItems, ItemsCallLeaves, EachSnapshotStays, IsItemsReplay, IsItemsSnapshot, IsNewToItems, IsNewToSnapshots, SnapshotReadLeaves, ReplayReadLeaves, OtherSnapshotsStay, OtherItemsStay, ReplaysItems, ReplaysStay, SnapshotsStay, StandAsItems, StandsOverItems, bytes_along, items_content, bytes_over, items_left, items_of, items_over}
 use Rattle.items.proofs.Laws.{first_of_itself, keeps_items, keeps_started, leaves_items}
 
 -- ---- what the words stand for
@@ -58,24 +58,24 @@ stay_items sum s cache after life can fresh items =
     are_items sum s after life (record { some = stood.some; ready = record { sound = stood.ready.sound; can = can; fresh = fresh }; size = stood.size; whole = stood.whole; only = stood.only })
 
 -- a call of another blob leaves items such
-pub others_stay : (id : ℕ) (cache after : CacheState) → LeavesOthers id cache after → (IsFresh cache → IsFresh after) → OthersStay id cache after
+pub others_stay : (id : ℕ) (cache after : CacheState) → LeavesOthers id cache after → (IsFresh cache → IsFresh after) → OtherItemsStay id cache after
 others_stay id cache after leaves fresh = λ sum s life apart items.
     let stood = stand sum s cache life items in
     stay_items sum s cache after life (leaves (tail_of s.writer) life.present apart stood.ready.can) (fresh stood.ready.fresh) items
 
 -- no items have an id that is still to come
-pub new_id : (id : ℕ) (cache : CacheState) → id ≡ cache.ids_given → IsNewId id cache
+pub new_id : (id : ℕ) (cache : CacheState) → id ≡ cache.ids_given → IsNewToItems id cache
 new_id id cache is = λ sum s life stood same. omega (arith, is, same, (stand sum s cache life stood).ready.can.given)
 
 -- ---- snapshots
 
 -- a snapshot that stands where it stood gives the items that it gave
-pub still_over : (sum : List ℕ → ℕ) (r : ItemsSnapshotState) (cache after : CacheState) (old new : Life) → StandsOverItems sum r cache old → StandsOn sum r.tail (bytes_over r old) after new.present → IsItemsSnapshot sum r after new × (items_over r new ≡ items_over r old)
+pub still_over : (sum : List ℕ → ℕ) (r : ItemsSnapshotState) (cache after : CacheState) (old new : Life) → StandsOverItems sum r cache old → SnapshotReads sum r.tail (bytes_over r old) after new.present → IsItemsSnapshot sum r after new × (items_over r new ≡ items_over r old)
 still_over sum r cache after old new was stands =
     let same : bytes_over r new ≡ bytes_over r old = stands.tail.is in (
       is_snapshot sum r after new (record {
         some = was.some;
-        stands = subst (λ (l : List ℕ). StandsOn sum r.tail l after new.present) (sym same) stands;
+        stands = subst (λ (l : List ℕ). SnapshotReads sum r.tail l after new.present) (sym same) stands;
         size = was.size ∙ sym (ap length same);
         whole = subst (λ (l : List ℕ). length l ≡ length l / r.size * r.size) (sym same) was.whole;
       }),
@@ -148,14 +148,14 @@ all_replays_stay sum old new leaves = λ r replay.
 -- ---- what a call of the writer leaves
 
 pub call_leaves : (sum : List ℕ → ℕ) (s : ItemsState) (all : List (List ℕ)) (before next : List ℕ) (cache after : CacheState) (old new : Life) → 0 < s.size → IsFresh after → LeavesOthers s.writer.id cache after
-    → KeepsAllFloors sum s.writer.page_size old new → CoversThrough sum s.writer.page_size (bytes_of s old) old new → LeavesOnly sum s.writer.page_size before next old new → AreFirst (items s.size before) all → AreFirst (items s.size next) all
-    → LeavesTails sum s.writer.full_pages cache after old new → LeavesReplays s.writer.page_size s.writer.full_pages old new → CallLeaves sum s all cache after old new
+    → KeepsAllFloors sum s.writer.page_size old new → CoversThrough sum s.writer.page_size (items_content s old) old new → LeavesOnly sum s.writer.page_size before next old new → AreFirst (items s.size before) all → AreFirst (items s.size next) all
+    → LeavesTails sum s.writer.full_pages cache after old new → LeavesReplays s.writer.page_size s.writer.full_pages old new → ItemsCallLeaves sum s all cache after old new
 call_leaves sum s all before next cache after old new some fresh others kept covers only first second tails replays = record {
   fresh = fresh;
   others = others_stay s.writer.id cache after others (λ was. fresh);
   their_snapshots = other_snapshots_stay s.writer.id cache after others;
   kept = keeps_items sum s.writer.page_size s.size old new some kept;
-  started = keeps_started sum s.writer.page_size s.size (bytes_of s old) old new covers;
+  started = keeps_started sum s.writer.page_size s.size (items_content s old) old new covers;
   only = leaves_items sum s.writer.page_size s.size before next all old new some first second only;
   snapshots = snapshots_stay sum s.writer.full_pages cache after old new tails;
   replays = replays_stay sum s.writer.page_size s.writer.full_pages old new replays;
@@ -163,44 +163,44 @@ call_leaves sum s all before next cache after old new some fresh others kept cov
 
 -- a call that pushes nothing leaves the items
 pub same_leaves : (sum : List ℕ → ℕ) (s : ItemsState) (cache after : CacheState) (old new : Life) → 0 < s.size → IsFresh after → LeavesOthers s.writer.id cache after → KeepsAllFloors sum s.writer.page_size old new
-    → CoversThrough sum s.writer.page_size (bytes_of s old) old new → LeavesOnly sum s.writer.page_size (bytes_of s old) (bytes_of s old) old new → LeavesTails sum s.writer.full_pages cache after old new → LeavesReplays s.writer.page_size s.writer.full_pages old new
-    → CallLeaves sum s (items_of s old) cache after old new
+    → CoversThrough sum s.writer.page_size (items_content s old) old new → LeavesOnly sum s.writer.page_size (items_content s old) (items_content s old) old new → LeavesTails sum s.writer.full_pages cache after old new → LeavesReplays s.writer.page_size s.writer.full_pages old new
+    → ItemsCallLeaves sum s (items_of s old) cache after old new
 same_leaves sum s cache after old new some fresh others kept covers only tails replays =
-    let held = bytes_of s old in
+    let held = items_content s old in
     let first = first_of_itself (items_of s old) in
     call_leaves sum s (items_of s old) held held cache after old new some fresh others kept covers only first first tails replays
 
 -- so what a call of the writer owes leaves: the items, or these
 pub owed_leaves : (sum : List ℕ → ℕ) (s : ItemsState) (all : List (List ℕ)) (next : List ℕ) (cache after : CacheState) (old new : Life) → 0 < s.size → AreFirst (items_of s old) all → AreFirst (items s.size next) all → Owes sum s.writer next cache after old new
-    → CallLeaves sum s all cache after old new
+    → ItemsCallLeaves sum s all cache after old new
 owed_leaves sum s all next cache after old new some first second owes =
     let P = s.writer.page_size in
     let k = s.writer.full_pages in
-    let held = bytes_of s old in
+    let held = items_content s old in
     call_leaves sum s all held next cache after old new some owes.fresh owes.others (owed_floors sum P k held next old new owes.through) (owed_covers sum P k held next old new owes.through) (owed_only sum P k held next old new owes.through) first second
     owes.tails owes.replays
 
 -- of one that pushes nothing
-pub owed_same : (sum : List ℕ → ℕ) (s : ItemsState) (cache after : CacheState) (old new : Life) → AreItems sum s cache old → Owes sum s.writer (bytes_of s old) cache after old new → CallLeaves sum s (items_of s old) cache after old new
+pub owed_same : (sum : List ℕ → ℕ) (s : ItemsState) (cache after : CacheState) (old new : Life) → AreItems sum s cache old → Owes sum s.writer (items_content s old) cache after old new → ItemsCallLeaves sum s (items_of s old) cache after old new
 owed_same sum s cache after old new items owes =
     let first = first_of_itself (items_of s old) in
-    owed_leaves sum s (items_of s old) (bytes_of s old) cache after old new (stand sum s cache old items).some first first owes
+    owed_leaves sum s (items_of s old) (items_content s old) cache after old new (stand sum s cache old items).some first first owes
 
 -- of a wait, with each cache
-pub owed_wait : (sum : List ℕ → ℕ) (s : ItemsState) (cache : CacheState) (old new : Life) → AreItems sum s cache old → OwesWaiting sum s.writer old new → CallLeaves sum s (items_of s old) cache cache old new
+pub owed_wait : (sum : List ℕ → ℕ) (s : ItemsState) (cache : CacheState) (old new : Life) → AreItems sum s cache old → OwesWaiting sum s.writer old new → ItemsCallLeaves sum s (items_of s old) cache cache old new
 owed_wait sum s cache old new items owes =
     let stood = stand sum s cache old items in
     let P = s.writer.page_size in
     let k = s.writer.full_pages in
-    let held = bytes_of s old in
+    let held = items_content s old in
     same_leaves sum s cache cache old new stood.some stood.ready.fresh (λ t d apart can. can) (owed_floors sum P k held held old new owes.through) (owed_covers sum P k held held old new owes.through) (owed_only sum P k held held old new owes.through)
     (owes.tails cache stood.ready.can.page_size) owes.replays
 
 -- so no call leaves them, and the first of more
-pub nothing_leaves : (sum : List ℕ → ℕ) (s : ItemsState) (all : List (List ℕ)) (cache : CacheState) (life : Life) → AreFirst (items_of s life) all → AreItems sum s cache life → CallLeaves sum s all cache cache life life
+pub nothing_leaves : (sum : List ℕ → ℕ) (s : ItemsState) (all : List (List ℕ)) (cache : CacheState) (life : Life) → AreFirst (items_of s life) all → AreItems sum s cache life → ItemsCallLeaves sum s all cache cache life life
 nothing_leaves sum s all cache life first items =
     let stood = stand sum s cache life items in
-    let held = bytes_of s life in
+    let held = items_content s life in
     let P = s.writer.page_size in
     call_leaves sum s all held held cache cache life life stood.some stood.ready.fresh (λ t d apart can. can)
     (λ content floor enough kept. through_start (AllKeep sum P content floor) life kept)
@@ -232,25 +232,25 @@ looked_leaves sum P held old new looked only =
     through_then (SameButLog old.present) (AllOnly sum P held held) old new (λ d same. only_later sum P held old.present d same only) looked.through
 
 -- what started syncs cover of sound items
-pub looked_covers : (sum : List ℕ → ℕ) (s : ItemsState) (cache : CacheState) (old new : Life) → Looked old new → AreItems sum s cache old → CoversThrough sum s.writer.page_size (bytes_of s old) old new
+pub looked_covers : (sum : List ℕ → ℕ) (s : ItemsState) (cache : CacheState) (old new : Life) → Looked old new → AreItems sum s cache old → CoversThrough sum s.writer.page_size (items_content s old) old new
 looked_covers sum s cache old new looked items = (look_leaves_writers sum old new looked s.writer (stand sum s cache old items).ready.sound).covers
 
 -- a read of the items, through their writer
 pub read_leaves : (sum : List ℕ → ℕ) (s : ItemsState) (cache after : CacheState) (old new : Life) → AreItems sum s cache old → Looked old new → IsFresh after → LeavesOthers s.writer.id cache after
-    → LeavesTails sum s.writer.full_pages cache after old new → LeavesAllReplays old new → CallLeaves sum s (items_of s old) cache after old new
+    → LeavesTails sum s.writer.full_pages cache after old new → LeavesAllReplays old new → ItemsCallLeaves sum s (items_of s old) cache after old new
 read_leaves sum s cache after old new items looked fresh others tails replays =
     let stood = stand sum s cache old items in
     let P = s.writer.page_size in
-    same_leaves sum s cache after old new stood.some fresh others (looked_keeps sum P old new looked) (looked_covers sum s cache old new looked items) (looked_leaves sum P (bytes_of s old) old new looked stood.only) tails
+    same_leaves sum s cache after old new stood.some fresh others (looked_keeps sum P old new looked) (looked_covers sum s cache old new looked items) (looked_leaves sum P (items_content s old) old new looked stood.only) tails
     (λ own content r size below gives. replays own content r gives)
 
 -- the items after a read that leaves what reads stand on: they stay such, the same ones
-pub read_items : (sum : List ℕ → ℕ) (s : ItemsState) (cache after : CacheState) (old new : Life) → AreItems sum s cache old → Looked old new → IsFresh after → CanRead (tail_of s.writer) after new.present → AreItems sum s after new × (bytes_of s new ≡ bytes_of s old)
+pub read_items : (sum : List ℕ → ℕ) (s : ItemsState) (cache after : CacheState) (old new : Life) → AreItems sum s cache old → Looked old new → IsFresh after → CanRead (tail_of s.writer) after new.present → AreItems sum s after new × (items_content s new ≡ items_content s old)
 read_items sum s cache after old new items looked fresh can =
     let stood = stand sum s cache old items in
-    let held = bytes_of s old in
+    let held = items_content s old in
     let P = s.writer.page_size in
-    let same : bytes_of s new ≡ held = ap (λ (d : Disk). content s.writer d.readable) looked.same in (
+    let same : items_content s new ≡ held = ap (λ (d : Disk). content s.writer d.readable) looked.same in (
       are_items sum s after new (record {
         some = stood.some;
         ready = record { sound = (look_leaves_writers sum old new looked s.writer stood.ready.sound).sound; can = can; fresh = fresh };
@@ -267,7 +267,7 @@ unfolding IsSound
 pages_full sum s d sound = sound.full
 
 -- so a snapshot may stand on them
-pub stands_on : (sum : List ℕ → ℕ) (s : ItemsState) (cache : CacheState) (life : Life) → AreItems sum s cache life → StandsOn sum (tail_of s.writer) (bytes_of s life) cache life.present
+pub stands_on : (sum : List ℕ → ℕ) (s : ItemsState) (cache : CacheState) (life : Life) → AreItems sum s cache life → SnapshotReads sum (tail_of s.writer) (items_content s life) cache life.present
 stands_on sum s cache life items =
     let stood = stand sum s cache life items in
     record {
@@ -276,34 +276,34 @@ stands_on sum s cache life items =
     }
 
 -- a read of a snapshot or a replay
-pub only_reads : (sum : List ℕ → ℕ) (id : ℕ) (cache after : CacheState) (old new : Life) → Looked old new → (IsFresh cache → IsFresh after) → LeavesOthers id cache after → LeavesAllTails sum cache after old new → LeavesAllReplays old new → OnlyReads sum id cache after old new
+pub only_reads : (sum : List ℕ → ℕ) (id : ℕ) (cache after : CacheState) (old new : Life) → Looked old new → (IsFresh cache → IsFresh after) → LeavesOthers id cache after → LeavesAllTails sum cache after old new → LeavesAllReplays old new → SnapshotReadLeaves sum id cache after old new
 only_reads sum id cache after old new looked fresh others tails replays = record {
   looked = looked;
   fresh = fresh;
   items = λ s items.
-      read_items sum s cache after old new items looked (fresh (stand sum s cache old items).ready.fresh) (tails (tail_of s.writer) (bytes_of s old) (stands_on sum s cache old items)).can;
+      read_items sum s cache after old new items looked (fresh (stand sum s cache old items).ready.fresh) (tails (tail_of s.writer) (items_content s old) (stands_on sum s cache old items)).can;
   others = others_stay id cache after others fresh;
   snapshots = all_snapshots_stay sum cache after old new tails;
   their_snapshots = other_snapshots_stay id cache after others;
   replays = all_replays_stay sum old new replays;
   kept = λ P s some. keeps_items sum P s old new some (looked_keeps sum P old new looked);
-  started = λ s items. keeps_started sum s.writer.page_size s.size (bytes_of s old) old new (looked_covers sum s cache old new looked items);
+  started = λ s items. keeps_started sum s.writer.page_size s.size (items_content s old) old new (looked_covers sum s cache old new looked items);
   only = λ s items.
-      let held = bytes_of s old in
+      let held = items_content s old in
       let first = first_of_itself (items_of s old) in
       let stood = stand sum s cache old items in
       leaves_items sum s.writer.page_size s.size held held (items_of s old) old new stood.some first first (looked_leaves sum s.writer.page_size held old new looked stood.only);
 }
 
 -- no read
-pub nothing_read : (sum : List ℕ → ℕ) (id : ℕ) (cache : CacheState) (life : Life) → OnlyReads sum id cache cache life life
+pub nothing_read : (sum : List ℕ → ℕ) (id : ℕ) (cache : CacheState) (life : Life) → SnapshotReadLeaves sum id cache cache life life
 nothing_read sum id cache life =
     only_reads sum id cache cache life life (looked_start life) (λ fresh. fresh) (λ t d apart can. can) (λ t held stands. stands) (λ own content r gives. gives)
 
 -- a replay that read on, with each cache
-pub only_reads_on : (sum : List ℕ → ℕ) (old new : Life) → Looked old new → ((cache : CacheState) → LeavesAllTails sum cache cache old new) → LeavesAllReplays old new → OnlyReadsOn sum old new
+pub only_reads_on : (sum : List ℕ → ℕ) (old new : Life) → Looked old new → ((cache : CacheState) → LeavesAllTails sum cache cache old new) → LeavesAllReplays old new → ReplayReadLeaves sum old new
 only_reads_on sum old new looked tails replays =
-    let with_cache : (cache : CacheState) → OnlyReads sum 0 cache cache old new = λ cache. only_reads sum 0 cache cache old new looked (λ fresh. fresh) (λ t d apart can. can) (tails cache) replays in
+    let with_cache : (cache : CacheState) → SnapshotReadLeaves sum 0 cache cache old new = λ cache. only_reads sum 0 cache cache old new looked (λ fresh. fresh) (λ t d apart can. can) (tails cache) replays in
     record {
       looked = looked;
       items = λ s cache. (with_cache cache).items s;

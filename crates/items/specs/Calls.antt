@@ -18,15 +18,16 @@ use Rattle.writer_state.specs.WriterState.{started_state}
 use Rattle.writer_state.specs.declared.sync_state.SyncState.{SyncState}
 use Rattle.writer_state.specs.declared.sync_state.SyncState.TheVariants.{Clean, Dirty, Pending}
 use Rattle.paged_read.specs.Batch.{ranges_of}
-use Rattle.paged_read.specs.Ranges.{served}
+use Rattle.paged_read.specs.Ranges.{served_ranges}
 use Rattle.paged_read.specs.Tail.{Tail}
 use Rattle.paged.specs.Calls.{IsSameWriter, CallCause}
 use Rattle.paged.specs.Recovers.{Recovers}
 use Rattle.paged.specs.Writer.{physical_blob_size}
-use Rattle.items.specs.Items.{items, item, AreDurable, BringsBack, BringsOnly, WouldBeDurable}
+use Rattle.items.specs.Items.{items, item, AreDurable, BringsItemsBack, BringsOnlyItems}
+use Rattle.items.specs.Items.{WouldBeDurable}
 use Rattle.items.specs.State.{ItemsState}
-use Rattle.items.specs.Standing.{AreItems, AreReady, IsNewId, IsNewToSnapshots, RecoveryLeaves}
-use Rattle.items.specs.Standing.{bytes_of, count, items_of}
+use Rattle.items.specs.Standing.{AreItems, AreReady, IsNewToItems, IsNewToSnapshots}
+use Rattle.items.specs.Standing.{ItemsRecoveryLeaves, count, items_content, items_of}
 
 -- ---- calls that take the items
 
@@ -38,14 +39,14 @@ CompletesItems sum s now Clean old new = Unit {0}
 CompletesItems sum s now Dirty old new = Unit {0}
 CompletesItems sum s now (Pending name) old new =
     now.writer.sync ≢ Pending name → (n : ℕ)
-    → WouldBeDurable sum s.writer.page_size s.size (bytes_of s old) n name old.present
-    → AreDurable sum now.writer.page_size now.size (bytes_of now new) n new.present
+    → WouldBeDurable sum s.writer.page_size s.size (items_content s old) n name old.present
+    → AreDurable sum now.writer.page_size now.size (items_content now new) n new.present
 
 -- the items go on, with these bytes after theirs
 pub record GoOn (sum : List ℕ → ℕ) (s : ItemsState) (more : List ℕ) (after : CacheState)
     (old new : Life) (now : ItemsState) : Type 0 where
   pub stand : AreItems sum now after new
-  pub holds : bytes_of now new ≡ bytes_of s old ++ more
+  pub holds : items_content now new ≡ items_content s old ++ more
   pub size : now.size ≡ s.size
   pub same : IsSameWriter s.writer now.writer
 
@@ -59,18 +60,19 @@ GoReady sum s now after new =
 
 -- what lasts over a call: what was durable of the items before, or would be once a sync completed,
 -- is or would be of the items now; and a sync that was waited for has completed
-pub record Lasts (sum : List ℕ → ℕ) (s now : ItemsState) (old new : Life) : Type 0 where
+pub record DurabilityLasts (sum : List ℕ → ℕ) (s now : ItemsState) (old new : Life) : Type 0 where
   pub durable : (n : ℕ)
-      → AreDurable sum s.writer.page_size s.size (bytes_of s old) n old.present
-      → AreDurable sum now.writer.page_size now.size (bytes_of now new) n new.present
+      → AreDurable sum s.writer.page_size s.size (items_content s old) n old.present
+      → AreDurable sum now.writer.page_size now.size (items_content now new) n new.present
   pub started : (n name : ℕ)
-      → WouldBeDurable sum s.writer.page_size s.size (bytes_of s old) n name old.present
-      → WouldBeDurable sum now.writer.page_size now.size (bytes_of now new) n name new.present
+      → WouldBeDurable sum s.writer.page_size s.size (items_content s old) n name old.present
+      → WouldBeDurable sum now.writer.page_size now.size (items_content now new) n name new.present
   pub completed : CompletesItems sum s now s.writer.sync old new
 
 -- a call gives the items back: they are ready, and what was durable of them lasts
 abbrev pub AreGivenBack : (List ℕ → ℕ) → (s now : ItemsState) → CacheState → Life → Life → Type 0
-AreGivenBack sum s now after old new = GoReady sum s now after new × Lasts sum s now old new
+AreGivenBack sum s now after old new =
+    GoReady sum s now after new × DurabilityLasts sum s now old new
 
 -- an item was pushed: under this number, after those that there were
 pub record IsPushed (sum : List ℕ → ℕ) (s : ItemsState) (item : List ℕ) (after : CacheState)
@@ -80,19 +82,19 @@ pub record IsPushed (sum : List ℕ → ℕ) (s : ItemsState) (item : List ℕ) 
   pub added : items_of now new ≡ items_of s old ++ item ∷ []
   pub there : slice_get (items_of now new) i ≡ Some item
 
-abbrev pub Pushes : (List ℕ → ℕ) → ItemsState → List ℕ → CacheState → Life → Life
+abbrev pub PushGoes : (List ℕ → ℕ) → ItemsState → List ℕ → CacheState → Life → Life
     → Result (ItemsState × ℕ) Error → Type 0
-Pushes sum s item after old new (Ok r) = IsPushed sum s item after old new r.0 r.1
-Pushes sum s item after old new (Err OffsetOverflow) =
+PushGoes sum s item after old new (Ok r) = IsPushed sum s item after old new r.0 r.1
+PushGoes sum s item after old new (Err OffsetOverflow) =
     let w = s.writer in
     (new ≡ old)
     × (2 ^ 64 ≤ physical_blob_size w.page_size w.full_pages (length w.tip + length item))
-Pushes sum s item after old new (Err e) = CallCause s.writer.sync old new e
+PushGoes sum s item after old new (Err e) = CallCause s.writer.sync old new e
 
 -- all items are durable
 abbrev pub AllDurable : (List ℕ → ℕ) → ItemsState → Life → Type 0
 AllDurable sum s life =
-    AreDurable sum s.writer.page_size s.size (bytes_of s life) (count s) life.present
+    AreDurable sum s.writer.page_size s.size (items_content s life) (count s) life.present
 
 -- a sync
 pub record AreSynced (sum : List ℕ → ℕ) (s : ItemsState) (after : CacheState) (old new : Life)
@@ -101,16 +103,16 @@ pub record AreSynced (sum : List ℕ → ℕ) (s : ItemsState) (after : CacheSta
   pub same : items_of now new ≡ items_of s old
   pub durable : AllDurable sum now new
 
-abbrev pub SyncsItems : (List ℕ → ℕ) → ItemsState → CacheState → Life → Life
+abbrev pub ItemsSyncGoes : (List ℕ → ℕ) → ItemsState → CacheState → Life → Life
     → Result ItemsState Error → Type 0
-SyncsItems sum s after old new (Ok now) = AreSynced sum s after old new now
-SyncsItems sum s after old new (Err e) = CallCause s.writer.sync old new e
+ItemsSyncGoes sum s after old new (Ok now) = AreSynced sum s after old new now
+ItemsSyncGoes sum s after old new (Err e) = CallCause s.writer.sync old new e
 
 -- what a started sync stands for: all items are durable already, or are once it completed
 abbrev pub StartedFor : (List ℕ → ℕ) → ItemsState → Life → StartedSync → Type 0
 StartedFor sum s life Done = AllDurable sum s life
 StartedFor sum s life (Named name) =
-    WouldBeDurable sum s.writer.page_size s.size (bytes_of s life) (count s) name life.present
+    WouldBeDurable sum s.writer.page_size s.size (items_content s life) (count s) name life.present
 
 -- a sync was started
 pub record AreStarted (sum : List ℕ → ℕ) (s : ItemsState) (after : CacheState) (old new : Life)
@@ -120,10 +122,10 @@ pub record AreStarted (sum : List ℕ → ℕ) (s : ItemsState) (after : CacheSt
   pub sync : now.writer.sync ≡ started_state started
   pub covers : StartedFor sum now new started
 
-abbrev pub StartsItems : (List ℕ → ℕ) → ItemsState → CacheState → Life → Life
+abbrev pub ItemsStartSyncGoes : (List ℕ → ℕ) → ItemsState → CacheState → Life → Life
     → Result (ItemsState × StartedSync) Error → Type 0
-StartsItems sum s after old new (Ok r) = AreStarted sum s after old new r.0 r.1
-StartsItems sum s after old new (Err e) = CallCause s.writer.sync old new e
+ItemsStartSyncGoes sum s after old new (Ok r) = AreStarted sum s after old new r.0 r.1
+ItemsStartSyncGoes sum s after old new (Err e) = CallCause s.writer.sync old new e
 
 -- a wait: no sync is pending then
 pub record HaveWaited (sum : List ℕ → ℕ) (s : ItemsState) (cache : CacheState) (old new : Life)
@@ -132,41 +134,41 @@ pub record HaveWaited (sum : List ℕ → ℕ) (s : ItemsState) (cache : CacheSt
   pub same : items_of now new ≡ items_of s old
   pub sync : (name : ℕ) → now.writer.sync ≢ Pending name
 
-abbrev pub WaitsForItems : (List ℕ → ℕ) → ItemsState → CacheState → Life → Life
+abbrev pub ItemsWaitGoes : (List ℕ → ℕ) → ItemsState → CacheState → Life → Life
     → Result ItemsState Error → Type 0
-WaitsForItems sum s cache old new (Ok now) = HaveWaited sum s cache old new now
-WaitsForItems sum s cache old new (Err e) = CallCause s.writer.sync old new e
+ItemsWaitGoes sum s cache old new (Ok now) = HaveWaited sum s cache old new now
+ItemsWaitGoes sum s cache old new (Err e) = CallCause s.writer.sync old new e
 
 -- a push of an item that fits what is buffered: over whatever blob
-abbrev pub TriesPush : (List ℕ → ℕ) → ItemsState → List ℕ → ItemsState → Result (Option ℕ) Error
+abbrev pub TryPushGoes : (List ℕ → ℕ) → ItemsState → List ℕ → ItemsState → Result (Option ℕ) Error
     → Type 0
-TriesPush sum s item now (Ok (Some i)) =
+TryPushGoes sum s item now (Ok (Some i)) =
     let w = s.writer in
     (length w.tip + length item ≤ w.capacity) × (i ≡ count s)
     × ((cache : CacheState) (life : Life) → AreItems sum s cache life
     → IsPushed sum s item cache life life now i)
-TriesPush sum s item now (Ok None) =
+TryPushGoes sum s item now (Ok None) =
     let w = s.writer in (w.capacity < length w.tip + length item) × (now ≡ s)
-TriesPush sum s item now (Err OffsetOverflow) =
+TryPushGoes sum s item now (Err OffsetOverflow) =
     let w = s.writer in
     (2 ^ 64 ≤ physical_blob_size w.page_size w.full_pages (length w.tip + length item)) × (now ≡ s)
-TriesPush sum s item now (Err OutOfMemory) = now ≡ s
-TriesPush sum s item now (Err _) = ⊥
+TryPushGoes sum s item now (Err OutOfMemory) = now ≡ s
+TryPushGoes sum s item now (Err _) = ⊥
 
 -- ---- recovery
 
 -- items were recovered, under the cache's next id: the whole ones of the text that was readable,
 -- and all of them are durable
-pub record HasRecovered (sum : List ℕ → ℕ) (s : ℕ) (cache after : CacheState) (old new : Life)
+pub record HaveRecovered (sum : List ℕ → ℕ) (s : ℕ) (cache after : CacheState) (old new : Life)
     (now : ItemsState) : Type 0 where
   pub size : now.size ≡ s
   pub page_size : now.writer.page_size ≡ cache.page_size
   pub id : now.writer.id ≡ cache.ids_given
-  pub apart : IsNewId now.writer.id cache
+  pub apart : IsNewToItems now.writer.id cache
   pub snapshots_apart : IsNewToSnapshots now.writer.id cache
   pub stand : AreItems sum now after new
   pub holds : let T = text sum cache.page_size old.present.readable in
-      bytes_of now new ≡ take (length T / s * s) T
+      items_content now new ≡ take (length T / s * s) T
   pub same : items_of now new ≡ items s (text sum cache.page_size old.present.readable)
   pub durable : AllDurable sum now new
 
@@ -174,18 +176,18 @@ pub record HasRecovered (sum : List ℕ → ℕ) (s : ℕ) (cache after : CacheS
 abbrev pub RecoversItems : (List ℕ → ℕ) → (s : ℕ) → (cache after : CacheState) → (capacity : ℕ)
     → Life → Life → Result ItemsState Error → Type 0
 RecoversItems sum s cache after capacity old new (Ok now) =
-    HasRecovered sum s cache after old new now
+    HaveRecovered sum s cache after old new now
 RecoversItems sum s cache after capacity old new (Err e) =
     Recovers sum cache capacity old new (Err e)
 
 -- a recovery, by its answer: what it brings back begins with the items that were durable; and where
 -- no checksum collides, it is the first of those that a crash was to leave
-pub record RecoverGoes (sum : List ℕ → ℕ) (s : ℕ) (cache after : CacheState) (capacity : ℕ)
+pub record ItemsRecoverGoes (sum : List ℕ → ℕ) (s : ℕ) (cache after : CacheState) (capacity : ℕ)
     (old new : Life) (result : Result ItemsState Error) : Type 0 where
   pub answers : RecoversItems sum s cache after capacity old new result
-  pub back : IfOk result (λ r. BringsBack sum cache.page_size s old.present (items_of r new))
+  pub back : IfOk result (λ r. BringsItemsBack sum cache.page_size s old.present (items_of r new))
   pub only : let was = old.present in
-      IfOk result (λ r. BringsOnly sum cache.page_size s was was.readable (items_of r new))
+      IfOk result (λ r. BringsOnlyItems sum cache.page_size s was was.readable (items_of r new))
 
 -- a blob in memory crashed, which kept what these flags say, and its items were recovered; where
 -- memory was refused, nothing changed, or the recovery of what the flags leave was refused
@@ -193,11 +195,11 @@ abbrev pub CrashesAndRecovers : (List ℕ → ℕ) → (s : ℕ) → (cache afte
     → (capacity : ℕ) → List Bool → Life → Life → Result ItemsState Error → Type 0
 CrashesAndRecovers sum s cache after capacity keep old new (Ok now) =
     let d = old.present in
-    HasRecovered sum s cache after (begun (torn keep d.since d.base) d.log) new now
+    HaveRecovered sum s cache after (begun (torn keep d.since d.base) d.log) new now
 CrashesAndRecovers sum s cache after capacity keep old new (Err OutOfMemory) =
     let d = old.present in
     ((after ≡ cache) × (new ≡ old))
-    ⊎ RecoveryLeaves sum s cache after (begun (torn keep d.since d.base) d.log) new
+    ⊎ ItemsRecoveryLeaves sum s cache after (begun (torn keep d.since d.base) d.log) new
 CrashesAndRecovers sum s cache after capacity keep old new (Err e) =
     let d = old.present in
     RecoversItems sum s cache after capacity (begun (torn keep d.since d.base) d.log) new (Err e)
@@ -205,39 +207,39 @@ CrashesAndRecovers sum s cache after capacity keep old new (Err e) =
 -- a crash and the recovery after it, by their answer: what comes back begins with the items that
 -- were durable as the crash came; and where no checksum collides in what the crash left, it is the
 -- first of those that were pushed
-pub record CrashGoes (sum : List ℕ → ℕ) (s : ℕ) (cache after : CacheState) (capacity : ℕ)
+pub record ItemsCrashGoes (sum : List ℕ → ℕ) (s : ℕ) (cache after : CacheState) (capacity : ℕ)
     (keep : List Bool) (old new : Life) (result : Result ItemsState Error) : Type 0 where
   pub answers : CrashesAndRecovers sum s cache after capacity keep old new result
-  pub back : IfOk result (λ r. BringsBack sum cache.page_size s old.present (items_of r new))
+  pub back : IfOk result (λ r. BringsItemsBack sum cache.page_size s old.present (items_of r new))
   pub only : let d = old.present in let image = torn keep d.since d.base in
-      IfOk result (λ r. BringsOnly sum cache.page_size s d image (items_of r new))
+      IfOk result (λ r. BringsOnlyItems sum cache.page_size s d image (items_of r new))
 
 -- ---- reads
 
 -- why a read of items that there are may answer this error: a read of the device failed in the
 -- call, or memory was refused, before the device was asked or between two of its reads
-abbrev pub ReadRefused : Life → Life → Error → Type 0
-ReadRefused old new ReadFailed = HasFailed ReadFailed old.present new.present
-ReadRefused old new OutOfMemory = Unit {0}
-ReadRefused old new _ = ⊥
+abbrev pub ItemReadRefused : Life → Life → Error → Type 0
+ItemReadRefused old new ReadFailed = HasFailed ReadFailed old.present new.present
+ItemReadRefused old new OutOfMemory = Unit {0}
+ItemReadRefused old new _ = ⊥
 
 -- where the item of this number begins, of n items of s bytes; a number whose bytes have no offsets
 -- comes before another that is no item's
-abbrev pub FindsItem : (s n : ℕ) → (i : ℕ) → Result ℕ Error → Type 0
-FindsItem s n i (Ok offset) = (offset ≡ i * s) × (i * s + s < 2 ^ 64) × (i < n)
-FindsItem s n i (Err OffsetOverflow) = (2 ^ 64 ≤ i * s + s) × (n ≤ i)
-FindsItem s n i (Err BlobInsufficientLength) = (i * s + s < 2 ^ 64) × (n ≤ i)
-FindsItem s n i (Err _) = ⊥
+abbrev pub ItemIsAt : (s n : ℕ) → (i : ℕ) → Result ℕ Error → Type 0
+ItemIsAt s n i (Ok offset) = (offset ≡ i * s) × (i * s + s < 2 ^ 64) × (i < n)
+ItemIsAt s n i (Err OffsetOverflow) = (2 ^ 64 ≤ i * s + s) × (n ≤ i)
+ItemIsAt s n i (Err BlobInsufficientLength) = (i * s + s < 2 ^ 64) × (n ≤ i)
+ItemIsAt s n i (Err _) = ⊥
 
 -- the item of this number; where there is none this is told before anything is asked for
-abbrev pub GetsItem : (s : ℕ) → List ℕ → (i : ℕ) → List ℕ → Life → Life → Result (Unit {0}) Error
+abbrev pub GetGoes : (s : ℕ) → List ℕ → (i : ℕ) → List ℕ → Life → Life → Result (Unit {0}) Error
     → Type 0
-GetsItem s content i buf old new (Ok u) = slice_get (items s content) i ≡ Some buf
-GetsItem s content i buf old new (Err OffsetOverflow) =
+GetGoes s content i buf old new (Ok u) = slice_get (items s content) i ≡ Some buf
+GetGoes s content i buf old new (Err OffsetOverflow) =
     (new ≡ old) × (2 ^ 64 ≤ i * s + s) × (length content / s ≤ i)
-GetsItem s content i buf old new (Err BlobInsufficientLength) =
+GetGoes s content i buf old new (Err BlobInsufficientLength) =
     (new ≡ old) × (i * s + s < 2 ^ 64) × (length content / s ≤ i)
-GetsItem s content i buf old new (Err e) = (i < length content / s) × ReadRefused old new e
+GetGoes s content i buf old new (Err e) = (i < length content / s) × ItemReadRefused old new e
 
 -- each number is greater than the one before; the first is at least this
 abbrev pub AreRisingFrom : ℕ → List ℕ → Type 0
@@ -256,7 +258,7 @@ pub record FirstRefused (s n : ℕ) (indices : List ℕ) (e : Error) : Type 0 wh
   pub at : ℕ
   pub there : at < length indices
   pub before : All (IsThere s n) (take at indices)
-  pub refused : FindsItem s n (get_or indices at 0) (Err e)
+  pub refused : ItemIsAt s n (get_or indices at 0) (Err e)
 
 -- whether all these numbers are items'
 abbrev pub FindsAll : (s n : ℕ) → List ℕ → Result (Unit {0}) Error → Type 0
@@ -264,11 +266,11 @@ FindsAll s n indices (Ok u) = All (IsThere s n) indices
 FindsAll s n indices (Err e) = FirstRefused s n indices e
 
 -- where items of these numbers begin
-abbrev pub FindsItems : (s n : ℕ) → List ℕ → Result (Vec ℕ Global) Error → Type 0
-FindsItems s n indices (Ok offsets) =
+abbrev pub ItemsAreAt : (s n : ℕ) → List ℕ → Result (Vec ℕ Global) Error → Type 0
+ItemsAreAt s n indices (Ok offsets) =
     (offsets.items ≡ map (λ i. i * s) indices) × All (IsThere s n) indices
-FindsItems s n indices (Err OutOfMemory) = All (IsThere s n) indices
-FindsItems s n indices (Err e) = FirstRefused s n indices e
+ItemsAreAt s n indices (Err OutOfMemory) = All (IsThere s n) indices
+ItemsAreAt s n indices (Err e) = FirstRefused s n indices e
 
 -- where the items of these numbers are
 abbrev pub item_ranges : (s : ℕ) → List ℕ → List (ℕ × ℕ)
@@ -276,15 +278,15 @@ item_ranges s indices = ranges_of s (map (λ i. i * s) indices)
 
 -- the items of these numbers, joined, and of how many the cache and the buffer had all; the first
 -- number that is refused decides, before anything is asked for
-abbrev pub GetsMany : (s : ℕ) → Tail → List ℕ → (indices : List ℕ) → CacheState → List ℕ → Life
+abbrev pub GetManyGoes : (s : ℕ) → Tail → List ℕ → (indices : List ℕ) → CacheState → List ℕ → Life
     → Life → Result ℕ Error → Type 0
-GetsMany s t content indices cache buf old new (Ok n) =
+GetManyGoes s t content indices cache buf old new (Ok n) =
     All (λ i. i < length content / s) indices
     × (buf ≡ flat_map (item s content) indices)
-    × (n ≡ served cache t (item_ranges s indices))
-GetsMany s t content indices cache buf old new (Err OffsetOverflow) =
+    × (n ≡ served_ranges cache t (item_ranges s indices))
+GetManyGoes s t content indices cache buf old new (Err OffsetOverflow) =
     (new ≡ old) × FirstRefused s (length content / s) indices OffsetOverflow
-GetsMany s t content indices cache buf old new (Err BlobInsufficientLength) =
+GetManyGoes s t content indices cache buf old new (Err BlobInsufficientLength) =
     (new ≡ old) × FirstRefused s (length content / s) indices BlobInsufficientLength
-GetsMany s t content indices cache buf old new (Err e) =
-    All (λ i. i < length content / s) indices × ReadRefused old new e
+GetManyGoes s t content indices cache buf old new (Err e) =
+    All (λ i. i < length content / s) indices × ItemReadRefused old new e

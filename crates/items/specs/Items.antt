@@ -73,15 +73,15 @@ abbrev pub LeavesItems : (List ℕ → ℕ) → (P s : ℕ) → List (List ℕ) 
 LeavesItems sum P s all old new = Through (AreOnly sum P s all) old new
 
 -- what comes back begins with the items that were durable
-abbrev pub BringsBack : (List ℕ → ℕ) → (P s : ℕ) → Disk → List (List ℕ) → Type 0
-BringsBack sum P s d back =
+abbrev pub BringsItemsBack : (List ℕ → ℕ) → (P s : ℕ) → Disk → List (List ℕ) → Type 0
+BringsItemsBack sum P s d back =
     (content : List ℕ) (n : ℕ) → AreDurable sum P s content n d
     → (n ≤ length back) × (take n back ≡ take n (items s content))
 
 -- absent a checksum collision in what the crash left, the items that come back are the first of
 -- those that were pushed
-abbrev pub BringsOnly : (List ℕ → ℕ) → (P s : ℕ) → Disk → List ℕ → List (List ℕ) → Type 0
-BringsOnly sum P s d image back =
+abbrev pub BringsOnlyItems : (List ℕ → ℕ) → (P s : ℕ) → Disk → List ℕ → List (List ℕ) → Type 0
+BringsOnlyItems sum P s d image back =
     IsDistinct sum P d image
     → (all : List (List ℕ)) → AreOnly sum P s all d → AreFirst back all
 

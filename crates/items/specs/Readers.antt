@@ -12,11 +12,11 @@ use Rattle.items.specs.Items.{items}
 use Rattle.items.specs.State.{ItemsReplayState, ItemsSnapshotState, ItemsState}
 use Rattle.items.specs.Standing.{AreItems, IsItemsReplay, IsItemsSnapshot, bytes_along, items_left}
 use Rattle.items.specs.Standing.{items_of, items_over}
-use Rattle.items.specs.Calls.{AreGivenBack, GoOn, ReadRefused}
+use Rattle.items.specs.Calls.{AreGivenBack, GoOn, ItemReadRefused}
 
 -- a snapshot was made of all items, which go on: its pages lie below their tip
-pub record HasSnapshot (sum : List ℕ → ℕ) (s : ItemsState) (after : CacheState) (old new : Life)
-    (now : ItemsState) (r : ItemsSnapshotState) : Type 0 where
+pub record HasItemsSnapshot (sum : List ℕ → ℕ) (s : ItemsState) (after : CacheState)
+    (old new : Life) (now : ItemsState) (r : ItemsSnapshotState) : Type 0 where
   pub goes : GoOn sum s [] after old new now
   pub same : items_of now new ≡ items_of s old
   pub snapshot : IsItemsSnapshot sum r after new
@@ -32,10 +32,10 @@ AreGivenWithSnapshot sum s now r after old new =
     AreGivenBack sum s now after old new × IsItemsSnapshot sum r after new × (r.size ≡ s.size)
     × (r.tail.id ≡ s.writer.id) × (r.tail.full_pages ≤ now.writer.full_pages)
 
-abbrev pub MakesItemsSnapshot : (List ℕ → ℕ) → ItemsState → CacheState → Life → Life
+abbrev pub ItemsSnapshotGoes : (List ℕ → ℕ) → ItemsState → CacheState → Life → Life
     → Result (ItemsState × ItemsSnapshotState) Error → Type 0
-MakesItemsSnapshot sum s after old new (Ok r) = HasSnapshot sum s after old new r.0 r.1
-MakesItemsSnapshot sum s after old new (Err e) = CallCause s.writer.sync old new e
+ItemsSnapshotGoes sum s after old new (Ok r) = HasItemsSnapshot sum s after old new r.0 r.1
+ItemsSnapshotGoes sum s after old new (Err e) = CallCause s.writer.sync old new e
 
 -- a snapshot for which nothing is written, of items over whatever blob: none while a full page is
 -- buffered
@@ -51,7 +51,7 @@ TriesItemsSnapshot sum s (Err OutOfMemory) = length s.writer.tip < s.writer.page
 TriesItemsSnapshot sum s (Err _) = ⊥
 
 -- a replay began of all items, which go on: its pages lie below their tip
-pub record HasReplay (sum : List ℕ → ℕ) (s : ItemsState) (after : CacheState) (old new : Life)
+pub record HasItemsReplay (sum : List ℕ → ℕ) (s : ItemsState) (after : CacheState) (old new : Life)
     (now : ItemsState) (r : ItemsReplayState) : Type 0 where
   pub goes : GoOn sum s [] after old new now
   pub same : items_of now new ≡ items_of s old
@@ -69,18 +69,19 @@ AreGivenWithReplay sum s now r after old new =
     × (r.replay.tail.page_size ≡ now.writer.page_size)
     × (r.replay.tail.full_pages ≤ now.writer.full_pages)
 
-abbrev pub BeginsItemsReplay : (List ℕ → ℕ) → ItemsState → CacheState → Life → Life
+abbrev pub ItemsReplayGoes : (List ℕ → ℕ) → ItemsState → CacheState → Life → Life
     → Result (ItemsState × ItemsReplayState) Error → Type 0
-BeginsItemsReplay sum s after old new (Ok r) = HasReplay sum s after old new r.0 r.1
-BeginsItemsReplay sum s after old new (Err e) = CallCause s.writer.sync old new e
+ItemsReplayGoes sum s after old new (Ok r) = HasItemsReplay sum s after old new r.0 r.1
+ItemsReplayGoes sum s after old new (Err e) = CallCause s.writer.sync old new e
 
 -- a replay gives the next item, or none where none is left; where it is refused, the items that it
 -- is to give are those that it was to give
-abbrev pub GivesNext : (r now : ItemsReplayState) → Life → Life → Result (Option (List ℕ)) Error
+abbrev pub NextItemGoes : (r now : ItemsReplayState) → Life → Life → Result (Option (List ℕ)) Error
     → Type 0
-GivesNext r now old new (Ok (Some item)) = items_left r old ≡ item ∷ items_left now new
-GivesNext r now old new (Ok None) = (items_left r old ≡ []) × (items_left now new ≡ [])
-GivesNext r now old new (Err e) = (items_left now new ≡ items_left r old) × ReadRefused old new e
+NextItemGoes r now old new (Ok (Some item)) = items_left r old ≡ item ∷ items_left now new
+NextItemGoes r now old new (Ok None) = (items_left r old ≡ []) × (items_left now new ≡ [])
+NextItemGoes r now old new (Err e) =
+    (items_left now new ≡ items_left r old) × ItemReadRefused old new e
 
 -- at hand is no more than what was there, or an item and a batch of pages
 abbrev pub HoldsAlong : (r now : ItemsReplayState) → Type 0
@@ -90,14 +91,14 @@ HoldsAlong r now =
     ≤ max (length r.replay.hand) (r.size + r.replay.batch * r.replay.tail.page_size))
 
 -- a replay goes to the item of this number, or to the end: over whatever blob
-abbrev pub SeeksItem : (List ℕ → ℕ) → (r : ItemsReplayState) → (i : ℕ) → (now : ItemsReplayState)
+abbrev pub SeekItemGoes : (List ℕ → ℕ) → (r : ItemsReplayState) → (i : ℕ) → (now : ItemsReplayState)
     → Result (Unit {0}) Error → Type 0
-SeeksItem sum r i now (Ok u) =
+SeekItemGoes sum r i now (Ok u) =
     (life : Life) → IsItemsReplay sum r life
     → IsItemsReplay sum now life
     × (items_left now life ≡ drop i (items r.size (bytes_along r life)))
-SeeksItem sum r i now (Err OffsetOverflow) = (2 ^ 64 ≤ i * r.size) × (now ≡ r)
-SeeksItem sum r i now (Err BlobInsufficientLength) =
+SeekItemGoes sum r i now (Err OffsetOverflow) = (2 ^ 64 ≤ i * r.size) × (now ≡ r)
+SeekItemGoes sum r i now (Err BlobInsufficientLength) =
     (i * r.size < 2 ^ 64) × (now ≡ r)
     × ((life : Life) → IsItemsReplay sum r life → length (bytes_along r life) / r.size < i)
-SeeksItem sum r i now (Err _) = ⊥
+SeekItemGoes sum r i now (Err _) = ⊥

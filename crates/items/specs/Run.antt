@@ -10,8 +10,8 @@ use Rattle.cache.specs.Pages.{IsFresh}
 use Rattle.paged.specs.Calls.{CallCause}
 use Rattle.items.specs.Items.{KeepsItems}
 use Rattle.items.specs.State.{ItemsState}
-use Rattle.items.specs.Standing.{AreItems, CallLeaves, bytes_of, count, items_of}
-use Rattle.items.specs.Calls.{AreSynced, GetsItem, IsPushed, Pushes}
+use Rattle.items.specs.Standing.{AreItems, ItemsCallLeaves, items_content, count, items_of}
+use Rattle.items.specs.Calls.{AreSynced, GetGoes, IsPushed, PushGoes}
 use Rattle.items.specs.declared.run.ItemStep.{ItemStep}
 use Rattle.items.specs.declared.run.ItemStep.TheVariants.{Push, Get, Len, Sync}
 use Rattle.items.specs.declared.run.ItemReply.{ItemReply}
@@ -19,16 +19,16 @@ use Rattle.items.specs.declared.run.ItemReply.TheVariants.{Item, BadItem, Bytes,
 use Rattle.items.specs.declared.run.ItemReply.TheVariants.{Fault, Closed}
 
 -- a session between two steps: its items are such, or it has none, and the cache serves on
-abbrev pub IsOpen : (List ℕ → ℕ) → Option ItemsState → CacheState → Life → Type 0
-IsOpen sum None cache life = IsFresh cache
-IsOpen sum (Some s) cache life = AreItems sum s cache life
+abbrev pub IsOpenSession : (List ℕ → ℕ) → Option ItemsState → CacheState → Life → Type 0
+IsOpenSession sum None cache life = IsFresh cache
+IsOpenSession sum (Some s) cache life = AreItems sum s cache life
 
 -- what a step leaves, whatever its reply: what a call does that pushes these items, or nothing new
 abbrev pub StepLeaves : (List ℕ → ℕ) → Option ItemsState → List (List ℕ)
     → (cache after : CacheState) → Life → Life → Type 0
 StepLeaves sum None more cache after old new = (after ≡ cache) × (new ≡ old)
 StepLeaves sum (Some s) more cache after old new =
-    CallLeaves sum s (items_of s old ++ more) cache after old new
+    ItemsCallLeaves sum s (items_of s old ++ more) cache after old new
 
 -- the pages and the items have the sizes that they had, where there still are items
 abbrev pub SameSizes : (was now : Option ItemsState) → Type 0
@@ -38,9 +38,9 @@ SameSizes (Some s) None = Unit {0}
 SameSizes (Some s) (Some t) = (t.writer.page_size ≡ s.writer.page_size) × (t.size ≡ s.size)
 
 -- a step was taken, and its reply says this
-pub record Did (sum : List ℕ → ℕ) (was now : Option ItemsState) (more : List (List ℕ))
+pub record DidAndSays (sum : List ℕ → ℕ) (was now : Option ItemsState) (more : List (List ℕ))
     (cache after : CacheState) (old new : Life) (Says : Type 0) : Type 0 where
-  pub stands : IsOpen sum now after new
+  pub stands : IsOpenSession sum now after new
   pub leaves : StepLeaves sum was more cache after old new
   pub sizes : SameSizes was now
   pub says : Says
@@ -54,19 +54,19 @@ SaysPushed sum item (Some s) now after old new (Item i) =
 SaysPushed sum item (Some s) now after old new BadItem =
     (length item ≢ s.size) × (now ≡ Some s) × (new ≡ old)
 SaysPushed sum item (Some s) now after old new (Fault e) =
-    (now ≡ None) × Pushes sum s item after old new (Err e)
+    (now ≡ None) × PushGoes sum s item after old new (Err e)
 SaysPushed sum item (Some s) now after old new _ = ⊥
 
 abbrev pub PushedItem : (List ℕ → ℕ) → List ℕ → (was now : Option ItemsState)
     → (cache after : CacheState) → Life → Life → ItemReply → Type 0
 PushedItem sum item was now cache after old new reply =
-    Did sum was now (item ∷ []) cache after old new
+    DidAndSays sum was now (item ∷ []) cache after old new
     (SaysPushed sum item was now after old new reply)
 
 -- the bytes of an item, or why there are none
 abbrev pub GivesItem : ItemsState → (i : ℕ) → Life → Life → Result (Vec ℕ Global) Error → Type 0
 GivesItem s i old new (Ok bytes) = slice_get (items_of s old) i ≡ Some bytes.items
-GivesItem s i old new (Err e) = GetsItem s.size (bytes_of s old) i [] old new (Err e)
+GivesItem s i old new (Err e) = GetGoes s.size (items_content s old) i [] old new (Err e)
 
 -- a read of an item, which changes nothing
 abbrev pub SaysGot : (i : ℕ) → (was now : Option ItemsState) → Life → Life → ItemReply → Type 0
@@ -74,13 +74,13 @@ SaysGot i None now old new reply = (reply ≡ Closed) × (now ≡ None)
 SaysGot i (Some s) now old new (Bytes bytes) =
     (now ≡ Some s) × (slice_get (items_of s old) i ≡ Some bytes.items)
 SaysGot i (Some s) now old new (Fault e) =
-    (now ≡ Some s) × GetsItem s.size (bytes_of s old) i [] old new (Err e)
+    (now ≡ Some s) × GetGoes s.size (items_content s old) i [] old new (Err e)
 SaysGot i (Some s) now old new _ = ⊥
 
 abbrev pub GotItem : (List ℕ → ℕ) → (i : ℕ) → (was now : Option ItemsState)
     → (cache after : CacheState) → Life → Life → ItemReply → Type 0
 GotItem sum i was now cache after old new reply =
-    Did sum was now [] cache after old new (SaysGot i was now old new reply)
+    DidAndSays sum was now [] cache after old new (SaysGot i was now old new reply)
 
 -- how many items there are
 abbrev pub TellsLength : Option ItemsState → ItemReply → Type 0
@@ -100,7 +100,7 @@ SaysSynced sum (Some s) now after old new _ = ⊥
 abbrev pub SyncedItems : (List ℕ → ℕ) → (was now : Option ItemsState) → (cache after : CacheState)
     → Life → Life → ItemReply → Type 0
 SyncedItems sum was now cache after old new reply =
-    Did sum was now [] cache after old new (SaysSynced sum was now after old new reply)
+    DidAndSays sum was now [] cache after old new (SaysSynced sum was now after old new reply)
 
 -- a step
 abbrev pub DidItem : (List ℕ → ℕ) → ItemStep → (was now : Option ItemsState)
@@ -110,7 +110,8 @@ DidItem sum (Push item) was now cache after old new reply =
 DidItem sum (Get i) was now cache after old new reply =
     GotItem sum i was now cache after old new reply
 DidItem sum Len was now cache after old new reply =
-    Did sum was now [] cache after old new ((now ≡ was) × (new ≡ old) × TellsLength was reply)
+    DidAndSays sum was now [] cache after old new
+    ((now ≡ was) × (new ≡ old) × TellsLength was reply)
 DidItem sum Sync was now cache after old new reply =
     SyncedItems sum was now cache after old new reply
 
@@ -138,12 +139,12 @@ pub record Stop (sum : List ℕ → ℕ) (steps : List ItemStep) (replies : List
   pub between : CacheState
   pub then : Life
   pub runs : RunsItems sum was cache old (take taken steps) (take taken replies) mid between then
-  pub stands : IsOpen sum mid between then
+  pub stands : IsOpenSession sum mid between then
   pub kept : (P s : ℕ) → HasSizes P s mid → KeepsItems sum P s then new × HasSizes P s now
 
 -- a run: one reply a step, after those that there were; whatever was durable as it began, or after
 -- any of its steps, is so at each moment since
-pub record Ran (sum : List ℕ → ℕ) (steps : List ItemStep) (was now : Option ItemsState)
+pub record RanItems (sum : List ℕ → ℕ) (steps : List ItemStep) (was now : Option ItemsState)
     (cache after : CacheState) (old new : Life) (earlier replies : List ItemReply) : Type 0 where
   pub added : List ItemReply
   pub adds : replies ≡ earlier ++ added
@@ -162,9 +163,9 @@ pub record IsNotRun (was now : Option ItemsState) (cache after : CacheState) (ol
   pub same_cache : after ≡ cache
 
 -- a run, by its answer
-pub record RunGoes (sum : List ℕ → ℕ) (steps : List ItemStep) (was now : Option ItemsState)
+pub record ItemsRunGoes (sum : List ℕ → ℕ) (steps : List ItemStep) (was now : Option ItemsState)
     (cache after : CacheState) (old new : Life) (earlier replies : List ItemReply)
     (result : Result (Unit {0}) Error) : Type 0 where
-  pub ran : OnOk result (Ran sum steps was now cache after old new earlier replies)
+  pub ran : OnOk result (RanItems sum steps was now cache after old new earlier replies)
   pub err : IsOkUnless result OutOfMemory
   pub refused : OnErr result (IsNotRun was now cache after old new earlier replies)

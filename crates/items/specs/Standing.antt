@@ -8,8 +8,8 @@ use Rattle.crash.specs.Looks.{Looked}
 use Rattle.page.specs.Page.{text}
 use Rattle.writer_state.specs.Sound.{LeavesItsContent, content}
 use Rattle.paged_read.specs.Replay.{IsReplayOf}
-use Rattle.paged_read.specs.Snapshots.{StandsOn}
-use Rattle.paged_read.specs.Tail.{told, size_of}
+use Rattle.paged_read.specs.Snapshots.{SnapshotReads}
+use Rattle.paged_read.specs.Tail.{logical_bytes, tail_size}
 use Rattle.paged.specs.Ready.{IsReady}
 use Rattle.paged.specs.Reads as writer
 use Rattle.paged.specs.Recovery.{IsDurable}
@@ -20,11 +20,11 @@ use Rattle.items.specs.State.{ItemsState, ItemsReplayState, ItemsSnapshotState}
 -- ---- items
 
 -- the bytes of the items, and the items
-abbrev pub bytes_of : ItemsState → Life → List ℕ
-bytes_of s life = content s.writer life.present.readable
+abbrev pub items_content : ItemsState → Life → List ℕ
+items_content s life = content s.writer life.present.readable
 
 abbrev pub items_of : ItemsState → Life → List (List ℕ)
-items_of s life = items s.size (bytes_of s life)
+items_of s life = items s.size (items_content s life)
 
 -- how many there are
 abbrev pub count : ItemsState → ℕ
@@ -36,8 +36,8 @@ pub record StandAsItems (sum : List ℕ → ℕ) (s : ItemsState) (cache : Cache
     : Type 0 where
   pub some : 0 < s.size
   pub ready : IsReady sum s.writer cache life
-  pub size : writer.size_of s.writer ≡ length (bytes_of s life)
-  pub whole : length (bytes_of s life) ≡ length (bytes_of s life) / s.size * s.size
+  pub size : writer.size_of s.writer ≡ length (items_content s life)
+  pub whole : length (items_content s life) ≡ length (items_content s life) / s.size * s.size
   pub only : LeavesItsContent sum s.writer life.present
 
 -- the word for it in contracts: a caller hands it from call to call, and has no need to see into it
@@ -51,46 +51,46 @@ AreReady sum s cache life =
     × (cache.page_size ≡ s.writer.page_size)
 
 -- a call over the blob with this id: all other items that have this cache stay such
-abbrev pub OthersStay : ℕ → CacheState → CacheState → Type 0
-OthersStay id cache after =
+abbrev pub OtherItemsStay : ℕ → CacheState → CacheState → Type 0
+OtherItemsStay id cache after =
     (sum : List ℕ → ℕ) (s : ItemsState) (life : Life) → s.writer.id ≢ id
     → AreItems sum s cache life → AreItems sum s after life
 
 -- one over a blob that is new to the cache: all items do
-abbrev pub AllStay : CacheState → CacheState → Type 0
-AllStay cache after =
+abbrev pub AllItemsStay : CacheState → CacheState → Type 0
+AllItemsStay cache after =
     (sum : List ℕ → ℕ) (s : ItemsState) (life : Life)
     → AreItems sum s cache life → AreItems sum s after life
 
 -- no items that have this cache have this id
-abbrev pub IsNewId : ℕ → CacheState → Type 0
-IsNewId id cache =
+abbrev pub IsNewToItems : ℕ → CacheState → Type 0
+IsNewToItems id cache =
     (sum : List ℕ → ℕ) (s : ItemsState) (life : Life) → AreItems sum s cache life → s.writer.id ≢ id
 
 -- a call that only reads: the items stay such, the same ones
 abbrev pub ItemsStay : (List ℕ → ℕ) → CacheState → CacheState → Life → Life → Type 0
 ItemsStay sum cache after old new =
     (s : ItemsState) → AreItems sum s cache old
-    → AreItems sum s after new × (bytes_of s new ≡ bytes_of s old)
+    → AreItems sum s after new × (items_content s new ≡ items_content s old)
 
 -- ---- snapshots
 
 -- the bytes of the items that a snapshot reads, the items, and how many they are
 abbrev pub bytes_over : ItemsSnapshotState → Life → List ℕ
-bytes_over r life = told r.tail life.present.readable
+bytes_over r life = logical_bytes r.tail life.present.readable
 
 abbrev pub items_over : ItemsSnapshotState → Life → List (List ℕ)
 items_over r life = items r.size (bytes_over r life)
 
 abbrev pub count_over : ItemsSnapshotState → ℕ
-count_over r = size_of r.tail / r.size
+count_over r = tail_size r.tail / r.size
 
 -- a snapshot between two calls: it can be read with this cache, and gives whole items
 pub record StandsOverItems (sum : List ℕ → ℕ) (r : ItemsSnapshotState) (cache : CacheState)
     (life : Life) : Type 0 where
   pub some : 0 < r.size
-  pub stands : StandsOn sum r.tail (bytes_over r life) cache life.present
-  pub size : size_of r.tail ≡ length (bytes_over r life)
+  pub stands : SnapshotReads sum r.tail (bytes_over r life) cache life.present
+  pub size : tail_size r.tail ≡ length (bytes_over r life)
   pub whole : length (bytes_over r life) ≡ length (bytes_over r life) / r.size * r.size
 
 -- the word for it in contracts
@@ -137,20 +137,20 @@ IsNewToSnapshots id cache =
 
 -- the bytes of the items that a replay goes over, and the items that it is still to give
 abbrev pub bytes_along : ItemsReplayState → Life → List ℕ
-bytes_along r life = told r.replay.tail life.present.readable
+bytes_along r life = logical_bytes r.replay.tail life.present.readable
 
 abbrev pub items_left : ItemsReplayState → Life → List (List ℕ)
 items_left r life = items r.size (drop r.replay.position (bytes_along r life))
 
 -- how many it goes over
 abbrev pub count_along : ItemsReplayState → ℕ
-count_along r = size_of r.replay.tail / r.size
+count_along r = tail_size r.replay.tail / r.size
 
 -- a replay between two calls: it gives its blob's bytes, and stands between two whole items
 pub record ReplaysItems (sum : List ℕ → ℕ) (r : ItemsReplayState) (life : Life) : Type 0 where
   pub some : 0 < r.size
   pub gives : IsReplayOf sum r.replay (bytes_along r life) life.present
-  pub size : size_of r.replay.tail ≡ length (bytes_along r life)
+  pub size : tail_size r.replay.tail ≡ length (bytes_along r life)
   pub whole : length (bytes_along r life) ≡ length (bytes_along r life) / r.size * r.size
   pub between : r.replay.position ≡ r.replay.position / r.size * r.size
 
@@ -179,13 +179,13 @@ AllReplaysStay sum old new = (r : ItemsReplayState) → StaysAlong sum r old new
 -- snapshots of other blobs too; what was durable is so at each moment since, and so is what a
 -- started sync would make durable; chance aside a crash at any of these moments leaves only the
 -- first of these items; and the snapshots and replays of the blob go on
-pub record CallLeaves (sum : List ℕ → ℕ) (s : ItemsState) (all : List (List ℕ))
+pub record ItemsCallLeaves (sum : List ℕ → ℕ) (s : ItemsState) (all : List (List ℕ))
     (cache after : CacheState) (old new : Life) : Type 0 where
   pub fresh : IsFresh after
-  pub others : OthersStay s.writer.id cache after
+  pub others : OtherItemsStay s.writer.id cache after
   pub their_snapshots : OtherSnapshotsStay s.writer.id cache after
   pub kept : KeepsItems sum s.writer.page_size s.size old new
-  pub started : KeepsStarted sum s.writer.page_size s.size (bytes_of s old) old new
+  pub started : KeepsStarted sum s.writer.page_size s.size (items_content s old) old new
   pub only : LeavesItems sum s.writer.page_size s.size all old new
   pub snapshots : SnapshotsStay sum s.writer.full_pages cache after old new
   pub replays : ReplaysStay sum s.writer.page_size s.writer.full_pages old new
@@ -194,15 +194,15 @@ pub record CallLeaves (sum : List ℕ → ℕ) (s : ItemsState) (all : List (Lis
 pub record ItemReadLeaves (sum : List ℕ → ℕ) (s : ItemsState) (cache after : CacheState)
     (old new : Life) : Type 0 where
   pub looked : Looked old new
-  pub call : CallLeaves sum s (items_of s old) cache after old new
+  pub call : ItemsCallLeaves sum s (items_of s old) cache after old new
 
 -- what a recovery leaves, whatever it answers: the cache serves on, for the items and the snapshots
 -- of other blobs too; what was durable is so at each moment since; and where all was durable as it
 -- began, all items of the text are, and chance aside a crash leaves only them
-pub record RecoveryLeaves (sum : List ℕ → ℕ) (s : ℕ) (cache after : CacheState) (old new : Life)
-    : Type 0 where
+pub record ItemsRecoveryLeaves (sum : List ℕ → ℕ) (s : ℕ) (cache after : CacheState)
+    (old new : Life) : Type 0 where
   pub fresh : IsFresh after
-  pub others : AllStay cache after
+  pub others : AllItemsStay cache after
   pub snapshots : EachSnapshotStays cache after
   pub kept : KeepsItems sum cache.page_size s old new
   pub all : let T = text sum cache.page_size old.present.readable in IsDurable old.present
@@ -212,41 +212,41 @@ pub record RecoveryLeaves (sum : List ℕ → ℕ) (s : ℕ) (cache after : Cach
 
 -- what a crash and the recovery after it leave, whatever they answer: the cache serves on, for the
 -- items and the snapshots of other blobs too, and what was durable still is
-pub record CrashLeaves (sum : List ℕ → ℕ) (s : ℕ) (cache after : CacheState) (was is : Disk)
+pub record ItemsCrashLeaves (sum : List ℕ → ℕ) (s : ℕ) (cache after : CacheState) (was is : Disk)
     : Type 0 where
   pub fresh : IsFresh after
-  pub others : AllStay cache after
+  pub others : AllItemsStay cache after
   pub snapshots : EachSnapshotStays cache after
   pub stays : StaysDurable sum cache.page_size s was is
 
 -- what a read of a snapshot leaves, whatever it answers: the device was only read, the items,
 -- snapshots and replays of the blob are as they were, and those of other blobs; and a crash at each
 -- moment since keeps and leaves what it did before
-pub record OnlyReads (sum : List ℕ → ℕ) (id : ℕ) (cache after : CacheState) (old new : Life)
-    : Type 0 where
+pub record SnapshotReadLeaves (sum : List ℕ → ℕ) (id : ℕ) (cache after : CacheState)
+    (old new : Life) : Type 0 where
   pub looked : Looked old new
   pub fresh : IsFresh cache → IsFresh after
   pub items : ItemsStay sum cache after old new
-  pub others : OthersStay id cache after
+  pub others : OtherItemsStay id cache after
   pub snapshots : AllSnapshotsStay sum cache after old new
   pub their_snapshots : OtherSnapshotsStay id cache after
   pub replays : AllReplaysStay sum old new
   pub kept : (P s : ℕ) → 0 < s → KeepsItems sum P s old new
   pub started : (s : ItemsState) → AreItems sum s cache old
-      → KeepsStarted sum s.writer.page_size s.size (bytes_of s old) old new
+      → KeepsStarted sum s.writer.page_size s.size (items_content s old) old new
   pub only : (s : ItemsState) → AreItems sum s cache old
       → LeavesItems sum s.writer.page_size s.size (items_of s old) old new
 
 -- what a replay leaves as it reads on, whatever it answers, with each cache: the same
-pub record OnlyReadsOn (sum : List ℕ → ℕ) (old new : Life) : Type 0 where
+pub record ReplayReadLeaves (sum : List ℕ → ℕ) (old new : Life) : Type 0 where
   pub looked : Looked old new
   pub items : (s : ItemsState) (cache : CacheState) → AreItems sum s cache old
-      → AreItems sum s cache new × (bytes_of s new ≡ bytes_of s old)
+      → AreItems sum s cache new × (items_content s new ≡ items_content s old)
   pub snapshots : (r : ItemsSnapshotState) (cache : CacheState)
       → StaysOver sum r cache cache old new
   pub replays : AllReplaysStay sum old new
   pub kept : (P s : ℕ) → 0 < s → KeepsItems sum P s old new
   pub started : (s : ItemsState) (cache : CacheState) → AreItems sum s cache old
-      → KeepsStarted sum s.writer.page_size s.size (bytes_of s old) old new
+      → KeepsStarted sum s.writer.page_size s.size (items_content s old) old new
   pub only : (s : ItemsState) (cache : CacheState) → AreItems sum s cache old
       → LeavesItems sum s.writer.page_size s.size (items_of s old) old new

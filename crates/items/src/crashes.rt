@@ -3,8 +3,8 @@ ghost use Rattle.std.specs.Prelude.{◌≡◌, IfOk};
 ghost use Rattle.std.specs.Int.NonZero.{non_zero_usize_get};
 ghost use Rattle.disk.specs.History.{life_of};
 ghost use Rattle.cache.specs.Pages.{IsFresh};
-ghost use Rattle.items.specs.Standing.{AreReady, CrashLeaves};
-ghost use Rattle.items.specs.Calls.{CrashGoes};
+ghost use Rattle.items.specs.Standing.{AreReady, ItemsCrashLeaves};
+ghost use Rattle.items.specs.Calls.{ItemsCrashGoes};
 
 use crate::items::Items;
 use cache::CacheRef;
@@ -31,12 +31,12 @@ pub fn crash_and_recover<H: Sum>(
 ) -> Result<Items<MemBlob, H>, Error>
     requires fresh { IsFresh cache.old }
     ensures goes { let s = non_zero_usize_get size in
-        CrashGoes H.sum_of s cache.old cache.new capacity keep.now (life_of blob.old)
+        ItemsCrashGoes H.sum_of s cache.old cache.new capacity keep.now (life_of blob.old)
         (life_of blob.new) result }
     ensures ready { let s = non_zero_usize_get size in IfOk result (λ r.
         AreReady H.sum_of r cache.new (life_of blob.new) × (r.size ≡ s)) }
     ensures leaves { let was = (life_of blob.old).present in let is = (life_of blob.new).present in
-        CrashLeaves H.sum_of (non_zero_usize_get size) cache.old cache.new was is }
+        ItemsCrashLeaves H.sum_of (non_zero_usize_get size) cache.old cache.new was is }
 {
     blob.crash(keep)?;
     let blob_size = blob.len();

@@ -10,13 +10,13 @@ ghost use Rattle.paged.specs.Caches.{tail_of};
 ghost use Rattle.paged.specs.Calls.{AsksAtMost, start_calls, sync_calls, wait_calls};
 ghost use Rattle.paged.specs.Replays.{replay_calls};
 ghost use Rattle.paged.specs.Snapshots.{snapshot_calls};
-ghost use Rattle.items.specs.Calls.{AreGivenBack, AreRising, FindsItem, GetsItem, GetsMany};
-ghost use Rattle.items.specs.Calls.{Pushes, RecoverGoes};
-ghost use Rattle.items.specs.Calls.{StartsItems, SyncsItems, TriesPush, WaitsForItems, item_ranges};
+ghost use Rattle.items.specs.Calls.{AreGivenBack, AreRising, GetGoes, GetManyGoes, ItemIsAt};
+ghost use Rattle.items.specs.Calls.{ItemsRecoverGoes, PushGoes, ItemsStartSyncGoes, ItemsSyncGoes};
+ghost use Rattle.items.specs.Calls.{TryPushGoes, ItemsWaitGoes, item_ranges};
 ghost use Rattle.items.specs.Readers.{AreGivenWithReplay, AreGivenWithSnapshot};
-ghost use Rattle.items.specs.Readers.{BeginsItemsReplay, MakesItemsSnapshot, TriesItemsSnapshot};
-ghost use Rattle.items.specs.Standing.{AreItems, AreReady, CallLeaves, ItemReadLeaves};
-ghost use Rattle.items.specs.Standing.{RecoveryLeaves, bytes_of, count, items_of};
+ghost use Rattle.items.specs.Readers.{ItemsReplayGoes, ItemsSnapshotGoes, TriesItemsSnapshot};
+ghost use Rattle.items.specs.Standing.{AreItems, AreReady, ItemReadLeaves, ItemsCallLeaves};
+ghost use Rattle.items.specs.Standing.{ItemsRecoveryLeaves, items_content, count, items_of};
 
 use crate::locate::{offset_of, offsets_of};
 use crate::replay::ItemsReplay;
@@ -84,7 +84,7 @@ impl<B, H> Items<B, H> {
     /// Where the item of a number begins. The errors are those that [`Items::get`] answers before
     /// anything is asked for.
     pub(crate) fn find(&self, i: u64) -> Result<u64, Error>
-        ensures { FindsItem self.now.size (count self.now) i result }
+        ensures { ItemIsAt self.now.size (count self.now) i result }
     {
         offset_of(i, self.len(), self.size)
     }
@@ -115,12 +115,12 @@ impl<B: Blob, H: Sum> Items<B, H> {
         requires fresh { IsFresh cache.old }
         ensures goes { let old = B.life blob.old in let new = B.life blob.new in
             let s = non_zero_usize_get size in
-            RecoverGoes H.sum_of s cache.old cache.new capacity old new result }
+            ItemsRecoverGoes H.sum_of s cache.old cache.new capacity old new result }
         ensures ready { let s = non_zero_usize_get size in IfOk result (λ r.
             AreReady H.sum_of r cache.new (B.life blob.new) × (r.size ≡ s)) }
         ensures leaves { let old = B.life blob.old in let new = B.life blob.new in
             let s = non_zero_usize_get size in
-            RecoveryLeaves H.sum_of s cache.old cache.new old new }
+            ItemsRecoveryLeaves H.sum_of s cache.old cache.new old new }
     {
         let recovery = paged::recover::<B, H>(
             alloc,
@@ -149,12 +149,12 @@ impl<B: Blob, H: Sum> Items<B, H> {
         requires items { AreItems H.sum_of self cache.old (B.life blob.old) }
         requires size { length item.now ≡ self.size }
         ensures goes { let old = B.life blob.old in let new = B.life blob.new in
-            Pushes H.sum_of self item.now cache.new old new result }
+            PushGoes H.sum_of self item.now cache.new old new result }
         ensures ready { let old = B.life blob.old in let new = B.life blob.new in
             IfOk result (λ r. AreGivenBack H.sum_of self r.0 cache.new old new) }
         ensures leaves { let old = B.life blob.old in let new = B.life blob.new in
             let all = items_of self old ++ item.now ∷ [] in
-            CallLeaves H.sum_of self all cache.old cache.new old new }
+            ItemsCallLeaves H.sum_of self all cache.old cache.new old new }
         ensures costs { let old = B.life blob.old in let new = B.life blob.new in
             AsksAtMost (wait_calls self.writer.sync + 2) old new
             × (length self.writer.tip + length item.now ≤ self.writer.capacity → new ≡ old) }
@@ -175,7 +175,7 @@ impl<B: Blob, H: Sum> Items<B, H> {
     /// error the items are as they were.
     pub fn try_push_value<T: FixedSize + Write>(&mut self, value: &T) -> Result<Option<u64>, Error>
         requires size { T.SIZE ≡ self.old.size }
-        ensures goes { TriesPush H.sum_of self.old (T.encoded value.now) self.new result }
+        ensures goes { TryPushGoes H.sum_of self.old (T.encoded value.now) self.new result }
         ensures ready { (cache : CacheState) (life : Life) → AreItems H.sum_of self.old cache life
             → AreGivenBack H.sum_of self.old self.new cache life life }
     {
@@ -194,11 +194,11 @@ impl<B: Blob, H: Sum> Items<B, H> {
     pub fn sync(self, blob: &mut B, cache: &mut CacheRef) -> Result<Self, Error>
         requires items { AreItems H.sum_of self cache.old (B.life blob.old) }
         ensures goes { let old = B.life blob.old in let new = B.life blob.new in
-            SyncsItems H.sum_of self cache.new old new result }
+            ItemsSyncGoes H.sum_of self cache.new old new result }
         ensures ready { let old = B.life blob.old in let new = B.life blob.new in
             IfOk result (λ r. AreGivenBack H.sum_of self r cache.new old new) }
         ensures leaves { let old = B.life blob.old in let new = B.life blob.new in
-            CallLeaves H.sum_of self (items_of self old) cache.old cache.new old new }
+            ItemsCallLeaves H.sum_of self (items_of self old) cache.old cache.new old new }
         ensures costs { AsksAtMost (sync_calls self.writer) (B.life blob.old) (B.life blob.new) }
     {
         let (alloc, size) = (self.alloc, self.size);
@@ -221,11 +221,11 @@ impl<B: Blob, H: Sum> Items<B, H> {
     ) -> Result<(Self, StartedSync), Error>
         requires items { AreItems H.sum_of self cache.old (B.life blob.old) }
         ensures goes { let old = B.life blob.old in let new = B.life blob.new in
-            StartsItems H.sum_of self cache.new old new result }
+            ItemsStartSyncGoes H.sum_of self cache.new old new result }
         ensures ready { let old = B.life blob.old in let new = B.life blob.new in
             IfOk result (λ r. AreGivenBack H.sum_of self r.0 cache.new old new) }
         ensures leaves { let old = B.life blob.old in let new = B.life blob.new in
-            CallLeaves H.sum_of self (items_of self old) cache.old cache.new old new }
+            ItemsCallLeaves H.sum_of self (items_of self old) cache.old cache.new old new }
         ensures costs { AsksAtMost (start_calls self.writer) (B.life blob.old) (B.life blob.new) }
     {
         let (alloc, size) = (self.alloc, self.size);
@@ -243,13 +243,13 @@ impl<B: Blob, H: Sum> Items<B, H> {
         requires items { (cache : CacheState) × AreItems H.sum_of self cache (B.life blob.old) }
         ensures goes { let old = B.life blob.old in let new = B.life blob.new in
             (cache : CacheState) → AreItems H.sum_of self cache old
-            → WaitsForItems H.sum_of self cache old new result }
+            → ItemsWaitGoes H.sum_of self cache old new result }
         ensures ready { let old = B.life blob.old in let new = B.life blob.new in
             (cache : CacheState) → AreItems H.sum_of self cache old
             → IfOk result (λ r. AreGivenBack H.sum_of self r cache old new) }
         ensures leaves { let old = B.life blob.old in let new = B.life blob.new in
             (cache : CacheState) → AreItems H.sum_of self cache old
-            → CallLeaves H.sum_of self (items_of self old) cache cache old new }
+            → ItemsCallLeaves H.sum_of self (items_of self old) cache cache old new }
         ensures costs { let old = B.life blob.old in let new = B.life blob.new in
             AsksAtMost (wait_calls self.writer.sync) old new }
     {
@@ -288,11 +288,11 @@ impl<B: Blob, H: Sum> Items<B, H> {
     ) -> Result<(Self, ItemsSnapshot<B, H>), Error>
         requires items { AreItems H.sum_of self cache.old (B.life blob.old) }
         ensures goes { let old = B.life blob.old in let new = B.life blob.new in
-            MakesItemsSnapshot H.sum_of self cache.new old new result }
+            ItemsSnapshotGoes H.sum_of self cache.new old new result }
         ensures ready { let old = B.life blob.old in let new = B.life blob.new in
             IfOk result (λ r. AreGivenWithSnapshot H.sum_of self r.0 r.1 cache.new old new) }
         ensures leaves { let old = B.life blob.old in let new = B.life blob.new in
-            CallLeaves H.sum_of self (items_of self old) cache.old cache.new old new }
+            ItemsCallLeaves H.sum_of self (items_of self old) cache.old cache.new old new }
         ensures costs { AsksAtMost (snapshot_calls self.writer) (B.life blob.old)
             (B.life blob.new) }
     {
@@ -324,11 +324,11 @@ impl<B: Blob, H: Sum> Items<B, H> {
     ) -> Result<(Self, ItemsReplay<B, H>), Error>
         requires items { AreItems H.sum_of self cache.old (B.life blob.old) }
         ensures goes { let old = B.life blob.old in let new = B.life blob.new in
-            BeginsItemsReplay H.sum_of self cache.new old new result }
+            ItemsReplayGoes H.sum_of self cache.new old new result }
         ensures ready { let old = B.life blob.old in let new = B.life blob.new in
             IfOk result (λ r. AreGivenWithReplay H.sum_of self r.0 r.1 cache.new old new) }
         ensures leaves { let old = B.life blob.old in let new = B.life blob.new in
-            CallLeaves H.sum_of self (items_of self old) cache.old cache.new old new }
+            ItemsCallLeaves H.sum_of self (items_of self old) cache.old cache.new old new }
         ensures costs { AsksAtMost (replay_calls self.writer) (B.life blob.old) (B.life blob.new) }
     {
         let (alloc, size) = (self.alloc, self.size);
@@ -358,10 +358,10 @@ impl<B: Blob, H: Sum> Items<B, H> {
         requires items { AreItems H.sum_of self.now cache.old (B.life blob.old) }
         requires size { length buf.old ≡ self.now.size }
         ensures goes { let old = B.life blob.old in let new = B.life blob.new in
-            GetsItem self.now.size (bytes_of self.now old) i buf.new old new result }
+            GetGoes self.now.size (items_content self.now old) i buf.new old new result }
         ensures ready { let old = B.life blob.old in let new = B.life blob.new in
             AreReady H.sum_of self.now cache.new new
-            × (bytes_of self.now new ≡ bytes_of self.now old)
+            × (items_content self.now new ≡ items_content self.now old)
             × (length buf.new ≡ length buf.old) }
         ensures leaves { let old = B.life blob.old in let new = B.life blob.new in
             ItemReadLeaves H.sum_of self.now cache.old cache.new old new }
@@ -392,11 +392,11 @@ impl<B: Blob, H: Sum> Items<B, H> {
         requires asked { AreRising indices.now
             × (length buf.old ≡ length indices.now * self.now.size) }
         ensures goes { let old = B.life blob.old in let new = B.life blob.new in
-            let t = tail_of self.now.writer in let bytes = bytes_of self.now old in
-            GetsMany self.now.size t bytes indices.now cache.old buf.new old new result }
+            let t = tail_of self.now.writer in let bytes = items_content self.now old in
+            GetManyGoes self.now.size t bytes indices.now cache.old buf.new old new result }
         ensures ready { let old = B.life blob.old in let new = B.life blob.new in
             AreReady H.sum_of self.now cache.new new
-            × (bytes_of self.now new ≡ bytes_of self.now old)
+            × (items_content self.now new ≡ items_content self.now old)
             × (length buf.new ≡ length buf.old) }
         ensures leaves { let old = B.life blob.old in let new = B.life blob.new in
             ItemReadLeaves H.sum_of self.now cache.old cache.new old new }

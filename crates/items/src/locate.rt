@@ -1,7 +1,7 @@
 // Where items of one size stand, by their numbers.
 ghost use Rattle.std.specs.Prelude.{◌*◌, ◌<◌, ◌^◌};
 ghost use Rattle.std.specs.Int.NonZero.{non_zero_usize_get};
-ghost use Rattle.items.specs.Calls.{FindsAll, FindsItem, FindsItems};
+ghost use Rattle.items.specs.Calls.{FindsAll, ItemIsAt, ItemsAreAt};
 
 use disk::Error;
 use std::alloc::Global;
@@ -10,7 +10,7 @@ use std::num::NonZeroUsize;
 /// Where the item of a number begins, of `count` items.
 pub fn offset_of(i: u64, count: u64, size: NonZeroUsize) -> Result<u64, Error>
     requires { count * non_zero_usize_get size < 2 ^ 64 }
-    ensures { FindsItem (non_zero_usize_get size) count i result }
+    ensures { ItemIsAt (non_zero_usize_get size) count i result }
 {
     let len = size.get() as u64;
     let Some(offset) = i.checked_mul(len) else {
@@ -46,7 +46,7 @@ pub fn offsets_of(
     size: NonZeroUsize,
 ) -> Result<Vec<u64>, Error>
     requires { count * non_zero_usize_get size < 2 ^ 64 }
-    ensures { FindsItems (non_zero_usize_get size) count indices.now result }
+    ensures { ItemsAreAt (non_zero_usize_get size) count indices.now result }
 {
     find_all(indices, count, size)?;
     let len = size.get() as u64;

@@ -2,8 +2,8 @@
 ghost use Rattle.std.specs.Prelude.{◌≡◌, OnOk};
 ghost use Rattle.std.specs.Int.NonZero.{non_zero_usize_get};
 ghost use Rattle.paged_read.specs.Replay.{IsHad};
-ghost use Rattle.items.specs.Readers.{GivesNext, HoldsAlong, SeeksItem};
-ghost use Rattle.items.specs.Standing.{IsItemsReplay, OnlyReadsOn, count_along};
+ghost use Rattle.items.specs.Readers.{HoldsAlong, NextItemGoes, SeekItemGoes};
+ghost use Rattle.items.specs.Standing.{IsItemsReplay, ReplayReadLeaves, count_along};
 
 use disk::{Blob, Error, IoBuf};
 use page::Sum;
@@ -66,11 +66,11 @@ impl<B: Blob, H: Sum> ItemsReplay<B, H> {
     pub fn next(&mut self, blob: &mut B) -> Result<Option<IoBuf>, Error>
         requires replay { IsItemsReplay H.sum_of self.old (B.life blob.old) }
         ensures goes { let old = B.life blob.old in let new = B.life blob.new in
-            GivesNext self.old self.new old new result }
+            NextItemGoes self.old self.new old new result }
         ensures ready { IsItemsReplay H.sum_of self.new (B.life blob.new)
             × (self.new.size ≡ self.old.size)
             × (self.new.replay.tail ≡ self.old.replay.tail) }
-        ensures leaves { OnlyReadsOn H.sum_of (B.life blob.old) (B.life blob.new) }
+        ensures leaves { ReplayReadLeaves H.sum_of (B.life blob.old) (B.life blob.new) }
         ensures costs { IsHad self.old.replay self.old.size
             → B.life blob.new ≡ B.life blob.old }
         ensures held { OnOk result (HoldsAlong self.old self.new) }
@@ -89,7 +89,7 @@ impl<B: Blob, H: Sum> ItemsReplay<B, H> {
     /// `OffsetOverflow` where an item of this number would begin past the greatest `u64`, else
     /// `BlobInsufficientLength` where there are fewer items. An error changes nothing.
     pub fn seek_to(&mut self, i: u64) -> Result<(), Error>
-        ensures goes { SeeksItem H.sum_of self.old i self.new result }
+        ensures goes { SeekItemGoes H.sum_of self.old i self.new result }
         ensures same { (self.new.size ≡ self.old.size)
             × (self.new.replay.tail ≡ self.old.replay.tail) }
     {

@@ -1,9 +1,9 @@
 // Runs of items.
 ghost use Rattle.std.specs.Prelude.{◌≡◌, ◌++◌, None, Some};
 ghost use Rattle.cache.specs.Pages.{IsFresh};
-ghost use Rattle.items.specs.Run.{DidItem, GotItem, IsOpen, PushedItem, SyncedItems};
-ghost use Rattle.items.specs.Run.{GivesItem, RunGoes, TellsLength};
-ghost use Rattle.items.specs.Standing.{AreItems, CallLeaves, items_of};
+ghost use Rattle.items.specs.Run.{DidItem, GotItem, IsOpenSession, PushedItem, SyncedItems};
+ghost use Rattle.items.specs.Run.{GivesItem, ItemsRunGoes, TellsLength};
+ghost use Rattle.items.specs.Standing.{AreItems, items_of, ItemsCallLeaves};
 
 use crate::items::Items;
 use cache::CacheRef;
@@ -108,7 +108,7 @@ fn item_of<B: Blob, H: Sum>(
         GivesItem items.now i old new result }
     ensures items { AreItems H.sum_of items.now cache.new (B.life blob.new) }
     ensures leaves { let old = B.life blob.old in let new = B.life blob.new in
-        CallLeaves H.sum_of items.now (items_of items.now old) cache.old cache.new old new }
+        ItemsCallLeaves H.sum_of items.now (items_of items.now old) cache.old cache.new old new }
 {
     items.find(i)?;
     let mut bytes = Vec::new(alloc);
@@ -121,7 +121,7 @@ fn item_of<B: Blob, H: Sum>(
 
 impl<B: Blob, H: Sum> ItemSession<B, H> {
     fn step(&mut self, blob: &mut B, cache: &mut CacheRef, step: &ItemStep) -> ItemReply
-        requires open { IsOpen H.sum_of self.old cache.old (B.life blob.old) }
+        requires open { IsOpenSession H.sum_of self.old cache.old (B.life blob.old) }
         ensures did { let old = B.life blob.old in let new = B.life blob.new in
             DidItem H.sum_of step.now self.old self.new cache.old cache.new old new result }
     {
@@ -134,7 +134,7 @@ impl<B: Blob, H: Sum> ItemSession<B, H> {
     }
 
     fn push(&mut self, blob: &mut B, cache: &mut CacheRef, item: &[u8]) -> ItemReply
-        requires open { IsOpen H.sum_of self.old cache.old (B.life blob.old) }
+        requires open { IsOpenSession H.sum_of self.old cache.old (B.life blob.old) }
         ensures pushed { let old = B.life blob.old in let new = B.life blob.new in
             PushedItem H.sum_of item.now self.old self.new cache.old cache.new old new result }
     {
@@ -155,7 +155,7 @@ impl<B: Blob, H: Sum> ItemSession<B, H> {
     }
 
     fn get(&mut self, blob: &mut B, cache: &mut CacheRef, i: u64) -> ItemReply
-        requires open { IsOpen H.sum_of self.old cache.old (B.life blob.old) }
+        requires open { IsOpenSession H.sum_of self.old cache.old (B.life blob.old) }
         ensures got { let old = B.life blob.old in let new = B.life blob.new in
             GotItem H.sum_of i self.old self.new cache.old cache.new old new result }
     {
@@ -169,7 +169,7 @@ impl<B: Blob, H: Sum> ItemSession<B, H> {
     }
 
     fn sync(&mut self, blob: &mut B, cache: &mut CacheRef) -> ItemReply
-        requires open { IsOpen H.sum_of self.old cache.old (B.life blob.old) }
+        requires open { IsOpenSession H.sum_of self.old cache.old (B.life blob.old) }
         ensures synced { let old = B.life blob.old in let new = B.life blob.new in
             SyncedItems H.sum_of self.old self.new cache.old cache.new old new result }
     {
@@ -199,11 +199,12 @@ pub fn run_items<B: Blob, H: Sum>(
     steps: &[ItemStep],
     replies: &mut Vec<ItemReply>,
 ) -> Result<(), Error>
-    requires open { IsOpen H.sum_of session.old cache.old (B.life blob.old) }
+    requires open { IsOpenSession H.sum_of session.old cache.old (B.life blob.old) }
     ensures goes { let old = B.life blob.old in let new = B.life blob.new in
-        RunGoes H.sum_of steps.now session.old session.new cache.old cache.new old new
+        ItemsRunGoes H.sum_of steps.now session.old session.new cache.old cache.new old new
         replies.old.items replies.new.items result }
-    ensures ready { IsOpen H.sum_of session.new cache.new (B.life blob.new) × IsFresh cache.new }
+    ensures ready { IsOpenSession H.sum_of session.new cache.new (B.life blob.new)
+        × IsFresh cache.new }
 {
     replies.try_reserve(steps.len())?;
     for step in steps {

@@ -2,8 +2,8 @@
 ghost use Rattle.std.specs.Prelude.{◌≡◌, ◌*◌, ◌^◌, ◌<◌, ℕ, length};
 ghost use Rattle.std.specs.Int.NonZero.{non_zero_usize_get};
 ghost use Rattle.paged_read.specs.Ranges.{AsksForMissing, AsksOnce};
-ghost use Rattle.items.specs.Calls.{AreRising, GetsItem, GetsMany, item_ranges};
-ghost use Rattle.items.specs.Standing.{IsItemsSnapshot, OnlyReads, bytes_over, count_over};
+ghost use Rattle.items.specs.Calls.{AreRising, GetGoes, GetManyGoes, item_ranges};
+ghost use Rattle.items.specs.Standing.{IsItemsSnapshot, SnapshotReadLeaves, bytes_over, count_over};
 
 use crate::locate::{offset_of, offsets_of};
 use cache::CacheRef;
@@ -83,13 +83,13 @@ impl<B: Blob, H: Sum> ItemsSnapshot<B, H> {
         requires snapshot { IsItemsSnapshot H.sum_of self.now cache.old (B.life blob.old) }
         requires size { length buf.old ≡ self.now.size }
         ensures goes { let old = B.life blob.old in let new = B.life blob.new in
-            GetsItem self.now.size (bytes_over self.now old) i buf.new old new result }
+            GetGoes self.now.size (bytes_over self.now old) i buf.new old new result }
         ensures ready { let old = B.life blob.old in let new = B.life blob.new in
             IsItemsSnapshot H.sum_of self.now cache.new new
             × (bytes_over self.now new ≡ bytes_over self.now old)
             × (length buf.new ≡ length buf.old) }
         ensures leaves { let old = B.life blob.old in let new = B.life blob.new in
-            OnlyReads H.sum_of self.now.tail.id cache.old cache.new old new }
+            SnapshotReadLeaves H.sum_of self.now.tail.id cache.old cache.new old new }
         ensures costs { let old = B.life blob.old in let new = B.life blob.new in
             let range : ℕ × ℕ = (i * self.now.size, self.now.size) in
             AsksForMissing cache.old self.now.tail range old new }
@@ -118,13 +118,13 @@ impl<B: Blob, H: Sum> ItemsSnapshot<B, H> {
             × (length buf.old ≡ length indices.now * self.now.size) }
         ensures goes { let old = B.life blob.old in let new = B.life blob.new in
             let t = self.now.tail in let bytes = bytes_over self.now old in
-            GetsMany self.now.size t bytes indices.now cache.old buf.new old new result }
+            GetManyGoes self.now.size t bytes indices.now cache.old buf.new old new result }
         ensures ready { let old = B.life blob.old in let new = B.life blob.new in
             IsItemsSnapshot H.sum_of self.now cache.new new
             × (bytes_over self.now new ≡ bytes_over self.now old)
             × (length buf.new ≡ length buf.old) }
         ensures leaves { let old = B.life blob.old in let new = B.life blob.new in
-            OnlyReads H.sum_of self.now.tail.id cache.old cache.new old new }
+            SnapshotReadLeaves H.sum_of self.now.tail.id cache.old cache.new old new }
         ensures costs { let ranges = item_ranges self.now.size indices.now in
             AsksOnce cache.old self.now.tail ranges (B.life blob.old) (B.life blob.new) }
     {

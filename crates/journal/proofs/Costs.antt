@@ -7,18 +7,18 @@ use Rattle.std.proofs.lemmas.Bool.{and_parts, and_from, false_from_ne_true, both
 use Rattle.disk.specs.Disk.{Entry, Life}
 use Rattle.disk.specs.declared.error.Error.{Error}
 use Rattle.disk.specs.declared.error.Error.TheVariants.{ReadFailed, WriteFailed, ResizeFailed, SyncFailed, InvalidChecksum, BlobInsufficientLength, OffsetOverflow, OutOfMemory, IdsExhausted}
-use Rattle.cache.specs.CacheState.{CacheState, held}
+use Rattle.cache.specs.CacheState.{cached_page, CacheState}
 use Rattle.writer_state.specs.WriterState.{WriterState}
 use Rattle.paged_read.specs.Puts.{PutsFirst, PutsInOrder, PutsPages}
 use Rattle.paged_read.specs.Ranges.{is_served, missing, touches}
 use Rattle.paged_read.specs.Reads.{ReadCosts}
-use Rattle.paged_read.specs.Searches.{AreWithin, ReadsWithin, scan_bytes}
-use Rattle.paged_read.specs.Tail.{Tail, size_of, told}
+use Rattle.paged_read.specs.Searches.{AreReadsWithin, ReadsWithin, scan_bytes}
+use Rattle.paged_read.specs.Tail.{Tail, tail_size, logical_bytes}
 use Rattle.paged_read.proofs.RangedPages.{is_lacked, lacks_served, served_lacks, touch_true}
 use Rattle.paged_read.proofs.Windows.{touches_yes}
 use Rattle.paged_read.proofs.Searching.{cuts_within, gained_none, page_within}
 use Rattle.paged.specs.Caches.{PutsOnceWaited}
-use Rattle.paged.specs.Calls.{AsksAtMost, BuffersAll, IsSettled, TryAppends, sync_calls}
+use Rattle.paged.specs.Calls.{AsksAtMost, BuffersAll, IsSettled, TryAppendGoes, sync_calls}
 use Rattle.paged.specs.Costs.{AppendCosts, SnapshotCosts}
 use Rattle.paged.specs.Flush.{has_work}
 use Rattle.paged.proofs.Caching.{puts_nothing}
@@ -53,7 +53,7 @@ unasked w bytes cache life e buffered = record {
   idle_cache = λ fits. refl;
 }
 
-not_tried : (w now : WriterState) (bytes : List ℕ) (cache : CacheState) (life : Life) (e : Error) → TryAppends w bytes now (Err e) → AppendCosts w bytes cache cache life life (Err e)
+not_tried : (w now : WriterState) (bytes : List ℕ) (cache : CacheState) (life : Life) (e : Error) → TryAppendGoes w bytes now (Err e) → AppendCosts w bytes cache cache life life (Err e)
 not_tried w now bytes cache life OffsetOverflow tries = unasked w bytes cache life OffsetOverflow (λ fits. refl)
 not_tried w now bytes cache life OutOfMemory tries = unasked w bytes cache life OutOfMemory (λ fits. refl)
 not_tried w now bytes cache life ReadFailed tries = absurd tries
@@ -65,7 +65,7 @@ not_tried w now bytes cache life BlobInsufficientLength tries = absurd tries
 not_tried w now bytes cache life IdsExhausted tries = absurd tries
 
 -- by the buffer
-pub costs_refused : (w now : WriterState) (bytes : List ℕ) (cache : CacheState) (life : Life) (e : Error) (result : Result (WriterState × ℕ) Error) → IsErrAnd result (λ x. x ≡ e) → TryAppends w bytes now (Err e) → AppendCosts w bytes cache cache life life result
+pub costs_refused : (w now : WriterState) (bytes : List ℕ) (cache : CacheState) (life : Life) (e : Error) (result : Result (WriterState × ℕ) Error) → IsErrAnd result (λ x. x ≡ e) → TryAppendGoes w bytes now (Err e) → AppendCosts w bytes cache cache life life result
 costs_refused w now bytes cache life e (Ok r) is tries = absurd is
 costs_refused w now bytes cache life e (Err x) is tries =
     subst (λ (y : Error). AppendCosts w bytes cache cache life life (Err y)) (sym is) (not_tried w now bytes cache life e tries)
@@ -77,9 +77,9 @@ costs_unframed w bytes cache life e (Err x) is memory =
     subst (λ (y : Error). AppendCosts w bytes cache cache life life (Err y)) (sym (is ∙ memory)) (unasked w bytes cache life OutOfMemory (λ fits. refl))
 
 -- one that the buffer took
-pub costs_buffered : (w now : WriterState) (bytes : List ℕ) (cache : CacheState) (life : Life) (at : ℕ) (fits : Option ℕ) → fits ≡ Some at → TryAppends w bytes now (Ok fits) → AppendCosts w bytes cache cache life life (Ok (now, at))
+pub costs_buffered : (w now : WriterState) (bytes : List ℕ) (cache : CacheState) (life : Life) (at : ℕ) (fits : Option ℕ) → fits ≡ Some at → TryAppendGoes w bytes now (Ok fits) → AppendCosts w bytes cache cache life life (Ok (now, at))
 costs_buffered w now bytes cache life at fits is tried =
-    let tries : TryAppends w bytes now (Ok (Some at)) = subst (λ (o : Option ℕ). TryAppends w bytes now (Ok o)) is tried in
+    let tries : TryAppendGoes w bytes now (Ok (Some at)) = subst (λ (o : Option ℕ). TryAppendGoes w bytes now (Ok o)) is tried in
     let room : length w.tip + length bytes ≤ w.capacity = tries.1 in
     let same : now ≡ record w { tip = w.tip ++ bytes } = tries.3 in
     let pages : now.full_pages ≡ w.full_pages = ap (λ (v : WriterState). v.full_pages) same in
@@ -116,7 +116,7 @@ trim_within P Q buffer_size old mid new same first second =
 
 -- where nothing was asked nothing was read
 pub unread : (most : ℕ) (life : Life) → ReadsWithin most life life
-unread most life = gained_none (AreWithin most) life life refl tt
+unread most life = gained_none (AreReadsWithin most) life life refl tt
 
 -- a blob that crashed has the log that it had
 pub same_log : (most : ℕ) (old mid new : Life) → mid.present.log ≡ old.present.log → ReadsWithin most mid new → ReadsWithin most old new
@@ -161,7 +161,7 @@ none_put id content (suc n) old new puts = puts
 -- a read that finds all pages puts none
 nothing_put : {A : Type 0} (sum : List ℕ → ℕ) (t : Tail) (pages readable : List ℕ) (old new : CacheState) (result : Result A Error) → length pages ≡ 0 → PutsInOrder sum t pages readable old new result → new ≡ old
 nothing_put sum t [] readable old new (Ok a) none puts = puts
-nothing_put sum t [] readable old new (Err e) none puts = none_put t.id (told t readable) puts.count old new puts.puts
+nothing_put sum t [] readable old new (Err e) none puts = none_put t.id (logical_bytes t readable) puts.count old new puts.puts
 nothing_put sum t (page ∷ pages) readable old new result none puts = absurd (omega (arith, none))
 
 -- a read

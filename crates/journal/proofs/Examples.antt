@@ -4,7 +4,7 @@ use Rattle.std.specs.Prelude.{Some, None, false}
 use Rattle.page.specs.Sums.{add_sum, const_sum}
 use Rattle.paged_read.specs.Tail.{Tail}
 use Rattle.journal.specs.Costs.{after_frames, frame_calls, frame_range, frames_calls, pages_met}
-use Rattle.journal.specs.Frame.{frame, record_len, frame_len, is_record, record_of, frames, records, whole_frames, IsWhole, IsPrefix}
+use Rattle.journal.specs.Frame.{frame, record_len, frame_len, is_record, record_of, frames, records, whole_frames, AreWholeFrames, IsPrefix}
 
 -- the frame of "ab": its length, its bytes, their sum 195, and the mark
 abbrev pub ab_frame : List ℕ
@@ -90,7 +90,7 @@ pub a_byte_is_left_out : whole_frames (c_frame ++ 0 ∷ []) ≡ c_frame
 unfolding record_len frames whole_frames
 a_byte_is_left_out = refl
 
-pub a_whole : IsWhole (ab_frame ++ c_frame)
+pub a_whole : AreWholeFrames (ab_frame ++ c_frame)
 unfolding record_len frames whole_frames
 a_whole = refl
 

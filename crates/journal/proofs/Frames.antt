@@ -8,7 +8,7 @@ use Rattle.std.proofs.lemmas.Nat.{from_be_bytes-to_be_bytes_2, from_be_bytes-to_
 use Rattle.std.proofs.Math.Nat.{add_comm}
 use Rattle.std.proofs.Math.Seq.{take-add}
 use Rattle.std.proofs.lemmas.Bool.{cases_lt, lt-ltb, le-ltb, ne_eqb}
-use Rattle.journal.specs.Frame.{frame, record_len, frame_len, is_record, record_of, frames_in, frames, listed, records, if_whole, whole_frames, IsWhole, IsPrefix}
+use Rattle.journal.specs.Frame.{frame, record_len, frame_len, is_record, record_of, frames_in, frames, listed, records, if_whole, whole_frames, AreWholeFrames, IsPrefix}
 
 -- what stands within a beginning of some bytes stands in all of them
 pub within_take : (n k m : ℕ) (xs : List ℕ) → k + n ≤ m → take n (drop k (take m xs)) ≡ take n (drop k xs)
@@ -252,7 +252,7 @@ drop_whole : (n : ℕ) (xs ys : List ℕ) → n ≤ length xs → drop n (xs ++ 
 drop_whole n xs ys le = drop-append-le n xs ys le
 
 -- whole frames, where the first is whole and the others are
-whole_parts : (xs : List ℕ) → 0 < length xs → IsWhole xs → (frame_len xs ≤ length xs) × IsWhole (drop (frame_len xs) xs)
+whole_parts : (xs : List ℕ) → 0 < length xs → AreWholeFrames xs → (frame_len xs ≤ length xs) × AreWholeFrames (drop (frame_len xs) xs)
 whole_parts xs some whole = elim (cases_lt (length xs) (frame_len xs)) [
   | inl short ↦ let none : xs ≡ [] = sym whole ∙ (none_left (λ l. 0) xs short).1 in absurd (omega (arith, some, ap length none))
   | inr le ↦
@@ -265,7 +265,7 @@ whole_parts xs some whole = elim (cases_lt (length xs) (frame_len xs)) [
       )
 ]
 
-records_append : (sum : List ℕ → ℕ) (n : ℕ) (xs ys : List ℕ) → length xs ≤ n → IsWhole xs → records sum (xs ++ ys) ≡ records sum xs ++ records sum ys
+records_append : (sum : List ℕ → ℕ) (n : ℕ) (xs ys : List ℕ) → length xs ≤ n → AreWholeFrames xs → records sum (xs ++ ys) ≡ records sum xs ++ records sum ys
 records_append sum n [] ys le whole = ap (λ rs. rs ++ records sum ys) (sym (records-none sum))
 records_append sum zero (x ∷ xs) ys le whole = absurd (omega arith)
 records_append sum (suc n) (x ∷ xs) ys le whole =
@@ -279,7 +279,7 @@ records_append sum (suc n) (x ∷ xs) ys le whole =
     ∙ sym (append_assoc (listed (record_of sum l)) (records sum (drop F l)) (records sum ys))
     ∙ ap (λ rs. rs ++ records sum ys) (sym (records-step sum l (omega arith)))
 
-whole_append : (n : ℕ) (xs ys : List ℕ) → length xs ≤ n → IsWhole xs → whole_frames (xs ++ ys) ≡ xs ++ whole_frames ys
+whole_append : (n : ℕ) (xs ys : List ℕ) → length xs ≤ n → AreWholeFrames xs → whole_frames (xs ++ ys) ≡ xs ++ whole_frames ys
 whole_append n [] ys le whole = refl
 whole_append zero (x ∷ xs) ys le whole = absurd (omega arith)
 whole_append (suc n) (x ∷ xs) ys le whole =
@@ -295,19 +295,19 @@ whole_append (suc n) (x ∷ xs) ys le whole =
     ∙ ap (λ (a : List ℕ). a ++ whole_frames ys) (take-append-drop F l)
 
 -- after whole frames the records of what follows are appended
-pub records-append : (sum : List ℕ → ℕ) (xs ys : List ℕ) → IsWhole xs → records sum (xs ++ ys) ≡ records sum xs ++ records sum ys
+pub records-append : (sum : List ℕ → ℕ) (xs ys : List ℕ) → AreWholeFrames xs → records sum (xs ++ ys) ≡ records sum xs ++ records sum ys
 records-append sum xs ys whole = records_append sum (length xs) xs ys (omega arith) whole
 
 -- and what is whole of it
-whole-append : (xs ys : List ℕ) → IsWhole xs → whole_frames (xs ++ ys) ≡ xs ++ whole_frames ys
+whole-append : (xs ys : List ℕ) → AreWholeFrames xs → whole_frames (xs ++ ys) ≡ xs ++ whole_frames ys
 whole-append xs ys whole = whole_append (length xs) xs ys (omega arith) whole
 
 -- whole frames and more of them
-pub whole_more : (xs ys : List ℕ) → IsWhole xs → IsWhole ys → IsWhole (xs ++ ys)
+pub whole_more : (xs ys : List ℕ) → AreWholeFrames xs → AreWholeFrames ys → AreWholeFrames (xs ++ ys)
 whole_more xs ys first second = whole-append xs ys first ∙ ap (λ (l : List ℕ). xs ++ l) second
 
 -- one frame that is whole
-whole_alone : (f : List ℕ) → frame_len f ≡ length f → IsWhole f
+whole_alone : (f : List ℕ) → frame_len f ≡ length f → AreWholeFrames f
 whole_alone f same =
     whole-first f (omega (arith, same)) ∙ ap₂ (λ (a b : List ℕ). a ++ whole_frames b) (take_all (frame_len f) f (omega (arith, same))) (drop_all (frame_len f) f (omega (arith, same)))
     ∙ ap (λ (l : List ℕ). f ++ l) whole-none ∙ append-nil f
@@ -357,7 +357,7 @@ records-take sum k xs = records_begin sum (length xs) k xs (omega arith)
 
 -- the whole frames of some bytes are whole, have their records, and are a beginning of them
 record Kept (sum : List ℕ → ℕ) (xs : List ℕ) : Type 0 where
-  whole : IsWhole (whole_frames xs)
+  whole : AreWholeFrames (whole_frames xs)
   same : records sum (whole_frames xs) ≡ records sum xs
   rest : List ℕ
   joined : whole_frames xs ++ rest ≡ xs
@@ -379,9 +379,9 @@ kept_more sum xs whole later =
     let rest = drop F xs in
     let first : whole_frames xs ≡ f ++ whole_frames rest = whole-first xs whole in
     let same : frame_len f ≡ F = ap (λ m. m + 7) (record_len-take F xs (omega arith)) in
-    let alone : IsWhole f = whole_alone f (omega (arith, same, length-take F xs, whole)) in
+    let alone : AreWholeFrames f = whole_alone f (omega (arith, same, length-take F xs, whole)) in
     record {
-      whole = subst (λ (l : List ℕ). IsWhole l) (sym first) (whole_more f (whole_frames rest) alone later.whole);
+      whole = subst (λ (l : List ℕ). AreWholeFrames l) (sym first) (whole_more f (whole_frames rest) alone later.whole);
       same = ap (λ (l : List ℕ). records sum l) first ∙ records-append sum f (whole_frames rest) alone ∙ ap (λ rs. records sum f ++ rs) later.same
           ∙ sym (records-append sum f rest alone) ∙ ap (λ (l : List ℕ). records sum l) (take-append-drop F xs);
       rest = later.rest;
@@ -396,7 +396,7 @@ whole_kept sum (suc n) xs le = elim (cases_lt (length xs) (frame_len xs)) [
 ]
 
 -- the whole frames of some bytes are whole
-pub whole_is_whole : (xs : List ℕ) → IsWhole (whole_frames xs)
+pub whole_is_whole : (xs : List ℕ) → AreWholeFrames (whole_frames xs)
 whole_is_whole xs = (whole_kept (λ l. 0) (length xs) xs (omega arith)).whole
 
 -- have the same records
@@ -474,7 +474,7 @@ frame_alone : (sum : List ℕ → ℕ) (bytes : List ℕ) → length bytes < 2 ^
 frame_alone sum bytes fits =
     ap (λ (l : List ℕ). frame_len l) (sym (append-nil (frame sum bytes))) ∙ ap (λ m. m + 7) (record_len-frame sum bytes [] fits) ∙ sym (length-frame sum bytes)
 
-pub frame_is_whole : (sum : List ℕ → ℕ) (bytes : List ℕ) → length bytes < 2 ^ 16 → IsWhole (frame sum bytes)
+pub frame_is_whole : (sum : List ℕ → ℕ) (bytes : List ℕ) → length bytes < 2 ^ 16 → AreWholeFrames (frame sum bytes)
 frame_is_whole sum bytes fits = whole_alone (frame sum bytes) (frame_alone sum bytes fits)
 
 -- and has that one record

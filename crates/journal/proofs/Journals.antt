@@ -24,15 +24,15 @@ use Rattle.paged_read.specs.Hand.{HandState, kept_with}
 use Rattle.paged_read.specs.Snapshots.{LeavesOthers, LeavesReads}
 use Rattle.paged_read.specs.Tail.{CanRead}
 use Rattle.paged.specs.Caches.{tail_of, KeepsReads}
-use Rattle.paged.specs.Calls.{BuffersOver, IsSameWriter, TryAppends}
+use Rattle.paged.specs.Calls.{BuffersOver, IsSameWriter, TryAppendGoes}
 use Rattle.paged.specs.Goes.{AppendAnswers, AppendGoes, Holds, SyncAllGoes}
 use Rattle.paged.specs.Ready.{IsReady}
 use Rattle.paged.specs.Reads.{size_of}
 use Rattle.paged.specs.Recovers.{Recovers}
 use Rattle.paged.specs.Truncate.{Truncates, KeepsFloorsWithin}
 use Rattle.paged.specs.Writer.{physical_blob_size}
-use Rattle.journal.specs.Frame.{frame, record_len, frame_len, listed, record_of, records, whole_frames, IsWhole, IsPrefix}
-use Rattle.journal.specs.Journal.{IsBetweenCalls, IsJournal, IsNewId, OthersStay, AllStay, OnlyReads, LeavesContent, Commits, OnlyRecords, KeepsCommitted, LeavesRecords, CommitsAll, IsAppended, AppendsRecord, IsCommitted, CommitGoes, BringsBack, BringsOnly, ReadRefused, ReadsBytes, ReadsFrame, IsFound, IsTrimmed, Trims, HasRecovered, RecoversJournal}
+use Rattle.journal.specs.Frame.{frame, record_len, frame_len, listed, record_of, records, whole_frames, AreWholeFrames, IsPrefix}
+use Rattle.journal.specs.Journal.{IsBetweenCalls, IsJournal, IsNewToJournals, OtherJournalsStay, AllJournalsStay, OnlyReads, LeavesContent, Commits, OnlyRecords, KeepsCommitted, LeavesRecords, CommitsAll, IsAppended, AppendRecordGoes, IsCommitted, CommitGoes, BringsRecordsBack, BringsOnlyRecords, RecordReadRefused, ReadsContent, ReadsFrame, IsFound, IsTrimmed, Trims, JournalHasRecovered, RecoversJournal}
 use Rattle.journal.proofs.Frames.{records-append, records-take, whole_more, whole_is_whole, records-whole, whole_first, length-whole, frame_is_whole, records-frame, record_of-frame, length-frame, record_len-front, record_of-front, records-from}
 
 -- the first of the first are the first
@@ -114,11 +114,11 @@ between_of sum w cache life journal = journal.between
 pub ready_of : (sum : List ℕ → ℕ) (w : WriterState) (cache : CacheState) (life : Life) → IsJournal sum w cache life → IsReady sum w cache life
 ready_of sum w cache life journal = (between_of sum w cache life journal).ready
 
-pub whole_of : (sum : List ℕ → ℕ) (w : WriterState) (cache : CacheState) (life : Life) → IsJournal sum w cache life → IsWhole (content w life.present.readable)
+pub whole_of : (sum : List ℕ → ℕ) (w : WriterState) (cache : CacheState) (life : Life) → IsJournal sum w cache life → AreWholeFrames (content w life.present.readable)
 unfolding IsJournal
 whole_of sum w cache life journal = journal.whole
 
-pub is_journal : (sum : List ℕ → ℕ) (w : WriterState) (cache : CacheState) (life : Life) → IsBetweenCalls sum w cache life → IsWhole (content w life.present.readable) → IsJournal sum w cache life
+pub is_journal : (sum : List ℕ → ℕ) (w : WriterState) (cache : CacheState) (life : Life) → IsBetweenCalls sum w cache life → AreWholeFrames (content w life.present.readable) → IsJournal sum w cache life
 unfolding IsJournal
 is_journal sum w cache life between whole = record { between = between; whole = whole }
 
@@ -135,21 +135,21 @@ stays_journal sum w cache after life can fresh journal = record {
 }
 
 -- a call of another blob leaves a journal one
-pub others_stay : (id : ℕ) (cache after : CacheState) → LeavesOthers id cache after → (IsFresh cache → IsFresh after) → OthersStay id cache after
+pub others_stay : (id : ℕ) (cache after : CacheState) → LeavesOthers id cache after → (IsFresh cache → IsFresh after) → OtherJournalsStay id cache after
 others_stay id cache after leaves fresh = λ sum w life apart journal.
     stays_journal sum w cache after life (leaves (tail_of w) life.present apart (ready_of sum w cache life journal).can) fresh journal
 
 -- so does a call that leaves the reads of each blob
-pub recovery_stays : (cache after : CacheState) → LeavesReads cache after → (IsFresh cache → IsFresh after) → AllStay cache after
+pub recovery_stays : (cache after : CacheState) → LeavesReads cache after → (IsFresh cache → IsFresh after) → AllJournalsStay cache after
 recovery_stays cache after leaves fresh = λ sum w life journal.
     stays_journal sum w cache after life (leaves (tail_of w) life.present (ready_of sum w cache life journal).can) fresh journal
 
 -- no journal has an id that is still to come
-pub new_id : (id : ℕ) (cache : CacheState) → id ≡ cache.ids_given → IsNewId id cache
+pub new_id : (id : ℕ) (cache : CacheState) → id ≡ cache.ids_given → IsNewToJournals id cache
 new_id id cache is = λ sum w life journal same. omega (arith, is, same, (ready_of sum w cache life journal).can.given)
 
 -- what follows a recovery leaves each journal: none has its id
-pub all_stay : (id : ℕ) (cache mid after : CacheState) → id ≡ cache.ids_given → AllStay cache mid → OthersStay id mid after → AllStay cache after
+pub all_stay : (id : ℕ) (cache mid after : CacheState) → id ≡ cache.ids_given → AllJournalsStay cache mid → OtherJournalsStay id mid after → AllJournalsStay cache after
 all_stay id cache mid after is first second = λ sum w life journal.
     second sum w life (new_id id cache is sum w life journal) (first sum w life journal)
 
@@ -161,7 +161,7 @@ held_on sum w old more now after new holds ready = record { ready = ready; size 
 
 -- a record whose frame stands after the content
 pub appended : (sum own : List ℕ → ℕ) (w : WriterState) (bytes : List ℕ) (after : CacheState) (old new : Life) (now : WriterState) (offset : ℕ) → length bytes ≤ 65535 → own bytes < 2 ^ 32
-    → IsWhole (content w old.present.readable) → offset ≡ length (content w old.present.readable) → content now new.present.readable ≡ content w old.present.readable ++ frame own bytes → IsSameWriter w now
+    → AreWholeFrames (content w old.present.readable) → offset ≡ length (content w old.present.readable) → content now new.present.readable ≡ content w old.present.readable ++ frame own bytes → IsSameWriter w now
     → IsBetweenCalls sum now after new → IsAppended sum own w bytes after old new now offset
 appended sum own w bytes after old new now offset short small whole at holds same between =
     let before = content w old.present.readable in
@@ -170,7 +170,7 @@ appended sum own w bytes after old new now offset short small whole at holds sam
     let stood : drop offset (before ++ framed) ≡ framed ++ [] = ap (λ n. drop n (before ++ framed)) at ∙ drop_at before framed (length before) refl ∙ sym (append-nil framed) in
     record {
       at = at;
-      journal = is_journal sum now after new between (subst (λ (l : List ℕ). IsWhole l) (sym holds) (whole_more before framed whole (frame_is_whole own bytes fits)));
+      journal = is_journal sum now after new between (subst (λ (l : List ℕ). AreWholeFrames l) (sym holds) (whole_more before framed whole (frame_is_whole own bytes fits)));
       holds = holds;
       added = ap (λ (l : List ℕ). records own l) holds ∙ records-append own before framed whole ∙ ap (λ rs. records own before ++ rs) (records-frame own bytes fits small);
       there = ap (λ (l : List ℕ). record_of own (drop offset l)) holds ∙ ap (λ (l : List ℕ). record_of own l) stood ∙ record_of-frame own bytes [] fits small;
@@ -181,7 +181,7 @@ appended sum own w bytes after old new now offset short small whole at holds sam
     }
 
 -- an append that was refused
-pub not_appended : (sum own : List ℕ → ℕ) (w : WriterState) (bytes : List ℕ) (after : CacheState) (old new : Life) (e : Error) → AppendAnswers sum w (frame own bytes) old new (Err e) → AppendsRecord sum own w bytes after old new (Err e)
+pub not_appended : (sum own : List ℕ → ℕ) (w : WriterState) (bytes : List ℕ) (after : CacheState) (old new : Life) (e : Error) → AppendAnswers sum w (frame own bytes) old new (Err e) → AppendRecordGoes sum own w bytes after old new (Err e)
 not_appended sum own w bytes after old new OffsetOverflow (same, passes) =
     (same, subst (λ (n : ℕ). 2 ^ 64 ≤ physical_blob_size w.page_size w.full_pages (length w.tip + n)) (length-frame own bytes) passes)
 not_appended sum own w bytes after old new ReadFailed refused = refused.cause
@@ -194,7 +194,7 @@ not_appended sum own w bytes after old new OutOfMemory refused = refused.cause
 not_appended sum own w bytes after old new IdsExhausted refused = refused.cause
 
 -- a frame that the buffer refused, before anything was asked
-not_buffered : (sum own : List ℕ → ℕ) (w now : WriterState) (bytes : List ℕ) (after : CacheState) (life : Life) (e : Error) → TryAppends w (frame own bytes) now (Err e) → AppendsRecord sum own w bytes after life life (Err e)
+not_buffered : (sum own : List ℕ → ℕ) (w now : WriterState) (bytes : List ℕ) (after : CacheState) (life : Life) (e : Error) → TryAppendGoes w (frame own bytes) now (Err e) → AppendRecordGoes sum own w bytes after life life (Err e)
 not_buffered sum own w now bytes after life OffsetOverflow (passes, same) =
     (refl, subst (λ (n : ℕ). 2 ^ 64 ≤ physical_blob_size w.page_size w.full_pages (length w.tip + n)) (length-frame own bytes) passes)
 not_buffered sum own w now bytes after life OutOfMemory tries = tt
@@ -207,10 +207,10 @@ not_buffered sum own w now bytes after life BlobInsufficientLength tries = absur
 not_buffered sum own w now bytes after life IdsExhausted tries = absurd tries
 
 pub buffer_refused : (sum own : List ℕ → ℕ) (w now : WriterState) (bytes : List ℕ) (after : CacheState) (life : Life) (e : Error) (result : Result (WriterState × ℕ) Error) → IsErrAnd result (λ x. x ≡ e)
-    → TryAppends w (frame own bytes) now (Err e) → AppendsRecord sum own w bytes after life life result
+    → TryAppendGoes w (frame own bytes) now (Err e) → AppendRecordGoes sum own w bytes after life life result
 buffer_refused sum own w now bytes after life e (Ok r) is tries = absurd is
 buffer_refused sum own w now bytes after life e (Err x) is tries =
-    subst (λ (y : Error). AppendsRecord sum own w bytes after life life (Err y)) (sym is) (not_buffered sum own w now bytes after life e tries)
+    subst (λ (y : Error). AppendRecordGoes sum own w bytes after life life (Err y)) (sym is) (not_buffered sum own w now bytes after life e tries)
 
 -- one that it took
 pub buffered : (sum own : List ℕ → ℕ) (w now : WriterState) (bytes : List ℕ) (cache : CacheState) (life : Life) (at : ℕ) (fits : Option ℕ) → length bytes ≤ 65535 → own bytes < 2 ^ 32 → IsJournal sum w cache life
@@ -224,24 +224,24 @@ buffered sum own w now bytes cache life at fits short small journal is buffers k
     (record { ready = record { sound = goes.sound; can = keeps cache life.present ready.can; fresh = ready.fresh }; size = goes.size; only = goes.only })
 
 -- one for which it has no room: nothing has changed
-pub not_fitting : (w now : WriterState) (framed : List ℕ) (fits : Option ℕ) → fits ≡ None → TryAppends w framed now (Ok fits) → now ≡ w
-not_fitting w now framed fits is tries = (subst (λ (o : Option ℕ). TryAppends w framed now (Ok o)) is tries).2
+pub not_fitting : (w now : WriterState) (framed : List ℕ) (fits : Option ℕ) → fits ≡ None → TryAppendGoes w framed now (Ok fits) → now ≡ w
+not_fitting w now framed fits is tries = (subst (λ (o : Option ℕ). TryAppendGoes w framed now (Ok o)) is tries).2
 
 -- the records before an append are the first of those after it, and those after it are all
 pub before_append : (own : List ℕ → ℕ) (before bytes : List ℕ) → IsPrefix (records own before) (records own before ++ bytes ∷ [])
 before_append own before bytes = (bytes ∷ [], refl)
 
-pub after_append : (own : List ℕ → ℕ) (before bytes : List ℕ) → length bytes ≤ 65535 → own bytes < 2 ^ 32 → IsWhole before → IsPrefix (records own (before ++ frame own bytes)) (records own before ++ bytes ∷ [])
+pub after_append : (own : List ℕ → ℕ) (before bytes : List ℕ) → length bytes ≤ 65535 → own bytes < 2 ^ 32 → AreWholeFrames before → IsPrefix (records own (before ++ frame own bytes)) (records own before ++ bytes ∷ [])
 after_append own before bytes short small whole =
     ([], sym (append-nil (records own (before ++ frame own bytes)) ∙ records-append own before (frame own bytes) whole ∙ ap (λ rs. records own before ++ rs) (records-frame own bytes (omega arith) small)))
 
 -- a commit
-pub committed : (sum own : List ℕ → ℕ) (w : WriterState) (after : CacheState) (old new : Life) (now : WriterState) → IsSound sum w old.present → IsWhole (content w old.present.readable) → IsReady sum now after new → SyncAllGoes sum w old new (Ok now)
+pub committed : (sum own : List ℕ → ℕ) (w : WriterState) (after : CacheState) (old new : Life) (now : WriterState) → IsSound sum w old.present → AreWholeFrames (content w old.present.readable) → IsReady sum now after new → SyncAllGoes sum w old new (Ok now)
     → IsCommitted sum own w after old new now
 committed sum own w after old new now sound whole ready goes =
     let same : content now new.present.readable ≡ content w old.present.readable = goes.holds.content ∙ append-nil (content w old.present.readable) in
     record {
-      journal = is_journal sum now after new (held_on sum w old [] now after new goes.holds ready) (subst (λ (l : List ℕ). IsWhole l) (sym same) whole);
+      journal = is_journal sum now after new (held_on sum w old [] now after new goes.holds ready) (subst (λ (l : List ℕ). AreWholeFrames l) (sym same) whole);
       holds = same;
       same = goes.holds.same;
       all = subst (λ (P : ℕ). CommitsAll sum own P (content now new.present.readable) new.present) (sym goes.holds.same.page_size)
@@ -255,7 +255,7 @@ take_first : (n : ℕ) (xs ys : List (List ℕ)) → n ≤ length xs → take n 
 take_first n xs ys le = take-append-le n xs ys le
 
 -- what comes back begins with what was committed
-pub brings_back : (sum own : List ℕ → ℕ) (P : ℕ) (d : Disk) (image : List ℕ) → IsImage d image → BringsBack sum own P d (records own (text sum P image))
+pub brings_back : (sum own : List ℕ → ℕ) (P : ℕ) (d : Disk) (image : List ℕ) → IsImage d image → BringsRecordsBack sum own P d (records own (text sum P image))
 brings_back sum own P d image is_image = λ content n commits.
     let kept : take commits.floor (text sum P image) ≡ take commits.floor content = commits.kept.kept image is_image in
     let read = records-take own commits.floor (text sum P image) in
@@ -270,19 +270,19 @@ brings_back sum own P d image is_image = λ content n commits.
 
 -- an append of a record's frame, by its answer
 pub append_goes : (sum own : List ℕ → ℕ) (w : WriterState) (bytes : List ℕ) (after : CacheState) (old new : Life) (result : Result (WriterState × ℕ) Error) → length bytes ≤ 65535 → own bytes < 2 ^ 32
-    → IsWhole (content w old.present.readable) → AppendGoes sum w (frame own bytes) old new result → IfOk result (λ r. IsReady sum r.0 after new) → AppendsRecord sum own w bytes after old new result
+    → AreWholeFrames (content w old.present.readable) → AppendGoes sum w (frame own bytes) old new result → IfOk result (λ r. IsReady sum r.0 after new) → AppendRecordGoes sum own w bytes after old new result
 append_goes sum own w bytes after old new (Ok r) short small whole goes ready =
     let is = goes.answers in
     appended sum own w bytes after old new r.0 r.1 short small whole is.at_end is.holds.content is.holds.same (held_on sum w old (frame own bytes) r.0 after new is.holds ready)
 append_goes sum own w bytes after old new (Err e) short small whole goes ready = not_appended sum own w bytes after old new e goes.answers
 
-pub append_gives : (sum own : List ℕ → ℕ) (w : WriterState) (bytes : List ℕ) (after : CacheState) (old new : Life) (result : Result (WriterState × ℕ) Error) → AppendsRecord sum own w bytes after old new result
+pub append_gives : (sum own : List ℕ → ℕ) (w : WriterState) (bytes : List ℕ) (after : CacheState) (old new : Life) (result : Result (WriterState × ℕ) Error) → AppendRecordGoes sum own w bytes after old new result
     → IfOk result (λ r. IsJournal sum r.0 after new)
 append_gives sum own w bytes after old new (Ok r) is = is.journal
 append_gives sum own w bytes after old new (Err e) is = tt
 
 -- a commit, by its answer
-pub commit_goes : (sum own : List ℕ → ℕ) (w : WriterState) (after : CacheState) (old new : Life) (result : Result WriterState Error) → IsSound sum w old.present → IsWhole (content w old.present.readable)
+pub commit_goes : (sum own : List ℕ → ℕ) (w : WriterState) (after : CacheState) (old new : Life) (result : Result WriterState Error) → IsSound sum w old.present → AreWholeFrames (content w old.present.readable)
     → SyncAllGoes sum w old new result → IfOk result (λ now. IsReady sum now after new) → CommitGoes sum own w after old new result
 commit_goes sum own w after old new (Ok now) sound whole goes ready = committed sum own w after old new now sound whole ready goes
 commit_goes sum own w after old new (Err e) sound whole goes ready = not_committed sum own w after old new e goes
@@ -301,7 +301,7 @@ failed_later e a b c (first, one) (second, two, some) =
     (first ++ second, two ∙ ap (λ l. l ++ second) one ∙ append_assoc a.log first second, some_after e first second some)
 
 -- so is one after another
-pub refused_later : (old mid new : Life) (e : Error) → Looked old mid → ReadRefused mid new e → ReadRefused old new e
+pub refused_later : (old mid new : Life) (e : Error) → Looked old mid → RecordReadRefused mid new e → RecordReadRefused old new e
 refused_later old mid new ReadFailed looked refused = failed_later ReadFailed old.present mid.present new.present looked.log refused
 refused_later old mid new OutOfMemory looked refused = tt
 refused_later old mid new InvalidChecksum looked refused = refused
@@ -322,7 +322,7 @@ frame_measured held offset rest len head long first is =
 
 -- a frame is read in two reads: how long it is, and all of it
 pub frame_read : (held again : List ℕ) (offset rest len : ℕ) (old mid new : Life) (result : Result (List ℕ) Error) → Looked old mid → again ≡ held
-    → len ≡ min (frame_len (drop offset held)) rest → ReadsBytes again offset len mid new result → ReadsFrame held offset rest old new result
+    → len ≡ min (frame_len (drop offset held)) rest → ReadsContent again offset len mid new result → ReadsFrame held offset rest old new result
 frame_read held again offset rest len old mid new (Ok bytes) looked same is second = second ∙ ap₂ (λ k (l : List ℕ). take k (drop offset l)) is same
 frame_read held again offset rest len old mid new (Err e) looked same is second = refused_later old mid new e looked second
 
@@ -499,7 +499,7 @@ commits_through sum own P T old new through = through_then (AllKeep sum P T (len
 -- a recovery, from that of the blob and the rest
 pub recovery_goes : (sum own : List ℕ → ℕ) (cache after : CacheState) (capacity : ℕ) (old mid new : Life) (w now : WriterState) (found : List (List ℕ))
     → Recovers sum cache capacity old mid (Ok w) → w.id ≡ cache.ids_given → KeepsAll sum cache.page_size (text sum cache.page_size old.present.readable) mid
-    → KeepsFloorsWithin (length (whole_frames (text sum cache.page_size old.present.readable))) sum cache.page_size mid new → IsTrimmed sum own w after mid new now found → HasRecovered sum own cache after old new now found
+    → KeepsFloorsWithin (length (whole_frames (text sum cache.page_size old.present.readable))) sum cache.page_size mid new → IsTrimmed sum own w after mid new now found → JournalHasRecovered sum own cache after old new now found
 recovery_goes sum own cache after capacity old mid new w now found recovers id all keeps trims =
     let P = cache.page_size in
     let T = text sum P old.present.readable in
@@ -514,7 +514,7 @@ recovery_goes sum own cache after capacity old mid new w now found recovers id a
     record {
       page_size = trims.page_size ∙ recovers.page_size;
       id = trims.id ∙ id;
-      journal = is_journal sum now after new trims.between (subst (λ (l : List ℕ). IsWhole l) (sym holds) (whole_is_whole T));
+      journal = is_journal sum now after new trims.between (subst (λ (l : List ℕ). AreWholeFrames l) (sym holds) (whole_is_whole T));
       holds = holds;
       given = given;
       same = given ∙ sym (ap (λ (l : List ℕ). records own l) holds ∙ records-whole own T);
@@ -536,15 +536,15 @@ recovery_refused sum own cache after capacity old mid new w e (Err x) is recover
 
 -- a recovery of what a crash left
 pub brought_back : (sum own : List ℕ → ℕ) (cache after : CacheState) (capacity : ℕ) (d : Disk) (image : List ℕ) (old new : Life) (result : Result (WriterState × Vec (List ℕ) Global) Error) → IsImage d image
-    → old.present.readable ≡ image → RecoversJournal sum own cache after capacity old new result → IfOk result (λ r. BringsBack sum own cache.page_size d r.1.items)
+    → old.present.readable ≡ image → RecoversJournal sum own cache after capacity old new result → IfOk result (λ r. BringsRecordsBack sum own cache.page_size d r.1.items)
 brought_back sum own cache after capacity d image old new (Ok r) is_image is recovered =
     let P = cache.page_size in
     let found : r.1.items ≡ records own (text sum P image) = recovered.given ∙ ap (λ (l : List ℕ). records own (text sum P l)) is in
-    subst (λ (rs : List (List ℕ)). BringsBack sum own P d rs) (sym found) (brings_back sum own P d image is_image)
+    subst (λ (rs : List (List ℕ)). BringsRecordsBack sum own P d rs) (sym found) (brings_back sum own P d image is_image)
 brought_back sum own cache after capacity d image old new (Err e) is_image is recovered = tt
 
 pub brought_only : (sum own : List ℕ → ℕ) (cache after : CacheState) (capacity : ℕ) (d : Disk) (image : List ℕ) (old new : Life) (result : Result (WriterState × Vec (List ℕ) Global) Error) → IsImage d image
-    → old.present.readable ≡ image → RecoversJournal sum own cache after capacity old new result → IfOk result (λ r. BringsOnly sum own cache.page_size d image r.1.items)
+    → old.present.readable ≡ image → RecoversJournal sum own cache after capacity old new result → IfOk result (λ r. BringsOnlyRecords sum own cache.page_size d image r.1.items)
 brought_only sum own cache after capacity d image old new (Ok r) is_image is recovered = λ distinct all only.
     let P = cache.page_size in
     let found : r.1.items ≡ records own (text sum P image) = recovered.given ∙ ap (λ (l : List ℕ). records own (text sum P l)) is in
@@ -564,7 +564,7 @@ commits_left sum own P content n d e is_image at_rest commits = record {
 pub trim_unread : (sum own : List ℕ → ℕ) (w : WriterState) (after : CacheState) (old new : Life) (e : Error) (result : Result (WriterState × Vec (List ℕ) Global) Error) → IsErrAnd result (λ x. x ≡ e)
     → e ≡ OutOfMemory → Trims sum own w after old new result
 trim_unread sum own w after old new e (Ok r) is refused = absurd is
-trim_unread sum own w after old new e (Err x) is refused = inl (subst (λ (y : Error). ReadRefused old new y) (sym (is ∙ refused)) tt)
+trim_unread sum own w after old new e (Err x) is refused = inl (subst (λ (y : Error). RecordReadRefused old new y) (sym (is ∙ refused)) tt)
 
 -- ---- what a recovery kept
 

@@ -21,8 +21,8 @@ use Rattle.paged_read.proofs.FullReads.{full_of_tail, no_fault}
 use Rattle.paged_read.proofs.Outliving.{look_leaves_writers}
 use Rattle.paged_read.specs.Ranges.{Reads}
 use Rattle.paged_read.specs.Reads.{ReadLeaves}
-use Rattle.paged_read.specs.Snapshots.{LeavesAllTails, LeavesOthers, LeavesReads, LeavesTails, StandsOn}
-use Rattle.paged_read.specs.Tail.{Tail, HasFullPages, told, size_of}
+use Rattle.paged_read.specs.Snapshots.{LeavesAllTails, LeavesOthers, LeavesReads, LeavesTails, SnapshotReads}
+use Rattle.paged_read.specs.Tail.{Tail, HasFullPages, logical_bytes, tail_size}
 use Rattle.paged.specs.Caches.{tail_of}
 use Rattle.paged.specs.Goes.{SnapshotGoes}
 use Rattle.paged.specs.Owes.{Owes, owed_floors, owed_only}
@@ -32,34 +32,34 @@ use Rattle.paged.specs.Truncate.{KeepsFloorsWithin}
 use Rattle.page.specs.Page.{text}
 use Rattle.std.specs.Prelude.{Vec}
 use Rattle.std.specs.declared.alloc.Global.{Global}
-use Rattle.journal.specs.Calls.{CallLeaves, CrashGoes, CrashLeaves, RecordReadLeaves, ReaderLeaves, RecoverGoes, RecoveryLeaves}
+use Rattle.journal.specs.Calls.{JournalCallLeaves, JournalCrashGoes, JournalCrashLeaves, RecordReadLeaves, ReaderLeaves, JournalRecoverGoes, JournalRecoveryLeaves}
 use Rattle.journal.specs.declared.frame.Found.{Found}
-use Rattle.journal.specs.Frame.{IsPrefix, IsWhole, listed, records, whole_frames}
-use Rattle.journal.specs.Journal.{BringsBack, Commits, HasRecovered, RecoversJournal, IsBetweenCalls, IsFound, IsJournal, OnlyReads, ReadRefused, records_in}
-use Rattle.journal.specs.Reader.{ReaderState, AllReadersStay, EachReaderStays, FindsNext, IsNewToReaders, IsNext, IsOpen, HasReader, IsReader, JournalsStay, LeavesTheirRecords, OnlyLooks, OnlyViews, OtherReadersStay, ReadersStay, read_over}
+use Rattle.journal.specs.Frame.{AreWholeFrames, IsPrefix, listed, records, whole_frames}
+use Rattle.journal.specs.Journal.{BringsRecordsBack, Commits, JournalHasRecovered, RecoversJournal, IsBetweenCalls, IsFound, IsJournal, OnlyReads, RecordReadRefused, records_in}
+use Rattle.journal.specs.Reader.{ReaderState, AllReadersStay, EachReaderStays, FindsNext, IsNewToReaders, IsNext, IsOpenSnapshot, HasReader, IsReader, JournalsStay, LeavesTheirRecords, OnlyLooks, ViewLeaves, OtherReadersStay, ReadersStay, read_over}
 use Rattle.journal.proofs.Frames.{records-none}
 use Rattle.journal.proofs.Journals.{all_stay, brings_back, commits_through, new_id, recovered_keeps, recovered_leaves, recovery_stays, trim_commits, between_of, held_on, is_journal, keeps_committed, leaves_records, leaves_still, others_stay, prefix_of_itself, refused_later, whole_of}
 
 -- what a reader stands on
-pub opened_by : (sum : List ℕ → ℕ) (r : ReaderState) (cache : CacheState) (life : Life) → IsReader sum r cache life → IsOpen sum r.tail cache life
+pub opened_by : (sum : List ℕ → ℕ) (r : ReaderState) (cache : CacheState) (life : Life) → IsReader sum r cache life → IsOpenSnapshot sum r.tail cache life
 unfolding IsReader
 opened_by sum r cache life reader = reader
 
-pub is_reader : (sum : List ℕ → ℕ) (r : ReaderState) (cache : CacheState) (life : Life) → IsOpen sum r.tail cache life → IsReader sum r cache life
+pub is_reader : (sum : List ℕ → ℕ) (r : ReaderState) (cache : CacheState) (life : Life) → IsOpenSnapshot sum r.tail cache life → IsReader sum r cache life
 unfolding IsReader
 is_reader sum r cache life opened = opened
 
 -- ---- what stays
 
 -- a snapshot that stands where it stood tells what it told
-module _ (sum : List ℕ → ℕ) (t : Tail) (cache after : CacheState) (old new : Life) (opened : IsOpen sum t cache old)
-    (stands : StandsOn sum t (told t old.present.readable) after new.present) where
-  pub still_tells : told t new.present.readable ≡ told t old.present.readable
+module _ (sum : List ℕ → ℕ) (t : Tail) (cache after : CacheState) (old new : Life) (opened : IsOpenSnapshot sum t cache old)
+    (stands : SnapshotReads sum t (logical_bytes t old.present.readable) after new.present) where
+  pub still_tells : logical_bytes t new.present.readable ≡ logical_bytes t old.present.readable
   still_tells = stands.tail.is
 
-  pub still_open : IsOpen sum t after new
+  pub still_open : IsOpenSnapshot sum t after new
   still_open = record {
-    stands = subst (λ (l : List ℕ). StandsOn sum t l after new.present) (sym still_tells) stands;
+    stands = subst (λ (l : List ℕ). SnapshotReads sum t l after new.present) (sym still_tells) stands;
     size = opened.size ∙ sym (ap length still_tells);
   }
 
@@ -111,7 +111,7 @@ each_reader_still id cache mid after is first second = λ sum r life reader.
 -- ---- recovery
 
 -- what a recovery of the blob owes leaves
-pub owed_recovery : (sum own : List ℕ → ℕ) (cache after : CacheState) (old new : Life) → IsFresh cache → OwesRecovering sum cache.page_size cache after old new → RecoveryLeaves sum own cache after old new
+pub owed_recovery : (sum own : List ℕ → ℕ) (cache after : CacheState) (old new : Life) → IsFresh cache → OwesRecovering sum cache.page_size cache after old new → JournalRecoveryLeaves sum own cache after old new
 owed_recovery sum own cache after old new fresh owes =
     let P = cache.page_size in
     let T = text sum P old.present.readable in
@@ -129,7 +129,7 @@ owed_recovery sum own cache after old new fresh owes =
 pub trim_leaves_all : (sum own : List ℕ → ℕ) (cache between after : CacheState) (old mid new : Life) (w : WriterState) → IsFresh cache → IsImage old.present old.present.readable → OwesRecovering sum cache.page_size cache between old mid
     → w.id ≡ cache.ids_given → w.page_size ≡ cache.page_size → content w mid.present.readable ≡ text sum cache.page_size old.present.readable → IsFresh after → LeavesOthers w.id between after
     → KeepsFloorsWithin (length (whole_frames (text sum cache.page_size old.present.readable))) sum cache.page_size mid new → LeavesOnly sum w.page_size (content w mid.present.readable) (whole_frames (content w mid.present.readable)) mid new
-    → RecoveryLeaves sum own cache after old new
+    → JournalRecoveryLeaves sum own cache after old new
 trim_leaves_all sum own cache between after old mid new w fresh is_image owes id size holds fresh_after others keeps only =
     let P = cache.page_size in
     let T = text sum P old.present.readable in
@@ -143,8 +143,8 @@ trim_leaves_all sum own cache between after old mid new w fresh is_image owes id
     }
 
 -- a recovery, by its answer
-pub recovers_so : (sum own : List ℕ → ℕ) (cache after : CacheState) (capacity : ℕ) (old new : Life) (w : WriterState) (found : Vec (List ℕ) Global) → IsImage old.present old.present.readable → HasRecovered sum own cache after old new w found.items
-    → RecoverGoes sum own cache after capacity old new (Ok (w, found))
+pub recovers_so : (sum own : List ℕ → ℕ) (cache after : CacheState) (capacity : ℕ) (old new : Life) (w : WriterState) (found : Vec (List ℕ) Global) → IsImage old.present old.present.readable → JournalHasRecovered sum own cache after old new w found.items
+    → JournalRecoverGoes sum own cache after capacity old new (Ok (w, found))
 recovers_so sum own cache after capacity old new w found is_image has =
     let P = cache.page_size in
     let d = old.present in
@@ -152,21 +152,21 @@ recovers_so sum own cache after capacity old new w found is_image has =
       answers = has;
       apart = new_id w.id cache has.id;
       readers_apart = new_to_readers w.id cache has.id;
-      back = subst (λ (rs : List (List ℕ)). BringsBack sum own P d rs) (sym has.given) (brings_back sum own P d d.readable is_image);
+      back = subst (λ (rs : List (List ℕ)). BringsRecordsBack sum own P d rs) (sym has.given) (brings_back sum own P d d.readable is_image);
     }
 
 pub recovers_not : (sum own : List ℕ → ℕ) (cache after : CacheState) (capacity : ℕ) (old new : Life) (e : Error) (result : Result (WriterState × Vec (List ℕ) Global) Error) → IsErrAnd result (λ x. x ≡ e) → RecoversJournal sum own cache after capacity old new result
-    → RecoverGoes sum own cache after capacity old new result
+    → JournalRecoverGoes sum own cache after capacity old new result
 recovers_not sum own cache after capacity old new e (Ok r) is answers = absurd is
 recovers_not sum own cache after capacity old new e (Err x) is answers = record { answers = answers; apart = tt; readers_apart = tt; back = tt }
 
 -- a crash that was refused
-pub crash_refused : (sum own : List ℕ → ℕ) (P : ℕ) (was : Disk) (image : List ℕ) (e : Error) (result : Result (WriterState × Vec (List ℕ) Global) Error) → IsErrAnd result (λ x. x ≡ e) → CrashGoes sum own P was image result
+pub crash_refused : (sum own : List ℕ → ℕ) (P : ℕ) (was : Disk) (image : List ℕ) (e : Error) (result : Result (WriterState × Vec (List ℕ) Global) Error) → IsErrAnd result (λ x. x ≡ e) → JournalCrashGoes sum own P was image result
 crash_refused sum own P was image e (Ok r) is = absurd is
 crash_refused sum own P was image e (Err x) is = record { back = tt; only = tt }
 
 -- no crash
-pub nothing_crashed : (sum own : List ℕ → ℕ) (cache : CacheState) (d : Disk) → IsFresh cache → CrashLeaves sum own cache cache d d
+pub nothing_crashed : (sum own : List ℕ → ℕ) (cache : CacheState) (d : Disk) → IsFresh cache → JournalCrashLeaves sum own cache cache d d
 nothing_crashed sum own cache d fresh = record {
   fresh = fresh;
   others = λ other v now stays. stays;
@@ -177,9 +177,9 @@ nothing_crashed sum own cache d fresh = record {
 -- ---- reads through a view
 
 -- a read
-pub read_views : (sum : List ℕ → ℕ) (t : Tail) (cache after : CacheState) (old new : Life) → IsOpen sum t cache old → ReadLeaves sum t cache after old new → OnlyViews sum t cache after old new
+pub read_views : (sum : List ℕ → ℕ) (t : Tail) (cache after : CacheState) (old new : Life) → IsOpenSnapshot sum t cache old → ReadLeaves sum t cache after old new → ViewLeaves sum t cache after old new
 read_views sum t cache after old new opened leaves =
-    let stands = leaves.tails t (told t old.present.readable) opened.stands in
+    let stands = leaves.tails t (logical_bytes t old.present.readable) opened.stands in
     record {
       opened = still_open sum t cache after old new opened stands;
       holds = still_tells sum t cache after old new opened stands;
@@ -191,7 +191,7 @@ read_views sum t cache after old new opened leaves =
     }
 
 -- no read
-pub views_start : (sum : List ℕ → ℕ) (t : Tail) (cache : CacheState) (life : Life) → IsOpen sum t cache life → OnlyViews sum t cache cache life life
+pub views_start : (sum : List ℕ → ℕ) (t : Tail) (cache : CacheState) (life : Life) → IsOpenSnapshot sum t cache life → ViewLeaves sum t cache cache life life
 views_start sum t cache life opened = record {
   opened = opened;
   holds = refl;
@@ -203,7 +203,7 @@ views_start sum t cache life opened = record {
 }
 
 -- one after another
-pub views_join : (sum : List ℕ → ℕ) (t : Tail) (cache between after : CacheState) (old mid new : Life) → OnlyViews sum t cache between old mid → OnlyViews sum t between after mid new → OnlyViews sum t cache after old new
+pub views_join : (sum : List ℕ → ℕ) (t : Tail) (cache between after : CacheState) (old mid new : Life) → ViewLeaves sum t cache between old mid → ViewLeaves sum t between after mid new → ViewLeaves sum t cache after old new
 views_join sum t cache between after old mid new first second = record {
   opened = second.opened;
   holds = second.holds ∙ first.holds;
@@ -215,8 +215,8 @@ views_join sum t cache between after old mid new first second = record {
 }
 
 -- a read within the content is refused neither for its range nor for a page
-pub view_refused : {A : Type 0} (sum : List ℕ → ℕ) (t : Tail) (cache : CacheState) (offset len : ℕ) (bytes : A → List ℕ) (old new : Life) (e : Error) → Reads sum t cache (offset, len) bytes old new (Err e) → IsOpen sum t cache old
-    → offset + len ≤ size_of t → offset + len < 2 ^ 64 → ReadRefused old new e
+pub view_refused : {A : Type 0} (sum : List ℕ → ℕ) (t : Tail) (cache : CacheState) (offset len : ℕ) (bytes : A → List ℕ) (old new : Life) (e : Error) → Reads sum t cache (offset, len) bytes old new (Err e) → IsOpenSnapshot sum t cache old
+    → offset + len ≤ tail_size t → offset + len < 2 ^ 64 → RecordReadRefused old new e
 view_refused sum t cache offset len bytes old new ReadFailed refused opened within fits = refused
 view_refused sum t cache offset len bytes old new OutOfMemory refused opened within fits = tt
 view_refused sum t cache offset len bytes old new InvalidChecksum refused opened within fits =
@@ -231,7 +231,7 @@ view_refused sum t cache offset len bytes old new IdsExhausted refused opened wi
 -- ---- reads of a snapshot
 
 -- through its view, whose own bytes are less than a page
-pub views_look : (sum : List ℕ → ℕ) (t : Tail) (cache after : CacheState) (old new : Life) → length t.bytes < t.page_size → OnlyViews sum t cache after old new → OnlyLooks sum t cache after old new
+pub views_look : (sum : List ℕ → ℕ) (t : Tail) (cache after : CacheState) (old new : Life) → length t.bytes < t.page_size → ViewLeaves sum t cache after old new → OnlyLooks sum t cache after old new
 views_look sum t cache after old new short views = record {
   opened = views.opened;
   holds = views.holds;
@@ -243,7 +243,7 @@ views_look sum t cache after old new short views = record {
 }
 
 -- no read
-pub looks_start : (sum : List ℕ → ℕ) (t : Tail) (cache : CacheState) (life : Life) → IsOpen sum t cache life → OnlyLooks sum t cache cache life life
+pub looks_start : (sum : List ℕ → ℕ) (t : Tail) (cache : CacheState) (life : Life) → IsOpenSnapshot sum t cache life → OnlyLooks sum t cache cache life life
 looks_start sum t cache life opened = record {
   opened = opened;
   holds = refl;
@@ -306,7 +306,7 @@ unfolding IsSound
 pages_full sum w d sound = sound.full
 
 -- the pages of a writer between two calls can be read
-pub opened_writer : (sum : List ℕ → ℕ) (w : WriterState) (cache : CacheState) (life : Life) → IsBetweenCalls sum w cache life → IsOpen sum (tail_of w) cache life
+pub opened_writer : (sum : List ℕ → ℕ) (w : WriterState) (cache : CacheState) (life : Life) → IsBetweenCalls sum w cache life → IsOpenSnapshot sum (tail_of w) cache life
 opened_writer sum w cache life between = record {
   stands = record {
     tail = record { there = between.ready.can.there; full = pages_full sum w life.present between.ready.sound; is = refl };
@@ -316,7 +316,7 @@ opened_writer sum w cache life between = record {
 }
 
 -- the writer's own reads, through its view
-pub views_read : (sum : List ℕ → ℕ) (w : WriterState) (cache after : CacheState) (old new : Life) → IsBetweenCalls sum w cache old → OnlyViews sum (tail_of w) cache after old new → OnlyReads sum w cache after old new
+pub views_read : (sum : List ℕ → ℕ) (w : WriterState) (cache after : CacheState) (old new : Life) → IsBetweenCalls sum w cache old → ViewLeaves sum (tail_of w) cache after old new → OnlyReads sum w cache after old new
 views_read sum w cache after old new between views =
     let held = content w old.present.readable in
     let same : content w new.present.readable ≡ held = views.holds in
@@ -352,7 +352,7 @@ journals_stay sum t cache after old new looks = λ w journal.
         ready = record { sound = looks.sound w between.ready.sound; can = stands.can; fresh = looks.fresh between.ready.fresh };
         size = between.size ∙ sym (ap length same);
         only = subst (λ (l : List ℕ). AllOnly sum w.page_size l l new.present) (sym same) left_only;
-      }) (subst (λ (l : List ℕ). IsWhole l) (sym same) (whole_of sum w cache old journal));
+      }) (subst (λ (l : List ℕ). AreWholeFrames l) (sym same) (whole_of sum w cache old journal));
       holds = same;
     }
 
@@ -360,7 +360,7 @@ journals_stay sum t cache after old new looks = λ w journal.
 
 -- a call of the writer that owes so
 pub owed_leaves : (sum own : List ℕ → ℕ) (w : WriterState) (all : List (List ℕ)) (next : List ℕ) (cache after : CacheState) (old new : Life) → IsPrefix (records_in own w old) all → IsPrefix (records own next) all → Owes sum w next cache after old new
-    → CallLeaves sum own w all cache after old new
+    → JournalCallLeaves sum own w all cache after old new
 owed_leaves sum own w all next cache after old new first second owes =
     let P = w.page_size in
     let held = content w old.present.readable in
@@ -374,13 +374,13 @@ owed_leaves sum own w all next cache after old new first second owes =
     }
 
 -- one that appends nothing
-pub owed_same : (sum own : List ℕ → ℕ) (w : WriterState) (cache after : CacheState) (old new : Life) → Owes sum w (content w old.present.readable) cache after old new → CallLeaves sum own w (records_in own w old) cache after old new
+pub owed_same : (sum own : List ℕ → ℕ) (w : WriterState) (cache after : CacheState) (old new : Life) → Owes sum w (content w old.present.readable) cache after old new → JournalCallLeaves sum own w (records_in own w old) cache after old new
 owed_same sum own w cache after old new owes =
     let itself = prefix_of_itself (records_in own w old) in
     owed_leaves sum own w (records_in own w old) (content w old.present.readable) cache after old new itself itself owes
 
 -- no call
-pub nothing_leaves : (sum own : List ℕ → ℕ) (w : WriterState) (all : List (List ℕ)) (cache : CacheState) (life : Life) → IsJournal sum w cache life → IsPrefix (records_in own w life) all → CallLeaves sum own w all cache cache life life
+pub nothing_leaves : (sum own : List ℕ → ℕ) (w : WriterState) (all : List (List ℕ)) (cache : CacheState) (life : Life) → IsJournal sum w cache life → IsPrefix (records_in own w life) all → JournalCallLeaves sum own w all cache cache life life
 nothing_leaves sum own w all cache life journal first = record {
   fresh = (between_of sum w cache life journal).ready.fresh;
   readers = λ r below reader. record { reader = reader; holds = refl };
@@ -439,10 +439,10 @@ next_later own held from offset bytes end so_far found none =
     so_far ∙ found.rest ∙ ap (λ (b : Option (List ℕ)). listed b ++ records own (drop end held)) none
 
 -- it wasn't read
-pub next_refused : (own : List ℕ → ℕ) (held : List ℕ) (offset : ℕ) (old mid new : Life) (e : Error) (result : Result Found Error) → IsErrAnd result (λ x. x ≡ e) → Looked old mid → ReadRefused mid new e
+pub next_refused : (own : List ℕ → ℕ) (held : List ℕ) (offset : ℕ) (old mid new : Life) (e : Error) (result : Result Found Error) → IsErrAnd result (λ x. x ≡ e) → Looked old mid → RecordReadRefused mid new e
     → FindsNext own held offset old new result
 next_refused own held offset old mid new e (Ok f) is looked refused = absurd is
-next_refused own held offset old mid new e (Err x) is looked refused = refused_later old mid new x looked (subst (λ (y : Error). ReadRefused mid new y) (sym is) refused)
+next_refused own held offset old mid new e (Err x) is looked refused = refused_later old mid new x looked (subst (λ (y : Error). RecordReadRefused mid new y) (sym is) refused)
 
 -- nothing that is found is nothing
 pub not_some : (o : Option (List ℕ)) → is_some o ≡ false → o ≡ None
@@ -451,21 +451,21 @@ not_some (Some bytes) is = cc
 
 -- ---- a reader that was made
 
-pub reader_made : (sum own : List ℕ → ℕ) (w : WriterState) (after : CacheState) (old new : Life) (now : WriterState) (t : Tail) → IsSound sum w old.present → IsWhole (content w old.present.readable) → SnapshotGoes sum w after old new (Ok (now, t)) → IsReady sum now after new
+pub reader_made : (sum own : List ℕ → ℕ) (w : WriterState) (after : CacheState) (old new : Life) (now : WriterState) (t : Tail) → IsSound sum w old.present → AreWholeFrames (content w old.present.readable) → SnapshotGoes sum w after old new (Ok (now, t)) → IsReady sum now after new
     → HasReader sum own w after old new now (record { tail = t; offset = 0 })
 reader_made sum own w after old new now t sound whole goes ready =
     let held = content w old.present.readable in
     let holds = goes.holds in
     let same : content now new.present.readable ≡ held = holds.content ∙ append-nil held in
-    let over : told t new.present.readable ≡ held = (goes.stands sound).tail.is in
-    let long : size_of t ≡ length (told t new.present.readable) =
-    ap (λ (u : Tail). size_of u) goes.tail ∙ holds.size ∙ ap length same ∙ sym (ap length over) in
+    let over : logical_bytes t new.present.readable ≡ held = (goes.stands sound).tail.is in
+    let long : tail_size t ≡ length (logical_bytes t new.present.readable) =
+    ap (λ (u : Tail). tail_size u) goes.tail ∙ holds.size ∙ ap length same ∙ sym (ap length over) in
     record {
-      journal = is_journal sum now after new (held_on sum w old [] now after new holds ready) (subst (λ (l : List ℕ). IsWhole l) (sym same) whole);
+      journal = is_journal sum now after new (held_on sum w old [] now after new holds ready) (subst (λ (l : List ℕ). AreWholeFrames l) (sym same) whole);
       holds = same;
       same = holds.same;
       reader = is_reader sum (record { tail = t; offset = 0 }) after new
-          (record { stands = subst (λ (l : List ℕ). StandsOn sum t l after new.present) (sym over) (goes.stands sound); size = long });
+          (record { stands = subst (λ (l : List ℕ). SnapshotReads sum t l after new.present) (sym over) (goes.stands sound); size = long });
       id = ap (λ (u : Tail). u.id) goes.tail ∙ holds.same.id;
       below = (let pages : t.full_pages ≡ now.full_pages = ap (λ (u : Tail). u.full_pages) goes.tail in omega arith);
       over = over;

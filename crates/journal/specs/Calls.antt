@@ -7,19 +7,20 @@ use Rattle.cache.specs.CacheState.{CacheState}
 use Rattle.cache.specs.Pages.{IsFresh}
 use Rattle.crash.specs.Looks.{Looked}
 use Rattle.writer_state.specs.WriterState.{WriterState}
-use Rattle.journal.specs.Journal.{AllStay, BringsBack, BringsOnly, IsNewId, KeepsAllRecords}
-use Rattle.journal.specs.Journal.{KeepsCommitted, LeavesAllRecords, LeavesRecords, OthersStay}
+use Rattle.journal.specs.Journal.{AllJournalsStay, BringsOnlyRecords, BringsRecordsBack}
+use Rattle.journal.specs.Journal.{IsNewToJournals, KeepsAllRecords, KeepsCommitted}
+use Rattle.journal.specs.Journal.{LeavesAllRecords, LeavesRecords, OtherJournalsStay}
 use Rattle.journal.specs.Journal.{RecoversJournal, StaysCommitted, records_in}
 use Rattle.journal.specs.Reader.{AllReadersStay, EachReaderStays, IsNewToReaders, JournalsStay}
 use Rattle.journal.specs.Reader.{LeavesTheirRecords, OtherReadersStay, ReaderState, ReadersStay}
 
 -- what a call of a journal leaves: the cache serves on; the readers of its blob go on, and the
 -- journals and the readers of other blobs
-pub record CallLeaves (sum own : List ℕ → ℕ) (w : WriterState) (all : List (List ℕ))
+pub record JournalCallLeaves (sum own : List ℕ → ℕ) (w : WriterState) (all : List (List ℕ))
     (cache after : CacheState) (old new : Life) : Type 0 where
   pub fresh : IsFresh after
   pub readers : ReadersStay sum w cache after old new
-  pub others : OthersStay w.id cache after
+  pub others : OtherJournalsStay w.id cache after
   pub their_readers : OtherReadersStay w.id cache after
   -- what was committed is so at each moment since the call began
   pub kept : KeepsCommitted sum own w.page_size old new
@@ -30,7 +31,7 @@ pub record CallLeaves (sum own : List ℕ → ℕ) (w : WriterState) (all : List
 pub record RecordReadLeaves (sum own : List ℕ → ℕ) (w : WriterState) (cache after : CacheState)
     (old new : Life) : Type 0 where
   pub looked : Looked old new
-  pub call : CallLeaves sum own w (records_in own w old) cache after old new
+  pub call : JournalCallLeaves sum own w (records_in own w old) cache after old new
 
 -- what a call of a reader leaves: the device was only read; the journal of its blob goes on, and
 -- the other readers, and the journals and the readers of other blobs
@@ -40,7 +41,7 @@ pub record ReaderLeaves (sum own : List ℕ → ℕ) (r : ReaderState) (cache af
   pub fresh : IsFresh cache → IsFresh after
   pub journals : JournalsStay sum cache after old new
   pub readers : AllReadersStay sum cache after old new
-  pub others : OthersStay r.tail.id cache after
+  pub others : OtherJournalsStay r.tail.id cache after
   pub their_readers : OtherReadersStay r.tail.id cache after
   -- what was committed is so at each moment since the call began
   pub kept : KeepsCommitted sum own r.tail.page_size old new
@@ -51,18 +52,18 @@ pub record ReaderLeaves (sum own : List ℕ → ℕ) (r : ReaderState) (cache af
 
 -- a recovery: its id is no other journal's and no reader's, and the records begin with all that
 -- were committed
-pub record RecoverGoes (sum own : List ℕ → ℕ) (cache after : CacheState) (capacity : ℕ)
+pub record JournalRecoverGoes (sum own : List ℕ → ℕ) (cache after : CacheState) (capacity : ℕ)
     (old new : Life) (result : Result (WriterState × Vec (List ℕ) Global) Error) : Type 0 where
   pub answers : RecoversJournal sum own cache after capacity old new result
-  pub apart : IfOk result (λ r. IsNewId r.0.id cache)
+  pub apart : IfOk result (λ r. IsNewToJournals r.0.id cache)
   pub readers_apart : IfOk result (λ r. IsNewToReaders r.0.id cache)
-  pub back : IfOk result (λ r. BringsBack sum own cache.page_size old.present r.1.items)
+  pub back : IfOk result (λ r. BringsRecordsBack sum own cache.page_size old.present r.1.items)
 
 -- what it leaves: the cache serves on, and the journals and the readers of other blobs go on
-pub record RecoveryLeaves (sum own : List ℕ → ℕ) (cache after : CacheState) (old new : Life)
+pub record JournalRecoveryLeaves (sum own : List ℕ → ℕ) (cache after : CacheState) (old new : Life)
     : Type 0 where
   pub fresh : IsFresh after
-  pub others : AllStay cache after
+  pub others : AllJournalsStay cache after
   pub readers : EachReaderStays cache after
   -- what was committed is so at each moment since the call began
   pub kept : KeepsCommitted sum own cache.page_size old new
@@ -73,16 +74,16 @@ pub record RecoveryLeaves (sum own : List ℕ → ℕ) (cache after : CacheState
 
 -- a crash that left this image, and a recovery: the records begin with all that were committed; and
 -- where no checksum collides in the image, they are the first of those that were appended
-pub record CrashGoes (sum own : List ℕ → ℕ) (P : ℕ) (was : Disk) (image : List ℕ)
+pub record JournalCrashGoes (sum own : List ℕ → ℕ) (P : ℕ) (was : Disk) (image : List ℕ)
     (result : Result (WriterState × Vec (List ℕ) Global) Error) : Type 0 where
-  pub back : IfOk result (λ r. BringsBack sum own P was r.1.items)
-  pub only : IfOk result (λ r. BringsOnly sum own P was image r.1.items)
+  pub back : IfOk result (λ r. BringsRecordsBack sum own P was r.1.items)
+  pub only : IfOk result (λ r. BringsOnlyRecords sum own P was image r.1.items)
 
 -- what both leave: the cache serves on, the journals and the readers of other blobs go on, and what
 -- was committed still is
-pub record CrashLeaves (sum own : List ℕ → ℕ) (cache after : CacheState) (was is : Disk)
+pub record JournalCrashLeaves (sum own : List ℕ → ℕ) (cache after : CacheState) (was is : Disk)
     : Type 0 where
   pub fresh : IsFresh after
-  pub others : AllStay cache after
+  pub others : AllJournalsStay cache after
   pub readers : EachReaderStays cache after
   pub stays : StaysCommitted sum own cache.page_size was is

@@ -59,8 +59,8 @@ unfoldable pub whole_frames : List ℕ → List ℕ
 whole_frames bytes = flat_map if_whole (frames bytes)
 
 -- no frame is cut short
-abbrev pub IsWhole : List ℕ → Type 0
-IsWhole bytes = whole_frames bytes ≡ bytes
+abbrev pub AreWholeFrames : List ℕ → Type 0
+AreWholeFrames bytes = whole_frames bytes ≡ bytes
 
 -- these records are the first of all those
 abbrev pub IsPrefix : List (List ℕ) → List (List ℕ) → Type 0

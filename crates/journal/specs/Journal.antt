@@ -25,7 +25,7 @@ use Rattle.paged.specs.Truncate.{Truncates}
 use Rattle.paged.specs.Writer.{physical_blob_size}
 use Rattle.journal.specs.declared.frame.Found.{Found}
 use Rattle.journal.specs.Frame.{frame, frame_len, record_of, records, listed, whole_frames}
-use Rattle.journal.specs.Frame.{IsWhole, IsPrefix}
+use Rattle.journal.specs.Frame.{AreWholeFrames, IsPrefix}
 
 -- a writer between two calls, as the last of them left it: it is ready, its size is that of its
 -- content, and chance aside a crash leaves only that
@@ -36,31 +36,31 @@ pub record IsBetweenCalls (sum : List ℕ → ℕ) (w : WriterState) (cache : Ca
   pub only : LeavesItsContent sum w life.present
 
 -- a journal between two calls: its writer is ready, and its content is whole frames
-pub record StandsAsJournal (sum : List ℕ → ℕ) (w : WriterState) (cache : CacheState) (life : Life)
+pub record IsJournalNow (sum : List ℕ → ℕ) (w : WriterState) (cache : CacheState) (life : Life)
     : Type 0 where
   pub between : IsBetweenCalls sum w cache life
-  pub whole : IsWhole (content w life.present.readable)
+  pub whole : AreWholeFrames (content w life.present.readable)
 
 -- a journal between two calls. The word for it in contracts: a caller hands it from call to call,
 -- and has no need to see into it
 unfoldable pub IsJournal : (List ℕ → ℕ) → WriterState → CacheState → Life → Type 0
-IsJournal sum w cache life = StandsAsJournal sum w cache life
+IsJournal sum w cache life = IsJournalNow sum w cache life
 
 -- a call over the blob with this id: every other journal that has this cache stays one
-abbrev pub OthersStay : ℕ → CacheState → CacheState → Type 0
-OthersStay id cache after =
+abbrev pub OtherJournalsStay : ℕ → CacheState → CacheState → Type 0
+OtherJournalsStay id cache after =
     (sum : List ℕ → ℕ) (w : WriterState) (life : Life) → w.id ≢ id
     → IsJournal sum w cache life → IsJournal sum w after life
 
 -- one over a blob that is new to the cache: every journal does
-abbrev pub AllStay : CacheState → CacheState → Type 0
-AllStay cache after =
+abbrev pub AllJournalsStay : CacheState → CacheState → Type 0
+AllJournalsStay cache after =
     (sum : List ℕ → ℕ) (w : WriterState) (life : Life)
     → IsJournal sum w cache life → IsJournal sum w after life
 
 -- no journal that has this cache has this id
-abbrev pub IsNewId : ℕ → CacheState → Type 0
-IsNewId id cache =
+abbrev pub IsNewToJournals : ℕ → CacheState → Type 0
+IsNewToJournals id cache =
     (sum : List ℕ → ℕ) (w : WriterState) (life : Life) → IsJournal sum w cache life → w.id ≢ id
 
 -- chance aside, a crash at any moment since leaves of this content a beginning
@@ -134,14 +134,14 @@ pub record IsAppended (sum own : List ℕ → ℕ) (w : WriterState) (bytes : Li
       → Commits sum own w.page_size (content w old.present.readable) n d
       → Commits sum own now.page_size (content now new.present.readable) n d
 
-abbrev pub AppendsRecord : (sum own : List ℕ → ℕ) → WriterState → List ℕ → CacheState → Life
+abbrev pub AppendRecordGoes : (sum own : List ℕ → ℕ) → WriterState → List ℕ → CacheState → Life
     → Life → Result (WriterState × ℕ) Error → Type 0
-AppendsRecord sum own w bytes after old new (Ok r) =
+AppendRecordGoes sum own w bytes after old new (Ok r) =
     IsAppended sum own w bytes after old new r.0 r.1
-AppendsRecord sum own w bytes after old new (Err OffsetOverflow) =
+AppendRecordGoes sum own w bytes after old new (Err OffsetOverflow) =
     (new ≡ old)
     × (2 ^ 64 ≤ physical_blob_size w.page_size w.full_pages (length w.tip + (length bytes + 7)))
-AppendsRecord sum own w bytes after old new (Err e) = CallCause w.sync old new e
+AppendRecordGoes sum own w bytes after old new (Err e) = CallCause w.sync old new e
 
 -- all records were committed
 pub record IsCommitted (sum own : List ℕ → ℕ) (w : WriterState) (after : CacheState)
@@ -158,28 +158,28 @@ CommitGoes sum own w after old new (Err e) = CallCause w.sync old new e
 
 -- why a read within the content may answer this error: a read of the device failed in the call, or
 -- memory was refused, before the device was asked or between two of its reads
-abbrev pub ReadRefused : Life → Life → Error → Type 0
-ReadRefused old new ReadFailed = HasFailed ReadFailed old.present new.present
-ReadRefused old new OutOfMemory = Unit {0}
-ReadRefused old new _ = ⊥
+abbrev pub RecordReadRefused : Life → Life → Error → Type 0
+RecordReadRefused old new ReadFailed = HasFailed ReadFailed old.present new.present
+RecordReadRefused old new OutOfMemory = Unit {0}
+RecordReadRefused old new _ = ⊥
 
 -- a read of bytes within a content
-abbrev pub ReadsBytes : List ℕ → (offset len : ℕ) → Life → Life → Result (List ℕ) Error → Type 0
-ReadsBytes content offset len old new (Ok bytes) = bytes ≡ take len (drop offset content)
-ReadsBytes content offset len old new (Err e) = ReadRefused old new e
+abbrev pub ReadsContent : List ℕ → (offset len : ℕ) → Life → Life → Result (List ℕ) Error → Type 0
+ReadsContent content offset len old new (Ok bytes) = bytes ≡ take len (drop offset content)
+ReadsContent content offset len old new (Err e) = RecordReadRefused old new e
 
 -- a look at how long the frame at an offset is, after which so many bytes stand, where it may be
 -- cut short
 abbrev pub MeasuresFrame : List ℕ → (offset rest : ℕ) → Life → Life → Result ℕ Error → Type 0
 MeasuresFrame content offset rest old new (Ok len) =
     len ≡ min (frame_len (drop offset content)) rest
-MeasuresFrame content offset rest old new (Err e) = ReadRefused old new e
+MeasuresFrame content offset rest old new (Err e) = RecordReadRefused old new e
 
 -- a read of the frame at an offset after which so many bytes stand, where it may be cut short
 abbrev pub ReadsFrame : List ℕ → (offset rest : ℕ) → Life → Life → Result (List ℕ) Error → Type 0
 ReadsFrame content offset rest old new (Ok bytes) =
     let after = drop offset content in bytes ≡ take (min (frame_len after) rest) after
-ReadsFrame content offset rest old new (Err e) = ReadRefused old new e
+ReadsFrame content offset rest old new (Err e) = RecordReadRefused old new e
 
 -- the frame that begins at an offset of a content: its record, if it is one, the offset after it,
 -- and the records from there on
@@ -191,11 +191,11 @@ pub record IsFound (own : List ℕ → ℕ) (content : List ℕ) (offset : ℕ) 
   pub rest : records own (drop offset content) ≡ listed bytes ++ records own (drop end content)
 
 -- a read of the frame at an offset: none begins at the end or after it
-abbrev pub ReadsRecord : (own : List ℕ → ℕ) → List ℕ → ℕ → Life → Life
+abbrev pub ReadRecordGoes : (own : List ℕ → ℕ) → List ℕ → ℕ → Life → Life
     → Result (Option Found) Error → Type 0
-ReadsRecord own content offset old new (Ok None) = length content ≤ offset
-ReadsRecord own content offset old new (Ok (Some f)) = IsFound own content offset f.bytes f.end
-ReadsRecord own content offset old new (Err e) = ReadRefused old new e
+ReadRecordGoes own content offset old new (Ok None) = length content ≤ offset
+ReadRecordGoes own content offset old new (Ok (Some f)) = IsFound own content offset f.bytes f.end
+ReadRecordGoes own content offset old new (Err e) = RecordReadRefused old new e
 
 -- the whole frames are left of a content; these are the records
 pub record IsTrimmed (sum own : List ℕ → ℕ) (w : WriterState) (after : CacheState)
@@ -213,13 +213,13 @@ abbrev pub Trims : (sum own : List ℕ → ℕ) → WriterState → CacheState �
 Trims sum own w after old new (Ok r) = IsTrimmed sum own w after old new r.0 r.1.items
 Trims sum own w after old new (Err e) =
     let whole = whole_frames (content w old.present.readable) in
-    ReadRefused old new e
+    RecordReadRefused old new e
     ⊎ ((mid : Life) × Looked old mid × (length whole < size_of w)
     × Truncates sum (length whole) w mid new (Err e))
 
 -- a journal was recovered, under the cache's next id: its content is the whole frames of the text
 -- that was readable; these are its records, and all of them are committed
-pub record HasRecovered (sum own : List ℕ → ℕ) (cache after : CacheState) (old new : Life)
+pub record JournalHasRecovered (sum own : List ℕ → ℕ) (cache after : CacheState) (old new : Life)
     (w : WriterState) (found : List (List ℕ)) : Type 0 where
   pub page_size : w.page_size ≡ cache.page_size
   pub id : w.id ≡ cache.ids_given
@@ -234,7 +234,7 @@ pub record HasRecovered (sum own : List ℕ → ℕ) (cache after : CacheState) 
 abbrev pub RecoversJournal : (sum own : List ℕ → ℕ) → (cache after : CacheState) → ℕ → Life
     → Life → Result (WriterState × Vec (List ℕ) Global) Error → Type 0
 RecoversJournal sum own cache after capacity old new (Ok r) =
-    HasRecovered sum own cache after old new r.0 r.1.items
+    JournalHasRecovered sum own cache after old new r.0 r.1.items
 RecoversJournal sum own cache after capacity old new (Err e) =
     Recovers sum cache capacity old new (Err e)
     ⊎ ((mid : Life) × (w : WriterState) × Recovers sum cache capacity old mid (Ok w)
@@ -259,14 +259,14 @@ LeavesAllRecords sum own P old new =
     → LeavesRecords sum own P (records own (text sum P old.present.readable)) old new
 
 -- what comes back of a journal begins with all that was committed
-abbrev pub BringsBack : (sum own : List ℕ → ℕ) → ℕ → Disk → List (List ℕ) → Type 0
-BringsBack sum own P d back =
+abbrev pub BringsRecordsBack : (sum own : List ℕ → ℕ) → ℕ → Disk → List (List ℕ) → Type 0
+BringsRecordsBack sum own P d back =
     (content : List ℕ) (n : ℕ) → Commits sum own P content n d
     → (n ≤ length back) × (take n back ≡ take n (records own content))
 
 -- absent a checksum collision in what the crash left, the records that come back are the first of
 -- those that were appended
-abbrev pub BringsOnly : (sum own : List ℕ → ℕ) → ℕ → Disk → List ℕ → List (List ℕ) → Type 0
-BringsOnly sum own P d image back =
+abbrev pub BringsOnlyRecords : (sum own : List ℕ → ℕ) → ℕ → Disk → List ℕ → List (List ℕ) → Type 0
+BringsOnlyRecords sum own P d image back =
     IsDistinct sum P d image
     → (all : List (List ℕ)) → OnlyRecords sum own P all d → IsPrefix back all

@@ -8,12 +8,12 @@ use Rattle.cache.specs.Pages.{IsFresh}
 use Rattle.crash.specs.Looks.{Looked}
 use Rattle.writer_state.specs.Sound.{IsSound, content}
 use Rattle.writer_state.specs.WriterState.{WriterState}
-use Rattle.paged_read.specs.Snapshots.{LeavesAllTails, LeavesOthers, LeavesTails, StandsOn}
-use Rattle.paged_read.specs.Tail.{Tail, told, size_of}
+use Rattle.paged_read.specs.Snapshots.{LeavesAllTails, LeavesOthers, LeavesTails, SnapshotReads}
+use Rattle.paged_read.specs.Tail.{Tail, logical_bytes, tail_size}
 use Rattle.paged.specs.Calls.{CallCause, IsSameWriter}
 use Rattle.journal.specs.declared.frame.Found.{Found}
 use Rattle.journal.specs.Frame.{listed, records}
-use Rattle.journal.specs.Journal.{IsJournal, LeavesItsRecords, ReadRefused}
+use Rattle.journal.specs.Journal.{IsJournal, LeavesItsRecords, RecordReadRefused}
 
 -- a snapshot of a journal's blob, and the offset of the frame that is read next
 pub record ReaderState : Type 0 where
@@ -22,21 +22,22 @@ pub record ReaderState : Type 0 where
 
 -- the content that a reader goes over
 abbrev pub read_over : ReaderState → Life → List ℕ
-read_over r life = told r.tail life.present.readable
+read_over r life = logical_bytes r.tail life.present.readable
 
 -- the records that it is still to answer, in order
 abbrev pub left : (own : List ℕ → ℕ) → ReaderState → Life → List (List ℕ)
 left own r life = records own (drop r.offset (read_over r life))
 
 -- a snapshot that tells its content, and can be read with this cache
-pub record IsOpen (sum : List ℕ → ℕ) (t : Tail) (cache : CacheState) (life : Life) : Type 0 where
-  pub stands : StandsOn sum t (told t life.present.readable) cache life.present
-  pub size : size_of t ≡ length (told t life.present.readable)
+pub record IsOpenSnapshot (sum : List ℕ → ℕ) (t : Tail) (cache : CacheState) (life : Life) : Type
+    0 where
+  pub stands : SnapshotReads sum t (logical_bytes t life.present.readable) cache life.present
+  pub size : tail_size t ≡ length (logical_bytes t life.present.readable)
 
 -- a reader between two calls. The word for it in contracts: a caller hands it from call to call,
 -- and has no need to see into it
 unfoldable pub IsReader : (List ℕ → ℕ) → ReaderState → CacheState → Life → Type 0
-IsReader sum r cache life = IsOpen sum r.tail cache life
+IsReader sum r cache life = IsOpenSnapshot sum r.tail cache life
 
 -- a reader stays one, of the same content
 pub record StaysReader (sum : List ℕ → ℕ) (r : ReaderState) (after : CacheState) (old new : Life)
@@ -76,10 +77,10 @@ IsNewToReaders id cache =
 -- reads through a view, a writer's or a snapshot's: it can be read on, over the same content; the
 -- device was only read, and reads of other blobs stay valid. So does each snapshot whose pages lie
 -- below the view's own bytes, and every snapshot if these bytes are less than a page
-pub record OnlyViews (sum : List ℕ → ℕ) (t : Tail) (cache after : CacheState) (old new : Life)
+pub record ViewLeaves (sum : List ℕ → ℕ) (t : Tail) (cache after : CacheState) (old new : Life)
     : Type 0 where
-  pub opened : IsOpen sum t after new
-  pub holds : told t new.present.readable ≡ told t old.present.readable
+  pub opened : IsOpenSnapshot sum t after new
+  pub holds : logical_bytes t new.present.readable ≡ logical_bytes t old.present.readable
   pub looked : Looked old new
   pub tails : LeavesTails sum t.full_pages cache after old new
   pub all_tails : length t.bytes < t.page_size → LeavesAllTails sum cache after old new
@@ -90,8 +91,8 @@ pub record OnlyViews (sum : List ℕ → ℕ) (t : Tail) (cache after : CacheSta
 -- sound, each snapshot stands, and so does what reads of other blobs stand on
 pub record OnlyLooks (sum : List ℕ → ℕ) (t : Tail) (cache after : CacheState) (old new : Life)
     : Type 0 where
-  pub opened : IsOpen sum t after new
-  pub holds : told t new.present.readable ≡ told t old.present.readable
+  pub opened : IsOpenSnapshot sum t after new
+  pub holds : logical_bytes t new.present.readable ≡ logical_bytes t old.present.readable
   pub looked : Looked old new
   pub sound : (w : WriterState) → IsSound sum w old.present → IsSound sum w new.present
   pub tails : LeavesAllTails sum cache after old new
@@ -107,7 +108,7 @@ pub record IsNext (own : List ℕ → ℕ) (content : List ℕ) (offset : ℕ) (
 
 abbrev pub FindsNext : (own : List ℕ → ℕ) → List ℕ → ℕ → Life → Life → Result Found Error → Type 0
 FindsNext own content offset old new (Ok f) = IsNext own content offset f.bytes f.end
-FindsNext own content offset old new (Err e) = ReadRefused old new e
+FindsNext own content offset old new (Err e) = RecordReadRefused old new e
 
 -- a reader moved on after its next record, where there is one
 pub record MovesOn (own : List ℕ → ℕ) (r now : ReaderState) (old new : Life)
@@ -118,10 +119,10 @@ pub record MovesOn (own : List ℕ → ℕ) (r now : ReaderState) (old new : Lif
   pub ends : bytes ≡ None → left own now new ≡ []
 
 -- a read of the next record; one that is refused leaves the reader where it was
-abbrev pub ReadsNext : (own : List ℕ → ℕ) → (r now : ReaderState) → Life → Life
+abbrev pub NextRecordGoes : (own : List ℕ → ℕ) → (r now : ReaderState) → Life → Life
     → Result (Option (List ℕ)) Error → Type 0
-ReadsNext own r now old new (Ok bytes) = MovesOn own r now old new bytes
-ReadsNext own r now old new (Err e) = (now ≡ r) × ReadRefused old new e
+NextRecordGoes own r now old new (Ok bytes) = MovesOn own r now old new bytes
+NextRecordGoes own r now old new (Err e) = (now ≡ r) × RecordReadRefused old new e
 
 -- a journal stays one, with the same content
 pub record StaysJournal (sum : List ℕ → ℕ) (w : WriterState) (after : CacheState) (old new : Life)
@@ -152,7 +153,7 @@ pub record HasReader (sum own : List ℕ → ℕ) (w : WriterState) (after : Cac
   pub over : read_over r new ≡ content w old.present.readable
   pub all : left own r new ≡ records own (content w old.present.readable)
 
-abbrev pub MakesReader : (sum own : List ℕ → ℕ) → WriterState → CacheState → Life → Life
+abbrev pub ReaderGoes : (sum own : List ℕ → ℕ) → WriterState → CacheState → Life → Life
     → Result (WriterState × ReaderState) Error → Type 0
-MakesReader sum own w after old new (Ok r) = HasReader sum own w after old new r.0 r.1
-MakesReader sum own w after old new (Err e) = CallCause w.sync old new e
+ReaderGoes sum own w after old new (Ok r) = HasReader sum own w after old new r.0 r.1
+ReaderGoes sum own w after old new (Err e) = CallCause w.sync old new e

@@ -6,7 +6,7 @@ ghost use Rattle.disk.specs.Torn.{torn};
 ghost use Rattle.cache.specs.Pages.{IsFresh};
 ghost use Rattle.paged_read.specs.Searches.{ReadsWithin, scan_bytes};
 ghost use Rattle.journal.specs.Journal.{IsJournal};
-ghost use Rattle.journal.specs.Calls.{CrashGoes, CrashLeaves};
+ghost use Rattle.journal.specs.Calls.{JournalCrashGoes, JournalCrashLeaves};
 
 use crate::journal::Journal;
 use cache::CacheRef;
@@ -34,10 +34,10 @@ pub fn crash_and_recover<H: Sum, R: Sum>(
     requires fresh { IsFresh cache.old }
     ensures goes { let was = (life_of blob.old).present in
         let image = torn keep.now was.since was.base in
-        CrashGoes H.sum_of R.sum_of cache.old.page_size was image result }
+        JournalCrashGoes H.sum_of R.sum_of cache.old.page_size was image result }
     ensures ready { IfOk result (λ r. IsJournal H.sum_of r.0 cache.new (life_of blob.new)) }
     ensures leaves { let was = (life_of blob.old).present in let is = (life_of blob.new).present in
-        CrashLeaves H.sum_of R.sum_of cache.old cache.new was is }
+        JournalCrashLeaves H.sum_of R.sum_of cache.old cache.new was is }
     ensures costs { let most = scan_bytes cache.old.page_size (non_zero_usize_get buffer_size) in
         ReadsWithin most (life_of blob.old) (life_of blob.new) }
 {

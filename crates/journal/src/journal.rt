@@ -5,7 +5,7 @@ ghost use Rattle.cache.specs.Pages.{IsFresh};
 ghost use Rattle.writer_state.specs.Sound.{content};
 ghost use Rattle.crash.specs.Stays.{LeavesOnly};
 ghost use Rattle.paged.specs.Caches.{tail_of};
-ghost use Rattle.paged.specs.Calls.{BuffersOver, TryAppends};
+ghost use Rattle.paged.specs.Calls.{BuffersOver, TryAppendGoes};
 ghost use Rattle.paged.specs.Costs.{AppendCosts, SnapshotCosts, SyncCosts};
 ghost use Rattle.paged.specs.Flush.{has_work};
 ghost use Rattle.paged.specs.Goes.{AppendGoes, SnapshotGoes, SyncAllGoes};
@@ -16,10 +16,11 @@ ghost use Rattle.paged.specs.Truncate.{KeepsFloorsWithin};
 ghost use Rattle.journal.specs.Frame.{frame, whole_frames};
 ghost use Rattle.paged.specs.Caches.{KeepsReads};
 ghost use Rattle.paged_read.specs.Snapshots.{LeavesOthers};
-ghost use Rattle.journal.specs.Journal.{AppendsRecord, CommitGoes, ReadsRecord, Trims};
+ghost use Rattle.journal.specs.Journal.{AppendRecordGoes, CommitGoes, ReadRecordGoes, Trims};
 ghost use Rattle.journal.specs.Journal.{IsBetweenCalls, IsJournal, OnlyReads, records_in};
-ghost use Rattle.journal.specs.Reader.{IsReader, MakesReader};
-ghost use Rattle.journal.specs.Calls.{CallLeaves, RecordReadLeaves, RecoverGoes, RecoveryLeaves};
+ghost use Rattle.journal.specs.Reader.{IsReader, ReaderGoes};
+ghost use Rattle.journal.specs.Calls.{JournalCallLeaves, JournalRecoverGoes, JournalRecoveryLeaves};
+ghost use Rattle.journal.specs.Calls.{RecordReadLeaves};
 ghost use Rattle.journal.specs.Costs.{FrameCosts, ReaderCosts};
 ghost use Rattle.paged_read.specs.Searches.{ReadsWithin, scan_bytes};
 
@@ -126,11 +127,11 @@ impl<B: Blob, H: Sum, R: Sum> Journal<B, H, R> {
         requires journal { IsJournal H.sum_of self cache.old (B.life blob.old) }
         requires short { length bytes.now ≤ 65535 }
         ensures goes { let old = B.life blob.old in let new = B.life blob.new in
-            AppendsRecord H.sum_of R.sum_of self bytes.now cache.new old new result }
+            AppendRecordGoes H.sum_of R.sum_of self bytes.now cache.new old new result }
         ensures ready { IfOk result (λ r. IsJournal H.sum_of r.0 cache.new (B.life blob.new)) }
         ensures leaves { let old = B.life blob.old in let new = B.life blob.new in
             let all = records_in R.sum_of self old ++ bytes.now ∷ [] in
-            CallLeaves H.sum_of R.sum_of self all cache.old cache.new old new }
+            JournalCallLeaves H.sum_of R.sum_of self all cache.old cache.new old new }
         ensures costs { let old = B.life blob.old in let new = B.life blob.new in
             AppendCosts self (frame R.sum_of bytes.now) cache.old cache.new old new result }
     {
@@ -146,7 +147,7 @@ impl<B: Blob, H: Sum, R: Sum> Journal<B, H, R> {
     // device, and takes memory only where the frame doesn't fit the last chunk of the buffer.
     fn try_append(&mut self, bytes: &[u8]) -> Result<Option<u64>, Error>
         requires short { length bytes.now ≤ 65535 }
-        ensures tries { TryAppends self.old (frame R.sum_of bytes.now) self.new result }
+        ensures tries { TryAppendGoes self.old (frame R.sum_of bytes.now) self.new result }
         ensures appends { let framed = frame R.sum_of bytes.now in
             BuffersOver H.sum_of self.old framed self.new result }
         ensures can_read { KeepsReads self.old self.new }
@@ -184,7 +185,7 @@ impl<B: Blob, H: Sum, R: Sum> Journal<B, H, R> {
         ensures ready { IfOk result (λ j. IsJournal H.sum_of j cache.new (B.life blob.new)) }
         ensures leaves { let old = B.life blob.old in let new = B.life blob.new in
             let all = records_in R.sum_of self old in
-            CallLeaves H.sum_of R.sum_of self all cache.old cache.new old new }
+            JournalCallLeaves H.sum_of R.sum_of self all cache.old cache.new old new }
         ensures costs { let old = B.life blob.old in let new = B.life blob.new in
             SyncCosts self cache.old cache.new old new result }
     {
@@ -220,12 +221,12 @@ impl<B: Blob, H: Sum, R: Sum> Journal<B, H, R> {
     ) -> Result<(Self, Reader<B, H, R>), Error>
         requires journal { IsJournal H.sum_of self cache.old (B.life blob.old) }
         ensures goes { let old = B.life blob.old in let new = B.life blob.new in
-            MakesReader H.sum_of R.sum_of self cache.new old new result }
+            ReaderGoes H.sum_of R.sum_of self cache.new old new result }
         ensures ready { let new = B.life blob.new in IfOk result (λ r.
             IsJournal H.sum_of r.0 cache.new new × IsReader H.sum_of r.1 cache.new new) }
         ensures leaves { let old = B.life blob.old in let new = B.life blob.new in
             let all = records_in R.sum_of self old in
-            CallLeaves H.sum_of R.sum_of self all cache.old cache.new old new }
+            JournalCallLeaves H.sum_of R.sum_of self all cache.old cache.new old new }
         ensures costs { let old = B.life blob.old in let new = B.life blob.new in
             ReaderCosts self cache.old cache.new old new result }
     {
@@ -273,10 +274,10 @@ impl<B: Blob, H: Sum, R: Sum> Journal<B, H, R> {
         requires length { size ≡ length (B.life blob.old).present.readable }
         requires fresh { IsFresh cache.old }
         ensures goes { let old = B.life blob.old in let new = B.life blob.new in
-            RecoverGoes H.sum_of R.sum_of cache.old cache.new capacity old new result }
+            JournalRecoverGoes H.sum_of R.sum_of cache.old cache.new capacity old new result }
         ensures ready { IfOk result (λ r. IsJournal H.sum_of r.0 cache.new (B.life blob.new)) }
         ensures leaves { let old = B.life blob.old in let new = B.life blob.new in
-            RecoveryLeaves H.sum_of R.sum_of cache.old cache.new old new }
+            JournalRecoveryLeaves H.sum_of R.sum_of cache.old cache.new old new }
 
         // No read has more pages than fit `buffer_size`, and each may have one page.
         ensures costs { let most = scan_bytes cache.old.page_size (non_zero_usize_get buffer_size) in
@@ -302,7 +303,7 @@ impl<B: Blob, H: Sum, R: Sum> Journal<B, H, R> {
     fn find(&self, blob: &mut B, cache: &mut CacheRef, offset: u64) -> Result<Option<Found>, Error>
         requires between { IsBetweenCalls H.sum_of self.now cache.old (B.life blob.old) }
         ensures reads { let old = B.life blob.old in let new = B.life blob.new in
-            ReadsRecord R.sum_of (content self.now old.present.readable) offset old new result }
+            ReadRecordGoes R.sum_of (content self.now old.present.readable) offset old new result }
         ensures leaves { let old = B.life blob.old in let new = B.life blob.new in
             OnlyReads H.sum_of self.now cache.old cache.new old new }
         ensures costs { let old = B.life blob.old in let new = B.life blob.new in
@@ -326,7 +327,7 @@ impl<B: Blob, H: Sum, R: Sum> Journal<B, H, R> {
     ) -> Result<Option<Found>, Error>
         requires journal { IsJournal H.sum_of self.now cache.old (B.life blob.old) }
         ensures goes { let old = B.life blob.old in let new = B.life blob.new in
-            ReadsRecord R.sum_of (content self.now old.present.readable) offset old new result }
+            ReadRecordGoes R.sum_of (content self.now old.present.readable) offset old new result }
         ensures ready { IsJournal H.sum_of self.now cache.new (B.life blob.new) }
         ensures leaves { let old = B.life blob.old in let new = B.life blob.new in
             RecordReadLeaves H.sum_of R.sum_of self.now cache.old cache.new old new }

@@ -2,9 +2,9 @@
 // of a snapshot.
 ghost use Rattle.std.specs.Prelude.{◌≡◌, ◌+◌, ◌^◌, ◌<◌, ◌≤◌, min};
 ghost use Rattle.std.specs.Int.NonZero.{non_zero_u16_get};
-ghost use Rattle.paged_read.specs.Tail.{IsView, size_of, tail_at, told};
-ghost use Rattle.journal.specs.Journal.{MeasuresFrame, ReadsBytes, ReadsFrame, ReadsRecord};
-ghost use Rattle.journal.specs.Reader.{IsOpen, OnlyViews};
+ghost use Rattle.paged_read.specs.Tail.{IsView, logical_bytes, tail_at, tail_size};
+ghost use Rattle.journal.specs.Journal.{MeasuresFrame, ReadRecordGoes, ReadsContent, ReadsFrame};
+ghost use Rattle.journal.specs.Reader.{IsOpenSnapshot, ViewLeaves};
 ghost use Rattle.journal.specs.Costs.{FrameCosts, RangeCosts};
 
 use crate::frame::{AFTER, Found, IN_FRONT, record_at, record_len_of};
@@ -26,15 +26,15 @@ fn read_bytes<B: Blob, H: Sum>(
 ) -> Result<IoBuf, Error>
     requires view { IsView (non_zero_u16_get view.page_size) view.tip.now }
     requires opened { let t = tail_at view.page_size view.id view.tip.now in
-        IsOpen H.sum_of t cache.old (B.life blob.old) }
+        IsOpenSnapshot H.sum_of t cache.old (B.life blob.old) }
     requires within { let t = tail_at view.page_size view.id view.tip.now in
-        offset + len ≤ size_of t }
+        offset + len ≤ tail_size t }
     requires fits { offset + len < 2 ^ 64 }
     ensures reads { let t = tail_at view.entry.page_size view.entry.id view.entry.tip.now in
         let old = B.life blob.old in let new = B.life blob.new in
-        ReadsBytes (told t old.present.readable) offset len old new result }
+        ReadsContent (logical_bytes t old.present.readable) offset len old new result }
     ensures leaves { let t = tail_at view.entry.page_size view.entry.id view.entry.tip.now in
-        OnlyViews H.sum_of t cache.old cache.new (B.life blob.old) (B.life blob.new) }
+        ViewLeaves H.sum_of t cache.old cache.new (B.life blob.old) (B.life blob.new) }
     ensures costs { let t = tail_at view.entry.page_size view.entry.id view.entry.tip.now in
         let old = B.life blob.old in let new = B.life blob.new in
         RangeCosts t (offset, len) cache.old cache.new old new }
@@ -58,15 +58,15 @@ fn frame_len_at<B: Blob, H: Sum>(
 ) -> Result<u64, Error>
     requires view { IsView (non_zero_u16_get view.page_size) view.tip.now }
     requires opened { let t = tail_at view.page_size view.id view.tip.now in
-        IsOpen H.sum_of t cache.old (B.life blob.old) }
+        IsOpenSnapshot H.sum_of t cache.old (B.life blob.old) }
     requires within { let t = tail_at view.page_size view.id view.tip.now in
-        offset + rest ≡ size_of t }
+        offset + rest ≡ tail_size t }
     requires fits { offset + rest < 2 ^ 64 }
     ensures measures { let t = tail_at view.entry.page_size view.entry.id view.entry.tip.now in
         let old = B.life blob.old in let new = B.life blob.new in
-        MeasuresFrame (told t old.present.readable) offset rest old new result }
+        MeasuresFrame (logical_bytes t old.present.readable) offset rest old new result }
     ensures leaves { let t = tail_at view.entry.page_size view.entry.id view.entry.tip.now in
-        OnlyViews H.sum_of t cache.old cache.new (B.life blob.old) (B.life blob.new) }
+        ViewLeaves H.sum_of t cache.old cache.new (B.life blob.old) (B.life blob.new) }
     ensures costs { let t = tail_at view.entry.page_size view.entry.id view.entry.tip.now in
         let old = B.life blob.old in let new = B.life blob.new in
         RangeCosts t (offset, min 2 rest) cache.old cache.new old new }
@@ -90,19 +90,19 @@ fn read_frame<B: Blob, H: Sum>(
 ) -> Result<IoBuf, Error>
     requires view { IsView (non_zero_u16_get view.page_size) view.tip.now }
     requires opened { let t = tail_at view.page_size view.id view.tip.now in
-        IsOpen H.sum_of t cache.old (B.life blob.old) }
+        IsOpenSnapshot H.sum_of t cache.old (B.life blob.old) }
     requires within { let t = tail_at view.page_size view.id view.tip.now in
-        offset + rest ≡ size_of t }
+        offset + rest ≡ tail_size t }
     requires fits { offset + rest < 2 ^ 64 }
     requires some { 0 < rest }
     ensures reads { let t = tail_at view.entry.page_size view.entry.id view.entry.tip.now in
         let old = B.life blob.old in let new = B.life blob.new in
-        ReadsFrame (told t old.present.readable) offset rest old new result }
+        ReadsFrame (logical_bytes t old.present.readable) offset rest old new result }
     ensures leaves { let t = tail_at view.entry.page_size view.entry.id view.entry.tip.now in
-        OnlyViews H.sum_of t cache.old cache.new (B.life blob.old) (B.life blob.new) }
+        ViewLeaves H.sum_of t cache.old cache.new (B.life blob.old) (B.life blob.new) }
     ensures costs { let t = tail_at view.entry.page_size view.entry.id view.entry.tip.now in
         let old = B.life blob.old in let new = B.life blob.new in
-        FrameCosts t (told t old.present.readable) offset cache.old cache.new old new }
+        FrameCosts t (logical_bytes t old.present.readable) offset cache.old cache.new old new }
 {
     let len = frame_len_at(view, blob, cache, offset, rest)?;
     read_bytes(alloc, view, blob, cache, offset, len as usize)
@@ -119,16 +119,16 @@ pub fn frame_at<B: Blob, H: Sum, R: Sum>(
     offset: u64,
 ) -> Result<Option<Found>, Error>
     requires view { IsView (non_zero_u16_get view.page_size) view.tip.now }
-    requires opened { let t = tail_at view.page_size view.id view.tip.now in
-        IsOpen H.sum_of t cache.old (B.life blob.old) }
-    ensures reads { let t = tail_at view.entry.page_size view.entry.id view.entry.tip.now in
+    requires readable { let t = tail_at view.page_size view.id view.tip.now in
+        IsOpenSnapshot H.sum_of t cache.old (B.life blob.old) }
+    ensures goes { let t = tail_at view.entry.page_size view.entry.id view.entry.tip.now in
         let old = B.life blob.old in let new = B.life blob.new in
-        ReadsRecord R.sum_of (told t old.present.readable) offset old new result }
+        ReadRecordGoes R.sum_of (logical_bytes t old.present.readable) offset old new result }
     ensures leaves { let t = tail_at view.entry.page_size view.entry.id view.entry.tip.now in
-        OnlyViews H.sum_of t cache.old cache.new (B.life blob.old) (B.life blob.new) }
+        ViewLeaves H.sum_of t cache.old cache.new (B.life blob.old) (B.life blob.new) }
     ensures costs { let t = tail_at view.entry.page_size view.entry.id view.entry.tip.now in
         let old = B.life blob.old in let new = B.life blob.new in
-        FrameCosts t (told t old.present.readable) offset cache.old cache.new old new }
+        FrameCosts t (logical_bytes t old.present.readable) offset cache.old cache.new old new }
 {
     let size = view.size();
     if size <= offset {

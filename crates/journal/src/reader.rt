@@ -1,8 +1,9 @@
 // Readers of a journal's records.
 ghost use Rattle.std.specs.Prelude.{◌≡◌};
-ghost use Rattle.paged_read.specs.Tail.{told};
-ghost use Rattle.journal.specs.Journal.{ReadsRecord};
-ghost use Rattle.journal.specs.Reader.{FindsNext, IsOpen, IsReader, OnlyLooks, ReadsNext};
+ghost use Rattle.paged_read.specs.Tail.{logical_bytes};
+ghost use Rattle.journal.specs.Journal.{ReadRecordGoes};
+ghost use Rattle.journal.specs.Reader.{FindsNext, IsOpenSnapshot, IsReader, NextRecordGoes};
+ghost use Rattle.journal.specs.Reader.{OnlyLooks};
 ghost use Rattle.journal.specs.Calls.{ReaderLeaves};
 ghost use Rattle.journal.specs.Costs.{FrameCosts, NextCosts};
 
@@ -48,14 +49,15 @@ fn find<B: Blob, H: Sum, R: Sum>(
     cache: &mut CacheRef,
     offset: u64,
 ) -> Result<Option<Found>, Error>
-    requires opened { IsOpen H.sum_of snapshot.now cache.old (B.life blob.old) }
+    requires opened { IsOpenSnapshot H.sum_of snapshot.now cache.old (B.life blob.old) }
     ensures reads { let old = B.life blob.old in let new = B.life blob.new in
-        ReadsRecord R.sum_of (told snapshot.now old.present.readable) offset old new result }
+        ReadRecordGoes R.sum_of (logical_bytes snapshot.now old.present.readable) offset old new
+        result }
     ensures leaves { let old = B.life blob.old in let new = B.life blob.new in
         OnlyLooks H.sum_of snapshot.now cache.old cache.new old new }
     ensures costs { let old = B.life blob.old in let new = B.life blob.new in
         let t = snapshot.now in
-        FrameCosts t (told t old.present.readable) offset cache.old cache.new old new }
+        FrameCosts t (logical_bytes t old.present.readable) offset cache.old cache.new old new }
 {
     frame_at::<B, H, R>(alloc, snapshot.view(), blob, cache, offset)
 }
@@ -68,14 +70,15 @@ fn find_record<B: Blob, H: Sum, R: Sum>(
     cache: &mut CacheRef,
     from: u64,
 ) -> Result<Found, Error>
-    requires opened { IsOpen H.sum_of snapshot.now cache.old (B.life blob.old) }
+    requires opened { IsOpenSnapshot H.sum_of snapshot.now cache.old (B.life blob.old) }
     ensures finds { let old = B.life blob.old in let new = B.life blob.new in
-        FindsNext R.sum_of (told snapshot.now old.present.readable) from old new result }
+        FindsNext R.sum_of (logical_bytes snapshot.now old.present.readable) from old new result }
     ensures leaves { let old = B.life blob.old in let new = B.life blob.new in
         OnlyLooks H.sum_of snapshot.now cache.old cache.new old new }
     ensures costs { let old = B.life blob.old in let new = B.life blob.new in
         let t = snapshot.now in
-        NextCosts R.sum_of t (told t old.present.readable) from cache.old cache.new old new }
+        NextCosts R.sum_of t (logical_bytes t old.present.readable) from cache.old cache.new old
+        new }
 {
     let mut offset = from;
     'frames: loop {
@@ -118,12 +121,12 @@ impl<B: Blob, H: Sum, R: Sum> Reader<B, H, R> {
     pub fn next(&mut self, blob: &mut B, cache: &mut CacheRef) -> Result<Option<IoBuf>, Error>
         requires reader { IsReader H.sum_of self.old cache.old (B.life blob.old) }
         ensures goes { let old = B.life blob.old in let new = B.life blob.new in
-            ReadsNext R.sum_of self.old self.new old new result }
+            NextRecordGoes R.sum_of self.old self.new old new result }
         ensures ready { IsReader H.sum_of self.new cache.new (B.life blob.new) }
         ensures leaves { let old = B.life blob.old in let new = B.life blob.new in
             ReaderLeaves H.sum_of R.sum_of self.old cache.old cache.new old new }
         ensures costs { let old = B.life blob.old in let new = B.life blob.new in
-            let t = self.old.tail in let held = told t old.present.readable in
+            let t = self.old.tail in let held = logical_bytes t old.present.readable in
             NextCosts R.sum_of t held self.old.offset cache.old cache.new old new }
     {
         let found = find_record::<B, H, R>(self.alloc, &self.snapshot, blob, cache, self.offset)?;

@@ -6,7 +6,7 @@ use Rattle.std.proofs.Math.Nat.{mul-mod_left, div-mul-le_self, mod-lt, div-eq_of
 use Rattle.std.proofs.lemmas.Nat.{div-add-mod'}
 use Rattle.std.proofs.lemmas.List.{length-take-le, length-drop, drop_all, take-append-drop}
 use Rattle.disk.specs.Bufs.{with_buf}
-use Rattle.page.specs.Tip.{AppendGoes, DrainGoes, IsBuffer, AreWholePages, page_limit, grown_limit, kept_limit}
+use Rattle.page.specs.Tip.{TipAppendGoes, TipDrainGoes, IsBuffer, AreWholePages, page_limit, grown_limit, kept_limit}
 use Rattle.page.proofs.Chunks.{range_join, range_min, take_join, drop_join, full_join, whole_concat, whole_with, concat_with, multiple_enough, multiple_whole, partial_room, partial_whole}
 
 -- less than a page, in a tail alone
@@ -111,7 +111,7 @@ grown_buffer P cap off chunks grown tail bytes rest limit next is enough small g
 -- what the calls answer
 pub drain_goes : (P cap off len : ℕ) (chunks handed none : List (List ℕ)) (tail rest : List ℕ) → 0 < P → AreWholePages P chunks → len ≡ length (concat chunks ++ tail)
     → handed ≡ with_buf chunks (take (length tail / P * P) tail) → none ≡ [] → rest ≡ drop (length tail / P * P) tail
-    → DrainGoes (record { page_size = P; capacity = cap; offset = off; bytes = concat chunks ++ tail }) (record { page_size = P; capacity = cap; offset = off + len / P * P; bytes = concat none ++ rest }) (Ok handed)
+    → TipDrainGoes (record { page_size = P; capacity = cap; offset = off; bytes = concat chunks ++ tail }) (record { page_size = P; capacity = cap; offset = off + len / P * P; bytes = concat none ++ rest }) (Ok handed)
 drain_goes P cap off len chunks handed none tail rest some are len_is handed_is empty rest_is =
     rw (len_is, handed_is, empty, rest_is) (
       frozen_bytes P chunks tail some are,
@@ -121,7 +121,7 @@ drain_goes P cap off len chunks handed none tail rest some are len_is handed_is 
 
 pub append_goes : (P cap off len spare : ℕ) (chunks grown : List (List ℕ)) (tail bytes rest : List ℕ) → len ≡ length (concat chunks ++ tail) → off + length (concat chunks ++ tail) + length bytes < 2 ^ 64
     → grown ≡ with_buf chunks (tail ++ take spare bytes) → rest ≡ drop spare bytes
-    → AppendGoes (record { page_size = P; capacity = cap; offset = off; bytes = concat chunks ++ tail }) bytes (record { page_size = P; capacity = cap; offset = off; bytes = concat grown ++ rest }) (Ok (nat_lt cap (len + length bytes)))
+    → TipAppendGoes (record { page_size = P; capacity = cap; offset = off; bytes = concat chunks ++ tail }) bytes (record { page_size = P; capacity = cap; offset = off; bytes = concat grown ++ rest }) (Ok (nat_lt cap (len + length bytes)))
 append_goes P cap off len spare chunks grown tail bytes rest len_is small grown_is rest_is =
     rw (len_is, grown_is, rest_is) (small, ap (λ bytes. record { page_size = P; capacity = cap; offset = off; bytes = bytes }) (grown_bytes chunks tail bytes spare), refl)
 

@@ -7,7 +7,7 @@ use Rattle.page.specs.Footer.{footer_bytes, footer_of, longer_slot}
 use Rattle.page.specs.Geometry.{adjusted, EndWithin, RangeGoes, RangesGo}
 use Rattle.disk.specs.declared.error.Error.TheVariants.{OffsetOverflow, BlobInsufficientLength}
 use Rattle.page.specs.Sums.{add_sum, const_sum}
-use Rattle.page.specs.Tip.{Tip, tip_size, joined, full_len, drained, grown_limit, page_limit, kept_limit, AppendGoes, TryAppendGoes, DrainGoes}
+use Rattle.page.specs.Tip.{Tip, tip_size, joined, full_len, drained, grown_limit, page_limit, kept_limit, TipAppendGoes, TipTryAppendGoes, TipDrainGoes}
 use Rattle.page.specs.declared.slot.Slot.TheVariants.{First, Second}
 use Rattle.page.proofs.Chunks.{All-single}
 
@@ -223,15 +223,15 @@ pub a_drained_tip : drained nine ≡ record { page_size = 8; capacity = 64; offs
 a_drained_tip = refl
 
 -- an append that doesn't pass the capacity says so
-pub an_append : AppendGoes seven (2 ∷ 2 ∷ []) nine (Ok false)
+pub an_append : TipAppendGoes seven (2 ∷ 2 ∷ []) nine (Ok false)
 an_append = (lit< tt, refl, refl)
 
 -- so many fit, and the first stands after the seven
-pub a_try : TryAppendGoes seven (2 ∷ 2 ∷ []) nine (Ok (Some 17))
+pub a_try : TipTryAppendGoes seven (2 ∷ 2 ∷ []) nine (Ok (Some 17))
 a_try = (lit< tt, lit≤ tt, refl, refl)
 
 -- the page is one chunk
-pub a_drain : DrainGoes nine (drained nine) (Ok ((1 ∷ 1 ∷ 1 ∷ 1 ∷ 1 ∷ 1 ∷ 1 ∷ 2 ∷ []) ∷ []))
+pub a_drain : TipDrainGoes nine (drained nine) (Ok ((1 ∷ 1 ∷ 1 ∷ 1 ∷ 1 ∷ 1 ∷ 1 ∷ 2 ∷ []) ∷ []))
 a_drain = (refl, All-single (λ chunk. length chunk % 8 ≡ 0) _ refl, refl)
 
 -- after one page 17 bytes need three

@@ -41,51 +41,53 @@ abbrev pub ArePages : ℕ → List (List ℕ) → Type 0
 ArePages P pages = All (λ page. length page ≡ P) pages
 
 -- an append: it tells whether the capacity is passed now
-abbrev pub AppendGoes : Tip → List ℕ → Tip → Result Bool Error → Type 0
-AppendGoes old bytes new (Ok passed) =
+abbrev pub TipAppendGoes : Tip → List ℕ → Tip → Result Bool Error → Type 0
+TipAppendGoes old bytes new (Ok passed) =
     (tip_size old + length bytes < 2 ^ 64) × (new ≡ joined old bytes)
     × (passed ≡ nat_lt old.capacity (length old.bytes + length bytes))
-AppendGoes old bytes new (Err OffsetOverflow) = (2 ^ 64 ≤ tip_size old + length bytes) × (new ≡ old)
-AppendGoes old bytes new (Err OutOfMemory) = (tip_size old + length bytes < 2 ^ 64) × (new ≡ old)
-AppendGoes old bytes new (Err _) = ⊥
+TipAppendGoes old bytes new (Err OffsetOverflow) =
+    (2 ^ 64 ≤ tip_size old + length bytes) × (new ≡ old)
+TipAppendGoes old bytes new (Err OutOfMemory) = (tip_size old + length bytes < 2 ^ 64) × (new ≡ old)
+TipAppendGoes old bytes new (Err _) = ⊥
 
 -- an append within the capacity: it tells the offset of the first byte, or that they don't fit
-abbrev pub TryAppendGoes : Tip → List ℕ → Tip → Result (Option ℕ) Error → Type 0
-TryAppendGoes old bytes new (Ok (Some offset)) =
+abbrev pub TipTryAppendGoes : Tip → List ℕ → Tip → Result (Option ℕ) Error → Type 0
+TipTryAppendGoes old bytes new (Ok (Some offset)) =
     (tip_size old + length bytes < 2 ^ 64) × (length old.bytes + length bytes ≤ old.capacity)
     × (offset ≡ tip_size old) × (new ≡ joined old bytes)
-TryAppendGoes old bytes new (Ok None) =
+TipTryAppendGoes old bytes new (Ok None) =
     (tip_size old + length bytes < 2 ^ 64) × (old.capacity < length old.bytes + length bytes)
     × (new ≡ old)
-TryAppendGoes old bytes new (Err OffsetOverflow) =
+TipTryAppendGoes old bytes new (Err OffsetOverflow) =
     (2 ^ 64 ≤ tip_size old + length bytes) × (new ≡ old)
-TryAppendGoes old bytes new (Err OutOfMemory) =
+TipTryAppendGoes old bytes new (Err OutOfMemory) =
     (tip_size old + length bytes < 2 ^ 64) × (length old.bytes + length bytes ≤ old.capacity)
     × (new ≡ old)
-TryAppendGoes old bytes new (Err _) = ⊥
+TipTryAppendGoes old bytes new (Err _) = ⊥
 
 -- the whole pages are handed out, in order
-abbrev pub DrainGoes : Tip → Tip → Result (List (List ℕ)) Error → Type 0
-DrainGoes old new (Ok chunks) =
+abbrev pub TipDrainGoes : Tip → Tip → Result (List (List ℕ)) Error → Type 0
+TipDrainGoes old new (Ok chunks) =
     (concat chunks ≡ take (full_len old) old.bytes) × AreWholePages old.page_size chunks
     × (new ≡ drained old)
-DrainGoes old new (Err OutOfMemory) = (new ≡ old) × (0 < full_len old)
-DrainGoes old new (Err _) = ⊥
+TipDrainGoes old new (Err OutOfMemory) = (new ≡ old) × (0 < full_len old)
+TipDrainGoes old new (Err _) = ⊥
 
 -- other bytes at another offset
-abbrev pub ReplaceGoes : Tip → ℕ → List ℕ → Tip → Result (Unit {0}) Error → Type 0
-ReplaceGoes old offset bytes new (Ok _) = new ≡ record old { offset = offset; bytes = bytes }
-ReplaceGoes old offset bytes new (Err OffsetOverflow) =
+abbrev pub TipReplaceGoes : Tip → ℕ → List ℕ → Tip → Result (Unit {0}) Error → Type 0
+TipReplaceGoes old offset bytes new (Ok _) = new ≡ record old { offset = offset; bytes = bytes }
+TipReplaceGoes old offset bytes new (Err OffsetOverflow) =
     (2 ^ 64 ≤ offset + length bytes) × (new ≡ old)
-ReplaceGoes old offset bytes new (Err OutOfMemory) = (offset + length bytes < 2 ^ 64) × (new ≡ old)
-ReplaceGoes old offset bytes new (Err _) = ⊥
+TipReplaceGoes old offset bytes new (Err OutOfMemory) =
+    (offset + length bytes < 2 ^ 64) × (new ≡ old)
+TipReplaceGoes old offset bytes new (Err _) = ⊥
 
 -- a buffer is made
-abbrev pub StartGoes : Tip → Result Tip Error → Type 0
-StartGoes tip (Ok new) = (tip_size tip < 2 ^ 64) × (new ≡ tip)
-StartGoes tip (Err OffsetOverflow) = 2 ^ 64 ≤ tip_size tip
-StartGoes tip (Err OutOfMemory) = tip_size tip < 2 ^ 64
-StartGoes tip (Err _) = ⊥
+abbrev pub TipStartGoes : Tip → Result Tip Error → Type 0
+TipStartGoes tip (Ok new) = (tip_size tip < 2 ^ 64) × (new ≡ tip)
+TipStartGoes tip (Err OffsetOverflow) = 2 ^ 64 ≤ tip_size tip
+TipStartGoes tip (Err OutOfMemory) = tip_size tip < 2 ^ 64
+TipStartGoes tip (Err _) = ⊥
 
 -- how many bytes a tail has room for that begins with these, less than a page: a page, or none
 -- where there is no byte

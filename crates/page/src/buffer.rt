@@ -2,8 +2,8 @@
 ghost use Rattle.std.specs.Prelude.{◌≡◌, ◌==◌, ◌<◌, ◌≤◌, ◌+◌, ◌-◌, ◌^◌, ◌%◌, ◌↔◌, ◌++◌, length};
 ghost use Rattle.std.specs.Prelude.{take, drop, slice_range, IsTrue, OnOk, IsOkUnless};
 ghost use Rattle.std.specs.List.{concat};
-ghost use Rattle.page.specs.Tip.{tip_size, AreWholePages, AppendGoes, TryAppendGoes, DrainGoes};
-ghost use Rattle.page.specs.Tip.{ReplaceGoes, StartGoes};
+ghost use Rattle.page.specs.Tip.{tip_size, AreWholePages, TipAppendGoes, TipTryAppendGoes};
+ghost use Rattle.page.specs.Tip.{TipDrainGoes, TipReplaceGoes, TipStartGoes};
 
 use crate::tail::{Tail, next_limit};
 use crate::{EncodeSize, Write};
@@ -104,7 +104,7 @@ impl Buffer {
         requires some { 0 < page_size }
         requires whole { capacity % page_size ≡ 0 }
         requires short { length bytes.now < page_size }
-        ensures { StartGoes (record {
+        ensures { TipStartGoes (record {
           page_size = page_size;
           capacity = capacity;
           offset = offset;
@@ -226,7 +226,7 @@ impl Buffer {
     /// `OffsetOverflow`, before anything else, where the new size passes the greatest offset;
     /// `OutOfMemory`.
     pub fn append(&mut self, bytes: &[u8]) -> Result<bool, Error>
-        ensures { AppendGoes self.old bytes.now self.new result }
+        ensures { TipAppendGoes self.old bytes.now self.new result }
     {
         let len = self.len();
         if !has_offsets(self.size(), bytes.len()) {
@@ -255,7 +255,7 @@ impl Buffer {
     /// `OffsetOverflow`, before anything else, where the new size passes the greatest offset;
     /// `OutOfMemory`.
     pub fn try_append(&mut self, bytes: &[u8]) -> Result<Option<u64>, Error>
-        ensures { TryAppendGoes self.old bytes.now self.new result }
+        ensures { TipTryAppendGoes self.old bytes.now self.new result }
     {
         let offset = self.size();
         if !has_offsets(offset, bytes.len()) {
@@ -277,7 +277,7 @@ impl Buffer {
         &mut self,
         value: &T,
     ) -> Result<Option<u64>, Error>
-        ensures { TryAppendGoes self.old (T.encoded value.now) self.new result }
+        ensures { TipTryAppendGoes self.old (T.encoded value.now) self.new result }
     {
         let size = value.encode_size();
         let offset = self.size();
@@ -301,7 +301,7 @@ impl Buffer {
     /// Hands out the full pages, in order, in chunks of whole pages, and keeps the bytes after
     /// them. `OutOfMemory` alone.
     pub fn drain_full_pages(&mut self) -> Result<IoBufs, Error>
-        ensures { DrainGoes self.old self.new result }
+        ensures { TipDrainGoes self.old self.new result }
     {
         let full_len = self.len() / self.page_size * self.page_size;
         if full_len == 0 {
@@ -318,7 +318,7 @@ impl Buffer {
     /// `OffsetOverflow` where they pass the greatest offset, `OutOfMemory`.
     pub fn replace(&mut self, offset: u64, bytes: &[u8]) -> Result<(), Error>
         requires { length bytes.now < self.old.page_size }
-        ensures { ReplaceGoes self.old offset bytes.now self.new result }
+        ensures { TipReplaceGoes self.old offset bytes.now self.new result }
     {
         if !has_offsets(offset, bytes.len()) {
             return Err(Error::OffsetOverflow);

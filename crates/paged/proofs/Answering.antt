@@ -7,15 +7,15 @@ use Rattle.disk.specs.declared.error.Error.{Error}
 use Rattle.disk.specs.declared.error.Error.TheVariants.{ReadFailed, WriteFailed, ResizeFailed, SyncFailed, InvalidChecksum, BlobInsufficientLength, OffsetOverflow, OutOfMemory, IdsExhausted}
 use Rattle.cache.specs.CacheState.{CacheState}
 use Rattle.crash.specs.Below.{PagesStay}
-use Rattle.crash.specs.Started.{CoversThrough, StartsStand}
+use Rattle.crash.specs.Started.{CoversThrough, StartsCanBeAwaited}
 use Rattle.writer_state.specs.WriterState.{WriterState}
 use Rattle.writer_state.specs.Sound.{IsConsistent, IsSound, content}
 use Rattle.writer_state.proofs.Soundness.{looked_consistent, sound_holds_together, sound_is_intact}
 use Rattle.paged.specs.Writer.{physical_blob_size}
-use Rattle.paged.specs.Calls.{AppendsOver, Completes, CarriesOn, HoldsWithin, Refuses, StartsOver, SyncsOver, WaitsOver, start_calls}
+use Rattle.paged.specs.Calls.{AppendsOver, Completes, CarriesOn, HoldsWithin, Fails, StartsOver, SyncsOver, WaitsOver, start_calls}
 use Rattle.paged.specs.Caches.{Caches, CachesTo, ReadsOn, tail_of}
-use Rattle.paged.specs.Flush.{answered}
-use Rattle.paged.specs.Reads.{HasPages, size_of}
+use Rattle.paged.specs.Flush.{with_value}
+use Rattle.paged.specs.Reads.{HasWriterPages, size_of}
 use Rattle.paged.specs.Recovery.{TailIsMended}
 use Rattle.paged.specs.RecoveryCalls.{IsNewWriter}
 use Rattle.cache.specs.Pages.{CachesOnly, IsFresh, IsTrueFor}
@@ -111,22 +111,22 @@ append_answers sum w bytes old new (Err OutOfMemory) within refused covers = rec
 append_answers sum w bytes old new (Err IdsExhausted) within refused covers = record { cause = refused.cause; log = refused.log }
 
 module _ (sum : List ℕ → ℕ) (w now : WriterState) (bytes : List ℕ) (cache after : CacheState) (old new : Life) (result : Result (Unit {0}) Error)
-    (appends : AppendsOver sum w bytes old new (answered (now, size_of w) result)) (covers : CoversThrough sum w.page_size (content w old.present.readable) old new) where
-  pub append_goes : OnOk result (HoldsWithin now) → (2 ^ 64 ≤ physical_blob_size w.page_size w.full_pages (length w.tip + length bytes) → result ≡ Err OffsetOverflow) → AppendGoes sum w bytes old new (answered (now, size_of w) result)
+    (appends : AppendsOver sum w bytes old new (with_value (now, size_of w) result)) (covers : CoversThrough sum w.page_size (content w old.present.readable) old new) where
+  pub append_goes : OnOk result (HoldsWithin now) → (2 ^ 64 ≤ physical_blob_size w.page_size w.full_pages (length w.tip + length bytes) → result ≡ Err OffsetOverflow) → AppendGoes sum w bytes old new (with_value (now, size_of w) result)
   append_goes within overflow = record {
-    answers = append_answers sum w bytes old new (answered (now, size_of w) result) (within_of result within) appends covers;
-    overflow = λ far. ap (λ (r : Result (Unit {0}) Error). answered (now, size_of w) r) (overflow far);
+    answers = append_answers sum w bytes old new (with_value (now, size_of w) result) (within_of result within) appends covers;
+    overflow = λ far. ap (λ (r : Result (Unit {0}) Error). with_value (now, size_of w) r) (overflow far);
   }
     where
-      within_of : (r : Result (Unit {0}) Error) → OnOk r (HoldsWithin now) → IfOk (answered (now, size_of w) r) (λ (a : WriterState × ℕ). HoldsWithin a.0)
+      within_of : (r : Result (Unit {0}) Error) → OnOk r (HoldsWithin now) → IfOk (with_value (now, size_of w) r) (λ (a : WriterState × ℕ). HoldsWithin a.0)
       within_of (Ok done) within = within
       within_of (Err e) within = tt
 
-  pub append_owes : IsUsable sum w cache old → CachesTo w now (w.tip ++ bytes) cache after result → PagesStay w.page_size w.full_pages old new → StartsStand new.present
+  pub append_owes : IsUsable sum w cache old → CachesTo w now (w.tip ++ bytes) cache after result → PagesStay w.page_size w.full_pages old new → StartsCanBeAwaited new.present
       → Owes sum w (content w old.present.readable ++ bytes) cache after old new
   append_owes ready puts pages starts =
       owes_of sum w (content w old.present.readable ++ bytes) cache after old new ready (begins (content w old.present.readable) bytes)
-      (appends_stay sum w bytes old new (answered (now, size_of w) result) ready.consistent appends) pages covers starts
+      (appends_stay sum w bytes old new (with_value (now, size_of w) result) ready.consistent appends) pages covers starts
       (caches_of result puts)
     where
       caches_of : (r : Result (Unit {0}) Error) → CachesTo w now (w.tip ++ bytes) cache after r → CachesOnly w.id w.full_pages (content w old.present.readable ++ bytes) cache after
@@ -137,14 +137,14 @@ module _ (sum : List ℕ → ℕ) (w now : WriterState) (bytes : List ℕ) (cach
 
 -- what one owes, whatever it answers
 pub owes_same : {A : Type 0} (sum : List ℕ → ℕ) (writer : A → WriterState) (w : WriterState) (cache after : CacheState) (old new : Life) (result : Result A Error) → IsUsable sum w cache old
-    → StaysThrough sum w.page_size (content w old.present.readable) old new → PagesStay w.page_size w.full_pages old new → CoversThrough sum w.page_size (content w old.present.readable) old new → StartsStand new.present
+    → StaysThrough sum w.page_size (content w old.present.readable) old new → PagesStay w.page_size w.full_pages old new → CoversThrough sum w.page_size (content w old.present.readable) old new → StartsCanBeAwaited new.present
     → Caches writer w w.tip cache after result → Owes sum w (content w old.present.readable) cache after old new
 owes_same sum writer w cache after old new result ready stays pages covers starts puts =
     owes_of sum w (content w old.present.readable) cache after old new ready (whole (content w old.present.readable)) stays pages covers starts
     (caches_law_same sum writer w old cache after result ready.consistent ready.can.page_size puts)
 
 -- it was refused
-pub refused : (sum : List ℕ → ℕ) (w : WriterState) (content : List ℕ) (old new : Life) (e : Error) → Refuses sum w content old new e → IsRefused w old new e
+pub refused : (sum : List ℕ → ℕ) (w : WriterState) (content : List ℕ) (old new : Life) (e : Error) → Fails sum w content old new e → IsRefused w old new e
 refused sum w content old new e refuses = record { cause = refuses.cause; log = refuses.log }
 
 pub sync_goes : (sum : List ℕ → ℕ) (w : WriterState) (old new : Life) (result : Result WriterState Error) → w.page_size ≤ w.capacity → SyncsOver sum w old new result
@@ -232,7 +232,7 @@ ready_if sum cache life (Ok w) sound can fresh = ready_of sum w cache life sound
 ready_if sum cache life (Err e) sound can fresh = tt
 
 -- after a recovery
-pub new_writer : {E : Type 0} (sum : List ℕ → ℕ) (cache : CacheState) (new : Life) (result : Result WriterState E) → IfOk result (λ w. HasPages w new) → IfOk result (λ w. HoldsWithin w) → IfOk result (λ w. w.id ≡ cache.ids_given)
+pub new_writer : {E : Type 0} (sum : List ℕ → ℕ) (cache : CacheState) (new : Life) (result : Result WriterState E) → IfOk result (λ w. HasWriterPages w new) → IfOk result (λ w. HoldsWithin w) → IfOk result (λ w. w.id ≡ cache.ids_given)
     → IfOk result (λ w. TailIsMended sum w new.present.base) → IfOk result (λ w. IsNewWriter sum cache new w)
 new_writer sum cache new (Ok w) there within id mended = record { there = there; within = within; id = id; mended = mended }
 new_writer sum cache new (Err e) there within id mended = tt

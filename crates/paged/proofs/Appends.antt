@@ -15,13 +15,13 @@ use Rattle.writer_state.proofs.FlushLaws.{longer_content}
 use Rattle.crash.proofs.Moments.{stays_through_start, stays_through_longer}
 use Rattle.paged.proofs.Flushes.{begins, size_holds, goes_on_same}
 use Rattle.writer_state.proofs.Soundness.{longer_consistent}
-use Rattle.page.specs.Tip.{Tip, TryAppendGoes}
+use Rattle.page.specs.Tip.{Tip, TipTryAppendGoes}
 use Rattle.page.specs.declared.slot.ActiveChecksum.{ActiveChecksum}
 use Rattle.paged.specs.Writer.{FitsBlob, IsWriter}
 use Rattle.paged.proofs.Sizes.{size_fits}
-use Rattle.paged.specs.Flush.{answered, has_work}
+use Rattle.paged.specs.Flush.{has_work, with_value}
 use Rattle.paged.specs.Reads.{size_of}
-use Rattle.paged.specs.Calls.{CarriesOn, Refuses, Flushes, AppendsOver, Buffers, BuffersAll, TryAppends, KeepsPages}
+use Rattle.paged.specs.Calls.{CarriesOn, Fails, Flushes, AppendsOver, Buffers, BuffersAll, TryAppendGoes, KeepsPages}
 
 -- bytes are buffered, and what is written then leaves the content
 pub append_goes : (sum : List ℕ → ℕ) (w v now : WriterState) (old new : Life) (bytes : List ℕ) → IsConsistent sum w old.present → v ≡ record w { tip = w.tip ++ bytes }
@@ -44,10 +44,10 @@ append_goes sum w v now old new bytes sound is goes =
 
 -- or is refused
 pub append_refused : (sum : List ℕ → ℕ) (w v : WriterState) (old new : Life) (bytes : List ℕ) (e : Error) → IsConsistent sum w old.present → v ≡ record w { tip = w.tip ++ bytes }
-    → Refuses sum v (content v old.present.readable) old new e → Refuses sum w (content w old.present.readable ++ bytes) old new e
+    → Fails sum v (content v old.present.readable) old new e → Fails sum w (content w old.present.readable ++ bytes) old new e
 unfolding IsConsistent
 append_refused sum w v old new bytes e sound is refused =
-    let h : Refuses sum (record w { tip = w.tip ++ bytes }) (content (record w { tip = w.tip ++ bytes }) old.present.readable) old new e = subst (λ (v : WriterState). Refuses sum v (content v old.present.readable) old new e) is refused in
+    let h : Fails sum (record w { tip = w.tip ++ bytes }) (content (record w { tip = w.tip ++ bytes }) old.present.readable) old new e = subst (λ (v : WriterState). Fails sum v (content v old.present.readable) old new e) is refused in
     record { cause = h.cause; log = h.log; stays = subst (λ c. StaysThrough sum w.page_size c old new) (longer_content sum w old.present sound.stands bytes) h.stays }
 
 -- memory is refused before the device is asked
@@ -88,7 +88,7 @@ over_work v room over =
     ap (λ (b : Bool). b || (false && (not (length v.tip % v.page_size == 0) && not (length v.tip % v.page_size == kept_len v.flushed)))) full
 
 -- an append whose flush is refused
-pub append_fails : (sum : List ℕ → ℕ) (w : WriterState) (bytes : List ℕ) (old new : Life) (e : Error) → Refuses sum w (content w old.present.readable ++ bytes) old new e → AppendsOver sum w bytes old new (Err e)
+pub append_fails : (sum : List ℕ → ℕ) (w : WriterState) (bytes : List ℕ) (old new : Life) (e : Error) → Fails sum w (content w old.present.readable ++ bytes) old new e → AppendsOver sum w bytes old new (Err e)
 append_fails sum w bytes old new ReadFailed refused = refused
 append_fails sum w bytes old new WriteFailed refused = refused
 append_fails sum w bytes old new ResizeFailed refused = refused
@@ -101,7 +101,7 @@ append_fails sum w bytes old new IdsExhausted refused = refused
 
 -- an append that flushes, whatever the flush answers
 pub append_flushed : (sum : List ℕ → ℕ) (w v now : WriterState) (old new : Life) (bytes : List ℕ) (result : Result (Unit {0}) Error) → IsConsistent sum w old.present → v ≡ record w { tip = w.tip ++ bytes }
-    → Flushes sum v old new (answered now result) → AppendsOver sum w bytes old new (answered (now, size_of w) result)
+    → Flushes sum v old new (with_value now result) → AppendsOver sum w bytes old new (with_value (now, size_of w) result)
 append_flushed sum w v now old new bytes (Ok done) sound is flushes = (size_holds sum w old sound, append_goes sum w v now old new bytes sound is flushes)
 append_flushed sum w v now old new bytes (Err e) sound is refused = append_fails sum w bytes old new e (append_refused sum w v old new bytes e sound is refused)
 
@@ -112,7 +112,7 @@ buffered_goes sum w now bytes life sound is =
     append_goes sum w now now life life bytes sound is (goes_on_same sum now life (subst (λ (v : WriterState). IsConsistent sum v life.present) (sym is) (longer_consistent sum w life.present sound bytes)))
 
 -- whatever it answers, the pages below the tip stay the same
-pub keeps_pages : (w now : WriterState) (bytes : List ℕ) (result : Result (Option ℕ) Error) → TryAppends w bytes now result → KeepsPages w now
+pub keeps_pages : (w now : WriterState) (bytes : List ℕ) (result : Result (Option ℕ) Error) → TryAppendGoes w bytes now result → KeepsPages w now
 keeps_pages w now bytes (Ok (Some at)) tries = (ap (λ (v : WriterState). v.page_size) tries.3, ap (λ (v : WriterState). v.full_pages) tries.3)
 keeps_pages w now bytes (Ok None) tries = (ap (λ (v : WriterState). v.page_size) tries.2, ap (λ (v : WriterState). v.full_pages) tries.2)
 keeps_pages w now bytes (Err OffsetOverflow) tries = (ap (λ (v : WriterState). v.page_size) tries.1, ap (λ (v : WriterState). v.full_pages) tries.1)
@@ -131,8 +131,8 @@ with_tip P id flushed durable sync tip = record { page_size = P; id = id; capaci
 
 -- what its buffer does is what the writer does
 module _ (P id : ℕ) (flushed durable : Option ActiveChecksum) (sync : SyncState) (some : 0 < P) (old new : Tip) (bytes : List ℕ) (is : IsWriter P old) where
-  tries_with : (result : Result (Option ℕ) Error) → FitsBlob P (old.offset / P) (length old.bytes + length bytes) → TryAppendGoes old bytes new result
-      → TryAppends (with_tip P id flushed durable sync old) bytes (with_tip P id flushed durable sync new) result
+  tries_with : (result : Result (Option ℕ) Error) → FitsBlob P (old.offset / P) (length old.bytes + length bytes) → TipTryAppendGoes old bytes new result
+      → TryAppendGoes (with_tip P id flushed durable sync old) bytes (with_tip P id flushed durable sync new) result
   tries_with (Ok (Some at)) fits goes = (fits, goes.1, goes.2 ∙ ap (λ n. n + length old.bytes) is.whole, ap (with_tip P id flushed durable sync) goes.3)
   tries_with (Ok None) fits goes = (fits, goes.1, ap (with_tip P id flushed durable sync) goes.2)
   tries_with (Err OffsetOverflow) fits goes = absurd (omega (arith, size_fits P (old.offset / P) (length old.bytes + length bytes) some fits, is.whole, goes.0))
@@ -145,8 +145,8 @@ module _ (P id : ℕ) (flushed durable : Option ActiveChecksum) (sync : SyncStat
   tries_with (Err BlobInsufficientLength) fits goes = goes
   tries_with (Err IdsExhausted) fits goes = goes
 
-  pub tries : (w : WriterState) (result : Result (Option ℕ) Error) → with_tip P id flushed durable sync old ≡ w → FitsBlob w.page_size w.full_pages (length w.tip + length bytes) → TryAppendGoes old bytes new result
-      → TryAppends w bytes (with_tip P id flushed durable sync new) result
+  pub tries : (w : WriterState) (result : Result (Option ℕ) Error) → with_tip P id flushed durable sync old ≡ w → FitsBlob w.page_size w.full_pages (length w.tip + length bytes) → TipTryAppendGoes old bytes new result
+      → TryAppendGoes w bytes (with_tip P id flushed durable sync new) result
   tries w result view fits goes =
-      subst (λ (v : WriterState). TryAppends v bytes (with_tip P id flushed durable sync new) result) view
+      subst (λ (v : WriterState). TryAppendGoes v bytes (with_tip P id flushed durable sync new) result) view
       (tries_with result (subst (λ (v : WriterState). FitsBlob v.page_size v.full_pages (length v.tip + length bytes)) (sym view) fits) goes)

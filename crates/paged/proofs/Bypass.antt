@@ -14,9 +14,9 @@ use Rattle.writer_state.specs.declared.sync_state.SyncState.{SyncState}
 use Rattle.crash.specs.Built.{built}
 use Rattle.writer_state.specs.Sound.{CanWrite}
 use Rattle.paged.specs.Writer.{FitsBlob, IsWriter}
-use Rattle.paged.specs.Direct.{buffering, fill_of, is_too_big, IsDirect}
-use Rattle.paged.specs.Calls.{waited}
-use Rattle.paged.specs.Flush.{full_in, rest_of, carried, advanced, written, flush_bytes, footers_of, with_footers}
+use Rattle.paged.specs.Direct.{buffering, fill_of, goes_direct, IsDirect}
+use Rattle.paged.specs.Calls.{waited_writer}
+use Rattle.paged.specs.Flush.{full_in, rest_of, carried, after_flush, written, flush_bytes, footers_of, with_footers}
 use Rattle.paged.proofs.Building.{built-take}
 use Rattle.paged.proofs.Drains.{is_writer_drained, slot_gone, drained_state}
 use Rattle.paged.proofs.Footers.{length-pages, with_footers-built}
@@ -100,7 +100,7 @@ pub direct_carried : (w v : WriterState) (whole rest : List ℕ) → v ≡ carri
 direct_carried w v whole rest is direct =
     subst (λ (u : WriterState). IsDirect u whole rest) (sym is) (record { empty = direct.empty; some = direct.some; pages = direct.pages; short = direct.short; fits = direct.fits })
 
-pub direct_waited : (w v : WriterState) (whole rest : List ℕ) → v ≡ waited w → IsDirect w whole rest → IsDirect v whole rest
+pub direct_waited : (w v : WriterState) (whole rest : List ℕ) → v ≡ waited_writer w → IsDirect w whole rest → IsDirect v whole rest
 direct_waited w v whole rest is direct =
     subst (λ (u : WriterState). IsDirect u whole rest) (sym is) (record { empty = direct.empty; some = direct.some; pages = direct.pages; short = direct.short; fits = direct.fits })
 
@@ -134,7 +134,7 @@ module _ (P id start : ℕ) (old new : Tip) (flushed durable : Option ActiveChec
   pub passed_writer : IsWriter P new
   passed_writer = is_writer_drained P (joined old (whole ++ rest)) new some is_joined drains
 
-  pub passed_state : record { page_size = P; id = id; capacity = new.capacity; full_pages = new.offset / P; tip = new.bytes; flushed = None; durable = None; sync = sync } ≡ advanced (buffering w (whole ++ rest)) None w.sync
+  pub passed_state : record { page_size = P; id = id; capacity = new.capacity; full_pages = new.offset / P; tip = new.bytes; flushed = None; durable = None; sync = sync } ≡ after_flush (buffering w (whole ++ rest)) None w.sync
   passed_state =
       let pages : 0 < length (old.bytes ++ (whole ++ rest)) / P = (direct_can (record { page_size = P; id = id; capacity = old.capacity; full_pages = old.offset / P; tip = old.bytes; flushed = flushed; durable = durable; sync = sync }) whole rest here).0 in
       drained_state P id (joined old (whole ++ rest)) new None durable None sync (record (buffering w (whole ++ rest)) { flushed = None }) some is_joined drains
@@ -183,5 +183,5 @@ cut_same P fill bytes first whole rest as_first as_whole as_rest one two three c
     subst (λ l. IsCut P fill bytes l as_whole as_rest) (sym one) (subst (λ l. IsCut P fill bytes first l as_rest) (sym two) (subst (λ l. IsCut P fill bytes first whole l) (sym three) cut))
 
 -- what is too big has a page after what fills the tip
-pub big_enough : (w : WriterState) (more : ℕ) → is_too_big w more ≡ true → fill_of w + w.page_size ≤ more
+pub big_enough : (w : WriterState) (more : ℕ) → goes_direct w more ≡ true → fill_of w + w.page_size ≤ more
 big_enough w more big = grind (arith, nat_tests, big)

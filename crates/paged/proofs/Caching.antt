@@ -22,9 +22,9 @@ use Rattle.crash.proofs.Pages.{length-stored}
 use Rattle.paged.proofs.Footers.{length-pages}
 use Rattle.paged.proofs.Bypass.{direct_pages, length-whole, pages_of_whole}
 use Rattle.paged.proofs.There.{consistent_has_pages}
-use Rattle.paged.specs.Calls.{CarriesOn, Settles, waited, TryAppends}
+use Rattle.paged.specs.Calls.{CarriesOn, Settles, waited_writer, TryAppendGoes}
 use Rattle.disk.specs.declared.error.Error.TheVariants.{OffsetOverflow, OutOfMemory, ReadFailed, WriteFailed, ResizeFailed, SyncFailed, InvalidChecksum, BlobInsufficientLength, IdsExhausted}
-use Rattle.paged.specs.Flush.{carried, synced, answered, full_in}
+use Rattle.paged.specs.Flush.{carried, synced, with_value, full_in}
 use Rattle.paged.specs.Direct.{IsDirect, buffering}
 use Rattle.paged.specs.Caches.{PutsUpTo, CachesTo, Caches, ReadsOn, KeepsReads, tail_of}
 use Rattle.paged_read.specs.Tail.{CanRead}
@@ -343,7 +343,7 @@ reads_on sum w now more old new cache after same goes there puts can =
 
 -- after a wait, or with its durable slot brought up to date
 pub puts_waited : {A : Type 0} (w m now : WriterState) (bytes : List ℕ) (cache after : CacheState)
-    (result : Result A Error) → m ≡ waited w → CachesTo m now bytes cache after result
+    (result : Result A Error) → m ≡ waited_writer w → CachesTo m now bytes cache after result
     → CachesTo w now bytes cache after result
 puts_waited {A} w m now bytes cache after (Ok a) is puts =
     subst (λ (v : WriterState). CachesTo {A = A} v now bytes cache after (Ok a)) is puts
@@ -396,7 +396,7 @@ started_pages f w now (Err e) is = tt
 -- where nothing is written
 pub settled_nothing : (sum : List ℕ → ℕ) (w now : WriterState) (bytes : List ℕ)
     (cache : CacheState) (old new : Life) (result : Result (Unit {0}) Error)
-    → Settles sum w old new (answered now result) → CachesTo w now bytes cache cache result
+    → Settles sum w old new (with_value now result) → CachesTo w now bytes cache cache result
 settled_nothing sum w now bytes cache old new (Ok a) (goes, is) =
     subst (λ (n : ℕ). PutsUpTo w.id w.full_pages w.page_size bytes n cache cache)
     (sym (ap (λ (v : WriterState). v.full_pages) is))
@@ -539,7 +539,7 @@ same_reads : (w now : WriterState) → now ≡ w → KeepsReads w now
 same_reads w now is = subst (λ (v : WriterState). KeepsReads w v) (sym is) (λ cache d can. can)
 
 pub tried_reads : (w now : WriterState) (bytes : List ℕ) (result : Result (Option ℕ) Error)
-    → TryAppends w bytes now result → KeepsReads w now
+    → TryAppendGoes w bytes now result → KeepsReads w now
 tried_reads w now bytes (Ok (Some at)) (fits, room, offset, is) = longer_reads w now bytes is
 tried_reads w now bytes (Ok None) (fits, room, is) = same_reads w now is
 tried_reads w now bytes (Err OffsetOverflow) (far, is) = same_reads w now is
@@ -554,7 +554,7 @@ tried_reads w now bytes (Err IdsExhausted) x = elim x [ ]
 
 -- reads go on over a blob whose bytes stay
 pub reads_stay : (w now : WriterState) (cache : CacheState) (old new : Life)
-    → now ≡ waited w → new.present.readable ≡ old.present.readable → ReadsOn w now cache cache old new
+    → now ≡ waited_writer w → new.present.readable ≡ old.present.readable → ReadsOn w now cache cache old new
 reads_stay w now cache old new is same can =
     subst (λ (v : WriterState). CanRead (tail_of v) cache new.present) (sym is) (record {
       there = subst (λ (r : List ℕ). w.full_pages * (w.page_size + 12) ≤ length r) (sym same) can.there;

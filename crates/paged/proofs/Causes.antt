@@ -10,7 +10,7 @@ use Rattle.disk.specs.declared.error.Error.{Error}
 use Rattle.disk.specs.declared.error.Error.TheVariants.{ReadFailed, WriteFailed, ResizeFailed, SyncFailed, InvalidChecksum, BlobInsufficientLength, OffsetOverflow, OutOfMemory, IdsExhausted}
 use Rattle.writer_state.specs.declared.sync_state.SyncState.{SyncState}
 use Rattle.writer_state.specs.declared.sync_state.SyncState.TheVariants.{Pending}
-use Rattle.paged.specs.Calls.{CallCause, HadFailed, AsksAtMost}
+use Rattle.paged.specs.Calls.{CallCause, PendingSyncFailed, AsksAtMost}
 
 -- a write answers an error for a failed device or for no memory, where its range fits
 pub write_cause : (s : SyncState) (offset : ℕ) (bytes : List ℕ) (sync : Bool) (old new : Life) (e : Error) → WriteGoes offset bytes sync old new (Err e) → (e ≡ OffsetOverflow → ⊥) → CallCause s old new e
@@ -61,7 +61,7 @@ wait_cause name old new OutOfMemory goes = tt
 wait_cause name old new IdsExhausted goes = absurd goes
 
 -- what a later part of a call answers has a cause in the whole call, where a sync that it waits for has failed in this call or had before
-pub cause_later : (s t : SyncState) (old mid new : Life) (e : Error) → LogGrows old.present mid.present → LogGrows mid.present new.present → (HadFailed t mid.present → CallCause s old mid SyncFailed) → CallCause t mid new e → CallCause s old new e
+pub cause_later : (s t : SyncState) (old mid new : Life) (e : Error) → LogGrows old.present mid.present → LogGrows mid.present new.present → (PendingSyncFailed t mid.present → CallCause s old mid SyncFailed) → CallCause t mid new e → CallCause s old new e
 cause_later s t old mid new ReadFailed grows more waits cause = cause
 cause_later s t old mid new WriteFailed grows more waits cause = failed_later WriteFailed old.present mid.present new.present grows cause
 cause_later s t old mid new ResizeFailed grows more waits cause = cause

@@ -9,7 +9,7 @@ use Rattle.writer_state.specs.WriterState.{WriterState}
 use Rattle.writer_state.specs.declared.sync_state.SyncState.{SyncState}
 use Rattle.crash.specs.Built.{durable_after}
 use Rattle.paged.specs.Writer.{physical_blob_size, IsWriter}
-use Rattle.paged.specs.Flush.{advanced}
+use Rattle.paged.specs.Flush.{after_flush}
 use Rattle.paged.proofs.Flushing.{fits-rest}
 
 -- the bytes of a tip's full pages
@@ -55,9 +55,9 @@ full_some P bytes some enough = le-div 1 (length bytes) P some (omega (arith, en
 pub drained_state : (P id : ℕ) (old new : Tip) (flushed durable durable_now : Option ActiveChecksum) (sync : SyncState) (w : WriterState) → 0 < P → IsWriter P old → new ≡ drained old
     → record { page_size = P; id = id; capacity = old.capacity; full_pages = old.offset / P; tip = old.bytes; flushed = flushed; durable = durable; sync = sync } ≡ w
     → durable_now ≡ durable_after durable (length old.bytes / P)
-    → record { page_size = P; id = id; capacity = new.capacity; full_pages = new.offset / P; tip = new.bytes; flushed = flushed; durable = durable_now; sync = sync } ≡ advanced w w.flushed w.sync
+    → record { page_size = P; id = id; capacity = new.capacity; full_pages = new.offset / P; tip = new.bytes; flushed = flushed; durable = durable_now; sync = sync } ≡ after_flush w w.flushed w.sync
 drained_state P id old new flushed durable durable_now sync w some is goes view slot =
     let full : new.offset / P ≡ old.offset / P + length old.bytes / P = ap (λ (t : Tip). t.offset / P) goes ∙ full_pages-drained P old some is in
     let rest : new.bytes ≡ drop (length old.bytes / P * P) old.bytes = ap (λ (t : Tip). t.bytes) goes ∙ rest-drained P old is.page_size in
     let room : new.capacity ≡ old.capacity = ap (λ (t : Tip). t.capacity) goes in
-    (λ i. record { page_size = P; id = id; capacity = room i; full_pages = full i; tip = rest i; flushed = flushed; durable = slot i; sync = sync }) ∙ ap (λ (v : WriterState). advanced v v.flushed v.sync) view
+    (λ i. record { page_size = P; id = id; capacity = room i; full_pages = full i; tip = rest i; flushed = flushed; durable = slot i; sync = sync }) ∙ ap (λ (v : WriterState). after_flush v v.flushed v.sync) view

@@ -1,6 +1,6 @@
 -- What each moment of emptying a bad slot keeps and says.
 use Rattle.std.proofs.Common.{◌≡◌, inl, inr, ℕ, ◌+◌, ◌*◌, ◌<◌, ◌≤◌, List, length, refl, sym, subst, arith, Bool, true, false, Result, Ok, Err}
-use Rattle.disk.specs.Disk.{Disk, Life, Operated, Request, SyncGoes, WriteGoes, settled_disk}
+use Rattle.disk.specs.Disk.{Disk, Life, HasOperated, Request, SyncGoes, WriteGoes, settled_disk}
 use Rattle.disk.specs.Disk.Operation.{Write}
 use Rattle.disk.specs.Disk.Request.{WriteAt}
 use Rattle.disk.specs.declared.error.Error.{Error}
@@ -51,7 +51,7 @@ module _ (sum : List ℕ → ℕ) (P page : ℕ) (t : Slot) (old : Life) (mendin
   module _ (content : List ℕ) (image : ReadsImage old) where
     write_floors : (sync : Bool) (new : Life) (answer : Result (Unit {0}) Error) → WriteGoes offset zeros sync old new answer → KeepsFloors sum P content old new
     write_floors sync new answer goes = λ floor enough keeps.
-        let later : (request : Request) (failed : Bool) (d : Disk) → Operated (Write offset zeros) request failed old.present d → AllKeep sum P content floor d = λ request failed d operated.
+        let later : (request : Request) (failed : Bool) (d : Disk) → HasOperated (Write offset zeros) request failed old.present d → AllKeep sum P content floor d = λ request failed d operated.
         clear_keeps sum P page (other a.slot) old.present d image idle
         (operated_base (Write offset zeros) request failed old.present d operated) (operated_since (Write offset zeros) request failed old.present d operated) content floor keeps in
         write_through (AllKeep sum P content floor) old new keeps offset zeros sync answer (λ failed d operated. later (WriteAt offset (length zeros) sync) failed d operated)

@@ -14,12 +14,12 @@ use Rattle.writer_state.specs.declared.sync_state.SyncState.TheVariants.{Clean, 
 use Rattle.writer_state.proofs.StartedLaws.{ab_page, ab_started}
 use Rattle.writer_state.proofs.Examples.{at_rest, with_g}
 use Rattle.paged.specs.Writer.{physical_blob_size, FitsBlob}
-use Rattle.paged.specs.Flush.{full_in, rest_of, has_work, carried, advanced, synced, offset_of, flush_bytes, rest_bytes, footers_of, with_footers, TellsFirst, TellsFirstPage}
+use Rattle.paged.specs.Flush.{full_in, rest_of, has_work, carried, after_flush, synced, offset_of, flush_bytes, rest_bytes, footers_of, with_footers, TellsFirst, TellsFirstPage}
 use Rattle.paged.specs.Recovery.{RecoveryCause}
-use Rattle.paged.specs.Calls.{IsSettled, TryAppends, CallCause, SettlesBy, sync_calls, start_calls, started_already, waited}
-use Rattle.paged.specs.Direct.{fill_of, is_too_big, IsDirect}
+use Rattle.paged.specs.Calls.{IsSettled, TryAppendGoes, CallCause, SettlesBy, sync_calls, start_calls, started_already, waited_writer}
+use Rattle.paged.specs.Direct.{fill_of, goes_direct, IsDirect}
 use Rattle.paged_read.specs.Ranges.{page_at}
-use Rattle.paged.specs.Reads.{HasPages, size_of}
+use Rattle.paged.specs.Reads.{HasWriterPages, size_of}
 
 -- one full page and five bytes more take three pages of 16 bytes
 pub a_physical_size : physical_blob_size 4 1 5 ≡ 48
@@ -87,11 +87,11 @@ pub a_kept_slot : carried (record with_g { durable = None; sync = Dirty }) ≡ r
 a_kept_slot = refl
 
 -- once the full page is written: two full pages, and a tip of "ij" with no slot
-pub after_full_pages : advanced with_j None Dirty ≡ record with_g { full_pages = 2; tip = 105 ∷ 106 ∷ []; flushed = None; durable = None; sync = Dirty }
+pub after_full_pages : after_flush with_j None Dirty ≡ record with_g { full_pages = 2; tip = 105 ∷ 106 ∷ []; flushed = None; durable = None; sync = Dirty }
 after_full_pages = refl
 
 -- once that is synced
-pub after_a_sync : synced (advanced with_j None Dirty) ≡ advanced with_j None Clean
+pub after_a_sync : synced (after_flush with_j None Dirty) ≡ after_flush with_j None Clean
 after_a_sync = refl
 
 -- a writer of "abcdef" that is written whole and clean is settled
@@ -131,15 +131,15 @@ pub second_page : page_at 4 1 (abcd_page ++ ef_page) ≡ ef_page
 second_page = refl
 
 -- the page below the tip is in the blob
-pub has_pages : HasPages with_g old
+pub has_pages : HasWriterPages with_g old
 has_pages = omega arith
 
 -- "h" fits after "efg" in a buffer of eight bytes, and stands at offset 7
-pub a_buffered_try : TryAppends with_g (104 ∷ []) (record with_g { tip = 101 ∷ 102 ∷ 103 ∷ 104 ∷ [] }) (Ok (Some 7))
+pub a_buffered_try : TryAppendGoes with_g (104 ∷ []) (record with_g { tip = 101 ∷ 102 ∷ 103 ∷ 104 ∷ [] }) (Ok (Some 7))
 a_buffered_try = (omega arith, omega arith, refl, refl)
 
 -- six bytes don't
-pub a_try_that_does_not_fit : TryAppends with_g (104 ∷ 105 ∷ 106 ∷ 107 ∷ 108 ∷ 109 ∷ []) with_g (Ok None)
+pub a_try_that_does_not_fit : TryAppendGoes with_g (104 ∷ 105 ∷ 106 ∷ 107 ∷ 108 ∷ 109 ∷ []) with_g (Ok None)
 a_try_that_does_not_fit = (omega arith, omega arith, refl)
 
 -- a footer after each of two pages of one byte
@@ -177,7 +177,7 @@ pub the_same_name : started_already ab_waits.sync ≡ Named 0
 the_same_name = refl
 
 -- once it has waited it is clean
-pub it_waited : waited ab_waits ≡ record ab_waits { sync = Clean }
+pub it_waited : waited_writer ab_waits ≡ record ab_waits { sync = Clean }
 it_waited = refl
 
 -- the blob with that sync, and the same where a wait for it failed
@@ -219,11 +219,11 @@ pub a_fill : fill_of with_g ≡ 1
 a_fill = refl
 
 -- six bytes more pass the buffer of eight, and leave a page after that byte
-pub six_are_too_big : is_too_big with_g 6 ≡ true
+pub six_are_too_big : goes_direct with_g 6 ≡ true
 six_are_too_big = refl
 
 -- five don't pass it
-pub five_are_not : is_too_big with_g 5 ≡ false
+pub five_are_not : goes_direct with_g 5 ≡ false
 five_are_not = refl
 
 -- "efgh" and "i" after two full pages

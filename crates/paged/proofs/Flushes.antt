@@ -21,8 +21,8 @@ use Rattle.writer_state.proofs.CallLaws.{sync_stays, sync_consistent, sync_conte
 use Rattle.disk.proofs.Logs.{grows_same, grows_once, grows_joins}
 use Rattle.paged.proofs.Flushing.{length-rest}
 use Rattle.paged.proofs.Causes.{write_cause, sync_cause, cause_later, sync_asks, write_grows, sync_grows}
-use Rattle.paged.specs.Flush.{full_in, rest_of, has_work, carried, synced, written, offset_of, flush_bytes, answered}
-use Rattle.paged.specs.Calls.{AsksAtMost, settle_calls, sync_calls, HoldsWithin, HadFailed, CallCause, IsSameWriter, CarriesOn, Refuses, Flushes, SyncsOver, Settles, IsSettled, IsWritten, WaitsForNone}
+use Rattle.paged.specs.Flush.{full_in, rest_of, has_work, carried, synced, written, offset_of, flush_bytes, with_value}
+use Rattle.paged.specs.Calls.{AsksAtMost, settle_calls, sync_calls, HoldsWithin, PendingSyncFailed, CallCause, IsSameWriter, CarriesOn, Fails, Flushes, SyncsOver, Settles, IsSettled, IsWritten, WaitsForNone}
 
 -- a content is the beginning of a longer one
 pub begins : (xs ys : List ℕ) → xs ≡ take (length xs) (xs ++ ys)
@@ -43,7 +43,7 @@ stays_nil sum P content old new stays = subst (λ c. StaysThrough sum P c old ne
 -- a flush of the full pages, and of the rest where asked, by a writer whose durable slot is up to date
 pub flush_goes : (sum : List ℕ → ℕ) (w now : WriterState) (rest : Bool) (old new : Life) (result : Result (Unit {0}) Error) → IsSmall sum → IsConsistent sum w old.present
     → MayFlush w.sync w.flushed w.durable → CanWrite w.page_size w.tip (full_in w) rest → WriteGoes (offset_of w) (flush_bytes sum w rest) false old new result
-    → OnOk result (now ≡ after_write sum w (full_in w) rest) → (IsErrOf result OffsetOverflow → ⊥) → Flushes sum w old new (answered now result)
+    → OnOk result (now ≡ after_write sum w (full_in w) rest) → (IsErrOf result OffsetOverflow → ⊥) → Flushes sum w old new (with_value now result)
 unfolding IsConsistent
 flush_goes sum w now rest old new (Ok done) small sound is can goes state fits = record {
   holds = subst (λ n. IsConsistent sum n new.present) (sym state) (write_consistent sum w old new (full_in w) rest (flush_bytes sum w rest) small sound is can refl tt goes);
@@ -54,7 +54,7 @@ flush_goes sum w now rest old new (Ok done) small sound is can goes state fits =
   same = subst (λ n. IsSameWriter w n) (sym state) (record { page_size = refl; id = refl; capacity = refl; full_pages = omega arith });
   log = grows_once (WriteAt (offset_of w) (length (flush_bytes sum w rest)) false) false old.present new.present (ap (λ l. l.present.log) goes.1 ∙ ap (λ e. e.log) goes.2.rest);
   stays = stays_nil sum w.page_size (content w old.present.readable) old new (write_stays sum w old new (full_in w) rest (flush_bytes sum w rest) small sound is can refl false (Ok tt) goes);
-  waits = λ had. absurd (subst (λ (n : WriterState). HadFailed n.sync new.present) state had);
+  waits = λ had. absurd (subst (λ (n : WriterState). PendingSyncFailed n.sync new.present) state had);
 }
 flush_goes sum w now rest old new (Err e) small sound is can goes state fits = record {
   cause = write_cause w.sync (offset_of w) (flush_bytes sum w rest) false old new e goes (λ h. fits (ap Err h));
@@ -73,12 +73,12 @@ flushes_carried sum w old new (Err e) h = record { cause = h.cause; stays = h.st
 -- a flush by a writer whose durable slot was brought up to date
 pub flush_call : (sum : List ℕ → ℕ) (w v now : WriterState) (rest : Bool) (old new : Life) (result : Result (Unit {0}) Error) → IsSmall sum → IsConsistent sum w old.present → MayFlush w.sync w.flushed (guard_slot w.sync w.flushed w.durable) → v ≡ carried w
     → CanWrite v.page_size v.tip (full_in v) rest → WriteGoes (offset_of v) (flush_bytes sum v rest) false old new result
-    → OnOk result (now ≡ after_write sum v (full_in v) rest) → (IsErrOf result OffsetOverflow → ⊥) → Flushes sum w old new (answered now result)
+    → OnOk result (now ≡ after_write sum v (full_in v) rest) → (IsErrOf result OffsetOverflow → ⊥) → Flushes sum w old new (with_value now result)
 unfolding IsConsistent
 flush_call sum w v now rest old new result small sound ready is =
     subst (λ v. CanWrite v.page_size v.tip (full_in v) rest → WriteGoes (offset_of v) (flush_bytes sum v rest) false old new result
-    → OnOk result (now ≡ after_write sum v (full_in v) rest) → (IsErrOf result OffsetOverflow → ⊥) → Flushes sum w old new (answered now result)) (sym is)
-    (λ can goes state fits. flushes_carried sum w old new (answered now result) (flush_goes sum (carried w) now rest old new result small (carry_consistent sum w old.present sound) ready can goes state fits))
+    → OnOk result (now ≡ after_write sum v (full_in v) rest) → (IsErrOf result OffsetOverflow → ⊥) → Flushes sum w old new (with_value now result)) (sym is)
+    (λ can goes state fits. flushes_carried sum w old new (with_value now result) (flush_goes sum (carried w) now rest old new result small (carry_consistent sum w old.present sound) ready can goes state fits))
 
 -- one call after another
 pub goes_on_more : (sum : List ℕ → ℕ) (w m n : WriterState) (old mid new : Life) → CarriesOn sum w old [] m mid → CarriesOn sum m mid [] n new → CarriesOn sum w old [] n new
@@ -97,8 +97,8 @@ goes_on_more sum w m n old mid new first second = record {
 }
 
 -- a refusal of the later call is one of both
-pub refuses_more : (sum : List ℕ → ℕ) (w m : WriterState) (old mid new : Life) (e : Error) → CarriesOn sum w old [] m mid → Refuses sum m (content m mid.present.readable) mid new e
-    → Refuses sum w (content w old.present.readable) old new e
+pub refuses_more : (sum : List ℕ → ℕ) (w m : WriterState) (old mid new : Life) (e : Error) → CarriesOn sum w old [] m mid → Fails sum m (content m mid.present.readable) mid new e
+    → Fails sum w (content w old.present.readable) old new e
 refuses_more sum w m old mid new e first second = record {
   cause = cause_later w.sync m.sync old mid new e first.log second.log first.waits second.cause;
   log = grows_joins old.present mid.present new.present first.log second.log;
@@ -108,7 +108,7 @@ refuses_more sum w m old mid new e first second = record {
 }
 
 -- a sync that had failed before
-pub has_waited : (s : SyncState) (life : Life) → HadFailed s life.present → CallCause s life life SyncFailed
+pub has_waited : (s : SyncState) (life : Life) → PendingSyncFailed s life.present → CallCause s life life SyncFailed
 has_waited s life had = inr had
 
 -- no call at all
@@ -138,11 +138,11 @@ settle_ok sum w now old new small sound goes state = record {
   same = subst (λ n. IsSameWriter w n) (sym state) (record { page_size = refl; id = refl; capacity = refl; full_pages = omega arith });
   log = grows_once SyncAll false old.present new.present (ap (λ l. l.present.log) goes);
   stays = stays_nil sum w.page_size (content w old.present.readable) old new (sync_stays sum w old sound new (Ok tt) goes);
-  waits = λ had. absurd (subst (λ (n : WriterState). HadFailed n.sync new.present) state had);
+  waits = λ had. absurd (subst (λ (n : WriterState). PendingSyncFailed n.sync new.present) state had);
 }
 
 pub settle_goes : (sum : List ℕ → ℕ) (w now : WriterState) (old new : Life) (result : Result (Unit {0}) Error) → IsSmall sum → IsConsistent sum w old.present → SyncGoes old new result
-    → OnOk result (now ≡ synced w) → Settles sum w old new (answered now result)
+    → OnOk result (now ≡ synced w) → Settles sum w old new (with_value now result)
 unfolding IsConsistent
 settle_goes sum w now old new (Ok done) small sound goes state = (settle_ok sum w now old new small sound goes state, state)
 settle_goes sum w now old new (Err e) small sound goes state = record { cause = sync_cause w.sync old new e goes; stays = sync_stays sum w old sound new (Err e) goes; log = sync_grows old new (Err e) goes }
@@ -168,7 +168,7 @@ settled_after sum w true some is = record {
 sync_durably : (sum : List ℕ → ℕ) (w now : WriterState) (rest : Bool) (old new : Life) (result : Result (Unit {0}) Error) → IsSmall sum → IsConsistent sum w old.present
     → MayFlush w.sync w.flushed w.durable → rest ≡ not (length w.tip % w.page_size == 0) → CanWrite w.page_size w.tip (full_in w) rest
     → WriteGoes (offset_of w) (flush_bytes sum w rest) true old new result
-    → OnOk result (now ≡ synced (after_write sum w (full_in w) rest)) → (IsErrOf result OffsetOverflow → ⊥) → SyncsOver sum w old new (answered now result)
+    → OnOk result (now ≡ synced (after_write sum w (full_in w) rest)) → (IsErrOf result OffsetOverflow → ⊥) → SyncsOver sum w old new (with_value now result)
 unfolding IsConsistent
 sync_durably sum w now rest old new (Ok done) small sound is rests can goes state fits = (
   record {
@@ -180,7 +180,7 @@ sync_durably sum w now rest old new (Ok done) small sound is rests can goes stat
     same = subst (λ n. IsSameWriter w n) (sym state) (record { page_size = refl; id = refl; capacity = refl; full_pages = omega arith });
     log = grows_once (WriteAt (offset_of w) (length (flush_bytes sum w rest)) true) false old.present new.present (ap (λ l. l.present.log) goes.1 ∙ ap (λ e. e.log) goes.2.rest);
     stays = stays_nil sum w.page_size (content w old.present.readable) old new (write_stays sum w old new (full_in w) rest (flush_bytes sum w rest) small sound is can refl true (Ok tt) goes);
-    waits = λ had. absurd (subst (λ (n : WriterState). HadFailed n.sync new.present) state had);
+    waits = λ had. absurd (subst (λ (n : WriterState). PendingSyncFailed n.sync new.present) state had);
   },
   subst IsSettled (sym state) (settled_after sum w rest sound.stands.some rests),
 )
@@ -197,12 +197,12 @@ syncs_carried sum w old new (Err e) h = record { cause = h.cause; stays = h.stay
 -- the same by a writer whose durable slot was brought up to date
 pub sync_write : (sum : List ℕ → ℕ) (w v now : WriterState) (rest : Bool) (old new : Life) (result : Result (Unit {0}) Error) → IsSmall sum → IsConsistent sum w old.present → MayFlush w.sync w.flushed (guard_slot w.sync w.flushed w.durable) → v ≡ carried w
     → rest ≡ not (length w.tip % w.page_size == 0) → CanWrite v.page_size v.tip (full_in v) rest → WriteGoes (offset_of v) (flush_bytes sum v rest) true old new result
-    → OnOk result (now ≡ synced (after_write sum v (full_in v) rest)) → (IsErrOf result OffsetOverflow → ⊥) → SyncsOver sum w old new (answered now result)
+    → OnOk result (now ≡ synced (after_write sum v (full_in v) rest)) → (IsErrOf result OffsetOverflow → ⊥) → SyncsOver sum w old new (with_value now result)
 unfolding IsConsistent
 sync_write sum w v now rest old new result small sound ready is rests =
     subst (λ v. CanWrite v.page_size v.tip (full_in v) rest → WriteGoes (offset_of v) (flush_bytes sum v rest) true old new result
-    → OnOk result (now ≡ synced (after_write sum v (full_in v) rest)) → (IsErrOf result OffsetOverflow → ⊥) → SyncsOver sum w old new (answered now result)) (sym is)
-    (λ can goes state fits. syncs_carried sum w old new (answered now result) (sync_durably sum (carried w) now rest old new result small (carry_consistent sum w old.present sound) ready rests can goes state fits))
+    → OnOk result (now ≡ synced (after_write sum v (full_in v) rest)) → (IsErrOf result OffsetOverflow → ⊥) → SyncsOver sum w old new (with_value now result)) (sym is)
+    (λ can goes state fits. syncs_carried sum w old new (with_value now result) (sync_durably sum (carried w) now rest old new result small (carry_consistent sum w old.present sound) ready rests can goes state fits))
 
 -- a dirty writer's durable slot is up to date
 pub dirty_carried : (w : WriterState) → w.sync ≡ Dirty → MayFlush w.sync w.flushed w.durable
@@ -232,7 +232,7 @@ dirty_settled sum w d sound dirty = flush_settled d w.sync w.flushed w.durable (
 -- a write, and a sync of the blob
 pub sync_second : (sum : List ℕ → ℕ) (w now n : WriterState) (rest : Bool) (old mid new : Life) (result : Result (Unit {0}) Error) → IsSmall sum → IsConsistent sum w old.present → w.sync ≡ Dirty
     → rest ≡ not (length w.tip % w.page_size == 0) → CanWrite w.page_size w.tip (full_in w) rest → WriteGoes (offset_of w) (flush_bytes sum w rest) false old mid (Ok tt)
-    → now ≡ after_write sum w (full_in w) rest → SyncGoes mid new result → OnOk result (n ≡ synced now) → SyncsOver sum w old new (answered n result)
+    → now ≡ after_write sum w (full_in w) rest → SyncGoes mid new result → OnOk result (n ≡ synced now) → SyncsOver sum w old new (with_value n result)
 unfolding IsConsistent
 sync_second sum w now n rest old mid new (Ok done) small sound dirty rests can goes state synced_blob last =
     let first : CarriesOn sum w old [] now mid = flush_goes sum w now rest old mid (Ok tt) small sound (dirty_carried w dirty) can goes state (λ is. cc) in (

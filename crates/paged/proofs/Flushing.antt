@@ -12,7 +12,7 @@ use Rattle.crash.specs.Built.{built, page_of, durable_after, written_pages}
 use Rattle.paged.specs.Writer.{physical_blob_size, FitsBlob}
 use Rattle.writer_state.specs.Sound.{CanWrite}
 use Rattle.crash.proofs.BuiltLaws.{length-built}
-use Rattle.paged.specs.Flush.{full_in, rest_of, rest_bytes, has_work, advanced, flush_bytes, footers_of, with_footers, offset_of}
+use Rattle.paged.specs.Flush.{full_in, rest_of, rest_bytes, has_work, after_flush, flush_bytes, footers_of, with_footers, offset_of}
 use Rattle.std.proofs.lemmas.Bool.Decides.{nat_tests}
 use Rattle.std.proofs.lemmas.Nat.{le-div}
 use Rattle.std.proofs.lemmas.Bool.{cases_lt}
@@ -44,9 +44,9 @@ rest_bytes-short sum w short = ap (λ k. page_of sum w.page_size (durable_after 
 pub short_drained : (w : WriterState) → 0 < w.page_size → length (rest_of w) < w.page_size
 short_drained w some = omega (arith, length-rest w, mod-lt (length w.tip) some)
 
-rest_bytes-drained : (sum : List ℕ → ℕ) (w : WriterState) (flushed : Option ActiveChecksum) (rest : Bool) → 0 < w.page_size → rest_bytes sum (advanced w flushed w.sync) rest ≡ rest_bytes sum w rest
+rest_bytes-drained : (sum : List ℕ → ℕ) (w : WriterState) (flushed : Option ActiveChecksum) (rest : Bool) → 0 < w.page_size → rest_bytes sum (after_flush w flushed w.sync) rest ≡ rest_bytes sum w rest
 rest_bytes-drained sum w flushed false some = refl
-rest_bytes-drained sum w flushed true some = rest_bytes-short sum (advanced w flushed w.sync) (short_drained w some)
+rest_bytes-drained sum w flushed true some = rest_bytes-short sum (after_flush w flushed w.sync) (short_drained w some)
 
 -- the same, as a program builds it: first the full pages
 pub pages-drained : (sum : List ℕ → ℕ) (w : WriterState) (durable : Option ActiveChecksum) (pages : List (List ℕ)) → 0 < w.page_size → durable ≡ w.durable
@@ -60,7 +60,7 @@ pages-drained sum w durable pages some slot are is =
     ∙ built-take sum w.page_size w.durable (full_in w) w.tip
 
 -- and then the rest
-pub flush_bytes-drained : (sum : List ℕ → ℕ) (w v : WriterState) (flushed : Option ActiveChecksum) (rest : Bool) → 0 < w.page_size → v ≡ advanced w flushed w.sync
+pub flush_bytes-drained : (sum : List ℕ → ℕ) (w v : WriterState) (flushed : Option ActiveChecksum) (rest : Bool) → 0 < w.page_size → v ≡ after_flush w flushed w.sync
     → built sum w.page_size w.durable (full_in w) w.tip ++ rest_bytes sum v rest ≡ flush_bytes sum w rest
 flush_bytes-drained sum w v flushed rest some state =
     ap (λ (u : WriterState). built sum w.page_size w.durable (full_in w) w.tip ++ rest_bytes sum u rest) state
@@ -74,7 +74,7 @@ none_full w short = sym (div-eq_of_lt short)
 pub built-none : (sum : List ℕ → ℕ) (w : WriterState) (bufs : List (List ℕ)) → length w.tip < w.page_size → bufs ≡ [] → concat bufs ≡ built sum w.page_size w.durable (full_in w) w.tip
 built-none sum w bufs short is = ap concat is ∙ ap (λ k. built sum w.page_size w.durable k w.tip) (none_full w short)
 
-pub advanced-none : (w : WriterState) → length w.tip < w.page_size → w ≡ advanced w (durable_after w.flushed (full_in w)) w.sync
+pub advanced-none : (w : WriterState) → length w.tip < w.page_size → w ≡ after_flush w (durable_after w.flushed (full_in w)) w.sync
 advanced-none w short =
     let none = none_full w short in
     let pages : w.full_pages ≡ w.full_pages + full_in w = omega (arith, none) in

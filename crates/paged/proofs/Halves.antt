@@ -15,7 +15,7 @@ use Rattle.crash.proofs.Moments.{kept_through, only_through}
 use Rattle.crash.proofs.Promise.{keeps_same}
 use Rattle.writer_state.proofs.Soundness.{consistent_of, settle_keeps}
 use Rattle.disk.specs.declared.started_sync.StartedSync.{StartedSync}
-use Rattle.paged.specs.Calls.{GoesOn, Syncs, Appends, StartsSync, WaitsForSync, HoldsWithin}
+use Rattle.paged.specs.Calls.{Succeeds, Syncs, Appends, StartsSync, WaitsForSync, HoldsWithin}
 use Rattle.paged.specs.Truncate.{KeepsFloorsWithin}
 use Rattle.paged.proofs.Appends.{append_unasked}
 
@@ -61,7 +61,7 @@ pub sync_keeps : (sum : List ℕ → ℕ) (w : WriterState) (old new : Life) (re
 sync_keeps sum w old new result sound syncs = floors_of_sound sum w old new sound (keeps_floors sum w.page_size (content w old.present.readable) old new (syncs_stay sum w old new result syncs))
 
 -- so do a start and a wait
-pub goes_stay : (sum : List ℕ → ℕ) (w now : WriterState) (old new : Life) → GoesOn sum w old [] now new → StaysThrough sum w.page_size (content w old.present.readable) old new
+pub goes_stay : (sum : List ℕ → ℕ) (w now : WriterState) (old new : Life) → Succeeds sum w old [] now new → StaysThrough sum w.page_size (content w old.present.readable) old new
 goes_stay sum w now old new goes = subst (λ c. StaysThrough sum w.page_size c old new) (append-nil (content w old.present.readable)) goes.stays
 
 pub starts_stay : (sum : List ℕ → ℕ) (w : WriterState) (old new : Life) (result : Result (WriterState × StartedSync) Error) → StartsSync sum w old new result → StaysThrough sum w.page_size (content w old.present.readable) old new

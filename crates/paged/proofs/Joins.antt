@@ -16,9 +16,9 @@ use Rattle.writer_state.proofs.CoverLaws.{covers_through_join, covers_shorter}
 use Rattle.writer_state.proofs.FlushLaws.{length-content, tip_reach}
 use Rattle.crash.proofs.Moments.{stays_through_joins, stays_through_longer}
 use Rattle.paged.specs.Writer.{FitsBlob}
-use Rattle.paged.specs.Calls.{CarriesOn, Refuses, AppendsOver}
+use Rattle.paged.specs.Calls.{CarriesOn, Fails, AppendsOver}
 use Rattle.paged.specs.Direct.{fill_of, IsDirect}
-use Rattle.paged.specs.Flush.{answered}
+use Rattle.paged.specs.Flush.{with_value}
 use Rattle.paged.specs.Reads.{size_of}
 use Rattle.paged.proofs.Appends.{append_fails}
 use Rattle.paged.proofs.Bypass.{IsCut}
@@ -35,7 +35,7 @@ pub fits_after : (P full n ahead m : ℕ) → 0 < P → ahead * P + m ≡ full *
 fits_after P full n ahead m some same fits = (fits_by_size P ahead m some).1 (omega (arith, (fits_by_size P full n some).0 fits, same))
 
 -- what is refused over a content is refused over a longer one
-pub refuses_longer : (sum : List ℕ → ℕ) (w : WriterState) (held more : List ℕ) (old new : Life) (e : Error) → Refuses sum w held old new e → Refuses sum w (held ++ more) old new e
+pub refuses_longer : (sum : List ℕ → ℕ) (w : WriterState) (held more : List ℕ) (old new : Life) (e : Error) → Fails sum w held old new e → Fails sum w (held ++ more) old new e
 refuses_longer sum w held more old new e refused = record {
   cause = refused.cause;
   log = refused.log;
@@ -47,9 +47,9 @@ pub appends_refused : (sum : List ℕ → ℕ) (w : WriterState) (xs ys : List �
     → AppendsOver sum w xs old new (Err e) → AppendsOver sum w (xs ++ ys) old new (Err e)
 appends_refused sum w xs ys old new e some fits = by_error e
   where
-    longer : (e : Error) → Refuses sum w (content w old.present.readable ++ xs) old new e → AppendsOver sum w (xs ++ ys) old new (Err e)
+    longer : (e : Error) → Fails sum w (content w old.present.readable ++ xs) old new e → AppendsOver sum w (xs ++ ys) old new (Err e)
     longer e refused =
-        append_fails sum w (xs ++ ys) old new e (subst (λ c. Refuses sum w c old new e) (append_assoc (content w old.present.readable) xs ys)
+        append_fails sum w (xs ++ ys) old new e (subst (λ c. Fails sum w c old new e) (append_assoc (content w old.present.readable) xs ys)
         (refuses_longer sum w (content w old.present.readable ++ xs) ys old new e refused))
 
     by_error : (e : Error) → AppendsOver sum w xs old new (Err e) → AppendsOver sum w (xs ++ ys) old new (Err e)
@@ -89,7 +89,7 @@ module _ (sum : List ℕ → ℕ) (w m : WriterState) (old mid new : Life) (xs y
     waits = λ had. cause_later w.sync m.sync old mid new SyncFailed first.log second.log first.waits (second.waits had);
   }
 
-  refuses_join : (e : Error) → Refuses sum m (content m mid.present.readable ++ ys) mid new e → Refuses sum w (content w old.present.readable ++ (xs ++ ys)) old new e
+  refuses_join : (e : Error) → Fails sum m (content m mid.present.readable ++ ys) mid new e → Fails sum w (content w old.present.readable ++ (xs ++ ys)) old new e
   refuses_join e second = record {
     cause = cause_later w.sync m.sync old mid new e first.log second.log first.waits second.cause;
     log = grows_joins old.present mid.present new.present first.log second.log;
@@ -118,8 +118,8 @@ module _ (sum : List ℕ → ℕ) (w m : WriterState) (old mid new : Life) (xs y
   later_refused IdsExhausted fits refused = refuses_join IdsExhausted refused
 
   -- whatever the later part answers
-  pub appends_join : (n : WriterState) (result : Result (Unit {0}) Error) → IsConsistent sum w old.present → FitsBlob m.page_size m.full_pages (length m.tip + length ys) → AppendsOver sum m ys mid new (answered (n, size_of m) result)
-      → AppendsOver sum w (xs ++ ys) old new (answered (n, size_of w) result)
+  pub appends_join : (n : WriterState) (result : Result (Unit {0}) Error) → IsConsistent sum w old.present → FitsBlob m.page_size m.full_pages (length m.tip + length ys) → AppendsOver sum m ys mid new (with_value (n, size_of m) result)
+      → AppendsOver sum w (xs ++ ys) old new (with_value (n, size_of w) result)
   appends_join n (Ok done) sound fits goes = (size_holds sum w old sound, goes_on_join n goes.1)
   appends_join n (Err e) sound fits refused = later_refused e fits refused
 
@@ -169,7 +169,7 @@ module _ (sum : List ℕ → ℕ) (w m : WriterState) (old mid : Life) (xs : Lis
 
 -- where the flush of a writer that buffered them ends well
 module _ (sum : List ℕ → ℕ) (w v now : WriterState) (old new : Life) (xs : List ℕ) where
-  pub filled_ok : (result : Result (Unit {0}) Error) → IsConsistent sum w old.present → length xs ≡ fill_of w → v ≡ record w { tip = w.tip ++ xs } → AppendsOver sum w xs old new (answered (now, size_of w) result) → OnOk result (length now.tip < v.page_size) → OnOk result (now.tip ≡ [])
+  pub filled_ok : (result : Result (Unit {0}) Error) → IsConsistent sum w old.present → length xs ≡ fill_of w → v ≡ record w { tip = w.tip ++ xs } → AppendsOver sum w xs old new (with_value (now, size_of w) result) → OnOk result (length now.tip < v.page_size) → OnOk result (now.tip ≡ [])
   unfolding IsConsistent
   filled_ok (Ok done) sound fill is appends short = filled_empty sum w now old new xs sound appends.1 fill (subst (λ (u : WriterState). length now.tip < u.page_size) is short)
   filled_ok (Err e) sound fill is refused short = tt

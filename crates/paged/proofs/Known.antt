@@ -11,7 +11,7 @@ use Rattle.page.specs.declared.slot.ActiveChecksum.{ActiveChecksum}
 use Rattle.crash.specs.Built.{durable_after}
 use Rattle.writer_state.specs.WriterState.{WriterState}
 use Rattle.writer_state.specs.Sound.{IsConsistent, TipPage}
-use Rattle.paged.specs.Flush.{TellsFirst, TellsFirstPage, full_in, rest_of, advanced, carried}
+use Rattle.paged.specs.Flush.{TellsFirst, TellsFirstPage, full_in, rest_of, after_flush, carried}
 use Rattle.paged.proofs.Flushing.{short_drained}
 
 -- with no slot there is nothing to tell
@@ -53,7 +53,7 @@ pages_tell sum P n slot (page ∷ pages) bytes are is tells =
     subst (λ (p : List ℕ). TellsFirst sum slot p) (sym first) tells
 
 -- and of the rest the one that stays, where no page before it is full
-pub rest_tells : (sum : List ℕ → ℕ) (w v : WriterState) → 0 < w.page_size → v ≡ advanced w (durable_after w.flushed (full_in w)) w.sync
+pub rest_tells : (sum : List ℕ → ℕ) (w v : WriterState) → 0 < w.page_size → v ≡ after_flush w (durable_after w.flushed (full_in w)) w.sync
     → TellsFirst sum w.flushed (take w.page_size w.tip) → TellsFirst sum v.flushed v.tip
 rest_tells sum w v some is tells =
     subst (λ (u : WriterState). TellsFirst sum u.flushed u.tip) (sym is) (by_pages (full_in w) refl)

@@ -17,7 +17,7 @@ use Rattle.crash.specs.Shrink.{slot_write}
 use Rattle.crash.proofs.LookLaws.{looked_readable}
 use Rattle.crash.proofs.PageFacts.{slot_offset_le}
 use Rattle.paged.specs.Calls.{CallCause}
-use Rattle.paged.specs.Mends.{Empties, KeepsPages, Mends, is_unsynced, mended_state}
+use Rattle.paged.specs.Mends.{Empties, CutsAndMends, Mends, is_unsynced, mended_state}
 use Rattle.paged_read.specs.declared.prefix.Prefix.{Prefix}
 use Rattle.paged_read.specs.Prefix.{bad_in, last_prefix, prefix_pages}
 use Rattle.paged.specs.Recovery.{CutsBack, IsCutBack, IsDurable, RecoveryCause, emptied, opened_bytes, opened_prefix, opened_size}
@@ -86,7 +86,7 @@ module _ (P page : ℕ) (s : Slot) where
 
 -- the blob was only read, and then cut and mended at most once
 abbrev pub TrimsTo : (P kept page : ℕ) → Option Slot → Life → Life → Type 0
-TrimsTo P kept page bad old new = (mid : Life) × Looked old mid × ((new ≡ mid) ⊎ ((answer : Result SyncState Error) × KeepsPages P kept page bad mid new answer))
+TrimsTo P kept page bad old new = (mid : Life) × Looked old mid × ((new ≡ mid) ⊎ ((answer : Result SyncState Error) × CutsAndMends P kept page bad mid new answer))
 
 module _ (P kept page : ℕ) (bad : Option Slot) (old mid new : Life) (looked : Looked old mid) (le : kept ≤ length old.present.readable) where
   -- what is kept is readable
@@ -95,7 +95,7 @@ module _ (P kept page : ℕ) (bad : Option Slot) (old mid new : Life) (looked : 
   cut_readable s last (cut more readable durable) = readable
 
   -- where it is done
-  pub pages_kept : (s : SyncState) → ((t : Slot) → bad ≡ Some t → emptied P page bad (take kept old.present.readable) ≢ old.present.readable) → KeepsPages P kept page bad mid new (Ok s)
+  pub pages_kept : (s : SyncState) → ((t : Slot) → bad ≡ Some t → emptied P page bad (take kept old.present.readable) ≢ old.present.readable) → CutsAndMends P kept page bad mid new (Ok s)
       → IsCutBack old new (emptied P page bad (take kept old.present.readable)) s × LogGrows old.present new.present
   pages_kept s changed (state, last, cuts, mends, is) = by_bad bad changed mends is
     where
@@ -116,7 +116,7 @@ module _ (P kept page : ℕ) (bad : Option Slot) (old mid new : Life) (looked : 
           )
 
   -- and where it isn't
-  pub pages_cause : (e : Error) → ((t : Slot) → bad ≡ Some t → (page + 1) * (P + 12) < 2 ^ 64) → KeepsPages P kept page bad mid new (Err e) → RecoveryCause old new e
+  pub pages_cause : (e : Error) → ((t : Slot) → bad ≡ Some t → (page + 1) * (P + 12) < 2 ^ 64) → CutsAndMends P kept page bad mid new (Err e) → RecoveryCause old new e
   pages_cause e fits (inl cuts) = back_cause kept old mid new e looked le cuts
   pages_cause e fits (inr (state, last, cuts, mends)) = by_bad bad fits mends
     where
@@ -127,7 +127,7 @@ module _ (P kept page : ℕ) (bad : Option Slot) (old mid new : Life) (looked : 
 -- ---- as code calls it
 
 -- no slot is to be emptied
-pub pages_unmended : (P kept page : ℕ) (bad : Option Slot) (old new : Life) (s : SyncState) → ((t : Slot) → bad ≡ Some t → ⊥) → CutsBack kept old new (Ok s) → KeepsPages P kept page bad old new (Ok s)
+pub pages_unmended : (P kept page : ℕ) (bad : Option Slot) (old new : Life) (s : SyncState) → ((t : Slot) → bad ≡ Some t → ⊥) → CutsBack kept old new (Ok s) → CutsAndMends P kept page bad old new (Ok s)
 pages_unmended P kept page None old new s none cuts = (s, new, cuts, (refl, refl), refl)
 pages_unmended P kept page (Some t) old new s none cuts = absurd (none t refl)
 
@@ -137,24 +137,24 @@ emptied_answer (Ok u) = Ok Clean
 emptied_answer (Err e) = Err e
 
 pub pages_mended : (P kept page size : ℕ) (bad : Option Slot) (t : Slot) (old mid new : Life) (s : SyncState) (answer : Result (Unit {0}) Error) → size ≡ length old.present.readable → bad ≡ Some t → CutsBack kept old mid (Ok s) → Empties P page t (kept == size) mid new answer
-    → KeepsPages P kept page bad old new (emptied_answer answer)
+    → CutsAndMends P kept page bad old new (emptied_answer answer)
 pages_mended P kept page size bad t old mid new s answer length_is is cuts goes =
-    subst (λ (b : Option Slot). KeepsPages P kept page b old new (emptied_answer answer)) (sym is) (by_answer answer (subst (λ (b : Bool). Empties P page t b mid new answer) (unsynced s cuts) goes))
+    subst (λ (b : Option Slot). CutsAndMends P kept page b old new (emptied_answer answer)) (sym is) (by_answer answer (subst (λ (b : Bool). Empties P page t b mid new answer) (unsynced s cuts) goes))
   where
     unsynced : (s : SyncState) → CutsBack kept old mid (Ok s) → (kept == size) ≡ is_unsynced s
     unsynced Dirty cuts = eq-eqb kept size (cuts.0 ∙ sym length_is)
     unsynced Clean cuts = ne_eqb kept size (λ same. cuts.0 (same ∙ length_is))
     unsynced (Pending name) cuts = absurd cuts
 
-    by_answer : (answer : Result (Unit {0}) Error) → Empties P page t (is_unsynced s) mid new answer → KeepsPages P kept page (Some t) old new (emptied_answer answer)
+    by_answer : (answer : Result (Unit {0}) Error) → Empties P page t (is_unsynced s) mid new answer → CutsAndMends P kept page (Some t) old new (emptied_answer answer)
     by_answer (Ok u) goes = (s, mid, cuts, goes, refl)
     by_answer (Err e) goes = inr (s, mid, cuts, goes)
 
 -- the same, with the numbers that a program has
-keeps_alike : (P Q kept n page full : ℕ) (bad b : Option Slot) (old new : Life) (answer : Result SyncState Error) → Q ≡ P → kept ≡ n → page ≡ full → bad ≡ b → KeepsPages Q kept page bad old new answer → KeepsPages P n full b old new answer
+keeps_alike : (P Q kept n page full : ℕ) (bad b : Option Slot) (old new : Life) (answer : Result SyncState Error) → Q ≡ P → kept ≡ n → page ≡ full → bad ≡ b → CutsAndMends Q kept page bad old new answer → CutsAndMends P n full b old new answer
 keeps_alike P Q kept n page full bad b old new answer same kept_is page_is bad_is keeps =
-    subst (λ (x : Option Slot). KeepsPages P n full x old new answer) bad_is
-    (subst (λ (k : ℕ). KeepsPages P n k bad old new answer) page_is (subst (λ (k : ℕ). KeepsPages P k page bad old new answer) kept_is (subst (λ (k : ℕ). KeepsPages k kept page bad old new answer) same keeps)))
+    subst (λ (x : Option Slot). CutsAndMends P n full x old new answer) bad_is
+    (subst (λ (k : ℕ). CutsAndMends P n k bad old new answer) page_is (subst (λ (k : ℕ). CutsAndMends P k page bad old new answer) kept_is (subst (λ (k : ℕ). CutsAndMends k kept page bad old new answer) same keeps)))
 
 module _ (sum : List ℕ → ℕ) (P Q size physical : ℕ) (readable : List ℕ) (p : Prefix) (bad : Option Slot) (same : Q ≡ P) (whole_page : physical ≡ Q + 12) (length_is : size ≡ length readable)
     (is : p ≡ last_prefix sum Q (size / physical) readable) (bad_is : bad ≡ bad_in sum Q readable (last_prefix sum Q (size / physical) readable)) where
@@ -175,9 +175,9 @@ module _ (sum : List ℕ → ℕ) (P Q size physical : ℕ) (readable : List ℕ
 
   module _ (old mid new : Life) (looked : Looked old mid) (old_is : old.present.readable ≡ readable) (count kept : ℕ) (counted : count ≡ prefix_pages p) (kept_is : kept ≡ count * physical) where
     abbrev KeepsOpened : Result SyncState Error → Type 0
-    KeepsOpened answer = KeepsPages P (opened_size sum P readable) opened.full_pages (bad_in sum P readable opened) mid new answer
+    KeepsOpened answer = CutsAndMends P (opened_size sum P readable) opened.full_pages (bad_in sum P readable opened) mid new answer
 
-    opened_keeps : (answer : Result SyncState Error) → KeepsPages Q kept p.full_pages bad mid new answer → KeepsOpened answer
+    opened_keeps : (answer : Result SyncState Error) → CutsAndMends Q kept p.full_pages bad mid new answer → KeepsOpened answer
     opened_keeps answer keeps =
         keeps_alike P Q kept (opened_size sum P readable) p.full_pages opened.full_pages bad (bad_in sum P readable opened) mid new answer same
         (opened_kept sum P Q size physical readable p same whole_page length_is is count kept counted kept_is) (ap (λ (x : Prefix). x.full_pages) found_is) bad_found keeps
@@ -188,15 +188,15 @@ module _ (sum : List ℕ → ℕ) (P Q size physical : ℕ) (readable : List ℕ
     within : at_most
     within = omega (arith, opened_size_le sum P readable, ap length old_is)
 
-    pub opened_trims : (answer : Result SyncState Error) → KeepsPages Q kept p.full_pages bad mid new answer → TrimsTo P (opened_size sum P readable) opened.full_pages (bad_in sum P readable opened) old new
+    pub opened_trims : (answer : Result SyncState Error) → CutsAndMends Q kept p.full_pages bad mid new answer → TrimsTo P (opened_size sum P readable) opened.full_pages (bad_in sum P readable opened) old new
     opened_trims answer keeps = (mid, looked, inr (answer, opened_keeps answer keeps))
 
-    pub opened_cause : (e : Error) → size < 2 ^ 64 → KeepsPages Q kept p.full_pages bad mid new (Err e) → RecoveryCause old new e
+    pub opened_cause : (e : Error) → size < 2 ^ 64 → CutsAndMends Q kept p.full_pages bad mid new (Err e) → RecoveryCause old new e
     opened_cause e small keeps =
         pages_cause P (opened_size sum P readable) opened.full_pages (bad_in sum P readable opened) old mid new looked within e
         (λ t is. omega (arith, opened_there sum P readable t is, length_is, small)) (opened_keeps (Err e) keeps)
 
-    pub opened_back : (s : SyncState) → KeepsPages Q kept p.full_pages bad mid new (Ok s) → IsCutBack old new (opened_bytes sum P old.present.readable) s × LogGrows old.present new.present
+    pub opened_back : (s : SyncState) → CutsAndMends Q kept p.full_pages bad mid new (Ok s) → IsCutBack old new (opened_bytes sum P old.present.readable) s × LogGrows old.present new.present
     opened_back s keeps =
         subst (λ (l : List ℕ). IsCutBack old new (opened_bytes sum P l) s × LogGrows old.present new.present) (sym old_is)
         (subst (λ (l : List ℕ). IsCutBack old new (emptied P opened.full_pages (bad_in sum P readable opened) (take (opened_size sum P readable) l)) s × LogGrows old.present new.present) old_is

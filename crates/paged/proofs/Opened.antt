@@ -27,7 +27,7 @@ use Rattle.paged_read.specs.Tail.{CanRead}
 use Rattle.cache.specs.Pages.{IsFresh}
 use Rattle.paged.specs.Caches.{tail_of}
 use Rattle.paged.specs.Ready.{IsUsable}
-use Rattle.paged.specs.Reads.{HasPages}
+use Rattle.paged.specs.Reads.{HasWriterPages}
 use Rattle.paged.specs.Calls.{WaitsForNone}
 use Rattle.paged.specs.Recovery.{BesideIsMended, IsCutBack, IsDurable, GivesWriter, SoundWhereFull, IsAsOpened, IsOpened, Opens, TailIsMended, opened_bytes, opened_prefix, opened_size, slot_of_tip, at_prefix}
 use Rattle.paged.specs.Recovery.IsCutBack.{whole, cut}
@@ -166,7 +166,7 @@ opens_end sum cache capacity old new s room p (Err IdsExhausted) covered small_s
 -- ---- what holds of it
 
 -- the pages below its tip are in the blob
-pub opened_there : (sum : List ℕ → ℕ) (cache : CacheState) (capacity : ℕ) (old new : Life) (result : Result WriterState Error) → Opens sum cache capacity old new result → IfOk result (λ w. HasPages w new)
+pub opened_there : (sum : List ℕ → ℕ) (cache : CacheState) (capacity : ℕ) (old new : Life) (result : Result WriterState Error) → Opens sum cache capacity old new result → IfOk result (λ w. HasWriterPages w new)
 opened_there sum cache capacity old new (Ok w) opened =
     let P = cache.page_size in
     let p = opened_prefix sum P old.present.readable in

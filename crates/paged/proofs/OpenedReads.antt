@@ -11,13 +11,13 @@ use Rattle.writer_state.specs.WriterState.{WriterState}
 use Rattle.writer_state.specs.declared.sync_state.SyncState.TheVariants.{Clean}
 use Rattle.crash.specs.Looks.{Looked}
 use Rattle.paged.specs.Flush.{synced}
-use Rattle.paged.specs.Reads.{HasPages, size_of}
+use Rattle.paged.specs.Reads.{HasWriterPages, size_of}
 use Rattle.paged.specs.Recovery.{Opens, cache_after, opened_bytes, opened_writer}
 use Rattle.paged.specs.Recovers.{GivesId, Recovers}
 use Rattle.paged.specs.Truncate.{shortened_writer}
 use Rattle.paged.specs.Caches.{ReadsOn, tail_of}
 use Rattle.paged_read.specs.Snapshots.{LeavesReads}
-use Rattle.paged_read.specs.Tail.{Tail, CanRead, told}
+use Rattle.paged_read.specs.Tail.{Tail, CanRead, logical_bytes}
 use Rattle.paged_read.proofs.Outliving.{given_reads}
 
 -- a tail whose id a fresh cache gave last
@@ -29,15 +29,15 @@ new_reads w cache d is_id same there fresh = record {
   there = there;
   page_size = sym same;
   given = omega (arith, is_id);
-  cached = subst (λ (id : ℕ). IsTrueFor id (told (tail_of w) d.readable) w.full_pages
+  cached = subst (λ (id : ℕ). IsTrueFor id (logical_bytes (tail_of w) d.readable) w.full_pages
       (record cache { ids_given = cache.ids_given + 1 })) (sym is_id)
-      (λ page bytes below held. fresh_true (told (tail_of w) d.readable) w.full_pages cache fresh page bytes below held);
+      (λ page bytes below held. fresh_true (logical_bytes (tail_of w) d.readable) w.full_pages cache fresh page bytes below held);
 }
 
 -- as a blob is opened
 pub opened_reads : (sum : List ℕ → ℕ) (cache after : CacheState) (capacity : ℕ) (old new : Life)
     (result : Result WriterState Error) → Opens sum cache capacity old new result
-    → IfOk result (λ w. HasPages w new) → after ≡ cache_after result cache → IsFresh cache
+    → IfOk result (λ w. HasWriterPages w new) → after ≡ cache_after result cache → IsFresh cache
     → IfOk result (λ w. CanRead (tail_of w) after new.present)
 opened_reads sum cache after capacity old new (Ok w) opens there is fresh =
     subst (λ (c : CacheState). CanRead (tail_of w) c new.present) (sym is)

@@ -9,7 +9,7 @@ use Rattle.writer_state.specs.WriterState.{WriterState}
 use Rattle.writer_state.specs.Sound.{IsConsistent, IsIntact, IsSound, content}
 use Rattle.writer_state.proofs.Soundness.{intact_is_sound, settle_keeps, sound_holds_together, sound_is_intact}
 use Rattle.crash.specs.Stays.{StaysThrough, KeepsAll}
-use Rattle.paged.specs.Calls.{AppendsOver, BuffersOver, CarriesOn, GoesOn, HoldsWithin, KeepsConsistent, KeepsSound, StartsOver, Syncs, SyncsOver, TryAppends, WaitsOver}
+use Rattle.paged.specs.Calls.{AppendsOver, BuffersOver, CarriesOn, HoldsWithin, KeepsConsistent, KeepsSound, StartsOver, Succeeds, Syncs, SyncsOver, TryAppendGoes, WaitsOver}
 use Rattle.paged.proofs.Appends.{append_unasked, buffered_goes}
 use Rattle.paged.proofs.Flushes.{size_holds}
 
@@ -64,7 +64,7 @@ sync_keeps_all sum w old new (Err e) full refused = tt
 pub still_sound : (sum : List ℕ → ℕ) (w now : WriterState) (more : List ℕ) (old new : Life) → IsSound sum w old.present → CarriesOn sum w old more now new → IsSound sum now new.present
 still_sound sum w now more old new sound goes = intact_is_sound sum now new.present goes.holds (goes.intact (sound_is_intact sum w old.present sound))
 
-pub sound_goes : (sum : List ℕ → ℕ) (w now : WriterState) (more : List ℕ) (old new : Life) → IsSound sum w old.present → CarriesOn sum w old more now new → GoesOn sum w old more now new
+pub sound_goes : (sum : List ℕ → ℕ) (w now : WriterState) (more : List ℕ) (old new : Life) → IsSound sum w old.present → CarriesOn sum w old more now new → Succeeds sum w old more now new
 sound_goes sum w now more old new sound goes = record {
   sound = still_sound sum w now more old new sound goes;
   stays = goes.stays;
@@ -77,7 +77,7 @@ sound_goes sum w now more old new sound goes = record {
 }
 
 -- and what goes on sound goes on
-pub goes_over : (sum : List ℕ → ℕ) (w now : WriterState) (more : List ℕ) (old new : Life) → GoesOn sum w old more now new → CarriesOn sum w old more now new
+pub goes_over : (sum : List ℕ → ℕ) (w now : WriterState) (more : List ℕ) (old new : Life) → Succeeds sum w old more now new → CarriesOn sum w old more now new
 goes_over sum w now more old new goes = record {
   holds = sound_holds_together sum now new.present goes.sound;
   intact = λ full. sound_is_intact sum now new.present goes.sound;
@@ -97,7 +97,7 @@ sound_syncs sum w old new (Err e) sound refused = refused
 -- ---- bytes that are buffered
 
 -- over any blob
-pub buffers_over : (sum : List ℕ → ℕ) (w now : WriterState) (bytes : List ℕ) (result : Result (Option ℕ) Error) → TryAppends w bytes now result → BuffersOver sum w bytes now result
+pub buffers_over : (sum : List ℕ → ℕ) (w now : WriterState) (bytes : List ℕ) (result : Result (Option ℕ) Error) → TryAppendGoes w bytes now result → BuffersOver sum w bytes now result
 buffers_over sum w now bytes (Ok (Some at)) tries = λ life sound.
     let holds = sound_holds_together sum w life.present sound in
     (tries.2 ∙ size_holds sum w life holds, sound_goes sum w now bytes life life sound (buffered_goes sum w now bytes life holds tries.3))
@@ -105,7 +105,7 @@ buffers_over sum w now bytes (Ok None) tries = tt
 buffers_over sum w now bytes (Err e) tries = tt
 
 -- whatever it answers, the writer is sound where it was
-pub keeps_sound : (sum : List ℕ → ℕ) (w now : WriterState) (bytes : List ℕ) (result : Result (Option ℕ) Error) → TryAppends w bytes now result → KeepsSound sum w now
+pub keeps_sound : (sum : List ℕ → ℕ) (w now : WriterState) (bytes : List ℕ) (result : Result (Option ℕ) Error) → TryAppendGoes w bytes now result → KeepsSound sum w now
 keeps_sound sum w now bytes (Ok (Some at)) tries = λ d sound.
     let life : Life = record { present = d; past = [] } in
     still_sound sum w now bytes life life sound (buffered_goes sum w now bytes life (sound_holds_together sum w d sound) tries.3)
@@ -120,7 +120,7 @@ keeps_sound sum w now bytes (Err InvalidChecksum) tries = absurd tries
 keeps_sound sum w now bytes (Err BlobInsufficientLength) tries = absurd tries
 keeps_sound sum w now bytes (Err IdsExhausted) tries = absurd tries
 
-pub keeps_consistent : (sum : List ℕ → ℕ) (w now : WriterState) (bytes : List ℕ) (result : Result (Option ℕ) Error) → TryAppends w bytes now result → KeepsConsistent sum w now
+pub keeps_consistent : (sum : List ℕ → ℕ) (w now : WriterState) (bytes : List ℕ) (result : Result (Option ℕ) Error) → TryAppendGoes w bytes now result → KeepsConsistent sum w now
 keeps_consistent sum w now bytes (Ok (Some at)) tries = λ d holds. (buffered_goes sum w now bytes (record { present = d; past = [] }) holds tries.3).holds
 keeps_consistent sum w now bytes (Ok None) tries = λ d holds. subst (λ (v : WriterState). IsConsistent sum v d) (sym tries.2) holds
 keeps_consistent sum w now bytes (Err OffsetOverflow) tries = λ d holds. subst (λ (v : WriterState). IsConsistent sum v d) (sym tries.1) holds

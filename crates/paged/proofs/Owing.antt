@@ -9,7 +9,7 @@ use Rattle.cache.specs.Pages.{CachesOnly}
 use Rattle.crash.specs.Below.{PagesStay, SamePages}
 use Rattle.crash.specs.Kept.{AllKeep, Each, Through}
 use Rattle.crash.specs.Moments.{through_then}
-use Rattle.crash.specs.Started.{CoversStay, CoversThrough, StartsStand}
+use Rattle.crash.specs.Started.{CoversStay, CoversThrough, StartsCanBeAwaited}
 use Rattle.crash.specs.Stays.{Stays, StaysThrough}
 use Rattle.crash.proofs.Disks.{base_is_image, base_is_whole}
 use Rattle.crash.proofs.Moments.{keeps_longer, keeps_shorter, same_floor}
@@ -99,7 +99,7 @@ module _ (sum : List ℕ → ℕ) (w : WriterState) (all : List ℕ) (old new : 
 
 pub owes_of : (sum : List ℕ → ℕ) (w : WriterState) (all : List ℕ) (cache after : CacheState) (old new : Life) → IsUsable sum w cache old
     → content w old.present.readable ≡ take (length (content w old.present.readable)) all → StaysThrough sum w.page_size all old new
-    → PagesStay w.page_size w.full_pages old new → CoversThrough sum w.page_size (content w old.present.readable) old new → StartsStand new.present
+    → PagesStay w.page_size w.full_pages old new → CoversThrough sum w.page_size (content w old.present.readable) old new → StartsCanBeAwaited new.present
     → CachesOnly w.id w.full_pages all cache after → Owes sum w all cache after old new
 owes_of sum w all cache after old new ready begins stays pages covers starts cached = record {
   through = owed_through sum w all old new ready.consistent begins stays pages covers;
@@ -113,7 +113,7 @@ owes_of sum w all cache after old new ready begins stays pages covers starts cac
 
 -- a wait's
 pub owes_waiting : (sum : List ℕ → ℕ) (w : WriterState) (old new : Life) → IsConsistent sum w old.present → StaysThrough sum w.page_size (content w old.present.readable) old new
-    → PagesStay w.page_size w.full_pages old new → CoversThrough sum w.page_size (content w old.present.readable) old new → StartsStand new.present → OwesWaiting sum w old new
+    → PagesStay w.page_size w.full_pages old new → CoversThrough sum w.page_size (content w old.present.readable) old new → StartsCanBeAwaited new.present → OwesWaiting sum w old new
 owes_waiting sum w old new sound stays pages covers starts = record {
   through = owed_through sum w (content w old.present.readable) old new sound (sym (take_all (length (content w old.present.readable)) (content w old.present.readable) (omega arith))) stays pages covers;
   starts = starts;

@@ -9,7 +9,7 @@ use Rattle.writer_state.specs.declared.sync_state.SyncState.TheVariants.{Clean, 
 use Rattle.writer_state.proofs.Examples.{durable, six, ef_slot}
 use Rattle.writer_state.proofs.PartExamples.{torn_page}
 use Rattle.paged_read.specs.Prefix.{value_and_slot, partial_pages, tip_of, bad_beside_value}
-use Rattle.paged_read.specs.Tail.{told}
+use Rattle.paged_read.specs.Tail.{logical_bytes}
 use Rattle.paged.specs.Calls.{wait_calls, unstarted_calls}
 use Rattle.paged.specs.Recovery.{emptied, slot_of_tip}
 
@@ -59,11 +59,11 @@ nothing_is_emptied = refl
 -- ---- what is read
 
 -- the payload of the full page, and the bytes in memory
-pub six_are_told : told (record { page_size = 4; id = 0; full_pages = 1; bytes = ef }) durable.readable ≡ six
+pub six_are_told : logical_bytes (record { page_size = 4; id = 0; full_pages = 1; bytes = ef }) durable.readable ≡ six
 six_are_told = refl
 
 -- without a full page, those alone
-pub two_are_told : told (record { page_size = 4; id = 0; full_pages = 0; bytes = ef }) durable.readable ≡ ef
+pub two_are_told : logical_bytes (record { page_size = 4; id = 0; full_pages = 0; bytes = ef }) durable.readable ≡ ef
 two_are_told = refl
 
 -- ---- calls

@@ -13,7 +13,7 @@ use Rattle.page.specs.Slot.{slot_offset}
 use Rattle.page.specs.Page.{slot_bytes}
 use Rattle.page.specs.declared.slot.Slot.{Slot}
 use Rattle.paged.specs.Recovery.{Cuts, CutsBack}
-use Rattle.paged.specs.Mends.{Empties, KeepsPages, Mends, is_unsynced}
+use Rattle.paged.specs.Mends.{Empties, CutsAndMends, Mends, is_unsynced}
 
 -- none of these reads
 abbrev AreQuiet : List Request → Type 0
@@ -115,14 +115,14 @@ mends_quiet : (P page : ℕ) (bad : Option Slot) (unsynced : Bool) (old new : Li
 mends_quiet P page None unsynced old new answer mends = gained_none AreQuiet old new mends.1 tt
 mends_quiet P page (Some s) unsynced old new answer mends = empties_quiet P page s unsynced old new answer mends
 
-pages_quiet : (P kept page : ℕ) (bad : Option Slot) (old new : Life) (answer : Result SyncState Error) → KeepsPages P kept page bad old new answer → Quiet old new
+pages_quiet : (P kept page : ℕ) (bad : Option Slot) (old new : Life) (answer : Result SyncState Error) → CutsAndMends P kept page bad old new answer → Quiet old new
 pages_quiet P kept page bad old new (Ok s) (state, mid, cuts, mends, is) = quiet_both old mid new (cuts_back_quiet kept old mid (Ok state) cuts) (mends_quiet P page bad (is_unsynced state) mid new (Ok tt) mends)
 pages_quiet P kept page bad old new (Err e) (inl cuts) = cuts_back_quiet kept old new (Err e) cuts
 pages_quiet P kept page bad old new (Err e) (inr (state, mid, cuts, mends)) =
     quiet_both old mid new (cuts_back_quiet kept old mid (Ok state) cuts) (mends_quiet P page bad (is_unsynced state) mid new (Err e) mends)
 
 -- opening: a search back, and then a cut, and a slot emptied
-pub opens_back : (size P kept page : ℕ) (bad : Option Slot) (old mid new : Life) (answer : Result SyncState Error) → ReadsBack size old mid → KeepsPages P kept page bad mid new answer → ReadsBack size old new
+pub opens_back : (size P kept page : ℕ) (bad : Option Slot) (old mid new : Life) (answer : Result SyncState Error) → ReadsBack size old mid → CutsAndMends P kept page bad mid new answer → ReadsBack size old new
 opens_back size P kept page bad old mid new answer back keeps =
     let top = length old.present.readable in
     gained_joins (FallFrom size top) AreQuiet (FallFrom size top) old mid new (fall_then_quiet size top) back (pages_quiet P kept page bad mid new answer keeps)

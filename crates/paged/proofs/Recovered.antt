@@ -34,7 +34,7 @@ use Rattle.paged_read.specs.Ranges.{page_at}
 use Rattle.paged_read.specs.Prefix.{prefix_of, prefix_pages, prefix_size, partial_pages, tip_of}
 use Rattle.paged_read.specs.Scans.{text_of_first}
 use Rattle.paged.specs.Reads.{size_of}
-use Rattle.paged.specs.Calls.{WaitsForNone, HadFailed}
+use Rattle.paged.specs.Calls.{WaitsForNone, PendingSyncFailed}
 use Rattle.paged.specs.Truncate.{IsCut, IsTruncated, SoundAndKept, TruncateCause, Truncates, cut_writer, cut_bytes, shortened_writer}
 use Rattle.paged.specs.Recovers.{IsRecovered, Recovers}
 use Rattle.paged.specs.Recovery.{RecoveryCause, IsDurable, IsCutBack, IsOpened, IsAsOpened, slot_pages, opened_prefix, opened_size, opened_bytes, opened_writer, slot_of_tip}
@@ -248,7 +248,7 @@ looked_as_opened sum w old new looked is = record {
 }
 
 -- no sync that it waits for has failed
-none_had_failed : (s : SyncState) (d : Disk) → WaitsForNone s → HadFailed s d → ⊥
+none_had_failed : (s : SyncState) (d : Disk) → WaitsForNone s → PendingSyncFailed s d → ⊥
 none_had_failed Clean d none had = had
 none_had_failed Dirty d none had = had
 none_had_failed (Pending name) d none had = none

@@ -26,7 +26,7 @@ use Rattle.paged.specs.Recovery.{IsDurable, IsAsOpened, KeepsText, LeavesText, S
 use Rattle.paged.specs.Recovers.{IsRecovered, recovered_writer, recovered_bytes}
 use Rattle.cache.specs.CacheState.{CacheState, empty_cache}
 use Rattle.paged.specs.Recovery.IsCutBack.{whole}
-use Rattle.paged_read.specs.Searches.{AreWithin, ReadsWithin, scan_bytes}
+use Rattle.paged_read.specs.Searches.{AreReadsWithin, ReadsWithin, scan_bytes}
 use Rattle.paged_read.specs.Backward.{FallFrom, ReadsBack}
 use Rattle.paged.proofs.Opened.{opened_sound}
 use Rattle.paged.proofs.Trims.{keeps_text, leaves_text}
@@ -245,7 +245,7 @@ reads_within = (read 0 32 ∷ record { request = ResizeTo 16; failed = false } �
 
 -- which is too long a read for 16 bytes
 pub not_within : ReadsWithin 16 before (reads (read 0 32 ∷ [])) → ⊥
-not_within (more, is, within) = let here : AreWithin 16 (ReadAt 0 32 ∷ []) = subst (λ (l : List Entry). AreWithin 16 (map (λ e. e.request) l)) (sym is) within in omega (arith, here.0)
+not_within (more, is, within) = let here : AreReadsWithin 16 (ReadAt 0 32 ∷ []) = subst (λ (l : List Entry). AreReadsWithin 16 (map (λ e. e.request) l)) (sym is) within in omega (arith, here.0)
 
 -- one write is one device call
 pub one_call : AsksAtMost 1 before after

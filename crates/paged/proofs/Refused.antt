@@ -9,7 +9,7 @@ use Rattle.cache.specs.CacheState.{CacheState}
 use Rattle.writer_state.specs.WriterState.{WriterState}
 use Rattle.writer_state.specs.declared.sync_state.SyncState.{SyncState}
 use Rattle.writer_state.specs.declared.sync_state.SyncState.TheVariants.{Clean, Dirty, Pending}
-use Rattle.paged.specs.Calls.{WaitsForNone, wait_calls, waited, waited_state}
+use Rattle.paged.specs.Calls.{WaitsForNone, wait_calls, waited_writer, waited_state}
 use Rattle.paged.specs.Caches.{PutsOnceWaited, IsNotBefore}
 
 -- nothing was put
@@ -74,7 +74,7 @@ puts_after {A} old mid new s result (inl same) puts late =
 puts_after old mid new s result (inr none) puts late = puts_late old new result (late none)
 
 -- what was waited for is clean
-pub waited_clean : (w m : WriterState) → m ≡ waited w → wait_calls w.sync ≡ 1 → m.sync ≡ Clean
+pub waited_clean : (w m : WriterState) → m ≡ waited_writer w → wait_calls w.sync ≡ 1 → m.sync ≡ Clean
 waited_clean w m is one = subst (λ (v : WriterState). v.sync ≡ Clean) (sym is) (clean w.sync one)
   where
     clean : (s : SyncState) → wait_calls s ≡ 1 → waited_state s ≡ Clean

@@ -18,7 +18,7 @@ use Rattle.crash.proofs.Pages.{fewer_fit, length-pieces, pages_whole, take-pages
 use Rattle.crash.proofs.Texts.{AreFull_fewer}
 use Rattle.paged_read.specs.declared.prefix.Prefix.{Prefix}
 use Rattle.paged_read.specs.Prefix.{prefix_pages, prefix_size, tip_of}
-use Rattle.paged_read.specs.Scans.{IsProven, IsWithinBlob, LooksThrough, pages_from, prefix_from, scan_end, scan_start, scan_to, Scans, text_of_first}
+use Rattle.paged_read.specs.Scans.{IsProven, IsWithinBlob, LooksThrough, pages_from, prefix_from, scan_end, scan_start, scan_to, ScanAnswers, text_of_first}
 use Rattle.paged_read.proofs.Scanning.{bounded_scan, prefix_from_counts, scan_counts_text}
 use Rattle.paged.specs.Recovery.{IsAsOpened, slot_pages}
 use Rattle.paged.specs.Scans.{flushed_pages}
@@ -56,7 +56,7 @@ scanned_size sum P full end proven start size readable p begins is counts =
 -- ---- one that is refused
 
 -- whatever it looked for
-pub look_refused : {A : Type 0} (reach len : ℕ) (a : A) (old new : Life) (e : Error) → LooksThrough reach a old new (Err e) → Scans reach len old new (Err e)
+pub look_refused : {A : Type 0} (reach len : ℕ) (a : A) (old new : Life) (e : Error) → LooksThrough reach a old new (Err e) → ScanAnswers reach len old new (Err e)
 look_refused reach len a old new ReadFailed looks = looks
 look_refused reach len a old new WriteFailed looks = looks
 look_refused reach len a old new ResizeFailed looks = looks
@@ -67,7 +67,7 @@ look_refused reach len a old new OffsetOverflow looks = absurd looks
 look_refused reach len a old new OutOfMemory looks = looks
 look_refused reach len a old new IdsExhausted looks = looks
 
-pub scan_refused : (reach len other : ℕ) (old new : Life) (e : Error) → Scans reach len old new (Err e) → Scans reach other old new (Err e)
+pub scan_refused : (reach len other : ℕ) (old new : Life) (e : Error) → ScanAnswers reach len old new (Err e) → ScanAnswers reach other old new (Err e)
 scan_refused reach len other old new ReadFailed scans = scans
 scan_refused reach len other old new WriteFailed scans = scans
 scan_refused reach len other old new ResizeFailed scans = scans
@@ -79,7 +79,7 @@ scan_refused reach len other old new OutOfMemory scans = scans
 scan_refused reach len other old new IdsExhausted scans = scans
 
 -- it only looks
-pub scan_looks : (reach len : ℕ) (old new : Life) (result : Result ℕ Error) → Scans reach len old new result → Looked old new
+pub scan_looks : (reach len : ℕ) (old new : Life) (result : Result ℕ Error) → ScanAnswers reach len old new result → Looked old new
 scan_looks reach len old new (Ok n) scans = scans.1
 scan_looks reach len old new (Err ReadFailed) scans = scans.1
 scan_looks reach len old new (Err WriteFailed) scans = absurd scans
@@ -94,7 +94,7 @@ scan_looks reach len old new (Err IdsExhausted) scans = absurd scans
 -- ---- what it answers
 
 -- another number, where that is the same
-pub scan_answers : (reach len other : ℕ) (old new : Life) (result : Result ℕ Error) → Scans reach len old new result → len ≡ other → IfOk result (λ n. n ≡ other)
+pub scan_answers : (reach len other : ℕ) (old new : Life) (result : Result ℕ Error) → ScanAnswers reach len old new result → len ≡ other → IfOk result (λ n. n ≡ other)
 scan_answers reach len other old new (Ok n) scans same = scans.0 ∙ same
 scan_answers reach len other old new (Err e) scans same = tt
 
@@ -130,7 +130,7 @@ module _ (sum : List ℕ → ℕ) (w : WriterState) (d : Disk) where
 
   -- so a scan of it is refused for no offset
   pub scan_within : (end len : ℕ) (old new : Life) (result : Result ℕ Error) → old.present ≡ d → 0 < w.page_size → FitsBlob w.page_size w.full_pages (length w.tip) → end ≤ flushed_pages w
-      → IsSound sum w d ⊎ IsAsOpened sum w d → Scans (end * (w.page_size + 12)) len old new result → IsWithinBlob result
+      → IsSound sum w d ⊎ IsAsOpened sum w d → ScanAnswers (end * (w.page_size + 12)) len old new result → IsWithinBlob result
   scan_within end len old new (Ok n) is some fits le stands scans = tt
   scan_within end len old new (Err ReadFailed) is some fits le stands scans = tt
   scan_within end len old new (Err WriteFailed) is some fits le stands scans = tt

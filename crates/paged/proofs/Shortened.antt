@@ -34,8 +34,8 @@ use Rattle.paged_read.specs.Ranges.{page_at}
 use Rattle.paged.specs.Reads.{size_of}
 use Rattle.paged.specs.Recovery.{IsAsOpened, IsDurable, slot_pages}
 use Rattle.paged.specs.Writer.{FitsBlob}
-use Rattle.paged.specs.Flush.{answered, has_work}
-use Rattle.paged.specs.Truncate.{CutsTo, Then, Rewrites, ResizesTo, ReadsOnce, ReadsValue, Cutting, ShortenCause, Shortens, standing, shortened, shortened_slot, shorten_calls}
+use Rattle.paged.specs.Flush.{has_work, with_value}
+use Rattle.paged.specs.Truncate.{CutsTo, Then, Rewrites, ResizesTo, ReadsOnce, ReadsValue, Cutting, ShortenCause, Shortens, writer_at, shortened, shortened_slot, shorten_calls}
 use Rattle.paged.proofs.Recoveries.{resize_cause, resize_done}
 use Rattle.paged.proofs.Shortening.{DeviceCause, Owed, Ready, device_later, cutting_none, cutting_grows, cutting_joins, cutting_fewer, resize_cuts, resize_device, sync_cuts, sync_failed, read_cuts, once_looked, rewrite_goes, stage_calls}
 
@@ -448,7 +448,7 @@ read_shortens sum P n old mid late IdsExhausted grows same cause = absurd cause
 -- the writer stands after what is left
 pub stands_left : (sum : List ℕ → ℕ) (w now : WriterState) (n : ℕ) (old new : Life) (pages : ℕ) (bytes : List ℕ) (slot : Option ActiveChecksum) (result : Result (Unit {0}) Error) → w.sync ≡ Clean → pages ≡ n / w.page_size
     → bytes ≡ take (n % w.page_size) (drop (n / w.page_size * (w.page_size + 12)) old.present.readable) → slot ≡ shortened_slot sum w.page_size n old.present.readable
-    → new.present.readable ≡ shortened sum w.page_size n old.present.readable → IsDurable new.present → OnOk result (now ≡ standing w pages bytes slot) → IsOkUnless result OutOfMemory → Shortens sum n w old new (answered now result)
+    → new.present.readable ≡ shortened sum w.page_size n old.present.readable → IsDurable new.present → OnOk result (now ≡ writer_at w pages bytes slot) → IsOkUnless result OutOfMemory → Shortens sum n w old new (with_value now result)
 stands_left sum w now n old new pages bytes slot (Ok u) clean page_is bytes_is slot_is readable durable ok err = record {
   state = ok ∙ (λ i. record w { full_pages = page_is i; tip = bytes_is i; flushed = slot_is i; durable = slot_is i; sync = clean i });
   readable = readable;
@@ -537,8 +537,8 @@ module _ (sum : List ℕ → ℕ) (w : WriterState) (n q : ℕ) (old : Life) (sa
         within_unwritten last e goes = let owed = wrote last (Err e) goes in (owed.cuts, device_shortens sum P n old last e owed.failed)
 
         -- they are done
-        pub within_written : (last : Life) (now : WriterState) (result : Result (Unit {0}) Error) → Rewrites P (n / q) value.slot new.len new.crc unsynced late last (Ok tt) → OnOk result (now ≡ standing w (n / q) bytes (Some new)) → IsOkUnless result OutOfMemory
-            → CutsTo sum n w old last × Shortens sum n w old last (answered now result)
+        pub within_written : (last : Life) (now : WriterState) (result : Result (Unit {0}) Error) → Rewrites P (n / q) value.slot new.len new.crc unsynced late last (Ok tt) → OnOk result (now ≡ writer_at w (n / q) bytes (Some new)) → IsOkUnless result OutOfMemory
+            → CutsTo sum n w old last × Shortens sum n w old last (with_value now result)
         within_written last now result goes ok err =
             let owed = wrote last (Ok tt) goes in (
               owed.cuts,

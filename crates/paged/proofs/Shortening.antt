@@ -4,7 +4,7 @@ use Rattle.std.specs.Prelude.{OnOk, IfErr, slice_range}
 use Rattle.std.specs.Int.{w16, to_be_bytes}
 use Rattle.std.proofs.lemmas.List.{take-take}
 use Rattle.std.proofs.lemmas.Option.{slice_get_within}
-use Rattle.disk.specs.Disk.{Disk, Life, Operation, Operated, Request, ReadAt, ResizeTo, WriteAt, SyncAll, IsImage, IsPartial, OperationGoes, ResizeGoes, SyncGoes, WriteGoes, applied, logged, HasFailed, LogGrows}
+use Rattle.disk.specs.Disk.{Disk, Life, Operation, HasOperated, Request, ReadAt, ResizeTo, WriteAt, SyncAll, IsImage, IsPartial, OperationGoes, ResizeGoes, SyncGoes, WriteGoes, applied, logged, HasFailed, LogGrows}
 use Rattle.disk.specs.Disk.Operation.{Write, Resize}
 use Rattle.disk.specs.declared.error.Error.{Error}
 use Rattle.disk.specs.declared.error.Error.TheVariants.{ReadFailed, WriteFailed, ResizeFailed, SyncFailed, InvalidChecksum, BlobInsufficientLength, OffsetOverflow, OutOfMemory, IdsExhausted}
@@ -31,7 +31,7 @@ use Rattle.crash.proofs.Pages.{cut_is}
 use Rattle.crash.proofs.ShrinkLaws.{other_other}
 use Rattle.writer_state.proofs.ShortenLaws.{StartsGoOn, MayHold, looked_holds, resize_holds, sync_holds, stage_holds, publish_holds, clear_holds, looked_goes_on, resize_goes_on, write_goes_on, sync_goes_on, goes_on_joins, sync_stays_held, stays_held, may_hold_on, may_hold_spares, may_hold_payload, published_may_hold, published_spares, write_latest, sync_latest}
 use Rattle.paged.specs.Calls.{AsksAtMost, CallCause}
-use Rattle.paged_read.specs.Searches.{AreWithin, ReadsWithin}
+use Rattle.paged_read.specs.Searches.{AreReadsWithin, ReadsWithin}
 use Rattle.paged.specs.Recovery.{IsDurable, RecoveryCause}
 use Rattle.paged.specs.Truncate.{Then, WritesSlot, Stages, Rewrites, ReadsOnce, Cutting, SparesSlot}
 use Rattle.disk.specs.Images.{only_image}
@@ -76,9 +76,9 @@ asked_at_most : (request : Request) (old new : Life) → Asked request old new �
 asked_at_most request old new (inl same) = omega (arith, ap length same)
 asked_at_most request old new (inr (failed, is)) = one_more old.present.log new.present.log (record { request = request; failed = failed }) is
 
-asked_within : (most : ℕ) (request : Request) (old new : Life) → AreWithin most (request ∷ []) → Asked request old new → ReadsWithin most old new
+asked_within : (most : ℕ) (request : Request) (old new : Life) → AreReadsWithin most (request ∷ []) → Asked request old new → ReadsWithin most old new
 asked_within most request old new few (inl same) = ([], same ∙ sym (append-nil old.present.log), tt)
-asked_within most request old new few (inr (failed, is)) = gained_once (AreWithin most) request failed old new is few
+asked_within most request old new few (inr (failed, is)) = gained_once (AreReadsWithin most) request failed old new is few
 
 -- a page that was read once was looked at
 pub once_looked : (P page : ℕ) (old new : Life) → ReadsOnce P page old new → Looked old new
@@ -106,7 +106,7 @@ partial_cut len n old new before there partial =
 resize_pages_stay : (P k kept : ℕ) (old new : Life) (answer : Result (Unit {0}) Error) → k ≤ kept → kept * (P + 12) ≤ length old.present.readable → ResizeGoes (kept * (P + 12)) old new answer → PagesStay P k old new
 resize_pages_stay P k kept old new answer few there goes = through_pages answer goes
   where
-    cut_pages : (failed : Bool) (d : Disk) → Operated (Resize (kept * (P + 12))) (ResizeTo (kept * (P + 12))) failed old.present d → SamePages P k old.present d
+    cut_pages : (failed : Bool) (d : Disk) → HasOperated (Resize (kept * (P + 12))) (ResizeTo (kept * (P + 12))) failed old.present d → SamePages P k old.present d
     cut_pages failed d done = partial_cut (kept * (P + 12)) (k * (P + 12)) old.present.readable d.readable (mul-le-mul_right (P + 12) few) there done.readable
 
     through_pages : (answer : Result (Unit {0}) Error) → ResizeGoes (kept * (P + 12)) old new answer → PagesStay P k old new
@@ -170,7 +170,7 @@ module _ (sum : List ℕ → ℕ) (P : ℕ) (told : List ℕ) (F k : ℕ) where
   pub cutting_joins : (c1 c2 : ℕ) (old mid new : Life) → Cutting sum P told F k c1 old mid → Cutting sum P told F k c2 mid new → Cutting sum P told F k (c1 + c2) old new
   cutting_joins c1 c2 old mid new first second = record {
     asks = omega (arith, first.asks, second.asks);
-    reads = gained_joins (AreWithin (P + 12)) (AreWithin (P + 12)) (AreWithin (P + 12)) old mid new (within_joins (P + 12)) first.reads second.reads;
+    reads = gained_joins (AreReadsWithin (P + 12)) (AreReadsWithin (P + 12)) (AreReadsWithin (P + 12)) old mid new (within_joins (P + 12)) first.reads second.reads;
     pages = pages_join P k k old mid new (omega arith) first.pages second.pages;
     started = goes_on_joins old mid new first.started second.started;
     holds = through_joins (HoldsText sum P told F) old mid new first.holds second.holds;
@@ -188,14 +188,14 @@ module _ (sum : List ℕ → ℕ) (P : ℕ) (told : List ℕ) (F k : ℕ) where
   pub cutting_none : (life : Life) → HoldsText sum P told F life.present → Cutting sum P told F k 0 life life
   cutting_none life holds = record {
     asks = omega arith;
-    reads = gained_none (AreWithin (P + 12)) life life refl tt;
+    reads = gained_none (AreReadsWithin (P + 12)) life life refl tt;
     pages = pages_none P k life life refl;
     started = through_start (StartsGoOn life.present) life (refl, omega arith);
     holds = through_start (HoldsText sum P told F) life holds;
   }
 
   -- one call of the device
-  one_call : (request : Request) (old new : Life) → Asked request old new → AreWithin (P + 12) (request ∷ []) → PagesStay P k old new → Through (StartsGoOn old.present) old new → Through (HoldsText sum P told F) old new
+  one_call : (request : Request) (old new : Life) → Asked request old new → AreReadsWithin (P + 12) (request ∷ []) → PagesStay P k old new → Through (StartsGoOn old.present) old new → Through (HoldsText sum P told F) old new
       → Cutting sum P told F k 1 old new
   one_call request old new asked within stays on holds = record {
     asks = asked_at_most request old new asked;

@@ -1,7 +1,7 @@
 -- Snapshots of a writer: what they tell, and what the calls that make them owe.
 use Rattle.std.proofs.Common.{◌≡◌, ℕ, ◌+◌, ◌<◌, List, [], length, refl, sym, ap, ◌∙◌, subst, arith, append-nil, Bool, true, false, Result, Ok, Err}
 use Rattle.std.specs.Prelude.{IfOk, nat_eq, if◌then◌else◌}
-use Rattle.disk.specs.Disk.{Life, WaitsFor}
+use Rattle.disk.specs.Disk.{Life, WaitStartedGoes}
 use Rattle.disk.specs.declared.error.Error.{Error}
 use Rattle.disk.specs.declared.started_sync.StartedSync.{StartedSync}
 use Rattle.disk.specs.declared.started_sync.StartedSync.TheVariants.{Done, Named}
@@ -14,10 +14,10 @@ use Rattle.crash.specs.Stays.{StaysThrough, KeepsAllFloors, LeavesOnly}
 use Rattle.writer_state.proofs.FloorLaws.{floors_of_sound}
 use Rattle.paged_read.specs.Tail.{Tail, CanRead}
 use Rattle.paged_read.specs.Replay.{CanReplay, IsReplayOf, new_replay, ReplayState}
-use Rattle.paged_read.specs.Snapshots.{IsTailOf, StandsOn}
+use Rattle.paged_read.specs.Snapshots.{IsTailOf, SnapshotReads}
 use Rattle.paged_read.proofs.Replays.{new_replays}
 use Rattle.paged.specs.Caches.{ReadsOn, tail_of}
-use Rattle.paged.specs.Calls.{CarriesOn, waited, waited_state, wait_calls, unstarted_calls, start_calls, started_already}
+use Rattle.paged.specs.Calls.{CarriesOn, waited_writer, waited_state, wait_calls, unstarted_calls, start_calls, started_already}
 use Rattle.paged.specs.Flush.{has_work}
 use Rattle.paged.specs.Replays.{ReplaysOver}
 use Rattle.paged.specs.Snapshots.{answer_of_seal, SnapshotsOver, seal_calls}
@@ -50,7 +50,7 @@ made_tells sum w now t old new full goes is =
 pub made_stands : (sum : List ℕ → ℕ) (w now : WriterState) (t : Tail) (cache after : CacheState)
     (old new : Life) → IsIntact sum w old.present → CarriesOn sum w old [] now new → t ≡ tail_of now
     → ReadsOn w now cache after old new → CanRead (tail_of w) cache old.present
-    → StandsOn sum t (content w old.present.readable) after new.present
+    → SnapshotReads sum t (content w old.present.readable) after new.present
 made_stands sum w now t cache after old new full goes is reads can = record {
   tail = made_tells sum w now t old new full goes is;
   can = subst (λ (u : Tail). CanRead u after new.present) (sym is) (reads can);
@@ -128,7 +128,7 @@ begun_gives sum w now size r old new full goes is =
 -- ---- a writer that is sealed
 
 -- what the call after the wait answers
-module _ (w m : WriterState) (old mid : Life) (is : m ≡ waited w)
+module _ (w m : WriterState) (old mid : Life) (is : m ≡ waited_writer w)
     (names : mid.present.started ≡ old.present.started) where
   answer : (work : Bool) → has_work w true ≡ work → (s : SyncState) → w.sync ≡ s
       → (started : StartedSync)
@@ -204,7 +204,7 @@ module _ (w m : WriterState) (old mid : Life) (is : m ≡ waited w)
 -- ---- a wait changes no byte
 
 pub waits_readable : (started : StartedSync) (old new : Life) (result : Result (Unit {0}) Error)
-    → WaitsFor started old new result → new.present.readable ≡ old.present.readable
+    → WaitStartedGoes started old new result → new.present.readable ≡ old.present.readable
 waits_readable (Named name) old new result goes = wait_readable name old new result goes
 waits_readable Done old new (Ok u) is = ap (λ (l : Life). l.present.readable) is
 waits_readable Done old new (Err e) goes = absurd goes

@@ -8,7 +8,7 @@ use Rattle.page.specs.declared.slot.ActiveChecksum.{ActiveChecksum}
 use Rattle.writer_state.specs.declared.sync_state.SyncState.TheVariants.{Clean}
 use Rattle.crash.specs.Distinct.{PageIsGood}
 use Rattle.crash.specs.Full.{AreFull}
-use Rattle.writer_state.specs.Sound.{Soundness, HasPage, content}
+use Rattle.writer_state.specs.Sound.{Soundness, HasTipPage, content}
 use Rattle.crash.proofs.Lists.{within_take}
 use Rattle.crash.proofs.Pages.{pages_at, pages_reach, page_is, page_fits, length-pages}
 use Rattle.crash.proofs.Texts.{AreBytes, AreFull_same, active_is, text_cut, text_cut_part}
@@ -51,7 +51,7 @@ module _ (sum : List ℕ → ℕ) (P : ℕ) (bytes readable : List ℕ) (full : 
       }
 
   -- it is the tip's page
-  pub page_after : HasBytes P full bytes (Some v) → readable ≡ take ((full + 1) * (P + 12)) bytes → HasPage sum P full v.0 readable v.1
+  pub page_after : HasBytes P full bytes (Some v) → readable ≡ take ((full + 1) * (P + 12)) bytes → HasTipPage sum P full v.0 readable v.1
   page_after has cut =
       let shown = told_after cut in
       let are_bytes : AreBytes (page_at P full readable) = subst (λ (l : List ℕ). AreBytes l) shown.same has in
@@ -91,7 +91,7 @@ module _ (sum : List ℕ → ℕ) (small_sum : IsSmall sum) (P id capacity : ℕ
       let same : take k bytes ≡ take k d.readable = sym (ap (λ (l : List ℕ). take k l) cut ∙ take-take k n bytes (omega arith)) in
       let here : AreFull sum P (take full (pages P d.readable)) = AreFull_same sum P full bytes d.readable (omega (arith, fits)) same are in
       let is = active_is sum P (page_at P full d.readable) a shown.told in
-      let page : HasPage sum P full v.0 d.readable a = page_after sum P bytes d.readable full v after has cut in
+      let page : HasTipPage sum P full v.0 d.readable a = page_after sum P bytes d.readable full v after has cut in
       let less : value_len sum P (page_at P full bytes) < P = omega (arith, shown.part, is.len, ap (λ (l : List ℕ). value_len sum P l) shown.same) in (
         page_sound sum w d durable.since durable.base positive small here refl (rest_settled d covered durable.since) small_sum a refl page good,
         page_content sum w d.readable a here (omega (arith, shown.size)) shown.told shown.part shown.tip

@@ -10,7 +10,7 @@ use Rattle.writer_state.specs.WriterState.{WriterState, started_state}
 use Rattle.writer_state.specs.declared.sync_state.SyncState.{SyncState}
 use Rattle.writer_state.specs.declared.sync_state.SyncState.TheVariants.{Clean, Dirty, Pending}
 use Rattle.writer_state.specs.Sound.{IsConsistent, IsIntact, Consistency, content}
-use Rattle.crash.specs.Started.{AllSettled, WouldKeep, CoversThrough, StartsStand}
+use Rattle.crash.specs.Started.{AllSettled, WouldKeep, CoversThrough, StartsCanBeAwaited}
 use Rattle.crash.specs.Below.{PagesStay}
 use Rattle.crash.specs.Stays.{Stays, StaysThrough}
 use Rattle.crash.specs.Moments.{through_more}
@@ -25,7 +25,7 @@ use Rattle.writer_state.proofs.Soundness.{consistent_leaves, intact_still, settl
 use Rattle.disk.proofs.Logs.{failed_once}
 use Rattle.disk.specs.Disk.Request.{StartSync}
 use Rattle.paged.specs.Flush.{has_work, paired}
-use Rattle.paged.specs.Calls.{AsksAtMost, wait_calls, unstarted_calls, start_calls, CarriesOn, IsSameWriter, IsWritten, HadFailed, CallCause, StartsOver, Starts, started_already}
+use Rattle.paged.specs.Calls.{AsksAtMost, wait_calls, unstarted_calls, start_calls, CarriesOn, IsSameWriter, IsWritten, PendingSyncFailed, CallCause, StartsOver, StartedSyncKeeps, started_already}
 use Rattle.paged.proofs.Causes.{start_cause, start_grows, start_asks}
 use Rattle.paged.proofs.Flushes.{size_holds, stays_nil, goes_on_same, goes_on_more, refuses_more, dirty_settled}
 
@@ -36,10 +36,10 @@ newest_failed failed d =
     ap (λ (o : Option Started). is_failed o)
     (slice_get-append_right d.started (s ∷ []) (length d.started) (omega arith) ∙ ap (λ (n : ℕ). slice_get (s ∷ []) n) (let e : length d.started - length d.started ≡ 0 = omega arith in e))
 
-newest_fails : (s : SyncState) (old new : Life) (now : WriterState) (name : ℕ) (failed : Bool) → name ≡ length old.present.started → new ≡ next old (starts failed old.present) → now.sync ≡ Pending name → HadFailed now.sync new.present
+newest_fails : (s : SyncState) (old new : Life) (now : WriterState) (name : ℕ) (failed : Bool) → name ≡ length old.present.started → new ≡ next old (starts failed old.present) → now.sync ≡ Pending name → PendingSyncFailed now.sync new.present
     → CallCause s old new SyncFailed
 newest_fails s old new now name failed last is state had =
-    let at : had_failed new.present.started name ≡ true = subst (λ (t : SyncState). HadFailed t new.present) state had in
+    let at : had_failed new.present.started name ≡ true = subst (λ (t : SyncState). PendingSyncFailed t new.present) state had in
     let here : failed ≡ true = sym (newest_failed failed old.present) ∙ ap (λ (n : ℕ). had_failed (starts failed old.present).started n) (sym last) ∙ ap (λ (l : Life). had_failed l.present.started name) (sym is) ∙ at in
     inl (failed_once StartSync old.present new.present (ap (λ (l : Life). l.present.log) is ∙ ap (λ (b : Bool). old.present.log ++ record { request = StartSync; failed = b } ∷ []) here))
 
@@ -106,11 +106,11 @@ module _ (sum : List ℕ → ℕ) (w : WriterState) (old new : Life) (small : Is
   start_covers_through (Err OutOfMemory) is = covers_none sum w.page_size (content w old.present.readable) old new is
   start_covers_through (Err e) goes = absurd goes
 
-  start_stands : (result : Result StartedSync Error) → StartGoes old new result → StartsStand new.present
+  start_stands : (result : Result StartedSync Error) → StartGoes old new result → StartsCanBeAwaited new.present
   start_stands (Ok (Named name)) (last, failed, is) =
-      subst (λ (l : Life). StartsStand l.present) (sym is) (consistent_stands sum (record w { sync = Pending (length old.present.started) }) (starts failed old.present) (start_consistent sum w old.present failed sound settled))
+      subst (λ (l : Life). StartsCanBeAwaited l.present) (sym is) (consistent_stands sum (record w { sync = Pending (length old.present.started) }) (starts failed old.present) (start_consistent sum w old.present failed sound settled))
   start_stands (Ok Done) goes = absurd goes
-  start_stands (Err OutOfMemory) is = subst (λ (l : Life). StartsStand l.present) (sym is) (consistent_stands sum w old.present sound)
+  start_stands (Err OutOfMemory) is = subst (λ (l : Life). StartsCanBeAwaited l.present) (sym is) (consistent_stands sum w old.present sound)
   start_stands (Err e) goes = absurd goes
 
 pub start_fresh : (old new : Life) (result : Result StartedSync Error) → StartGoes old new result → IfOk result (λ started. started ≡ Named (length old.present.started))
@@ -123,7 +123,7 @@ pub record Starting (sum : List ℕ → ℕ) (w now : WriterState) (old new : Li
   pub starts_sync : StartsOver sum w old new (paired now result)
   pub pages : PagesStay w.page_size w.full_pages old new
   pub covers : CoversThrough sum w.page_size (content w old.present.readable) old new
-  pub stands : StartsStand new.present
+  pub stands : StartsCanBeAwaited new.present
   pub calls : AsksAtMost (unstarted_calls w.sync) old new
   pub due : unstarted_calls w.sync ≡ 1
 
@@ -154,10 +154,10 @@ pending_starts sum w name life small sound pending written = (goes_on_same sum w
 -- ---- a start after a flush
 
 module _ (sum : List ℕ → ℕ) (w m : WriterState) (old mid new : Life) (first : CarriesOn sum w old [] m mid) where
-  same_starts : (started : StartedSync) → Starts sum m.page_size (content m mid.present.readable) new started → Starts sum w.page_size (content w old.present.readable) new started
+  same_starts : (started : StartedSync) → StartedSyncKeeps sum m.page_size (content m mid.present.readable) new started → StartedSyncKeeps sum w.page_size (content w old.present.readable) new started
   same_starts started covered =
-      subst (λ (c : List ℕ). Starts sum w.page_size c new started) (first.content ∙ append-nil (content w old.present.readable))
-      (subst (λ (P : ℕ). Starts sum P (content m mid.present.readable) new started) first.same.page_size covered)
+      subst (λ (c : List ℕ). StartedSyncKeeps sum w.page_size c new started) (first.content ∙ append-nil (content w old.present.readable))
+      (subst (λ (P : ℕ). StartedSyncKeeps sum P (content m mid.present.readable) new started) first.same.page_size covered)
 
   pub starts_after : (result : Result (WriterState × StartedSync) Error) → StartsOver sum m mid new result → StartsOver sum w old new result
   starts_after (Ok r) (goes, written, state, covered) = (goes_on_more sum w m r.0 old mid new first goes, written, state, λ full. same_starts r.1 (covered (first.intact full)))

@@ -7,7 +7,7 @@ use Rattle.std.proofs.lemmas.List.Folds.{list_all-append}
 use Rattle.std.proofs.Math.Nat.{div-add-mod', mul-div_cancel}
 use Rattle.std.proofs.Math.Seq.{take-add, take_all}
 use Rattle.std.proofs.lemmas.List.Sums.{count_by-le-length, sum_by-append, sum_by_push}
-use Rattle.disk.specs.Disk.{Life, ReadGoes, ReadAt, Request}
+use Rattle.disk.specs.Disk.{Life, DeviceReadGoes, ReadAt, Request}
 use Rattle.disk.specs.declared.error.Error.{Error}
 use Rattle.disk.specs.declared.error.Error.TheVariants.{ReadFailed, WriteFailed, ResizeFailed, SyncFailed, InvalidChecksum, BlobInsufficientLength, OffsetOverflow, OutOfMemory, IdsExhausted}
 use Rattle.disk.proofs.Logs.{failed_later}
@@ -17,14 +17,14 @@ use Rattle.crash.proofs.FloorLaws.{floors_looked}
 use Rattle.crash.proofs.LookLaws.{looked_readable}
 use Rattle.crash.proofs.Pages.{pieces-add, pieces_more, length-pieces, pages_of_take, take-pages, drop-pieces, pages_fit}
 use Rattle.paged_read.specs.Scans.{AreForward, LooksThrough, pages_from, ReadsForward}
-use Rattle.paged_read.specs.Searches.{AreWithin, ReadsWithin}
+use Rattle.paged_read.specs.Searches.{AreReadsWithin, ReadsWithin}
 use Rattle.paged_read.proofs.Forward.{forward_start, forward_end, forward_once}
 use Rattle.paged_read.proofs.Outliving.{look_leaves_reads, look_leaves_tails, look_leaves_writers}
 use Rattle.paged_read.proofs.OutlivingReplays.{look_leaves_replays}
 use Rattle.paged_read.proofs.Searching.{gained_joins, gained_once, within_joins}
 use Rattle.paged.specs.declared.outlook.Outlook.{Outlook}
 use Rattle.paged.specs.declared.verdict.Survey.{Survey}
-use Rattle.paged.specs.Outlook.{IsOutlook, IsSurvey, LeavesAsIs, Looks, ReadsLast, ReadsTwice, Surveys, are_zeros, beyond_bytes, beyond_of, is_torn, last_page, values_of}
+use Rattle.paged.specs.Outlook.{IsOutlook, IsSurvey, LeavesAsIs, LookGoes, ReadsLast, ReadsTwice, SurveyGoes, are_zeros, beyond_bytes, beyond_of, has_torn_page, last_page, values_of}
 use Rattle.paged.proofs.Foretelling.{look_keeps_text, look_leaves_text}
 
 -- ---- counting
@@ -113,13 +113,13 @@ first_holds true b both = refl
 first_holds false b both = absurd (cc both)
 
 -- a torn one isn't full
-torn_partial : (sum : List ℕ → ℕ) (P : ℕ) (bytes : List ℕ) (outlook : Outlook) → is_torn sum P bytes outlook ≡ true → 0 < outlook.len % P
+torn_partial : (sum : List ℕ → ℕ) (P : ℕ) (bytes : List ℕ) (outlook : Outlook) → has_torn_page sum P bytes outlook ≡ true → 0 < outlook.len % P
 torn_partial sum P bytes outlook torn =
     let less = first_holds (nat_lt 0 (outlook.len % P)) (is_some (bad_slot sum P (last_page P outlook bytes))) torn in
     grind (arith, nat_tests, less)
 
 -- of a page that is full nothing is torn
-pub not_torn : (sum : List ℕ → ℕ) (P : ℕ) (bytes : List ℕ) (outlook : Outlook) → outlook.len % P ≡ 0 → false ≡ is_torn sum P bytes outlook
+pub not_torn : (sum : List ℕ → ℕ) (P : ℕ) (bytes : List ℕ) (outlook : Outlook) → outlook.len % P ≡ 0 → false ≡ has_torn_page sum P bytes outlook
 not_torn sum P bytes outlook full = ap (λ (n : ℕ). nat_lt 0 n && is_some (bad_slot sum P (last_page P outlook bytes))) (sym full)
 
 -- a text that doesn't end with a full page has one
@@ -131,14 +131,14 @@ pub last_end : (sum : List ℕ → ℕ) (P : ℕ) (bytes : List ℕ) (outlook : 
 last_end sum P bytes outlook is some = omega (arith, is.cut, page_end outlook.pages P some)
 
 -- what its slots say
-pub torn_is : (sum : List ℕ → ℕ) (P : ℕ) (bytes page : List ℕ) (outlook : Outlook) (bad : Bool) → 0 < outlook.len % P → page ≡ last_page P outlook bytes → bad ≡ is_some (bad_slot sum P page) → bad ≡ is_torn sum P bytes outlook
+pub torn_is : (sum : List ℕ → ℕ) (P : ℕ) (bytes page : List ℕ) (outlook : Outlook) (bad : Bool) → 0 < outlook.len % P → page ≡ last_page P outlook bytes → bad ≡ is_some (bad_slot sum P page) → bad ≡ has_torn_page sum P bytes outlook
 torn_is sum P bytes page outlook bad partial is told =
     told
     ∙ ap (λ (l : List ℕ). is_some (bad_slot sum P l)) is
     ∙ ap (λ (b : Bool). b && is_some (bad_slot sum P (last_page P outlook bytes))) (let e : true ≡ nat_lt 0 (outlook.len % P) = grind (arith, nat_tests) in e)
 
 -- it and what is cut are within the blob
-pub stake_there : (sum : List ℕ → ℕ) (P : ℕ) (bytes : List ℕ) (outlook : Outlook) → IsOutlook sum P bytes outlook → is_torn sum P bytes outlook ≡ true → outlook.cut + (P + 12) ≤ length bytes
+pub stake_there : (sum : List ℕ → ℕ) (P : ℕ) (bytes : List ℕ) (outlook : Outlook) → IsOutlook sum P bytes outlook → has_torn_page sum P bytes outlook ≡ true → outlook.cut + (P + 12) ≤ length bytes
 stake_there sum P bytes outlook is torn =
     let some = kept_some sum P bytes outlook is (torn_partial sum P bytes outlook torn) in
     omega (arith, is.cut, page_end outlook.pages P some)
@@ -180,7 +180,7 @@ leaves_as_is old new looked = record {
 }
 
 -- a look that failed
-pub survey_fault : (sum : List ℕ → ℕ) (P : ℕ) (old new : Life) (e : Error) → Looks sum P old new (Err e) → Surveys sum P old new (Err e)
+pub survey_fault : (sum : List ℕ → ℕ) (P : ℕ) (old new : Life) (e : Error) → LookGoes sum P old new (Err e) → SurveyGoes sum P old new (Err e)
 survey_fault sum P old new ReadFailed looks = looks
 survey_fault sum P old new OutOfMemory looks = tt
 survey_fault sum P old new WriteFailed looks = looks
@@ -192,7 +192,7 @@ survey_fault sum P old new OffsetOverflow looks = looks
 survey_fault sum P old new IdsExhausted looks = looks
 
 -- a look after it that failed
-pub look_fault_later : {A : Type 0} (sum : List ℕ → ℕ) (P reach : ℕ) (a : A) (old mid new : Life) (e : Error) → reach ≤ length mid.present.readable → Looked old mid → LooksThrough reach a mid new (Err e) → Looks sum P old new (Err e)
+pub look_fault_later : {A : Type 0} (sum : List ℕ → ℕ) (P reach : ℕ) (a : A) (old mid new : Life) (e : Error) → reach ≤ length mid.present.readable → Looked old mid → LooksThrough reach a mid new (Err e) → LookGoes sum P old new (Err e)
 look_fault_later sum P reach a old mid new ReadFailed there looked looks = failed_later ReadFailed old.present mid.present new.present looked.log looks.0
 look_fault_later sum P reach a old mid new OutOfMemory there looked looks = tt
 look_fault_later sum P reach a old mid new BlobInsufficientLength there looked looks = absurd (omega (arith, there, looks.0))
@@ -203,7 +203,7 @@ look_fault_later sum P reach a old mid new InvalidChecksum there looked looks = 
 look_fault_later sum P reach a old mid new OffsetOverflow there looked looks = looks
 look_fault_later sum P reach a old mid new IdsExhausted there looked looks = looks
 
-pub later_fault : {A : Type 0} (sum : List ℕ → ℕ) (P reach : ℕ) (a : A) (old mid new : Life) (e : Error) → reach ≤ length mid.present.readable → Looked old mid → LooksThrough reach a mid new (Err e) → Surveys sum P old new (Err e)
+pub later_fault : {A : Type 0} (sum : List ℕ → ℕ) (P reach : ℕ) (a : A) (old mid new : Life) (e : Error) → reach ≤ length mid.present.readable → Looked old mid → LooksThrough reach a mid new (Err e) → SurveyGoes sum P old new (Err e)
 later_fault sum P reach a old mid new e there looked looks = survey_fault sum P old new e (look_fault_later sum P reach a old mid new e there looked looks)
 
 -- it only looked, also where it failed
@@ -220,7 +220,7 @@ only_looks reach a old new (Err OffsetOverflow) looks = absurd looks
 only_looks reach a old new (Err IdsExhausted) looks = absurd looks
 
 -- the last page is read, and then those after it
-last_and_then : (most at len to : ℕ) (old mid new : Life) (bytes : List ℕ) → len ≤ most → at + len ≤ to → ReadGoes at len old mid (Ok bytes) → ReadsForward most (at + len) to mid new → ReadsForward most at to old new
+last_and_then : (most at len to : ℕ) (old mid new : Life) (bytes : List ℕ) → len ≤ most → at + len ≤ to → DeviceReadGoes at len old mid (Ok bytes) → ReadsForward most (at + len) to mid new → ReadsForward most at to old new
 last_and_then most at len to old mid new bytes few le goes reads =
     gained_joins (λ xs. xs ≡ ReadAt at len ∷ []) (AreForward most (at + len) to) (AreForward most at to) old mid new
     (λ xs ys is go. subst (λ (l : List Request). AreForward most at to (l ++ ys)) (sym is) (refl, few, le, go))
@@ -255,7 +255,7 @@ pub reads_once : (most to : ℕ) (old new : Life) → ReadsForward most 0 to old
 reads_once most to old new first = (new, to, first, forward_end most to to to new new (omega arith) (forward_start most to new))
 
 pub within_both : (most : ℕ) (old mid new : Life) → ReadsWithin most old mid → ReadsWithin most mid new → ReadsWithin most old new
-within_both most old mid new first second = gained_joins (AreWithin most) (AreWithin most) (AreWithin most) old mid new (λ xs ys a b. within_joins most xs ys a b) first second
+within_both most old mid new first second = gained_joins (AreReadsWithin most) (AreReadsWithin most) (AreReadsWithin most) old mid new (λ xs ys a b. within_joins most xs ys a b) first second
 
 -- the pages of a text are among the whole ones
 pub kept_within : (sum : List ℕ → ℕ) (P : ℕ) (bytes : List ℕ) (outlook : Outlook) → IsOutlook sum P bytes outlook → outlook.pages ≤ length bytes / (P + 12)
@@ -264,7 +264,7 @@ kept_within sum P bytes outlook is = pages_fit P outlook.pages bytes (omega (ari
 kept_few : (sum : List ℕ → ℕ) (P whole : ℕ) (bytes : List ℕ) (outlook : Outlook) → IsOutlook sum P bytes outlook → whole ≡ length bytes / (P + 12) → outlook.pages ≤ whole
 kept_few sum P whole bytes outlook is all = omega (arith, all, kept_within sum P bytes outlook is)
 
-pub survey_is : (sum : List ℕ → ℕ) (P whole : ℕ) (old mid : Life) (outlook : Outlook) (torn : Bool) (found : ℕ × Bool) → Looked old mid → IsOutlook sum P old.present.readable outlook → torn ≡ is_torn sum P old.present.readable outlook
+pub survey_is : (sum : List ℕ → ℕ) (P whole : ℕ) (old mid : Life) (outlook : Outlook) (torn : Bool) (found : ℕ × Bool) → Looked old mid → IsOutlook sum P old.present.readable outlook → torn ≡ has_torn_page sum P old.present.readable outlook
     → whole ≡ length old.present.readable / (P + 12) → found ≡ beyond_of sum P outlook.pages whole mid.present.readable → IsSurvey sum P old.present.readable (record { outlook = outlook; beyond = found.0; blank = found.1; torn = torn })
 survey_is sum P whole old mid outlook torn found looked is bad all told =
     let counted : found ≡ beyond_of sum P outlook.pages whole old.present.readable = told ∙ ap (λ (l : List ℕ). beyond_of sum P outlook.pages whole l) (looked_readable old mid looked) in

@@ -16,25 +16,25 @@ use Rattle.writer_state.proofs.FlushLaws.{tip_reach}
 use Rattle.writer_state.proofs.Soundness.{looked_sound}
 use Rattle.disk.specs.declared.started_sync.StartedSync.{StartedSync}
 use Rattle.paged.specs.Calls.{Syncs, Appends, StartsSync, WaitsForSync}
-use Rattle.paged.specs.Reads.{HasPages}
+use Rattle.paged.specs.Reads.{HasWriterPages}
 use Rattle.paged.specs.Recovers.{Recovers}
 
 -- the pages below the tip of a sound writer are in its blob
-pub sound_has_pages : (sum : List ℕ → ℕ) (w : WriterState) (life : Life) → IsSound sum w life.present → HasPages w life
+pub sound_has_pages : (sum : List ℕ → ℕ) (w : WriterState) (life : Life) → IsSound sum w life.present → HasWriterPages w life
 unfolding IsSound
 sound_has_pages sum w life sound = (tip_reach sum w.page_size w.full_pages w.tip life.present.readable w.flushed sound.stands.tip_page).0
 
-pub consistent_has_pages : (sum : List ℕ → ℕ) (w : WriterState) (life : Life) → IsConsistent sum w life.present → HasPages w life
+pub consistent_has_pages : (sum : List ℕ → ℕ) (w : WriterState) (life : Life) → IsConsistent sum w life.present → HasWriterPages w life
 unfolding IsConsistent
 consistent_has_pages sum w life holds = (tip_reach sum w.page_size w.full_pages w.tip life.present.readable w.flushed holds.stands.tip_page).0
 
 -- after a sync
-pub synced_there : (sum : List ℕ → ℕ) (w : WriterState) (old new : Life) (result : Result WriterState Error) → Syncs sum w old new result → IfOk result (λ now. HasPages now new)
+pub synced_there : (sum : List ℕ → ℕ) (w : WriterState) (old new : Life) (result : Result WriterState Error) → Syncs sum w old new result → IfOk result (λ now. HasWriterPages now new)
 synced_there sum w old new (Ok now) (goes, settled) = sound_has_pages sum now new goes.sound
 synced_there sum w old new (Err e) refused = tt
 
 -- after an append
-pub appended_there : (sum : List ℕ → ℕ) (w : WriterState) (bytes : List ℕ) (old new : Life) (result : Result (WriterState × ℕ) Error) → Appends sum w bytes old new result → IfOk result (λ r. HasPages r.0 new)
+pub appended_there : (sum : List ℕ → ℕ) (w : WriterState) (bytes : List ℕ) (old new : Life) (result : Result (WriterState × ℕ) Error) → Appends sum w bytes old new result → IfOk result (λ r. HasWriterPages r.0 new)
 appended_there sum w bytes old new (Ok r) (at, goes) = sound_has_pages sum r.0 new goes.sound
 appended_there sum w bytes old new (Err e) refused = tt
 
@@ -44,11 +44,11 @@ recovered_sound sum cache capacity old new (Ok w) is = is.sound
 recovered_sound sum cache capacity old new (Err e) refused = tt
 
 -- the pages are there after a start and a wait
-pub start_there : (sum : List ℕ → ℕ) (w : WriterState) (old new : Life) (result : Result (WriterState × StartedSync) Error) → StartsSync sum w old new result → IfOk result (λ r. HasPages r.0 new)
+pub start_there : (sum : List ℕ → ℕ) (w : WriterState) (old new : Life) (result : Result (WriterState × StartedSync) Error) → StartsSync sum w old new result → IfOk result (λ r. HasWriterPages r.0 new)
 start_there sum w old new (Ok r) (goes, written, state, covered) = sound_has_pages sum r.0 new goes.sound
 start_there sum w old new (Err e) refused = tt
 
-pub wait_there : (sum : List ℕ → ℕ) (w : WriterState) (old new : Life) (result : Result WriterState Error) → WaitsForSync sum w old new result → IfOk result (λ now. HasPages now new)
+pub wait_there : (sum : List ℕ → ℕ) (w : WriterState) (old new : Life) (result : Result WriterState Error) → WaitsForSync sum w old new result → IfOk result (λ now. HasWriterPages now new)
 wait_there sum w old new (Ok now) (goes, is) = sound_has_pages sum now new goes.sound
 wait_there sum w old new (Err e) refused = tt
 

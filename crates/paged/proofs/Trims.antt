@@ -22,7 +22,7 @@ use Rattle.crash.proofs.CutLaws.{cut_few, rest_keeps, resize_stays, cut_sync_sta
 use Rattle.paged_read.specs.declared.prefix.Prefix.{Prefix}
 use Rattle.paged_read.specs.Ranges.{page_at}
 use Rattle.paged_read.specs.Prefix.{bad_beside_value, bad_in, prefix_pages, HasBytes}
-use Rattle.paged.specs.Mends.{KeepsPages, Mends, is_unsynced}
+use Rattle.paged.specs.Mends.{CutsAndMends, Mends, is_unsynced}
 use Rattle.paged.specs.Recovery.{IsDurable, Cuts, CutsBack, KeepsText, LeavesText, IsCutBack, opened_bytes, opened_prefix, opened_size}
 use Rattle.paged_read.specs.Searches.{Finds}
 use Rattle.paged.specs.Truncate.{KeepsFloorsWithin}
@@ -108,7 +108,7 @@ mends_stay sum P page content kept some (Some t) unsynced old new answer rest me
 module _ (sum : List ℕ → ℕ) (P : ℕ) (content bytes : List ℕ) (some : 0 < P) (k page : ℕ) (bad : Option Slot) (within : k * (P + 12) ≤ length bytes) (leaves : text sum P (take (k * (P + 12)) bytes) ≡ content)
     (mendable : Mendable sum P page bad (take (k * (P + 12)) bytes)) (are : AreBytesOf P page bad (take (k * (P + 12)) bytes)) where
   -- a cut where there is more, and then that
-  pages_stay : (old new : Life) (answer : Result SyncState Error) → AtRest sum P content bytes old.present → KeepsPages P (k * (P + 12)) page bad old new answer → StaysThrough sum P content old new
+  pages_stay : (old new : Life) (answer : Result SyncState Error) → AtRest sum P content bytes old.present → CutsAndMends P (k * (P + 12)) page bad old new answer → StaysThrough sum P content old new
   pages_stay old new (Ok s) rest (state, last, cuts, mends, is) =
       stays_through_joins sum P content old last new (back_stays sum P content bytes some k old last (Ok state) rest within leaves cuts)
       (mends_stay sum P page content (take (k * (P + 12)) bytes) some bad (is_unsynced state) last new (Ok tt) (back_rests sum P content bytes some k old last state rest within leaves cuts) mendable are mends)
@@ -170,7 +170,7 @@ module _ (sum : List ℕ → ℕ) (P k page : ℕ) (bad : Option Slot) (content 
 
   -- a cut where there is more, and then that
   pages_floors : (old new : Life) (answer : Result SyncState Error) → ReadsImage old → k * (P + 12) ≤ length old.present.readable → Mendable sum P page bad (take (k * (P + 12)) old.present.readable)
-      → KeepsPages P (k * (P + 12)) page bad old new answer → KeepsFloors sum P content old new
+      → CutsAndMends P (k * (P + 12)) page bad old new answer → KeepsFloors sum P content old new
   pages_floors old new (Ok s) image within mendable (state, last, cuts, mends, is) =
       floors_joins sum P content old last new (back_floors sum P k content few old last (Ok state) image within cuts) (mends_floors old last new state bad (is_unsynced state) (Ok tt) image within mendable cuts mends)
   pages_floors old new (Err e) image within mendable (inl cuts) = back_floors sum P k content few old new (Err e) image within cuts

@@ -20,8 +20,8 @@ use Rattle.crash.proofs.DistinctLaws.{slot_good, void_good, slot_cases}
 use Rattle.crash.specs.Built.{footer, kept_len}
 use Rattle.crash.specs.Guard.{IsSlotFor}
 use Rattle.crash.specs.Moments.{through_joins}
-use Rattle.crash.specs.Started.{AllSettled, CoversThrough, StartsStand}
-use Rattle.writer_state.specs.Sound.{IsConsistent, HasPage, IsSound, Soundness, StartsFit, StateFits, TipPage, content}
+use Rattle.crash.specs.Started.{AllSettled, CoversThrough, StartsCanBeAwaited}
+use Rattle.writer_state.specs.Sound.{IsConsistent, HasTipPage, IsSound, Soundness, StartsFit, StateFits, TipPage, content}
 use Rattle.crash.specs.Contents.{stored, latest}
 use Rattle.crash.specs.Full.{AreFull}
 use Rattle.crash.specs.Kept.{AllOnly}
@@ -38,7 +38,7 @@ use Rattle.writer_state.proofs.Soundness.{consistent_of, exact_sound, page_sound
 use Rattle.writer_state.proofs.ShortenLaws.{covers_through_shorten, shorten_floors, shorten_leaves, shorten_stands, sound_text}
 use Rattle.paged_read.specs.Ranges.{page_at}
 use Rattle.paged.specs.Calls.{IsSettled, Syncs, WaitsForNone}
-use Rattle.paged.specs.Reads.{HasPages, size_of}
+use Rattle.paged.specs.Reads.{HasWriterPages, size_of}
 use Rattle.paged.specs.Recovery.{BesideIsMended, IsAsOpened, IsDurable, slot_pages}
 use Rattle.paged.specs.Truncate.{CutsTo, IsShortened, KeepsFloorsWithin, shortened, shortened_slot, shortened_writer}
 use Rattle.paged.proofs.Shortened.{shortened_whole, shortened_part, slot_whole, slot_part}
@@ -150,7 +150,7 @@ module _ (sum : List ℕ → ℕ) (n : ℕ) (w : WriterState) (old new : Life) (
   cut_covers all content = covers_through_shorten sum w.page_size (take n content) old new all cuts.started (cut_floors content)
 
   -- and each stands
-  pub cut_starts : AllSettled old.present → StartsStand new.present
+  pub cut_starts : AllSettled old.present → StartsCanBeAwaited new.present
   cut_starts all = shorten_stands sum w.page_size [] old new all cuts.started
 
 -- the same after a sync of a sound writer
@@ -184,7 +184,7 @@ module _ (sum : List ℕ → ℕ) (n : ℕ) (w v : WriterState) (old mid new : L
       covers_through_join sum w.page_size (take n held) old mid new (covers_shorter sum w.page_size (take n held) held old mid (own_beginning n (take n held) held refl) first)
       (subst (λ (k : ℕ). CoversThrough sum k (take n held) mid new) same_size (cut_covers sum n v mid new synced_durable cuts synced_settled held))
 
-  pub sync_cut_starts : StartsStand new.present
+  pub sync_cut_starts : StartsCanBeAwaited new.present
   sync_cut_starts = cut_starts sum n v mid new synced_durable cuts synced_settled
 
 -- ---- the bytes that are left, and the writer after them
@@ -351,7 +351,7 @@ module _ (sum : List ℕ → ℕ) (n : ℕ) (w : WriterState) (old : Life) (some
     page_left : take (P + 12) (drop (n / P * (P + 12)) (shortened sum P n R)) ≡ last_page
     page_left = ap (λ (l : List ℕ). take (P + 12) l) last_at ∙ take_all (P + 12) last_page (omega (arith, length-last_page))
 
-    has_last_page : HasPage sum P (n / P) (take (n % P) (drop (n / P * (P + 12)) R)) (shortened sum P n R) last_slot
+    has_last_page : HasTipPage sum P (n / P) (take (n % P) (drop (n / P * (P + 12)) R)) (shortened sum P n R) last_slot
     has_last_page =
         let s = value_slot sum P (page_at P (n / P) R) in
         let tip = take (n % P) (drop (n / P * (P + 12)) R) in
@@ -413,7 +413,7 @@ module _ (sum : List ℕ → ℕ) (n : ℕ) (w : WriterState) (old : Life) (some
       flushed = ap (λ (v : WriterState). kept_len v.flushed) is.state ∙ kept_is ∙ sym left_tip;
     }
 
-    pub left_there : HasPages now new
+    pub left_there : HasWriterPages now new
     left_there =
         subst (λ (v : WriterState). v.full_pages * (v.page_size + 12) ≤ length new.present.readable) (sym is.state)
         (same_reach (n / P * (P + 12)) R new.present.readable (sym (ap (λ (l : List ℕ). take (n / P * (P + 12)) l) is.readable ∙ shortened_begins)) pages_before)
@@ -429,7 +429,7 @@ module _ (sum : List ℕ → ℕ) (n : ℕ) (w : WriterState) (old : Life) (some
           elim (cases_lt 0 (n % P)) [
             | inl part ↦
                 page_sound sum v new.present is.durable.since is.durable.base some small full_left refl (rest_settled new.present covered is.durable.since) small_sum last_slot (slot_within part)
-                (subst (λ (l : List ℕ). HasPage sum P (n / P) (take (n % P) (drop (n / P * (P + 12)) R)) l last_slot) (sym is.readable) (has_last_page small_sum small part))
+                (subst (λ (l : List ℕ). HasTipPage sum P (n / P) (take (n % P) (drop (n / P * (P + 12)) R)) l last_slot) (sym is.readable) (has_last_page small_sum small part))
                 (subst (λ (l : List ℕ). PageIsGood sum P (n / P) l) (sym is.readable) (last_page_good small_sum small part))
             | inr past ↦
                 let whole : n % P ≡ 0 = omega (arith, past) in

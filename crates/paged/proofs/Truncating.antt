@@ -22,7 +22,7 @@ use Rattle.crash.specs.Full.{AreFull}
 use Rattle.crash.specs.Kept.{AllOnly}
 use Rattle.crash.specs.Moments.{through_then, through_start, through_more, through_joins}
 use Rattle.writer_state.specs.Sound.{IsSound, Soundness, TipPage, content}
-use Rattle.crash.specs.Started.{CoversThrough, StartsStand}
+use Rattle.crash.specs.Started.{CoversThrough, StartsCanBeAwaited}
 use Rattle.crash.specs.Stays.{KeepsAll, KeepsFloors, LeavesOnly}
 use Rattle.crash.proofs.BelowLaws.{fewer_stay, pages_join}
 use Rattle.crash.proofs.BuiltLaws.{IsSmall}
@@ -38,11 +38,11 @@ use Rattle.writer_state.proofs.ShortenLaws.{sound_text}
 use Rattle.crash.proofs.Texts.{AreFull_page}
 use Rattle.writer_state.proofs.Soundness.{consistent_of, settled_sound, settle_keeps, sound_holds_together}
 use Rattle.paged.specs.Calls.{AsksAtMost, CallCause, HoldsWithin, IsSettled, IsWritten, SettlesBy, Syncs, WaitsForNone, sync_calls, settle_calls}
-use Rattle.paged.specs.Flush.{answered, has_work, synced}
+use Rattle.paged.specs.Flush.{has_work, synced, with_value}
 use Rattle.paged_read.specs.Ranges.{page_at}
-use Rattle.paged.specs.Reads.{HasPages, size_of}
+use Rattle.paged.specs.Reads.{HasWriterPages, size_of}
 use Rattle.paged.specs.Recovery.{IsAsOpened, IsDurable, LeavesText}
-use Rattle.paged_read.specs.Searches.{AreWithin, ReadsWithin}
+use Rattle.paged_read.specs.Searches.{AreReadsWithin, ReadsWithin}
 use Rattle.paged.specs.Truncate.{Truncates, IsTruncated, IsCut, TruncateCause, SoundAndKept, KeepsFloorsWithin, CutsTo, Shortens, IsShortened, ShortenCause, shorten_calls, shortened, shortened_writer, truncate_calls}
 use Rattle.paged.proofs.Causes.{sync_cause, waited_log}
 use Rattle.paged.proofs.Flushes.{idle_written, settle_none, sync_due}
@@ -62,15 +62,15 @@ written_idle w written =
 
 -- what it asks reads nothing
 pub settled_reads : (most : ℕ) (s : SyncState) (old new : Life) (answer : Result (Unit {0}) Error) → SettlesBy s old new answer → ReadsWithin most old new
-settled_reads most Clean old new answer settled_disk = gained_none (AreWithin most) old new settled_disk.1 tt
-settled_reads most Dirty old new (Ok u) is = gained_once (AreWithin most) SyncAll false old new (ap (λ (l : Life). l.present.log) is) tt
-settled_reads most Dirty old new (Err SyncFailed) is = gained_once (AreWithin most) SyncAll true old new (ap (λ (l : Life). l.present.log) is) tt
-settled_reads most Dirty old new (Err OutOfMemory) is = gained_none (AreWithin most) old new is tt
+settled_reads most Clean old new answer settled_disk = gained_none (AreReadsWithin most) old new settled_disk.1 tt
+settled_reads most Dirty old new (Ok u) is = gained_once (AreReadsWithin most) SyncAll false old new (ap (λ (l : Life). l.present.log) is) tt
+settled_reads most Dirty old new (Err SyncFailed) is = gained_once (AreReadsWithin most) SyncAll true old new (ap (λ (l : Life). l.present.log) is) tt
+settled_reads most Dirty old new (Err OutOfMemory) is = gained_none (AreReadsWithin most) old new is tt
 settled_reads most Dirty old new (Err e) goes = absurd goes
 settled_reads most (Pending name) old new (Ok u) (s, named, well, is) =
-    gained_once (AreWithin most) (WaitSync name) false old new (ap (λ (l : Life). l.present.log) is ∙ waited_log name (s.covers, s.bytes) old.present) tt
-settled_reads most (Pending name) old new (Err SyncFailed) (failed, why, is) = gained_once (AreWithin most) (WaitSync name) failed old new (ap (λ (l : Life). l.present.log) is) tt
-settled_reads most (Pending name) old new (Err OutOfMemory) is = gained_none (AreWithin most) old new is tt
+    gained_once (AreReadsWithin most) (WaitSync name) false old new (ap (λ (l : Life). l.present.log) is ∙ waited_log name (s.covers, s.bytes) old.present) tt
+settled_reads most (Pending name) old new (Err SyncFailed) (failed, why, is) = gained_once (AreReadsWithin most) (WaitSync name) failed old new (ap (λ (l : Life). l.present.log) is) tt
+settled_reads most (Pending name) old new (Err OutOfMemory) is = gained_none (AreReadsWithin most) old new is tt
 settled_reads most (Pending name) old new (Err e) goes = absurd goes
 
 -- the log goes on
@@ -153,12 +153,12 @@ sound_tells sum w n d sound settled less told =
 
 -- what it owes to the writer, sound or as it was opened
 pub record SyncsWritten (sum : List ℕ → ℕ) (w v : WriterState) (old new : Life) (answer : Result (Unit {0}) Error) : Type 0 where
-  pub syncs : IsSound sum w old.present → Syncs sum w old new (answered v answer)
+  pub syncs : IsSound sum w old.present → Syncs sum w old new (with_value v answer)
   pub written : has_work w true ≡ false → SettlesBy w.sync old new answer
   pub state : has_work w true ≡ false → OnOk answer (v ≡ synced w)
   pub pages : PagesStay w.page_size w.full_pages old new
   pub covers : IsSound sum w old.present → CoversThrough sum w.page_size (content w old.present.readable) old new
-  pub starts : IsSound sum w old.present → StartsStand new.present
+  pub starts : IsSound sum w old.present → StartsCanBeAwaited new.present
   pub calls : AsksAtMost (sync_calls w) old new
 
 -- what a truncate asks of its writer, and what is known of each blob
@@ -182,7 +182,7 @@ pub data Ends (sum : List ℕ → ℕ) (n : ℕ) (w : WriterState) (old new : Li
 -- what a truncate owes, whatever it answers
 pub record TruncateOwes (sum : List ℕ → ℕ) (n : ℕ) (w : WriterState) (old new : Life) (result : Result WriterState Error) : Type 0 where
   pub truncates : Truncates sum n w old new result
-  pub there : IfOk result (λ v. HasPages v new)
+  pub there : IfOk result (λ v. HasWriterPages v new)
   pub within : IfOk result (λ v. HoldsWithin v)
   pub calls : AsksAtMost (truncate_calls w n) old new
   pub synced : IsSound sum w old.present → size_of w ≤ n → Syncs sum w old new result
@@ -197,7 +197,7 @@ pub record TruncateOwes (sum : List ℕ → ℕ) (n : ℕ) (w : WriterState) (ol
   pub only : IsSound sum w old.present → LeavesOnly sum w.page_size (content w old.present.readable) (take n (content w old.present.readable)) old new
   pub pages : PagesStay w.page_size (min w.full_pages (n / w.page_size)) old new
   pub covers : IsSound sum w old.present → CoversThrough sum w.page_size (take n (content w old.present.readable)) old new
-  pub starts : IsSound sum w old.present → StartsStand new.present
+  pub starts : IsSound sum w old.present → StartsCanBeAwaited new.present
 
 -- ---- what is known after the sync
 
@@ -304,7 +304,7 @@ module _ (sum : List ℕ → ℕ) (n : ℕ) (w : WriterState) (old : Life) (t : 
   -- the floors that it keeps, whatever it answers
   first_floors : (v : WriterState) (mid : Life) (answer : Result (Unit {0}) Error) → SyncsWritten sum w v old mid answer → (held : List ℕ) → KeepsFloors sum w.page_size held old mid
   first_floors v mid answer written held = elim t.stands [
-    | inl sound ↦ sync_keeps sum w old mid (answered v answer) sound (written.syncs sound) held
+    | inl sound ↦ sync_keeps sum w old mid (with_value v answer) sound (written.syncs sound) held
     | inr opened ↦ settled_floors sum w.page_size held w.sync old mid answer t.image opened.waits (written.written (opened_idle opened))
   ]
 
@@ -314,14 +314,14 @@ module _ (sum : List ℕ → ℕ) (n : ℕ) (w : WriterState) (old : Life) (t : 
     | inl sound ↦
         let same : text sum w.page_size old.present.readable ≡ content w old.present.readable = sound_text sum w old.present sound (idle_written sum w true old.present (sound_holds_together sum w old.present sound) idle refl).flushed in
         subst (λ (l : List ℕ). LeavesOnly sum w.page_size l l old mid) (sym same)
-        (only_through sum w.page_size (content w old.present.readable) (content w old.present.readable) old mid (syncs_stay sum w old mid (answered v answer) (written.syncs sound)))
+        (only_through sum w.page_size (content w old.present.readable) (content w old.present.readable) old mid (syncs_stay sum w old mid (with_value v answer) (written.syncs sound)))
     | inr opened ↦ settled_only sum w.page_size (text sum w.page_size old.present.readable) w.sync old mid answer durable opened.waits (written.written idle)
   ]
 
   first_only : (v : WriterState) (mid : Life) (answer : Result (Unit {0}) Error) → SyncsWritten sum w v old mid answer → IsSound sum w old.present
       → LeavesOnly sum w.page_size (content w old.present.readable) (take n (content w old.present.readable)) old mid
   first_only v mid answer written sound =
-      only_through sum w.page_size (content w old.present.readable) (take n (content w old.present.readable)) old mid (syncs_stay sum w old mid (answered v answer) (written.syncs sound))
+      only_through sum w.page_size (content w old.present.readable) (take n (content w old.present.readable)) old mid (syncs_stay sum w old mid (with_value v answer) (written.syncs sound))
 
   first_pages : (mid : Life) → PagesStay w.page_size w.full_pages old mid → PagesStay w.page_size (min w.full_pages (n / w.page_size)) old mid
   first_pages mid stay = through_then (SamePages w.page_size w.full_pages old.present) (SamePages w.page_size (min w.full_pages (n / w.page_size)) old.present) old mid
@@ -514,7 +514,7 @@ module _ (sum : List ℕ → ℕ) (n : ℕ) (w : WriterState) (old : Life) (t : 
     cut_reads : has_work w true ≡ false → ReadsWithin (w.page_size + 12) old new
     cut_reads idle =
         let most = w.page_size + 12 in
-        gained_joins (AreWithin most) (AreWithin most) (AreWithin most) old mid new (within_joins most) (settled_reads most w.sync old mid (Ok tt) (written.written idle))
+        gained_joins (AreReadsWithin most) (AreReadsWithin most) (AreReadsWithin most) old mid new (within_joins most) (settled_reads most w.sync old mid (Ok tt) (written.written idle))
         (subst (λ (k : ℕ). ReadsWithin (k + 12) mid new) before.page_size cuts.reads)
 
     all_floors : KeepsFloorsWithin n sum w.page_size old new
@@ -531,7 +531,7 @@ module _ (sum : List ℕ → ℕ) (n : ℕ) (w : WriterState) (old : Life) (t : 
     cut_covers_all : IsSound sum w old.present → CoversThrough sum w.page_size (take n (content w old.present.readable)) old new
     cut_covers_all sound = sync_cut_covers sum n w v old mid new sound (written.syncs sound) cuts (written.covers sound)
 
-    cut_starts_all : IsSound sum w old.present → StartsStand new.present
+    cut_starts_all : IsSound sum w old.present → StartsCanBeAwaited new.present
     cut_starts_all sound = sync_cut_starts sum n w v old mid new sound (written.syncs sound) cuts
 
     cut_only_all : IsSound sum w old.present → LeavesOnly sum w.page_size (content w old.present.readable) (take n (content w old.present.readable)) old new

@@ -3,7 +3,7 @@ use Rattle.std.proofs.Common.{◌≡◌, ℕ, ◌+◌, ◌≤◌, List, length, 
 use Rattle.std.specs.Prelude.{OnOk, take, ◌*◌, if◌then◌else◌}
 use Rattle.disk.specs.declared.started_sync.StartedSync.{StartedSync}
 use Rattle.disk.specs.declared.started_sync.StartedSync.TheVariants.{Done, Named}
-use Rattle.disk.specs.Disk.{Disk, Life, WaitSync, WaitGoes, WaitsFor, next, logged, disk_settled_to, failed_at}
+use Rattle.disk.specs.Disk.{Disk, Life, WaitSync, WaitGoes, WaitStartedGoes, next, logged, disk_settled_to, failed_at}
 use Rattle.disk.specs.declared.error.Error.{Error}
 use Rattle.disk.specs.declared.error.Error.TheVariants.{SyncFailed, OutOfMemory}
 use Rattle.writer_state.specs.WriterState.{WriterState}
@@ -11,7 +11,7 @@ use Rattle.writer_state.specs.declared.sync_state.SyncState.{SyncState}
 use Rattle.writer_state.specs.declared.sync_state.SyncState.TheVariants.{Clean, Dirty, Pending}
 use Rattle.writer_state.specs.Sound.{IsConsistent, IsIntact, IsSound, Consistency, Soundness, content}
 use Rattle.crash.specs.Below.{PagesStay}
-use Rattle.crash.specs.Started.{CoversThrough, StartsStand}
+use Rattle.crash.specs.Started.{CoversThrough, StartsCanBeAwaited}
 use Rattle.crash.specs.Stays.{StaysThrough}
 use Rattle.crash.proofs.Moments.{stays_through_start}
 use Rattle.crash.proofs.BuiltLaws.{IsSmall}
@@ -21,10 +21,10 @@ use Rattle.writer_state.proofs.StandLaws.{consistent_stands, sync_stands}
 use Rattle.crash.proofs.FloorLaws.{sync_readable}
 use Rattle.writer_state.proofs.StartedLaws.{settles_same, wait_leaves, wait_consistent, wait_covers, waited_keeps}
 use Rattle.writer_state.proofs.Soundness.{consistent_leaves, consistent_of, intact_still, sound_of}
-use Rattle.paged.specs.Flush.{has_work, synced, answered}
-use Rattle.paged_read.specs.Snapshots.{LeavesWriters}
+use Rattle.paged.specs.Flush.{has_work, synced, with_value}
+use Rattle.paged_read.specs.Snapshots.{LeavesAllWriters}
 use Rattle.paged_read.proofs.Outliving.{leaves_writer}
-use Rattle.paged.specs.Calls.{AsksAtMost, wait_calls, settle_calls, sync_calls, CarriesOn, IsSameWriter, Flushes, Settles, SettlesBy, SyncsOver, HadFailed, CallCause, WaitsForNone, WaitsOver, Completes, Covers, waited, waited_state}
+use Rattle.paged.specs.Calls.{AsksAtMost, wait_calls, settle_calls, sync_calls, CarriesOn, IsSameWriter, Flushes, Settles, SettlesBy, SyncsOver, PendingSyncFailed, CallCause, WaitsForNone, WaitsOver, Completes, Covers, waited_writer, waited_state}
 use Rattle.paged.proofs.Causes.{wait_cause, wait_asks, wait_grows, sync_asks}
 use Rattle.paged.proofs.Flushes.{size_holds, stays_nil, goes_on_more, refuses_more, goes_on_same, settle_goes}
 
@@ -63,7 +63,7 @@ module _ (sum : List ℕ → ℕ) (w now : WriterState) (name : ℕ) (old new : 
   pub wait_covers_through : CoversThrough sum w.page_size (content w old.present.readable) old new
   wait_covers_through = wait_covers_by sum w name old new result sound goes
 
-  pub wait_stands : StartsStand new.present
+  pub wait_stands : StartsCanBeAwaited new.present
   wait_stands = consistent_stands sum w new.present (wait_leaves sum w old new name small sound result goes).0
 
   pub wait_asks_one : AsksAtMost (wait_calls w.sync) old new
@@ -87,7 +87,7 @@ wait_completes sum P s name old new (Ok u) state goes = subst (λ (t : SyncState
 wait_completes sum P s name old new (Err e) state goes = tt
 
 pub wait_goes : (sum : List ℕ → ℕ) (w now : WriterState) (name : ℕ) (old new : Life) (result : Result (Unit {0}) Error) → IsSmall sum → IsConsistent sum w old.present → w.sync ≡ Pending name
-    → WaitGoes name old new result → OnOk result (now ≡ synced w) → WaitsOver sum w old new (answered now result)
+    → WaitGoes name old new result → OnOk result (now ≡ synced w) → WaitsOver sum w old new (with_value now result)
 unfolding IsConsistent
 wait_goes sum w now name old new (Ok u) small sound state goes is =
     let here : Consistency sum now new.present = subst (λ (n : WriterState). Consistency sum n new.present) (sym is) (wait_consistent sum w old new name small sound tt state goes) in (
@@ -100,7 +100,7 @@ wait_goes sum w now name old new (Ok u) small sound state goes is =
         same = subst (λ (n : WriterState). IsSameWriter w n) (sym is) (record { page_size = refl; id = refl; capacity = refl; full_pages = omega arith });
         log = wait_grows name old new (Ok u) goes;
         stays = stays_nil sum w.page_size (content w old.present.readable) old new ((wait_leaves sum w old new name small sound (Ok u) goes).1);
-        waits = λ had. absurd (subst (λ (n : WriterState). HadFailed n.sync new.present) is had);
+        waits = λ had. absurd (subst (λ (n : WriterState). PendingSyncFailed n.sync new.present) is had);
       },
       is ∙ sym (ap (λ (s : SyncState). record w { sync = waited_state s }) state),
     )
@@ -125,7 +125,7 @@ module _ (w : WriterState) (none : WaitsForNone w.sync) where
   same_state Dirty none = refl
   same_state (Pending name) none = absurd none
 
-  pub waits_idle : w ≡ waited w
+  pub waits_idle : w ≡ waited_writer w
   waits_idle = ap (λ (t : SyncState). record w { sync = t }) (same_state w.sync none)
 
 pub idle_calls : (s : SyncState) → WaitsForNone s → wait_calls s ≡ 0
@@ -149,7 +149,7 @@ waits_for_none w = by_state w.sync
 
 -- ---- a wait behind the writer's back
 
-pub wait_leaves_writers : (sum : List ℕ → ℕ) (started : StartedSync) (old new : Life) (result : Result (Unit {0}) Error) → IsSmall sum → WaitsFor started old new result → LeavesWriters sum old new
+pub wait_leaves_writers : (sum : List ℕ → ℕ) (started : StartedSync) (old new : Life) (result : Result (Unit {0}) Error) → IsSmall sum → WaitStartedGoes started old new result → LeavesAllWriters sum old new
 unfolding IsSound
 wait_leaves_writers sum (Named name) old new result small goes w sound =
     let holds = consistent_of sum w old.present sound in
@@ -165,7 +165,7 @@ wait_leaves_writers sum Done old new (Ok u) small is w sound =
 wait_leaves_writers sum Done old new (Err e) small goes w sound = absurd goes
 
 -- what it covers is kept from then on
-pub wait_covers_all : (sum : List ℕ → ℕ) (started : StartedSync) (old new : Life) (result : Result (Unit {0}) Error) → WaitsFor started old new result → OnOk result ((P : ℕ) → Covers sum P started old new)
+pub wait_covers_all : (sum : List ℕ → ℕ) (started : StartedSync) (old new : Life) (result : Result (Unit {0}) Error) → WaitStartedGoes started old new result → OnOk result ((P : ℕ) → Covers sum P started old new)
 wait_covers_all sum (Named name) old new (Ok u) goes = λ P held cover would. waited_keeps sum P held name cover old new tt would goes
 wait_covers_all sum (Named name) old new (Err e) goes = tt
 wait_covers_all sum Done old new (Ok u) goes = λ P. tt
@@ -207,7 +207,7 @@ wait_within (Pending name) = omega arith
 pub sync_asks_wait : (w : WriterState) (old new : Life) → AsksAtMost (wait_calls w.sync) old new → AsksAtMost (sync_calls w) old new
 sync_asks_wait w old new calls = omega (arith, calls, wait_within w.sync)
 
-pub sync_asks_after : (w m : WriterState) (old mid new : Life) → m ≡ waited w → AsksAtMost (wait_calls w.sync) old mid → AsksAtMost (sync_calls m) mid new → AsksAtMost (sync_calls w) old new
+pub sync_asks_after : (w m : WriterState) (old mid new : Life) → m ≡ waited_writer w → AsksAtMost (wait_calls w.sync) old mid → AsksAtMost (sync_calls m) mid new → AsksAtMost (sync_calls w) old new
 sync_asks_after w m old mid new is first second =
     let later : sync_calls m ≡ (if has_work w true then 1 else 0) + settle_calls (waited_state w.sync) = ap sync_calls is in
     omega (arith, first, second, later, wait_within w.sync)
@@ -237,9 +237,9 @@ settled_asks (Pending name) old new result goes = wait_asks name old new result 
 
 -- what that owes to a sound writer
 pub record SettledOwes (sum : List ℕ → ℕ) (w now : WriterState) (old new : Life) (result : Result (Unit {0}) Error) : Type 0 where
-  pub settles : Settles sum w old new (answered now result)
+  pub settles : Settles sum w old new (with_value now result)
   pub covers : CoversThrough sum w.page_size (content w old.present.readable) old new
-  pub starts : StartsStand new.present
+  pub starts : StartsCanBeAwaited new.present
   pub idle : settle_calls w.sync ≡ 0 → (result ≡ Ok tt) × (now ≡ w) × (new ≡ old)
 
 pub settled_owes : (sum : List ℕ → ℕ) (w now : WriterState) (old new : Life) (result : Result (Unit {0}) Error) → IsSmall sum → IsConsistent sum w old.present → SettlesBy w.sync old new result → OnOk result (now ≡ synced w)
@@ -253,7 +253,7 @@ settled_owes sum w now old new result small sound goes state = by_state w.sync r
         record {
           settles = rw (ok, is, same) (goes_on_same sum w old sound, ap (λ (s : SyncState). record w { sync = s }) clean);
           covers = covers_none sum w.page_size (content w old.present.readable) old new same;
-          starts = subst (λ (l : Life). StartsStand l.present) (sym same) (consistent_stands sum w old.present sound);
+          starts = subst (λ (l : Life). StartsCanBeAwaited l.present) (sym same) (consistent_stands sum w old.present sound);
           idle = λ none. (ok, is, same);
         }
     by_state Dirty dirty goes = record {
@@ -263,7 +263,7 @@ settled_owes sum w now old new result small sound goes state = by_state w.sync r
       idle = λ none. absurd (omega (arith, ap settle_calls dirty, none));
     }
     by_state (Pending name) pending goes = record {
-      settles = wait_is_settle sum w name pending old new (answered now result) (wait_goes sum w now name old new result small sound pending goes state);
+      settles = wait_is_settle sum w name pending old new (with_value now result) (wait_goes sum w now name old new result small sound pending goes state);
       covers = wait_covers_through sum w now name old new result small sound pending goes;
       starts = wait_stands sum w now name old new result small sound pending goes;
       idle = λ none. absurd (omega (arith, ap settle_calls pending, none));

@@ -20,17 +20,17 @@ use Rattle.paged.specs.Writer.{physical_blob_size, FitsBlob}
 use Rattle.paged.specs.Flush.{has_work, synced}
 
 -- the started sync that a writer in this state waits for has failed
-abbrev pub HadFailed : SyncState → Disk → Type 0
-HadFailed Clean d = ⊥
-HadFailed Dirty d = ⊥
-HadFailed (Pending name) d = had_failed d.started name ≡ true
+abbrev pub PendingSyncFailed : SyncState → Disk → Type 0
+PendingSyncFailed Clean d = ⊥
+PendingSyncFailed Dirty d = ⊥
+PendingSyncFailed (Pending name) d = had_failed d.started name ≡ true
 
 -- why a call of a writer in this state may answer this error: a write or a sync of the device
 -- failed in it, or the started sync that it waited for had failed, or memory was refused
 abbrev pub CallCause : SyncState → Life → Life → Error → Type 0
 CallCause s old new WriteFailed = HasFailed WriteFailed old.present new.present
 CallCause s old new SyncFailed =
-    HasFailed SyncFailed old.present new.present ⊎ HadFailed s old.present
+    HasFailed SyncFailed old.present new.present ⊎ PendingSyncFailed s old.present
 CallCause s old new OutOfMemory = Unit {0}
 CallCause s old new _ = ⊥
 
@@ -79,7 +79,7 @@ pub record IsSameWriter (old new : WriterState) : Type 0 where
 
 -- a writer goes on over its blob: it is sound, and stands for the content before and these bytes;
 -- and what each moment of the call owes to the one at which it began
-pub record GoesOn (sum : List ℕ → ℕ) (w : WriterState) (old : Life) (more : List ℕ)
+pub record Succeeds (sum : List ℕ → ℕ) (w : WriterState) (old : Life) (more : List ℕ)
     (now : WriterState) (new : Life) : Type 0 where
   pub sound : IsSound sum now new.present
   pub stays : StaysThrough sum w.page_size (content w old.present.readable ++ more) old new
@@ -90,10 +90,10 @@ pub record GoesOn (sum : List ℕ → ℕ) (w : WriterState) (old : Life) (more 
   pub same : IsSameWriter w now
   pub log : LogGrows old.present new.present
   -- where the sync that it is left waiting for has failed, this call is why, or it was so before
-  pub waits : HadFailed now.sync new.present → CallCause w.sync old new SyncFailed
+  pub waits : PendingSyncFailed now.sync new.present → CallCause w.sync old new SyncFailed
 
 -- a call is refused: why, and what each of its moments owes
-pub record Refuses (sum : List ℕ → ℕ) (w : WriterState) (content : List ℕ) (old new : Life)
+pub record Fails (sum : List ℕ → ℕ) (w : WriterState) (content : List ℕ) (old new : Life)
     (e : Error) : Type 0 where
   pub cause : CallCause w.sync old new e
   pub stays : StaysThrough sum w.page_size content old new
@@ -111,17 +111,17 @@ pub record CarriesOn (sum : List ℕ → ℕ) (w : WriterState) (old : Life) (mo
   pub content : content now new.present.readable ≡ content w old.present.readable ++ more
   pub same : IsSameWriter w now
   pub log : LogGrows old.present new.present
-  pub waits : HadFailed now.sync new.present → CallCause w.sync old new SyncFailed
+  pub waits : PendingSyncFailed now.sync new.present → CallCause w.sync old new SyncFailed
 
 -- a flush
 abbrev pub Flushes : (List ℕ → ℕ) → WriterState → Life → Life → Result WriterState Error → Type 0
 Flushes sum w old new (Ok now) = CarriesOn sum w old [] now new
-Flushes sum w old new (Err e) = Refuses sum w (content w old.present.readable) old new e
+Flushes sum w old new (Err e) = Fails sum w (content w old.present.readable) old new e
 
 -- what is written is made durable, and the writer stays
 abbrev pub Settles : (List ℕ → ℕ) → WriterState → Life → Life → Result WriterState Error → Type 0
 Settles sum w old new (Ok now) = CarriesOn sum w old [] now new × (now ≡ synced w)
-Settles sum w old new (Err e) = Refuses sum w (content w old.present.readable) old new e
+Settles sum w old new (Err e) = Fails sum w (content w old.present.readable) old new e
 
 -- all that the writer stands for is written
 pub record IsWritten (w : WriterState) : Type 0 where
@@ -136,13 +136,13 @@ pub record IsSettled (w : WriterState) : Type 0 where
 
 -- a sync
 abbrev pub Syncs : (List ℕ → ℕ) → WriterState → Life → Life → Result WriterState Error → Type 0
-Syncs sum w old new (Ok now) = GoesOn sum w old [] now new × IsSettled now
-Syncs sum w old new (Err e) = Refuses sum w (content w old.present.readable) old new e
+Syncs sum w old new (Ok now) = Succeeds sum w old [] now new × IsSettled now
+Syncs sum w old new (Err e) = Fails sum w (content w old.present.readable) old new e
 
 -- the same over a blob that may be damaged
 abbrev pub SyncsOver : (List ℕ → ℕ) → WriterState → Life → Life → Result WriterState Error → Type 0
 SyncsOver sum w old new (Ok now) = CarriesOn sum w old [] now new × IsSettled now
-SyncsOver sum w old new (Err e) = Refuses sum w (content w old.present.readable) old new e
+SyncsOver sum w old new (Err e) = Fails sum w (content w old.present.readable) old new e
 
 -- what is written is made durable by one call of the device, or none, by the state of the writer
 abbrev pub SettlesBy : SyncState → Life → Life → Result (Unit {0}) Error → Type 0
@@ -156,8 +156,8 @@ waited_state Clean = Clean
 waited_state Dirty = Dirty
 waited_state (Pending name) = Clean
 
-abbrev pub waited : WriterState → WriterState
-waited w = record w { sync = waited_state w.sync }
+abbrev pub waited_writer : WriterState → WriterState
+waited_writer w = record w { sync = waited_state w.sync }
 
 -- no sync is pending
 abbrev pub WaitsForNone : SyncState → Type 0
@@ -168,14 +168,14 @@ WaitsForNone (Pending name) = ⊥
 -- a wait for the pending sync
 abbrev pub WaitsForSync : (List ℕ → ℕ) → WriterState → Life → Life → Result WriterState Error
     → Type 0
-WaitsForSync sum w old new (Ok now) = GoesOn sum w old [] now new × (now ≡ waited w)
-WaitsForSync sum w old new (Err e) = Refuses sum w (content w old.present.readable) old new e
+WaitsForSync sum w old new (Ok now) = Succeeds sum w old [] now new × (now ≡ waited_writer w)
+WaitsForSync sum w old new (Err e) = Fails sum w (content w old.present.readable) old new e
 
 -- the same over a blob that may be damaged
 abbrev pub WaitsOver : (List ℕ → ℕ) → WriterState → Life → Life → Result WriterState Error
     → Type 0
-WaitsOver sum w old new (Ok now) = CarriesOn sum w old [] now new × (now ≡ waited w)
-WaitsOver sum w old new (Err e) = Refuses sum w (content w old.present.readable) old new e
+WaitsOver sum w old new (Ok now) = CarriesOn sum w old [] now new × (now ≡ waited_writer w)
+WaitsOver sum w old new (Err e) = Fails sum w (content w old.present.readable) old new e
 
 -- what the sync that a writer in this state waits for covers, every image keeps from then on
 abbrev pub Completes : (List ℕ → ℕ) → (P : ℕ) → SyncState → Life → Life → Type 0
@@ -207,17 +207,18 @@ Covers sum P Done old new = Unit {0}
 Covers sum P (Named name) old new = Completes sum P (Pending name) old new
 
 -- what a started sync stands for: all of this content is durable already, or is once it completed
-abbrev pub Starts : (List ℕ → ℕ) → (P : ℕ) → List ℕ → Life → StartedSync → Type 0
-Starts sum P content life Done = KeepsAll sum P content life
-Starts sum P content life (Named name) = WouldKeep sum P content name (length content) life.present
+abbrev pub StartedSyncKeeps : (List ℕ → ℕ) → (P : ℕ) → List ℕ → Life → StartedSync → Type 0
+StartedSyncKeeps sum P content life Done = KeepsAll sum P content life
+StartedSyncKeeps sum P content life (Named name) =
+    WouldKeep sum P content name (length content) life.present
 
 -- a sync is started after all that was appended
 abbrev pub StartsSync : (List ℕ → ℕ) → WriterState → Life → Life
     → Result (WriterState × StartedSync) Error → Type 0
 StartsSync sum w old new (Ok r) =
-    GoesOn sum w old [] r.0 new × IsWritten r.0 × (r.0.sync ≡ started_state r.1)
-    × Starts sum w.page_size (content w old.present.readable) new r.1
-StartsSync sum w old new (Err e) = Refuses sum w (content w old.present.readable) old new e
+    Succeeds sum w old [] r.0 new × IsWritten r.0 × (r.0.sync ≡ started_state r.1)
+    × StartedSyncKeeps sum w.page_size (content w old.present.readable) new r.1
+StartsSync sum w old new (Err e) = Fails sum w (content w old.present.readable) old new e
 
 -- the same over a blob that may be damaged, where nothing is promised of a damaged one
 abbrev pub StartsOver : (List ℕ → ℕ) → WriterState → Life → Life
@@ -225,19 +226,19 @@ abbrev pub StartsOver : (List ℕ → ℕ) → WriterState → Life → Life
 StartsOver sum w old new (Ok r) =
     CarriesOn sum w old [] r.0 new × IsWritten r.0 × (r.0.sync ≡ started_state r.1)
     × (IsIntact sum w old.present
-    → Starts sum w.page_size (content w old.present.readable) new r.1)
-StartsOver sum w old new (Err e) = Refuses sum w (content w old.present.readable) old new e
+    → StartedSyncKeeps sum w.page_size (content w old.present.readable) new r.1)
+StartsOver sum w old new (Err e) = Fails sum w (content w old.present.readable) old new e
 
 -- an append: it answers the size until now
 abbrev pub Appends : (List ℕ → ℕ) → WriterState → List ℕ → Life → Life
     → Result (WriterState × ℕ) Error → Type 0
 Appends sum w bytes old new (Ok r) =
-    (r.1 ≡ length (content w old.present.readable)) × GoesOn sum w old bytes r.0 new
+    (r.1 ≡ length (content w old.present.readable)) × Succeeds sum w old bytes r.0 new
 Appends sum w bytes old new (Err OffsetOverflow) =
     (new ≡ old)
     × (2 ^ 64 ≤ physical_blob_size w.page_size w.full_pages (length w.tip + length bytes))
 Appends sum w bytes old new (Err e) =
-    Refuses sum w (content w old.present.readable ++ bytes) old new e
+    Fails sum w (content w old.present.readable ++ bytes) old new e
 
 -- the same over a blob that may be damaged
 abbrev pub AppendsOver : (List ℕ → ℕ) → WriterState → List ℕ → Life → Life
@@ -248,7 +249,7 @@ AppendsOver sum w bytes old new (Err OffsetOverflow) =
     (new ≡ old)
     × (2 ^ 64 ≤ physical_blob_size w.page_size w.full_pages (length w.tip + length bytes))
 AppendsOver sum w bytes old new (Err e) =
-    Refuses sum w (content w old.present.readable ++ bytes) old new e
+    Fails sum w (content w old.present.readable ++ bytes) old new e
 
 -- an append of bytes that fit what is buffered: they are buffered, and nothing is asked of the
 -- device
@@ -273,20 +274,20 @@ Buffers w bytes now (Err _) = ⊥
 
 -- an append within the capacity, for which nothing is asked of the device: it answers the size
 -- until now, or that the bytes don't fit what is buffered
-abbrev pub TryAppends : WriterState → List ℕ → WriterState → Result (Option ℕ) Error → Type 0
-TryAppends w bytes now (Ok (Some at)) =
+abbrev pub TryAppendGoes : WriterState → List ℕ → WriterState → Result (Option ℕ) Error → Type 0
+TryAppendGoes w bytes now (Ok (Some at)) =
     FitsBlob w.page_size w.full_pages (length w.tip + length bytes)
     × (length w.tip + length bytes ≤ w.capacity) × (at ≡ w.full_pages * w.page_size + length w.tip)
     × (now ≡ record w { tip = w.tip ++ bytes })
-TryAppends w bytes now (Ok None) =
+TryAppendGoes w bytes now (Ok None) =
     FitsBlob w.page_size w.full_pages (length w.tip + length bytes)
     × (w.capacity < length w.tip + length bytes) × (now ≡ w)
-TryAppends w bytes now (Err OffsetOverflow) =
+TryAppendGoes w bytes now (Err OffsetOverflow) =
     (2 ^ 64 ≤ physical_blob_size w.page_size w.full_pages (length w.tip + length bytes)) × (now ≡ w)
-TryAppends w bytes now (Err OutOfMemory) =
+TryAppendGoes w bytes now (Err OutOfMemory) =
     FitsBlob w.page_size w.full_pages (length w.tip + length bytes)
     × (length w.tip + length bytes ≤ w.capacity) × (now ≡ w)
-TryAppends w bytes now (Err _) = ⊥
+TryAppendGoes w bytes now (Err _) = ⊥
 
 -- bytes that were buffered are an append, whatever the blob over which the writer is sound
 abbrev pub BuffersOver : (List ℕ → ℕ) → WriterState → List ℕ → WriterState → Result (Option ℕ) Error

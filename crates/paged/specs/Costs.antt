@@ -13,7 +13,7 @@ use Rattle.paged_read.specs.Tail.{Tail}
 use Rattle.paged.specs.Calls.{AsksAtMost, BuffersAll, SettlesBy, started_already, start_calls}
 use Rattle.paged.specs.Calls.{sync_calls, wait_calls}
 use Rattle.paged.specs.Caches.{Caches, PutsOnceWaited, tail_of}
-use Rattle.paged.specs.Flush.{has_work, outcome}
+use Rattle.paged.specs.Flush.{has_work, without_value}
 use Rattle.paged.specs.Replays.{BeginsAtOnce, replay_calls}
 use Rattle.paged.specs.Snapshots.{CachesOfSeal, CopiesTail, seal_calls, snapshot_calls}
 
@@ -34,7 +34,7 @@ pub record SyncCosts (w : WriterState) (cache after : CacheState) (old new : Lif
     (result : Result WriterState Error) : Type 0 where
   pub calls : AsksAtMost (sync_calls w) old new
   pub idle : sync_calls w ≡ 0 → (result ≡ Ok w) × (new ≡ old)
-  pub unwritten : has_work w true ≡ false → SettlesBy w.sync old new (outcome result)
+  pub unwritten : has_work w true ≡ false → SettlesBy w.sync old new (without_value result)
   pub puts : Caches (λ v. v) w w.tip cache after result
   pub refused : wait_calls w.sync ≡ 1 → PutsOnceWaited cache after result
   pub idle_cache : has_work w true ≡ false → after ≡ cache
@@ -51,7 +51,7 @@ pub record StartSyncCosts (w : WriterState) (cache after : CacheState) (old new 
 pub record WaitForSyncCosts (w : WriterState) (old new : Life) (result : Result WriterState Error)
     : Type 0 where
   pub calls : AsksAtMost (wait_calls w.sync) old new
-  pub settles : wait_calls w.sync ≡ 1 → SettlesBy w.sync old new (outcome result)
+  pub settles : wait_calls w.sync ≡ 1 → SettlesBy w.sync old new (without_value result)
   pub idle : wait_calls w.sync ≡ 0 → (result ≡ Ok w) × (new ≡ old)
 
 -- a snapshot: where no full page is buffered, nothing

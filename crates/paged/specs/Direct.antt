@@ -12,8 +12,8 @@ abbrev pub fill_of : WriterState → ℕ
 fill_of w = (w.page_size - length w.tip % w.page_size) % w.page_size
 
 -- whether so many bytes more pass the capacity, and have a whole page after the boundary
-abbrev pub is_too_big : WriterState → ℕ → Bool
-is_too_big w more =
+abbrev pub goes_direct : WriterState → ℕ → Bool
+goes_direct w more =
     nat_lt w.capacity (length w.tip + more) && nat_le (fill_of w + w.page_size) more
 
 -- the writer with these bytes more in its tip

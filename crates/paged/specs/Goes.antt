@@ -10,11 +10,12 @@ use Rattle.crash.specs.Stays.{KeepsAll}
 use Rattle.writer_state.specs.WriterState.{WriterState, started_state}
 use Rattle.writer_state.specs.Sound.{IsConsistent, IsSound, LeavesItsContent, content}
 use Rattle.paged_read.specs.Replay.{CanReplay, IsReplayOf, ReplayState, new_replay}
-use Rattle.paged_read.specs.Snapshots.{StandsOn}
+use Rattle.paged_read.specs.Snapshots.{SnapshotReads}
 use Rattle.paged_read.specs.Tail.{CanRead, Tail}
 use Rattle.paged.specs.Writer.{physical_blob_size}
-use Rattle.paged.specs.Calls.{CallCause, Completed, Completes, HadFailed, HoldsWithin}
-use Rattle.paged.specs.Calls.{IsSameWriter, IsSettled, IsWritten, Starts, start_calls, waited}
+use Rattle.paged.specs.Calls.{CallCause, Completed, Completes, HoldsWithin, PendingSyncFailed}
+use Rattle.paged.specs.Calls.{IsSameWriter, IsSettled, IsWritten, StartedSyncKeeps, start_calls}
+use Rattle.paged.specs.Calls.{waited_writer}
 use Rattle.paged.specs.Reads.{size_of}
 use Rattle.paged.specs.Recovery.{IsAsOpened}
 use Rattle.paged.specs.Caches.{tail_of}
@@ -31,7 +32,7 @@ pub record Holds (sum : List ℕ → ℕ) (w : WriterState) (old : Life) (more :
   -- the sync that it no longer waits for has completed; the one that it is left waiting for failed
   -- in this call, if it did
   pub completed : Completed sum w.page_size (content w old.present.readable) w.sync now.sync old new
-  pub waits : HadFailed now.sync new.present → CallCause w.sync old new SyncFailed
+  pub waits : PendingSyncFailed now.sync new.present → CallCause w.sync old new SyncFailed
   -- (last, since a field hides a definition of its name from those after it)
   pub content : content now new.present.readable ≡ content w old.present.readable ++ more
 
@@ -90,7 +91,7 @@ pub record IsUnderWay (sum : List ℕ → ℕ) (w : WriterState) (old new : Life
   pub written : IsWritten now
   pub state : now.sync ≡ started_state started
   pub starts : IsSound sum w old.present
-      → Starts sum w.page_size (content w old.present.readable) new started
+      → StartedSyncKeeps sum w.page_size (content w old.present.readable) new started
 
 -- where the device was asked, the sync has the name that comes next
 pub record HasStarted (sum : List ℕ → ℕ) (w : WriterState) (old new : Life) (now : WriterState)
@@ -109,7 +110,7 @@ pub record HasWaited (sum : List ℕ → ℕ) (w : WriterState) (old new : Life)
   pub sound : IsSound sum w old.present → IsSound sum now new.present
   pub consistent : IsConsistent sum now new.present
   pub holds : Holds sum w old [] now new
-  pub state : now ≡ waited w
+  pub state : now ≡ waited_writer w
   pub completes : Completes sum w.page_size w.sync old new
 
 abbrev pub WaitForSyncGoes : (List ℕ → ℕ) → WriterState → Life → Life → Result WriterState Error
@@ -129,7 +130,7 @@ pub record HasSnapshot (sum : List ℕ → ℕ) (w : WriterState) (after : Cache
   pub can : CanRead t after new.present
   -- where no page was damaged
   pub stands : IsSound sum w old.present
-      → StandsOn sum t (content w old.present.readable) after new.present
+      → SnapshotReads sum t (content w old.present.readable) after new.present
 
 abbrev pub SnapshotGoes : (List ℕ → ℕ) → WriterState → (after : CacheState) → Life → Life
     → Result (WriterState × Tail) Error → Type 0
@@ -151,7 +152,7 @@ pub record HasReplay (sum : List ℕ → ℕ) (w : WriterState) (buffer_size : �
   pub page_size : r.tail.page_size ≡ now.page_size
   pub below : r.tail.full_pages ≤ now.full_pages
   pub stands : IsSound sum w old.present
-      → StandsOn sum r.tail (content w old.present.readable) after new.present
+      → SnapshotReads sum r.tail (content w old.present.readable) after new.present
 
 abbrev pub ReplayGoes : (List ℕ → ℕ) → WriterState → (buffer_size : ℕ) → (after : CacheState)
     → Life → Life → Result (WriterState × ReplayState) Error → Type 0
@@ -174,7 +175,7 @@ pub record HasSealed (sum : List ℕ → ℕ) (w : WriterState) (after : CacheSt
   -- where no page was damaged
   pub sound : IsSound sum w old.present → IsSound sum now new.present
   pub stands : IsSound sum w old.present
-      → StandsOn sum t (content w old.present.readable) after new.present
+      → SnapshotReads sum t (content w old.present.readable) after new.present
 
 abbrev pub SealGoes : (List ℕ → ℕ) → WriterState → (after : CacheState) → Life → Life
     → Result (Tail × StartedSync) Error → Type 0

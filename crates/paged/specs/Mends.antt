@@ -36,12 +36,12 @@ mended_state (Some slot) s = Clean
 
 -- a blob is cut where it has more than so many bytes, and then a slot of a page is emptied, if
 -- there is one
-abbrev pub KeepsPages : (P kept page : ℕ) → Option Slot → Life → Life → Result SyncState Error
+abbrev pub CutsAndMends : (P kept page : ℕ) → Option Slot → Life → Life → Result SyncState Error
     → Type 0
-KeepsPages P kept page bad old new (Ok s) =
+CutsAndMends P kept page bad old new (Ok s) =
     (cut : SyncState) × (mid : Life) × CutsBack kept old mid (Ok cut)
     × Mends P page bad (is_unsynced cut) mid new (Ok tt) × (s ≡ mended_state bad cut)
-KeepsPages P kept page bad old new (Err e) =
+CutsAndMends P kept page bad old new (Err e) =
     CutsBack kept old new (Err e)
     ⊎ ((cut : SyncState) × (mid : Life) × CutsBack kept old mid (Ok cut)
     × Mends P page bad (is_unsynced cut) mid new (Err e))

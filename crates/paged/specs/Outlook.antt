@@ -4,7 +4,7 @@ use Rattle.std.specs.Prelude.{ℕ, List, length, take, drop, count_by, min, Bool
 use Rattle.std.specs.Prelude.{Result, Ok, Err, IfOk, if◌then◌else◌, nat_lt, is_some}
 use Rattle.std.specs.Int.{div_ceil}
 use Rattle.std.specs.List.{list_all}
-use Rattle.disk.specs.Disk.{Life, HasFailed, ReadGoes}
+use Rattle.disk.specs.Disk.{Life, HasFailed, DeviceReadGoes}
 use Rattle.disk.specs.declared.error.Error.{Error}
 use Rattle.disk.specs.declared.error.Error.TheVariants.{ReadFailed, OutOfMemory}
 use Rattle.page.specs.Page.{active, bad_slot, pages, text}
@@ -14,7 +14,7 @@ use Rattle.crash.specs.Stays.{KeepsAllFloors}
 use Rattle.paged_read.specs.Replay.{LeavesAllReplays}
 use Rattle.paged_read.specs.Scans.{ReadsForward, StopsAt, pages_from, prefix_from}
 use Rattle.paged_read.specs.Searches.{ReadsWithin}
-use Rattle.paged_read.specs.Snapshots.{LeavesAllReads, LeavesAllTails, LeavesWriters}
+use Rattle.paged_read.specs.Snapshots.{LeavesAllReads, LeavesAllTails, LeavesAllWriters}
 use Rattle.paged.specs.declared.outlook.Outlook.{Outlook}
 use Rattle.paged.specs.declared.verdict.Survey.{Survey}
 use Rattle.paged.specs.declared.verdict.Verdict.{Verdict}
@@ -31,11 +31,11 @@ pub record IsOutlook (sum : List ℕ → ℕ) (P : ℕ) (bytes : List ℕ) (outl
   pub cut : outlook.pages * (P + 12) + outlook.cut ≡ length bytes
 
 -- a look: it tells that, or a read failed in the call, or memory was refused
-abbrev pub Looks : (List ℕ → ℕ) → (P : ℕ) → Life → Life → Result Outlook Error → Type 0
-Looks sum P old new (Ok outlook) = IsOutlook sum P old.present.readable outlook
-Looks sum P old new (Err ReadFailed) = HasFailed ReadFailed old.present new.present
-Looks sum P old new (Err OutOfMemory) = Unit {0}
-Looks sum P old new (Err _) = ⊥
+abbrev pub LookGoes : (List ℕ → ℕ) → (P : ℕ) → Life → Life → Result Outlook Error → Type 0
+LookGoes sum P old new (Ok outlook) = IsOutlook sum P old.present.readable outlook
+LookGoes sum P old new (Err ReadFailed) = HasFailed ReadFailed old.present new.present
+LookGoes sum P old new (Err OutOfMemory) = Unit {0}
+LookGoes sum P old new (Err _) = ⊥
 
 -- a recovery of these bytes, where it is done, gives a writer of so many logical bytes, and leaves
 -- so many pages of the blob, and nothing after them
@@ -73,8 +73,8 @@ last_page P outlook bytes = take (P + 12) (drop ((outlook.pages - 1) * (P + 12))
 
 -- the last page is partial, and its other slot is neither zero nor verifies: that may tell of more
 -- bytes of the page than its value has, and a recovery empties it
-abbrev pub is_torn : (List ℕ → ℕ) → (P : ℕ) → List ℕ → Outlook → Bool
-is_torn sum P bytes outlook =
+abbrev pub has_torn_page : (List ℕ → ℕ) → (P : ℕ) → List ℕ → Outlook → Bool
+has_torn_page sum P bytes outlook =
     nat_lt 0 (outlook.len % P) && is_some (bad_slot sum P (last_page P outlook bytes))
 
 -- a look that goes on to the last page: it tells that too
@@ -82,8 +82,8 @@ abbrev pub LooksToLast : (List ℕ → ℕ) → (P : ℕ) → Life → Life → 
     → Type 0
 LooksToLast sum P old new (Ok found) =
     IsOutlook sum P old.present.readable found.0
-    × (found.1 ≡ is_torn sum P old.present.readable found.0)
-LooksToLast sum P old new (Err e) = Looks sum P old new (Err e)
+    × (found.1 ≡ has_torn_page sum P old.present.readable found.0)
+LooksToLast sum P old new (Err e) = LookGoes sum P old new (Err e)
 
 -- how many of these bytes' whole pages after the kept ones have a value, and whether all bytes of
 -- these pages are zero; and whether the last kept page is torn
@@ -91,23 +91,23 @@ pub record IsSurvey (sum : List ℕ → ℕ) (P : ℕ) (bytes : List ℕ) (surve
   pub outlook : IsOutlook sum P bytes survey.outlook
   pub beyond : survey.beyond ≡ values_of sum P (drop survey.outlook.pages (pages P bytes))
   pub blank : survey.blank ≡ are_zeros (beyond_bytes P survey.outlook.pages bytes)
-  pub torn : survey.torn ≡ is_torn sum P bytes survey.outlook
+  pub torn : survey.torn ≡ has_torn_page sum P bytes survey.outlook
 
 -- a survey: it tells that, or a read failed in the call, or memory was refused
-abbrev pub Surveys : (List ℕ → ℕ) → (P : ℕ) → Life → Life → Result Survey Error → Type 0
-Surveys sum P old new (Ok survey) = IsSurvey sum P old.present.readable survey
-Surveys sum P old new (Err ReadFailed) = HasFailed ReadFailed old.present new.present
-Surveys sum P old new (Err OutOfMemory) = Unit {0}
-Surveys sum P old new (Err _) = ⊥
+abbrev pub SurveyGoes : (List ℕ → ℕ) → (P : ℕ) → Life → Life → Result Survey Error → Type 0
+SurveyGoes sum P old new (Ok survey) = IsSurvey sum P old.present.readable survey
+SurveyGoes sum P old new (Err ReadFailed) = HasFailed ReadFailed old.present new.present
+SurveyGoes sum P old new (Err OutOfMemory) = Unit {0}
+SurveyGoes sum P old new (Err _) = ⊥
 
 -- the last page that would be kept was read, if it is partial
 abbrev pub ReadsLast : (P : ℕ) → Outlook → Life → Life → Result Bool Error → Type 0
 ReadsLast P outlook old new (Ok torn) =
     ((outlook.len % P ≡ 0) × (new ≡ old))
     ⊎ ((0 < outlook.len % P) × (0 < outlook.pages) × (bytes : List ℕ)
-    × ReadGoes ((outlook.pages - 1) * (P + 12)) (P + 12) old new (Ok bytes))
+    × DeviceReadGoes ((outlook.pages - 1) * (P + 12)) (P + 12) old new (Ok bytes))
 ReadsLast P outlook old new (Err e) =
-    (0 < outlook.pages) × ReadGoes ((outlook.pages - 1) * (P + 12)) (P + 12) old new (Err e)
+    (0 < outlook.pages) × DeviceReadGoes ((outlook.pages - 1) * (P + 12)) (P + 12) old new (Err e)
 
 -- two readings, each forward, up to this offset: one from the first byte on, the other from
 -- whichever
@@ -124,7 +124,7 @@ ReadsToLast P most to old new (Err e) = ReadsTwice most to old new
 -- what a blob's writer stands on, its snapshots and its replays, through any cache, and what a
 -- crash at any moment keeps and leaves: all is as it was
 pub record LeavesAsIs (old new : Life) : Type 0 where
-  pub writers : (sum : List ℕ → ℕ) → LeavesWriters sum old new
+  pub writers : (sum : List ℕ → ℕ) → LeavesAllWriters sum old new
   pub tails : (sum : List ℕ → ℕ) (cache : CacheState) → LeavesAllTails sum cache cache old new
   pub can_read : (cache : CacheState) → LeavesAllReads cache cache old new
   pub replays : LeavesAllReplays old new

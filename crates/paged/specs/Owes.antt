@@ -7,7 +7,7 @@ use Rattle.cache.specs.Pages.{CachesOnly, IsFresh}
 use Rattle.crash.specs.Below.{PagesStay, SamePages}
 use Rattle.crash.specs.Kept.{AllKeep, AllOnly, Through}
 use Rattle.crash.specs.Moments.{through_then}
-use Rattle.crash.specs.Started.{CoversStay, CoversThrough, StartsStand}
+use Rattle.crash.specs.Started.{CoversStay, CoversThrough, StartsCanBeAwaited}
 use Rattle.crash.specs.Stays.{KeepsAllFloors, LeavesOnly}
 use Rattle.writer_state.specs.WriterState.{WriterState}
 use Rattle.writer_state.specs.Sound.{content}
@@ -39,7 +39,7 @@ pub record Owes (sum : List ℕ → ℕ) (w : WriterState) (all : List ℕ) (cac
   pub through : let held = content w old.present.readable in
       OwedThrough sum w.page_size w.full_pages held all old new
   -- each started sync can still be waited for
-  pub starts : StartsStand new.present
+  pub starts : StartsCanBeAwaited new.present
   -- only pages of the content were put in the cache, under the blob's id
   pub cached : CachesOnly w.id w.full_pages all cache after
   pub fresh : IsFresh after
@@ -52,7 +52,7 @@ pub record Owes (sum : List ℕ → ℕ) (w : WriterState) (all : List ℕ) (cac
 pub record OwesWaiting (sum : List ℕ → ℕ) (w : WriterState) (old new : Life) : Type 0 where
   pub through : let held = content w old.present.readable in
       OwedThrough sum w.page_size w.full_pages held held old new
-  pub starts : StartsStand new.present
+  pub starts : StartsCanBeAwaited new.present
   pub tails : (cache : CacheState) → cache.page_size ≡ w.page_size
       → LeavesTails sum w.full_pages cache cache old new
   pub replays : LeavesReplays w.page_size w.full_pages old new

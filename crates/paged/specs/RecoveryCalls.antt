@@ -9,7 +9,7 @@ use Rattle.page.specs.Page.{text}
 use Rattle.cache.specs.CacheState.{CacheState}
 use Rattle.cache.specs.Pages.{CachesOnly, IsFresh}
 use Rattle.crash.specs.Below.{PagesStay}
-use Rattle.crash.specs.Started.{CoversThrough, StartsStand}
+use Rattle.crash.specs.Started.{CoversThrough, StartsCanBeAwaited}
 use Rattle.crash.specs.Stays.{KeepsAll, KeepsAllFloors, LeavesOnly}
 use Rattle.writer_state.specs.WriterState.{WriterState}
 use Rattle.writer_state.specs.Sound.{IsSound, LeavesItsContent, content}
@@ -19,7 +19,7 @@ use Rattle.paged_read.specs.Snapshots.{LeavesOthers, LeavesReads}
 use Rattle.paged.specs.Caches.{PutsUpTo, ReadsOn}
 use Rattle.paged.specs.Calls.{AsksAtMost, HoldsWithin, Syncs, sync_calls}
 use Rattle.paged.specs.Flush.{has_work}
-use Rattle.paged.specs.Reads.{HasPages, size_of}
+use Rattle.paged.specs.Reads.{HasWriterPages, size_of}
 use Rattle.paged.specs.Ready.{IsUsable}
 use Rattle.paged.specs.Recovers.{GivesId, Recovers}
 use Rattle.paged.specs.Recovery.{IsAsOpened, IsDurable, KeepsText, LeavesText, Opens}
@@ -50,7 +50,7 @@ pub record OpenGoes (sum : List ℕ → ℕ) (cache after : CacheState) (capacit
   pub answers : Opens sum cache capacity old new result
   pub overflow : 2 ^ 64 ≤ adjusted capacity cache.page_size → result ≡ Err OffsetOverflow
   pub ids : after ≡ cache_after result cache
-  pub there : IfOk result (λ w. HasPages w new)
+  pub there : IfOk result (λ w. HasWriterPages w new)
   pub within : IfOk result (λ w. HoldsWithin w)
   -- what a truncate asks for
   pub as_opened : IfOk result (λ w. IsAsOpened sum w new.present)
@@ -65,7 +65,7 @@ pub record OpenGoes (sum : List ℕ → ℕ) (cache after : CacheState) (capacit
 -- what holds of its writer, whatever the bound
 pub record IsNewWriter (sum : List ℕ → ℕ) (cache : CacheState) (new : Life) (w : WriterState)
     : Type 0 where
-  pub there : HasPages w new
+  pub there : HasWriterPages w new
   pub within : HoldsWithin w
   pub id : w.id ≡ cache.ids_given
   -- no slot of the tip's page is bad, durably
@@ -105,7 +105,7 @@ pub record RecoverWithinGoes (sum : List ℕ → ℕ) (cache after : CacheState)
 pub record TruncateGoes (sum : List ℕ → ℕ) (n : ℕ) (w : WriterState) (cache after : CacheState)
     (old new : Life) (result : Result WriterState Error) : Type 0 where
   pub answers : Truncates sum n w old new result
-  pub there : IfOk result (λ v. HasPages v new)
+  pub there : IfOk result (λ v. HasWriterPages v new)
   pub within : IfOk result (λ v. HoldsWithin v)
   pub reads : IfOk result (λ v. ReadsOn w v cache after old new)
   -- of a sound writer: at or above the size it is a sync
@@ -132,7 +132,7 @@ pub record OwesCutting (sum : List ℕ → ℕ) (n : ℕ) (w : WriterState) (cac
       IsSound sum w old.present → LeavesOnly sum w.page_size held (take n held) old new
   pub covers : let held = content w old.present.readable in
       IsSound sum w old.present → CoversThrough sum w.page_size (take n held) old new
-  pub starts : IsSound sum w old.present → StartsStand new.present
+  pub starts : IsSound sum w old.present → StartsCanBeAwaited new.present
   pub cached : IsSound sum w old.present
       → CachesOnly w.id w.full_pages (content w old.present.readable) cache after
   -- where nothing is buffered that isn't written

@@ -7,7 +7,7 @@ use Rattle.writer_state.specs.WriterState.{WriterState}
 use Rattle.writer_state.specs.Sound.{content}
 use Rattle.paged_read.specs.Replay.{new_replay, ReplayState}
 use Rattle.paged.specs.Caches.{tail_of}
-use Rattle.paged.specs.Calls.{CarriesOn, GoesOn, IsWritten, Refuses, wait_calls}
+use Rattle.paged.specs.Calls.{CarriesOn, Fails, IsWritten, Succeeds, wait_calls}
 use Rattle.paged.specs.Flush.{has_work}
 
 -- a replay begins after all that was appended: the writer goes on with all of its bytes written,
@@ -15,9 +15,9 @@ use Rattle.paged.specs.Flush.{has_work}
 abbrev pub BeginsReplay : (List ℕ → ℕ) → WriterState → (buffer_size : ℕ) → Life → Life
     → Result (WriterState × ReplayState) Error → Type 0
 BeginsReplay sum w buffer_size old new (Ok r) =
-    GoesOn sum w old [] r.0 new × IsWritten r.0 × (r.1 ≡ new_replay (tail_of r.0) buffer_size)
+    Succeeds sum w old [] r.0 new × IsWritten r.0 × (r.1 ≡ new_replay (tail_of r.0) buffer_size)
 BeginsReplay sum w buffer_size old new (Err e) =
-    Refuses sum w (content w old.present.readable) old new e
+    Fails sum w (content w old.present.readable) old new e
 
 -- the same over a blob that may be damaged
 abbrev pub ReplaysOver : (List ℕ → ℕ) → WriterState → (buffer_size : ℕ) → Life → Life
@@ -25,7 +25,7 @@ abbrev pub ReplaysOver : (List ℕ → ℕ) → WriterState → (buffer_size : �
 ReplaysOver sum w buffer_size old new (Ok r) =
     CarriesOn sum w old [] r.0 new × IsWritten r.0 × (r.1 ≡ new_replay (tail_of r.0) buffer_size)
 ReplaysOver sum w buffer_size old new (Err e) =
-    Refuses sum w (content w old.present.readable) old new e
+    Fails sum w (content w old.present.readable) old new e
 
 -- the device calls that it takes: where something isn't written, a wait and a write
 abbrev pub replay_calls : WriterState → ℕ

@@ -6,7 +6,7 @@ use Rattle.page.specs.Page.{text as text_of}
 use Rattle.writer_state.specs.WriterState.{WriterState}
 use Rattle.writer_state.specs.Sound.{IsSound}
 use Rattle.paged_read.specs.Scans.{IsProven, IsWithinBlob, ReadsUpToEnd, scan_end, scan_start}
-use Rattle.paged_read.specs.Scans.{scan_to, Scans, text_of_first}
+use Rattle.paged_read.specs.Scans.{scan_to, ScanAnswers, text_of_first}
 use Rattle.paged_read.specs.Searches.{scan_bytes}
 use Rattle.paged.specs.Recovery.{IsAsOpened, slot_pages}
 
@@ -25,7 +25,7 @@ pub record ScanGoes (sum : List ℕ → ℕ) (w : WriterState) (proven : ℕ) (o
     (result : Result ℕ Error) : Type 0 where
   pub answers : let P = w.page_size in let end = flushed_pages w in
       let len = scan_to sum P w.full_pages end proven old.present.readable in
-      Scans (end * (P + 12)) len old new result
+      ScanAnswers (end * (P + 12)) len old new result
   -- where the proven bytes are told, so are all that it counts
   pub told : IsProven sum w.page_size w.full_pages proven old.present.readable
       → let all = text_of_first sum w.page_size (flushed_pages w) old.present.readable in
@@ -52,7 +52,7 @@ pub record ScanFirstGoes (sum : List ℕ → ℕ) (w : WriterState) (proven max_
     (old new : Life) (result : Result ℕ Error) : Type 0 where
   pub answers : let P = w.page_size in let end = scan_end P (flushed_pages w) max_size in
       let len = scan_to sum P w.full_pages end proven old.present.readable in
-      Scans (end * (P + 12)) (min max_size len) old new result
+      ScanAnswers (end * (P + 12)) (min max_size len) old new result
   pub told : IsProven sum w.page_size w.full_pages proven old.present.readable
       → let all = text_of_first sum w.page_size (flushed_pages w) old.present.readable in
       IfOk result (λ len. len ≡ min max_size (length all))

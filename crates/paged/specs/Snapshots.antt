@@ -11,7 +11,7 @@ use Rattle.writer_state.specs.WriterState.{WriterState}
 use Rattle.writer_state.specs.Sound.{content}
 use Rattle.paged_read.specs.Tail.{Tail}
 use Rattle.paged.specs.Caches.{PutsUpTo, tail_of}
-use Rattle.paged.specs.Calls.{CarriesOn, GoesOn, Refuses, StartsOver, StartsSync}
+use Rattle.paged.specs.Calls.{CarriesOn, Fails, StartsOver, StartsSync, Succeeds}
 use Rattle.paged.specs.Calls.{unstarted_calls, wait_calls}
 use Rattle.paged.specs.Flush.{has_work}
 
@@ -20,15 +20,15 @@ use Rattle.paged.specs.Flush.{has_work}
 abbrev pub MakesSnapshot : (List ℕ → ℕ) → WriterState → Life → Life
     → Result (WriterState × Tail) Error → Type 0
 MakesSnapshot sum w old new (Ok r) =
-    GoesOn sum w old [] r.0 new × (length r.0.tip < w.page_size) × (r.1 ≡ tail_of r.0)
-MakesSnapshot sum w old new (Err e) = Refuses sum w (content w old.present.readable) old new e
+    Succeeds sum w old [] r.0 new × (length r.0.tip < w.page_size) × (r.1 ≡ tail_of r.0)
+MakesSnapshot sum w old new (Err e) = Fails sum w (content w old.present.readable) old new e
 
 -- the same over a blob that may be damaged
 abbrev pub SnapshotsOver : (List ℕ → ℕ) → WriterState → Life → Life
     → Result (WriterState × Tail) Error → Type 0
 SnapshotsOver sum w old new (Ok r) =
     CarriesOn sum w old [] r.0 new × (length r.0.tip < w.page_size) × (r.1 ≡ tail_of r.0)
-SnapshotsOver sum w old new (Err e) = Refuses sum w (content w old.present.readable) old new e
+SnapshotsOver sum w old new (Err e) = Fails sum w (content w old.present.readable) old new e
 
 -- the device calls that it takes: where a full page is buffered, a wait and a write
 abbrev pub snapshot_calls : WriterState → ℕ
@@ -53,14 +53,14 @@ abbrev pub SealsWriter : (List ℕ → ℕ) → WriterState → Life → Life
     → Result (Tail × StartedSync) Error → Type 0
 SealsWriter sum w old new (Ok r) =
     (now : WriterState) × (r.0 ≡ tail_of now) × StartsSync sum w old new (Ok (now, r.1))
-SealsWriter sum w old new (Err e) = Refuses sum w (content w old.present.readable) old new e
+SealsWriter sum w old new (Err e) = Fails sum w (content w old.present.readable) old new e
 
 -- the same over a blob that may be damaged
 abbrev pub SealsOver : (List ℕ → ℕ) → WriterState → Life → Life
     → Result (Tail × StartedSync) Error → Type 0
 SealsOver sum w old new (Ok r) =
     (now : WriterState) × (r.0 ≡ tail_of now) × StartsOver sum w old new (Ok (now, r.1))
-SealsOver sum w old new (Err e) = Refuses sum w (content w old.present.readable) old new e
+SealsOver sum w old new (Err e) = Fails sum w (content w old.present.readable) old new e
 
 -- the device calls that it takes: a wait where a sync was started; then, where something isn't
 -- written, a write and a start, else a start where something is unsynced that none covers

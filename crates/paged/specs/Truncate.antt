@@ -25,7 +25,7 @@ use Rattle.paged_read.specs.Ranges.{page_at}
 use Rattle.paged.specs.Reads.{size_of}
 use Rattle.paged.specs.Flush.{synced}
 use Rattle.paged.specs.Recovery.{IsDurable}
-use Rattle.paged.specs.Calls.{AsksAtMost, IsSettled, HadFailed, sync_calls}
+use Rattle.paged.specs.Calls.{AsksAtMost, IsSettled, PendingSyncFailed, sync_calls}
 use Rattle.paged_read.specs.Searches.{ReadsWithin}
 
 -- the slot that tells the last page of a blob that is cut inside it: the one that isn't its value's
@@ -109,7 +109,7 @@ TruncateCause sum n w old new ReadFailed = HasFailed ReadFailed old.present new.
 TruncateCause sum n w old new WriteFailed = HasFailed WriteFailed old.present new.present
 TruncateCause sum n w old new ResizeFailed = HasFailed ResizeFailed old.present new.present
 TruncateCause sum n w old new SyncFailed =
-    HasFailed SyncFailed old.present new.present ⊎ HadFailed w.sync old.present
+    HasFailed SyncFailed old.present new.present ⊎ PendingSyncFailed w.sync old.present
 TruncateCause sum n w old new InvalidChecksum =
     (n < size_of w)
     × (value_len sum w.page_size (page_at w.page_size (n / w.page_size) old.present.readable)
@@ -177,8 +177,8 @@ SparesSlot sum P page slot old new =
     → StaysHeld sum P content page slot old new
 
 -- the writer after so many pages, and these bytes of the next, which this slot tells
-abbrev pub standing : WriterState → (pages : ℕ) → List ℕ → Option ActiveChecksum → WriterState
-standing w pages bytes slot = record w {
+abbrev pub writer_at : WriterState → (pages : ℕ) → List ℕ → Option ActiveChecksum → WriterState
+writer_at w pages bytes slot = record w {
   full_pages = pages;
   tip = bytes;
   flushed = slot;
@@ -236,8 +236,8 @@ Shortens sum n w old new (Ok now) = IsShortened sum n w old new now
 Shortens sum n w old new (Err e) = ShortenCause sum w.page_size n old new e
 
 -- no sync was started since, and what was durable is
-abbrev pub GoesOnStarted : Disk → Disk → Type 0
-GoesOnStarted d e = (e.started ≡ d.started) × (d.settled ≤ e.settled)
+abbrev pub KeepsStartedSyncs : Disk → Disk → Type 0
+KeepsStartedSyncs d e = (e.started ≡ d.started) × (d.settled ≤ e.settled)
 
 -- what a cut owes whatever it answers: at each moment the text is kept up to the floor, and nothing
 -- else is there; the first k pages stay
@@ -246,7 +246,7 @@ pub record Cutting (sum : List ℕ → ℕ) (P : ℕ) (told : List ℕ) (floor k
   pub asks : AsksAtMost calls old new
   pub reads : ReadsWithin (P + 12) old new
   pub pages : PagesStay P k old new
-  pub started : Through (GoesOnStarted old.present) old new
+  pub started : Through (KeepsStartedSyncs old.present) old new
   pub holds : Through (HoldsText sum P told floor) old new
 
 -- what each moment of a cut to n bytes owes, for a blob of which all is durable

@@ -7,14 +7,14 @@ use Rattle.writer_state.specs.WriterState.{WriterState}
 use Rattle.paged.specs.declared.outlook.Outlook.{Outlook}
 use Rattle.paged.specs.declared.within.Refusal.{Refusal}
 use Rattle.paged.specs.declared.within.Refusal.TheVariants.{WouldCut, Failed}
-use Rattle.paged.specs.Outlook.{IsOutlook, is_torn}
+use Rattle.paged.specs.Outlook.{IsOutlook, has_torn_page}
 use Rattle.paged.specs.Recovers.{Recovers, GivesId}
 
 -- how many bytes at the end go in a recovery: all that it cuts, and those of a torn last page,
 -- whose other slot it empties
 abbrev pub at_stake : (List ℕ → ℕ) → (P : ℕ) → List ℕ → Outlook → ℕ
 at_stake sum P bytes outlook =
-    outlook.cut + (if is_torn sum P bytes outlook then P + 12 else 0)
+    outlook.cut + (if has_torn_page sum P bytes outlook then P + 12 else 0)
 
 -- in a recovery of these bytes so many go
 abbrev pub PutsAtStake : (List ℕ → ℕ) → (P : ℕ) → (bytes : List ℕ) → (cut : ℕ) → Type 0

@@ -4,7 +4,7 @@ ghost use Rattle.std.specs.Prelude.{IsTrue, IfOk, OnOk, Err};
 ghost use Rattle.writer_state.specs.Sound.{IsConsistent, content};
 ghost use Rattle.crash.specs.Below.{PagesStay};
 ghost use Rattle.writer_state.specs.declared.sync_state.SyncState.TheVariants.{Dirty};
-ghost use Rattle.crash.specs.Started.{CoversThrough, StartsStand};
+ghost use Rattle.crash.specs.Started.{CoversThrough, StartsCanBeAwaited};
 ghost use Rattle.paged.specs.Writer.{physical_blob_size, FitsBlob};
 ghost use Rattle.paged.specs.Calls.{AsksAtMost, HoldsWithin, AppendsOver, Buffers, BuffersAll};
 ghost use Rattle.paged.specs.Calls.{wait_calls};
@@ -12,10 +12,10 @@ ghost use Rattle.paged.specs.Costs.{AppendCosts};
 ghost use Rattle.paged.specs.Owes.{Owes};
 ghost use Rattle.paged.specs.Ready.{CanGoOn, StaysUsable};
 ghost use Rattle.paged.specs.Goes.{AppendGoes};
-ghost use Rattle.paged.specs.Calls.{TryAppends, BuffersOver, KeepsConsistent, KeepsSound};
+ghost use Rattle.paged.specs.Calls.{TryAppendGoes, BuffersOver, KeepsConsistent, KeepsSound};
 ghost use Rattle.paged.specs.Calls.{KeepsPages};
 ghost use Rattle.paged.specs.Reads.{size_of};
-ghost use Rattle.paged.specs.Flush.{answered};
+ghost use Rattle.paged.specs.Flush.{with_value};
 ghost use Rattle.paged.specs.Caches.{CachesTo, KeepsReads, PutsOnceWaited};
 
 use crate::Writer;
@@ -102,7 +102,7 @@ impl<B: Blob, H: Sum, Phase> Writer<B, H, Phase> {
         requires holds { IsConsistent H.sum_of self.old (B.life blob.old).present }
         ensures appends { let old = B.life blob.old in let new = B.life blob.new in
             let at = size_of self.old in
-            AppendsOver H.sum_of self.old bytes.now old new (answered (self.new, at) result) }
+            AppendsOver H.sum_of self.old bytes.now old new (with_value (self.new, at) result) }
         ensures pages { let old = B.life blob.old in let new = B.life blob.new in
             PagesStay self.old.page_size self.old.full_pages old new }
         ensures covers { let old = B.life blob.old in let new = B.life blob.new in
@@ -114,14 +114,15 @@ impl<B: Blob, H: Sum, Phase> Writer<B, H, Phase> {
         ensures within { OnOk result (HoldsWithin self.new) }
         ensures buffered { let old = B.life blob.old in let new = B.life blob.new in
             length self.old.tip + length bytes.now ≤ self.old.capacity
-            → BuffersAll self.old bytes.now old new (answered (self.new, size_of self.old) result) }
+            → BuffersAll self.old bytes.now old new
+            (with_value (self.new, size_of self.old) result) }
         ensures flushed { self.old.capacity < length self.old.tip + length bytes.now
             → OnOk result (length self.new.tip < self.old.page_size) }
         ensures dirty { self.old.capacity < length self.old.tip + length bytes.now
             → OnOk result (self.new.sync ≡ Dirty) }
         ensures calls { let old = B.life blob.old in let new = B.life blob.new in
             AsksAtMost (wait_calls self.old.sync + 2) old new }
-        ensures starts { StartsStand (B.life blob.new).present }
+        ensures starts { StartsCanBeAwaited (B.life blob.new).present }
         ensures puts { CachesTo self.old self.new (self.old.tip ++ bytes.now) cache.old cache.new
             result }
         ensures refused { PutsOnceWaited cache.old cache.new result }
@@ -150,7 +151,7 @@ impl<B: Blob, H: Sum, Phase> Writer<B, H, Phase> {
         requires holds { IsConsistent H.sum_of self.old (B.life blob.old).present }
         ensures appends { let old = B.life blob.old in let new = B.life blob.new in
             let at = size_of self.old in
-            AppendsOver H.sum_of self.old bytes.now old new (answered (self.new, at) result) }
+            AppendsOver H.sum_of self.old bytes.now old new (with_value (self.new, at) result) }
         ensures pages { let old = B.life blob.old in let new = B.life blob.new in
             PagesStay self.old.page_size self.old.full_pages old new }
         ensures covers { let old = B.life blob.old in let new = B.life blob.new in
@@ -162,14 +163,15 @@ impl<B: Blob, H: Sum, Phase> Writer<B, H, Phase> {
         ensures within { OnOk result (HoldsWithin self.new) }
         ensures buffered { let old = B.life blob.old in let new = B.life blob.new in
             length self.old.tip + length bytes.now ≤ self.old.capacity
-            → BuffersAll self.old bytes.now old new (answered (self.new, size_of self.old) result) }
+            → BuffersAll self.old bytes.now old new
+            (with_value (self.new, size_of self.old) result) }
         ensures flushed { self.old.capacity < length self.old.tip + length bytes.now
             → OnOk result (length self.new.tip < self.old.page_size) }
         ensures dirty { self.old.capacity < length self.old.tip + length bytes.now
             → OnOk result (self.new.sync ≡ Dirty) }
         ensures calls { let old = B.life blob.old in let new = B.life blob.new in
             AsksAtMost (wait_calls self.old.sync + 1) old new }
-        ensures starts { StartsStand (B.life blob.new).present }
+        ensures starts { StartsCanBeAwaited (B.life blob.new).present }
         ensures puts { CachesTo self.old self.new (self.old.tip ++ bytes.now) cache.old cache.new
             result }
         ensures refused { PutsOnceWaited cache.old cache.new result }
@@ -191,12 +193,12 @@ impl<B: Blob, H: Sum, Phase> Writer<B, H, Phase> {
     /// needs passes the greatest `u64`; `OutOfMemory`. After `None` or an error the writer is as it
     /// was.
     pub fn try_append(&mut self, bytes: &[u8]) -> Result<Option<u64>, Error>
-        ensures tries { TryAppends self.old bytes.now self.new result }
+        ensures goes { TryAppendGoes self.old bytes.now self.new result }
         ensures appends { BuffersOver H.sum_of self.old bytes.now self.new result }
-        ensures sound { KeepsSound H.sum_of self.old self.new }
+        ensures keeps_sound { KeepsSound H.sum_of self.old self.new }
         ensures consistent { KeepsConsistent H.sum_of self.old self.new }
-        ensures pages { KeepsPages self.old self.new }
-        ensures can_read { KeepsReads self.old self.new }
+        ensures keeps_pages { KeepsPages self.old self.new }
+        ensures keeps_reads { KeepsReads self.old self.new }
     {
         if !self.fits(bytes.len()) {
             return Err(Error::OffsetOverflow);
@@ -213,12 +215,12 @@ impl<B: Blob, H: Sum, Phase> Writer<B, H, Phase> {
         &mut self,
         value: &T,
     ) -> Result<Option<u64>, Error>
-        ensures tries { TryAppends self.old (T.encoded value.now) self.new result }
+        ensures goes { TryAppendGoes self.old (T.encoded value.now) self.new result }
         ensures appends { BuffersOver H.sum_of self.old (T.encoded value.now) self.new result }
-        ensures sound { KeepsSound H.sum_of self.old self.new }
+        ensures keeps_sound { KeepsSound H.sum_of self.old self.new }
         ensures consistent { KeepsConsistent H.sum_of self.old self.new }
-        ensures pages { KeepsPages self.old self.new }
-        ensures can_read { KeepsReads self.old self.new }
+        ensures keeps_pages { KeepsPages self.old self.new }
+        ensures keeps_reads { KeepsReads self.old self.new }
     {
         if !self.fits(value.encode_size()) {
             return Err(Error::OffsetOverflow);

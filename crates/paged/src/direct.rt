@@ -9,7 +9,7 @@ ghost use Rattle.writer_state.specs.declared.sync_state.SyncState.TheVariants.{D
 ghost use Rattle.crash.specs.Built.{built};
 ghost use Rattle.writer_state.specs.Sound.{IsConsistent, content};
 ghost use Rattle.crash.specs.Below.{PagesStay};
-ghost use Rattle.crash.specs.Started.{CoversThrough, StartsStand};
+ghost use Rattle.crash.specs.Started.{CoversThrough, StartsCanBeAwaited};
 ghost use Rattle.paged.specs.Writer.{physical_blob_size, FitsBlob};
 ghost use Rattle.paged.specs.Calls.{AsksAtMost, HoldsWithin, AppendsOver, BuffersAll, WaitsForNone};
 ghost use Rattle.paged.specs.Calls.{wait_calls};
@@ -17,8 +17,8 @@ ghost use Rattle.paged.specs.Costs.{AppendCosts};
 ghost use Rattle.paged.specs.Owes.{Owes};
 ghost use Rattle.paged.specs.Ready.{CanGoOn, StaysUsable};
 ghost use Rattle.paged.specs.Goes.{AppendGoes};
-ghost use Rattle.paged.specs.Direct.{fill_of, is_too_big, buffering, IsDirect, AsksWithWait};
-ghost use Rattle.paged.specs.Flush.{advanced, answered, flush_bytes, offset_of, written};
+ghost use Rattle.paged.specs.Direct.{fill_of, goes_direct, buffering, IsDirect, AsksWithWait};
+ghost use Rattle.paged.specs.Flush.{after_flush, flush_bytes, offset_of, with_value, written};
 ghost use Rattle.paged.specs.Reads.{size_of};
 ghost use Rattle.paged.specs.Caches.{CachesTo, PutsOnceWaited, IsNotBefore};
 
@@ -56,7 +56,7 @@ impl<B, H, Phase> Writer<B, H, Phase> {
     /// boundary. They are where they pass its capacity, and a whole page is left after the
     /// boundary.
     pub(crate) fn too_big_for_buffer(&self, more: usize) -> Option<usize>
-        ensures { result ≡ (if is_too_big self.now more then Some (fill_of self.now) else None) }
+        ensures { result ≡ (if goes_direct self.now more then Some (fill_of self.now) else None) }
     {
         let len = self.tip.len();
         if more <= self.tip.capacity().saturating_sub(len) {
@@ -76,7 +76,7 @@ impl<B, H, Phase> Writer<B, H, Phase> {
     fn pass(&mut self, whole: &IoBuf, rest: &[u8]) -> Result<(), Error>
         requires direct { IsDirect self.old whole.now rest.now }
         ensures state { let direct = buffering self.old (whole.now ++ rest.now) in
-            OnOk result (self.new ≡ advanced direct None self.old.sync) }
+            OnOk result (self.new ≡ after_flush direct None self.old.sync) }
         ensures err { IsOkUnless result Error.OutOfMemory }
     {
         self.tip
@@ -102,7 +102,7 @@ impl<B, H: Sum, Phase> Writer<B, H, Phase> {
         ensures bytes { let direct = buffering self.old (whole ++ rest.now) in
             IfOk result (λ bufs. concat bufs ≡ flush_bytes H.sum_of direct false) }
         ensures state { let direct = buffering self.old (whole ++ rest.now) in
-            OnOk result (self.new ≡ advanced direct None self.old.sync) }
+            OnOk result (self.new ≡ after_flush direct None self.old.sync) }
         ensures puts { CachesTo self.old self.new (whole ++ rest.now) cache.old cache.new result }
         ensures err { IsOkUnless result Error.OutOfMemory }
     {
@@ -152,7 +152,7 @@ impl<B: Blob, H: Sum, Phase> Writer<B, H, Phase> {
         requires holds { IsConsistent H.sum_of self.old (B.life blob.old).present }
         ensures appends { let old = B.life blob.old in let new = B.life blob.new in
             let at = size_of self.old in
-            AppendsOver H.sum_of self.old bytes.now old new (answered (self.new, at) result) }
+            AppendsOver H.sum_of self.old bytes.now old new (with_value (self.new, at) result) }
         ensures pages { let old = B.life blob.old in let new = B.life blob.new in
             PagesStay self.old.page_size self.old.full_pages old new }
         ensures covers { let old = B.life blob.old in let new = B.life blob.new in
@@ -164,14 +164,15 @@ impl<B: Blob, H: Sum, Phase> Writer<B, H, Phase> {
         ensures within { OnOk result (HoldsWithin self.new) }
         ensures buffered { let old = B.life blob.old in let new = B.life blob.new in
             length self.old.tip + length bytes.now ≤ self.old.capacity
-            → BuffersAll self.old bytes.now old new (answered (self.new, size_of self.old) result) }
+            → BuffersAll self.old bytes.now old new
+            (with_value (self.new, size_of self.old) result) }
         ensures flushed { self.old.capacity < length self.old.tip + length bytes.now
             → OnOk result (length self.new.tip < self.old.page_size) }
         ensures dirty { self.old.capacity < length self.old.tip + length bytes.now
             → OnOk result (self.new.sync ≡ Dirty) }
         ensures calls { let old = B.life blob.old in let new = B.life blob.new in
             AsksAtMost (wait_calls self.old.sync + 2) old new }
-        ensures starts { StartsStand (B.life blob.new).present }
+        ensures starts { StartsCanBeAwaited (B.life blob.new).present }
         ensures puts { CachesTo self.old self.new (self.old.tip ++ bytes.now) cache.old cache.new
             result }
         ensures refused { PutsOnceWaited cache.old cache.new result }
@@ -199,13 +200,13 @@ impl<B: Blob, H: Sum, Phase> Writer<B, H, Phase> {
     ) -> Result<(), Error>
         requires cached { cache.old.page_size ≡ self.old.page_size }
         requires holds { IsConsistent H.sum_of self.old (B.life blob.old).present }
-        requires big { is_too_big self.old (length bytes.now) ≡ true }
+        requires big { goes_direct self.old (length bytes.now) ≡ true }
         requires fill { fill ≡ fill_of self.old }
         requires fits { let buffered = length self.old.tip + length bytes.now in
             FitsBlob self.old.page_size self.old.full_pages buffered }
         ensures appends { let old = B.life blob.old in let new = B.life blob.new in
             let at = size_of self.old in
-            AppendsOver H.sum_of self.old bytes.now old new (answered (self.new, at) result) }
+            AppendsOver H.sum_of self.old bytes.now old new (with_value (self.new, at) result) }
         ensures pages { let old = B.life blob.old in let new = B.life blob.new in
             PagesStay self.old.page_size self.old.full_pages old new }
         ensures covers { let old = B.life blob.old in let new = B.life blob.new in
@@ -216,7 +217,7 @@ impl<B: Blob, H: Sum, Phase> Writer<B, H, Phase> {
         ensures dirty { OnOk result (self.new.sync ≡ Dirty) }
         ensures calls { let old = B.life blob.old in let new = B.life blob.new in
             AsksAtMost (wait_calls self.old.sync + 2) old new }
-        ensures starts { StartsStand (B.life blob.new).present }
+        ensures starts { StartsCanBeAwaited (B.life blob.new).present }
         ensures puts { CachesTo self.old self.new (self.old.tip ++ bytes.now) cache.old cache.new
             result }
         ensures refused { PutsOnceWaited cache.old cache.new result }
@@ -236,7 +237,7 @@ impl<B: Blob, H: Sum, Phase> Writer<B, H, Phase> {
         requires fill { length bytes.now ≡ fill_of self.old }
         ensures appends { let old = B.life blob.old in let new = B.life blob.new in
             let at = size_of self.old in
-            AppendsOver H.sum_of self.old bytes.now old new (answered (self.new, at) result) }
+            AppendsOver H.sum_of self.old bytes.now old new (with_value (self.new, at) result) }
         ensures pages { let old = B.life blob.old in let new = B.life blob.new in
             PagesStay self.old.page_size self.old.full_pages old new }
         ensures covers { let old = B.life blob.old in let new = B.life blob.new in
@@ -247,7 +248,7 @@ impl<B: Blob, H: Sum, Phase> Writer<B, H, Phase> {
             AsksAtMost (wait_calls self.old.sync + 1) old new }
         ensures waited { let old = B.life blob.old in let new = B.life blob.new in
             OnOk result (AsksWithWait self.old.sync self.new.sync old new) }
-        ensures starts { StartsStand (B.life blob.new).present }
+        ensures starts { StartsCanBeAwaited (B.life blob.new).present }
         ensures puts { CachesTo self.old self.new (self.old.tip ++ bytes.now) cache.old cache.new
             result }
         ensures refused { PutsOnceWaited cache.old cache.new result }
@@ -271,7 +272,7 @@ impl<B: Blob, H: Sum, Phase> Writer<B, H, Phase> {
         requires direct { IsDirect self.old whole rest.now }
         ensures appends { let old = B.life blob.old in let new = B.life blob.new in
             let all = whole ++ rest.now in let at = size_of self.old in
-            AppendsOver H.sum_of self.old all old new (answered (self.new, at) result) }
+            AppendsOver H.sum_of self.old all old new (with_value (self.new, at) result) }
         ensures pages { let old = B.life blob.old in let new = B.life blob.new in
             PagesStay self.old.page_size self.old.full_pages old new }
         ensures covers { let old = B.life blob.old in let new = B.life blob.new in
@@ -281,7 +282,7 @@ impl<B: Blob, H: Sum, Phase> Writer<B, H, Phase> {
         ensures dirty { OnOk result (self.new.sync ≡ Dirty) }
         ensures calls { let old = B.life blob.old in let new = B.life blob.new in
             AsksAtMost (wait_calls self.old.sync + 1) old new }
-        ensures starts { StartsStand (B.life blob.new).present }
+        ensures starts { StartsCanBeAwaited (B.life blob.new).present }
         ensures puts { CachesTo self.old self.new (whole ++ rest.now) cache.old cache.new result }
         ensures refused { PutsOnceWaited cache.old cache.new result }
         ensures late { WaitsForNone self.old.sync → IsNotBefore result }
@@ -304,7 +305,7 @@ impl<B: Blob, H: Sum, Phase> Writer<B, H, Phase> {
         requires direct { IsDirect self.old whole rest.now }
         ensures appends { let old = B.life blob.old in let new = B.life blob.new in
             let all = whole ++ rest.now in let at = size_of self.old in
-            AppendsOver H.sum_of self.old all old new (answered (self.new, at) result) }
+            AppendsOver H.sum_of self.old all old new (with_value (self.new, at) result) }
         ensures pages { let old = B.life blob.old in let new = B.life blob.new in
             PagesStay self.old.page_size self.old.full_pages old new }
         ensures covers { let old = B.life blob.old in let new = B.life blob.new in
@@ -313,7 +314,7 @@ impl<B: Blob, H: Sum, Phase> Writer<B, H, Phase> {
         ensures tip { OnOk result (self.new.tip ≡ rest.now) }
         ensures dirty { OnOk result (self.new.sync ≡ Dirty) }
         ensures calls { AsksAtMost 1 (B.life blob.old) (B.life blob.new) }
-        ensures starts { StartsStand (B.life blob.new).present }
+        ensures starts { StartsCanBeAwaited (B.life blob.new).present }
         ensures puts { CachesTo self.old self.new (whole ++ rest.now) cache.old cache.new result }
         ensures late { IsNotBefore result }
     {

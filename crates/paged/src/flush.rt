@@ -8,7 +8,7 @@ ghost use Rattle.writer_state.specs.declared.sync_state.SyncState.TheVariants.{C
 ghost use Rattle.crash.specs.Built.{built, durable_after, rest_written};
 ghost use Rattle.writer_state.specs.Sound.{CanWrite, IsConsistent, MayFlush, content, guard_slot};
 ghost use Rattle.crash.specs.Below.{PagesStay};
-ghost use Rattle.crash.specs.Started.{CoversThrough, StartsStand};
+ghost use Rattle.crash.specs.Started.{CoversThrough, StartsCanBeAwaited};
 ghost use Rattle.paged.specs.Calls.{AsksAtMost, settle_calls, sync_calls, Flushes};
 ghost use Rattle.paged.specs.Calls.{Settles, SettlesBy, SyncsOver, IsWritten, WaitsForNone};
 ghost use Rattle.paged.specs.Calls.{Completes, WaitsOver, wait_calls};
@@ -20,8 +20,8 @@ ghost use Rattle.page.specs.Tip.{ArePages};
 ghost use Rattle.paged.specs.Writer.{FitsBlob};
 ghost use Rattle.paged.specs.Caches.{CachesTo, PutsOnceWaited, IsNotBefore};
 ghost use Rattle.cache.specs.CacheState.{PutsAll};
-ghost use Rattle.paged.specs.Flush.{full_in, rest_of, rest_bytes, has_work, carried, advanced};
-ghost use Rattle.paged.specs.Flush.{offset_of, flush_bytes, synced, written, answered};
+ghost use Rattle.paged.specs.Flush.{full_in, rest_of, rest_bytes, has_work, carried, after_flush};
+ghost use Rattle.paged.specs.Flush.{offset_of, flush_bytes, synced, written, with_value};
 ghost use Rattle.paged.specs.Flush.{TellsFirst};
 
 use crate::Writer;
@@ -110,7 +110,7 @@ impl<B, H, Phase> Writer<B, H, Phase> {
         ensures pages { IfOk result (λ pages. ArePages self.old.page_size pages.items) }
         ensures small { IfOk result (λ pages. All (λ page. length page < 2 ^ 16) pages.items) }
         ensures state { let flushed = durable_after self.old.flushed (full_in self.old) in
-            OnOk result (self.new ≡ advanced self.old flushed self.old.sync) }
+            OnOk result (self.new ≡ after_flush self.old flushed self.old.sync) }
         ensures err { IsOkUnless result Error.OutOfMemory }
     {
         let page_size = usize::from(self.page_size.get());
@@ -154,7 +154,7 @@ impl<B, H: Sum, Phase> Writer<B, H, Phase> {
         ensures bytes { IfOk result (λ bufs. let old = self.old in
             concat bufs ≡ built H.sum_of old.page_size old.durable (full_in old) old.tip) }
         ensures state { let flushed = durable_after self.old.flushed (full_in self.old) in
-            OnOk result (self.new ≡ advanced self.old flushed self.old.sync) }
+            OnOk result (self.new ≡ after_flush self.old flushed self.old.sync) }
         ensures puts { CachesTo self.old self.new self.old.tip cache.old cache.new result }
         ensures err { IsOkUnless result Error.OutOfMemory }
     {
@@ -178,7 +178,7 @@ impl<B, H: Sum, Phase> Writer<B, H, Phase> {
         ensures bytes { IfOk result (λ bufs. concat bufs ≡ flush_bytes H.sum_of self.old rest) }
         ensures state { let durable = durable_after self.old.durable (full_in self.old) in
             let flushed = rest_written H.sum_of durable (rest_of self.old) rest in
-            OnOk result (self.new ≡ advanced self.old flushed self.old.sync) }
+            OnOk result (self.new ≡ after_flush self.old flushed self.old.sync) }
         ensures puts { CachesTo self.old self.new self.old.tip cache.old cache.new result }
         ensures err { IsOkUnless result Error.OutOfMemory }
     {
@@ -246,13 +246,13 @@ impl<B: Blob, H: Sum, Phase> Writer<B, H, Phase> {
     pub(crate) fn wait(&mut self, blob: &mut B) -> Result<(), Error>
         requires holds { IsConsistent H.sum_of self.old (B.life blob.old).present }
         ensures waits { let old = B.life blob.old in let new = B.life blob.new in
-            WaitsOver H.sum_of self.old old new (answered self.new result) }
+            WaitsOver H.sum_of self.old old new (with_value self.new result) }
         ensures pages { let old = B.life blob.old in let new = B.life blob.new in
             PagesStay self.old.page_size self.old.full_pages old new }
         ensures covers { let old = B.life blob.old in let new = B.life blob.new in
             let held = content self.old old.present.readable in
             CoversThrough H.sum_of self.old.page_size held old new }
-        ensures starts { StartsStand (B.life blob.new).present }
+        ensures starts { StartsCanBeAwaited (B.life blob.new).present }
         ensures names { OnOk result
             ((B.life blob.new).present.started ≡ (B.life blob.old).present.started) }
         ensures completes { OnOk result (Completes H.sum_of self.old.page_size self.old.sync
@@ -282,13 +282,13 @@ impl<B: Blob, H: Sum, Phase> Writer<B, H, Phase> {
         requires cached { cache.old.page_size ≡ self.old.page_size }
         requires holds { IsConsistent H.sum_of self.old (B.life blob.old).present }
         ensures flushes { let old = B.life blob.old in let new = B.life blob.new in
-            Flushes H.sum_of self.old old new (answered self.new result) }
+            Flushes H.sum_of self.old old new (with_value self.new result) }
         ensures pages { let old = B.life blob.old in let new = B.life blob.new in
             PagesStay self.old.page_size self.old.full_pages old new }
         ensures covers { let old = B.life blob.old in let new = B.life blob.new in
             let held = content self.old old.present.readable in
             CoversThrough H.sum_of self.old.page_size held old new }
-        ensures starts { StartsStand (B.life blob.new).present }
+        ensures starts { StartsCanBeAwaited (B.life blob.new).present }
         ensures calls { let old = B.life blob.old in let new = B.life blob.new in
             AsksAtMost (wait_calls self.old.sync + 1) old new }
         ensures short { OnOk result (length self.new.tip < self.old.page_size) }
@@ -318,13 +318,13 @@ impl<B: Blob, H: Sum, Phase> Writer<B, H, Phase> {
         requires waited { WaitsForNone self.old.sync }
         requires work { has_work self.old rest ≡ true }
         ensures flushes { let old = B.life blob.old in let new = B.life blob.new in
-            Flushes H.sum_of self.old old new (answered self.new result) }
+            Flushes H.sum_of self.old old new (with_value self.new result) }
         ensures pages { let old = B.life blob.old in let new = B.life blob.new in
             PagesStay self.old.page_size self.old.full_pages old new }
         ensures covers { let old = B.life blob.old in let new = B.life blob.new in
             let held = content self.old old.present.readable in
             CoversThrough H.sum_of self.old.page_size held old new }
-        ensures starts { StartsStand (B.life blob.new).present }
+        ensures starts { StartsCanBeAwaited (B.life blob.new).present }
         ensures calls { AsksAtMost 1 (B.life blob.old) (B.life blob.new) }
         ensures short { OnOk result (length self.new.tip < self.old.page_size) }
         ensures written { rest ≡ true → OnOk result (IsWritten self.new) }
@@ -364,7 +364,7 @@ impl<B: Blob, H: Sum, Phase> Writer<B, H, Phase> {
         requires cached { cache.old.page_size ≡ self.old.page_size }
         requires holds { IsConsistent H.sum_of self.old (B.life blob.old).present }
         ensures syncs { let old = B.life blob.old in let new = B.life blob.new in
-            SyncsOver H.sum_of self.old old new (answered self.new result) }
+            SyncsOver H.sum_of self.old old new (with_value self.new result) }
         ensures pages { let old = B.life blob.old in let new = B.life blob.new in
             PagesStay self.old.page_size self.old.full_pages old new }
         ensures covers { let old = B.life blob.old in let new = B.life blob.new in
@@ -376,7 +376,7 @@ impl<B: Blob, H: Sum, Phase> Writer<B, H, Phase> {
             → (result ≡ Ok tt) × (self.new ≡ self.old) × (B.life blob.new ≡ B.life blob.old) }
         ensures unwritten { has_work self.old true ≡ false
             → SettlesBy self.old.sync (B.life blob.old) (B.life blob.new) result }
-        ensures starts { StartsStand (B.life blob.new).present }
+        ensures starts { StartsCanBeAwaited (B.life blob.new).present }
         ensures puts { CachesTo self.old self.new self.old.tip cache.old cache.new result }
         ensures refused { wait_calls self.old.sync ≡ 1
             → PutsOnceWaited cache.old cache.new result }
@@ -395,13 +395,13 @@ impl<B: Blob, H: Sum, Phase> Writer<B, H, Phase> {
         requires holds { IsConsistent H.sum_of self.old (B.life blob.old).present }
         requires work { has_work self.old true ≡ true }
         ensures syncs { let old = B.life blob.old in let new = B.life blob.new in
-            SyncsOver H.sum_of self.old old new (answered self.new result) }
+            SyncsOver H.sum_of self.old old new (with_value self.new result) }
         ensures pages { let old = B.life blob.old in let new = B.life blob.new in
             PagesStay self.old.page_size self.old.full_pages old new }
         ensures covers { let old = B.life blob.old in let new = B.life blob.new in
             let held = content self.old old.present.readable in
             CoversThrough H.sum_of self.old.page_size held old new }
-        ensures starts { StartsStand (B.life blob.new).present }
+        ensures starts { StartsCanBeAwaited (B.life blob.new).present }
         ensures calls { AsksAtMost (sync_calls self.old) (B.life blob.old) (B.life blob.new) }
         ensures puts { CachesTo self.old self.new self.old.tip cache.old cache.new result }
         ensures refused { wait_calls self.old.sync ≡ 1
@@ -419,13 +419,13 @@ impl<B: Blob, H: Sum, Phase> Writer<B, H, Phase> {
         requires waited { WaitsForNone self.old.sync }
         requires work { has_work self.old true ≡ true }
         ensures syncs { let old = B.life blob.old in let new = B.life blob.new in
-            SyncsOver H.sum_of self.old old new (answered self.new result) }
+            SyncsOver H.sum_of self.old old new (with_value self.new result) }
         ensures pages { let old = B.life blob.old in let new = B.life blob.new in
             PagesStay self.old.page_size self.old.full_pages old new }
         ensures covers { let old = B.life blob.old in let new = B.life blob.new in
             let held = content self.old old.present.readable in
             CoversThrough H.sum_of self.old.page_size held old new }
-        ensures starts { StartsStand (B.life blob.new).present }
+        ensures starts { StartsCanBeAwaited (B.life blob.new).present }
         ensures calls { AsksAtMost (sync_calls self.old) (B.life blob.old) (B.life blob.new) }
         ensures puts { CachesTo self.old self.new self.old.tip cache.old cache.new result }
         ensures late { self.old.sync ≡ Clean → IsNotBefore result }
@@ -447,7 +447,7 @@ impl<B: Blob, H: Sum, Phase> Writer<B, H, Phase> {
     fn settle(&mut self, blob: &mut B) -> Result<(), Error>
         requires holds { IsConsistent H.sum_of self.old (B.life blob.old).present }
         ensures settles { let old = B.life blob.old in let new = B.life blob.new in
-            Settles H.sum_of self.old old new (answered self.new result) }
+            Settles H.sum_of self.old old new (with_value self.new result) }
         ensures pages { let old = B.life blob.old in let new = B.life blob.new in
             PagesStay self.old.page_size self.old.full_pages old new }
         ensures covers { let old = B.life blob.old in let new = B.life blob.new in
@@ -458,7 +458,7 @@ impl<B: Blob, H: Sum, Phase> Writer<B, H, Phase> {
         ensures idle { settle_calls self.old.sync ≡ 0
             → (result ≡ Ok tt) × (self.new ≡ self.old) × (B.life blob.new ≡ B.life blob.old) }
         ensures unwritten { SettlesBy self.old.sync (B.life blob.old) (B.life blob.new) result }
-        ensures starts { StartsStand (B.life blob.new).present }
+        ensures starts { StartsCanBeAwaited (B.life blob.new).present }
     {
         self.settle_blob(blob)
     }

@@ -6,9 +6,9 @@ ghost use Rattle.crash.specs.Looks.{Looked};
 ghost use Rattle.page.specs.Page.{active, pages};
 ghost use Rattle.paged_read.specs.Scans.{LooksThrough, ReadsForward};
 ghost use Rattle.paged_read.specs.Searches.{ReadsWithin, scan_bytes};
-ghost use Rattle.paged.specs.Outlook.{Foretells, IsOutlook, LeavesAsIs, Looks, LooksToLast};
-ghost use Rattle.paged.specs.Outlook.{LookCosts, ReadsLast, ReadsToLast, SurveyCosts, Surveys};
-ghost use Rattle.paged.specs.Outlook.{are_zeros, beyond_of, is_torn, values_of};
+ghost use Rattle.paged.specs.Outlook.{Foretells, IsOutlook, LeavesAsIs, LookGoes, LooksToLast};
+ghost use Rattle.paged.specs.Outlook.{LookCosts, ReadsLast, ReadsToLast, SurveyCosts, SurveyGoes};
+ghost use Rattle.paged.specs.Outlook.{are_zeros, beyond_of, has_torn_page, values_of};
 
 use crate::recovery::size_of;
 use crate::verdict::Survey;
@@ -66,7 +66,7 @@ pub fn look<B: Blob, H: Sum>(
 ) -> Result<Outlook, Error>
     requires length { size ≡ length (B.life blob.old).present.readable }
     ensures goes { let old = B.life blob.old in let new = B.life blob.new in
-        Looks H.sum_of (non_zero_u16_get page_size) old new result }
+        LookGoes H.sum_of (non_zero_u16_get page_size) old new result }
 
     // So does a recovery that is done, from whatever moment on at which the bytes are these.
     ensures foretells { let old = B.life blob.old in let P = non_zero_u16_get page_size in
@@ -171,7 +171,7 @@ fn last_is_torn<B: Blob, H: Sum>(
     requires fits { length (B.life blob.old).present.readable < 2 ^ 64 }
     ensures tells { let old = B.life blob.old in let new = B.life blob.new in
         let P = non_zero_u16_get page_size in
-        let torn = is_torn H.sum_of P old.present.readable outlook.now in
+        let torn = has_torn_page H.sum_of P old.present.readable outlook.now in
         LooksThrough (length old.present.readable) torn old new result }
     ensures reads { let old = B.life blob.old in let new = B.life blob.new in
         ReadsLast (non_zero_u16_get page_size) outlook.now old new result }
@@ -229,7 +229,7 @@ pub fn survey<B: Blob, H: Sum>(
 ) -> Result<Survey, Error>
     requires length { size ≡ length (B.life blob.old).present.readable }
     ensures goes { let old = B.life blob.old in let new = B.life blob.new in
-        Surveys H.sum_of (non_zero_u16_get page_size) old new result }
+        SurveyGoes H.sum_of (non_zero_u16_get page_size) old new result }
 
     // So does a recovery that is done, from whatever moment on at which the bytes are these.
     ensures foretells { let old = B.life blob.old in let P = non_zero_u16_get page_size in

@@ -3,9 +3,9 @@ ghost use Rattle.std.specs.Prelude.{◌≡◌, ◌+◌, ◌≤◌, ◌^◌, [], 
 ghost use Rattle.std.specs.Int.NonZero.{non_zero_u16_get};
 ghost use Rattle.std.specs.List.{concat};
 ghost use Rattle.crash.specs.Looks.{Looked};
-ghost use Rattle.paged_read.specs.RawReads.{EndsUnread, range_told, ReadsRange, ReadsTail};
+ghost use Rattle.paged_read.specs.RawReads.{EndsUnread, range_told, ReadsPagesOf, ReadsTail};
 ghost use Rattle.paged_read.specs.RawReads.{ReadsTold, tail_told};
-ghost use Rattle.paged_read.specs.Snapshots.{LeavesWriters};
+ghost use Rattle.paged_read.specs.Snapshots.{LeavesAllWriters};
 
 use crate::Writer;
 use disk::{Blob, Error, IoBufs, ReadOptions};
@@ -41,9 +41,9 @@ impl<B: Blob, H: Sum> Writer<B, H> {
             → (result ≡ Err Error.OffsetOverflow) × (B.life blob.new ≡ B.life blob.old) }
         ensures empty { len ≡ 0 → (result ≡ Ok []) × (B.life blob.new ≡ B.life blob.old) }
         ensures looked { Looked (B.life blob.old) (B.life blob.new) }
-        ensures writers { LeavesWriters H.sum_of (B.life blob.old) (B.life blob.new) }
+        ensures writers { LeavesAllWriters H.sum_of (B.life blob.old) (B.life blob.new) }
         ensures costs { let old = B.life blob.old in let new = B.life blob.new in
-            ReadsRange (non_zero_u16_get page_size) offset len old new }
+            ReadsPagesOf (non_zero_u16_get page_size) offset len old new }
     {
         for_paged::read_range::<B, H>(alloc, blob, page_size, offset, len, options)
     }
@@ -71,7 +71,7 @@ impl<B: Blob, H: Sum> Writer<B, H> {
         ensures unread { let old = B.life blob.old in let new = B.life blob.new in
             EndsUnread (non_zero_u16_get page_size) physical_size len old new result }
         ensures looked { Looked (B.life blob.old) (B.life blob.new) }
-        ensures writers { LeavesWriters H.sum_of (B.life blob.old) (B.life blob.new) }
+        ensures writers { LeavesAllWriters H.sum_of (B.life blob.old) (B.life blob.new) }
         ensures costs { let old = B.life blob.old in let new = B.life blob.new in
             ReadsTail H.sum_of (non_zero_u16_get page_size) physical_size len old new }
     {

@@ -4,10 +4,10 @@ ghost use Rattle.std.specs.Int.NonZero.{non_zero_u16_get, non_zero_usize_get};
 ghost use Rattle.std.specs.List.{concat};
 ghost use Rattle.page.specs.Geometry.{AreInOrder};
 ghost use Rattle.paged_read.specs.Batch.{ranges_of};
-ghost use Rattle.paged_read.specs.Ranges.{range_up_to, TriesRead};
+ghost use Rattle.paged_read.specs.Ranges.{range_up_to, TryReadGoes};
 ghost use Rattle.paged_read.specs.Reads.{ReadCosts, ReadGoes, ReadIntoGoes, ReadLeaves};
 ghost use Rattle.paged_read.specs.Reads.{ReadManyCosts, ReadManyGoes, ReadRangesGoes};
-ghost use Rattle.paged_read.specs.Reads.{ReadUpToGoes, TriesMany};
+ghost use Rattle.paged_read.specs.Reads.{ReadUpToGoes, TryReadManyGoes};
 ghost use Rattle.paged_read.specs.Tail.{CanRead, IsView, tail_at};
 ghost use Rattle.paged.specs.Caches.{tail_of};
 ghost use Rattle.paged.specs.Ready.{StaysReady};
@@ -34,7 +34,7 @@ impl<B, H, Phase> Writer<B, H, Phase> {
     /// memory.
     pub fn try_read_sync_into(&self, cache: &CacheRef, buf: &mut [u8], offset: u64) -> bool
         requires page_size { cache.now.page_size ≡ self.now.page_size }
-        ensures tries { TriesRead (tail_of self.now) (offset, length buf.old) cache.now buf.new
+        ensures goes { TryReadGoes (tail_of self.now) (offset, length buf.old) cache.now buf.new
             result }
         ensures size { length buf.new ≡ length buf.old }
     {
@@ -55,7 +55,7 @@ impl<B, H, Phase> Writer<B, H, Phase> {
         requires asked { AreInOrder ranges.now
             × (length buf.old ≡ sum_by (λ range. range.1) ranges.now) }
         ensures goes { let t = tail_of self.now in
-            TriesMany t ranges.now cache.now buf.old buf.new result }
+            TryReadManyGoes t ranges.now cache.now buf.old buf.new result }
     {
         self.view().try_read_ranges_sync_into(cache, buf, ranges)
     }
@@ -74,7 +74,7 @@ impl<B, H, Phase> Writer<B, H, Phase> {
             × (length buf.old ≡ length offsets.now * non_zero_usize_get len) }
         ensures goes { let t = tail_of self.now in
             let ranges = ranges_of (non_zero_usize_get len) offsets.now in
-            TriesMany t ranges cache.now buf.old buf.new result }
+            TryReadManyGoes t ranges cache.now buf.old buf.new result }
     {
         self.view()
             .try_read_many_sync_into(cache, buf, offsets, len)

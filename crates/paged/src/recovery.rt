@@ -12,14 +12,14 @@ ghost use Rattle.paged.specs.Recovery.{Opens, Cuts, CutsBack, GivesWriter, cache
 ghost use Rattle.paged.specs.Recovery.{at_prefix, slot_of_tip};
 ghost use Rattle.paged.specs.Recovery.{IsAsOpened, KeepsText, LeavesText};
 ghost use Rattle.paged.specs.Recovery.{IsDurable, TailIsMended};
-ghost use Rattle.paged.specs.Mends.{Empties, KeepsPages};
+ghost use Rattle.paged.specs.Mends.{CutsAndMends, Empties};
 ghost use Rattle.paged.specs.Truncate.{WritesSlot};
 ghost use Rattle.paged.specs.Recovers.{Recovers, GivesId};
 ghost use Rattle.paged_read.specs.Backward.{ReadsBack};
 ghost use Rattle.paged_read.specs.Hand.{IsEmptyHand, kept_with};
 ghost use Rattle.paged_read.specs.Searches.{ReadsWithin, scan_bytes};
 ghost use Rattle.page.specs.Page.{text};
-ghost use Rattle.paged.specs.Reads.{HasPages};
+ghost use Rattle.paged.specs.Reads.{HasWriterPages};
 ghost use Rattle.paged.specs.Caches.{tail_of};
 ghost use Rattle.paged_read.specs.Tail.{CanRead};
 ghost use Rattle.cache.specs.Pages.{IsFresh};
@@ -127,7 +127,7 @@ fn keep_pages<B: Blob>(
     requires fits { (slot : Slot) → bad ≡ Some slot
         → (page + 1) * (non_zero_u16_get page_size + 12) < 2 ^ 64 }
     ensures keeps { let old = B.life blob.old in let new = B.life blob.new in
-        KeepsPages (non_zero_u16_get page_size) kept page bad old new result }
+        CutsAndMends (non_zero_u16_get page_size) kept page bad old new result }
 {
     let sync_state = cut_back(blob, size, kept)?;
     let Some(slot) = bad else {
@@ -242,7 +242,7 @@ impl<B: Blob, H: Sum> Recovery<B, H> {
             Opens H.sum_of cache.old capacity old new result }
         ensures overflow { 2 ^ 64 ≤ adjusted capacity cache.old.page_size
             → result ≡ Err Error.OffsetOverflow }
-        ensures there { IfOk result (λ w. HasPages w (B.life blob.new)) }
+        ensures there { IfOk result (λ w. HasWriterPages w (B.life blob.new)) }
         ensures within { IfOk result (λ w. HoldsWithin w) }
         ensures ids { cache.new ≡ cache_after result cache.old }
 
@@ -391,7 +391,7 @@ fn recover_all<B: Blob, H: Sum>(
     ensures overflow { 2 ^ 64 ≤ adjusted capacity cache.old.page_size
         → result ≡ Err Error.OffsetOverflow }
     ensures sound { IfOk result (λ w. IsSound H.sum_of w (B.life blob.new).present) }
-    ensures there { IfOk result (λ w. HasPages w (B.life blob.new)) }
+    ensures there { IfOk result (λ w. HasWriterPages w (B.life blob.new)) }
     ensures within { IfOk result (λ w. HoldsWithin w) }
     ensures id { IfOk result (λ w. w.id ≡ cache.old.ids_given) }
     ensures ids { GivesId result cache.old cache.new }

@@ -4,7 +4,7 @@ ghost use Rattle.std.specs.Int.NonZero.{non_zero_usize_get};
 ghost use Rattle.crash.specs.Below.{PagesStay};
 ghost use Rattle.writer_state.specs.declared.sync_state.SyncState.TheVariants.{Dirty};
 ghost use Rattle.writer_state.specs.Sound.{content, IsConsistent};
-ghost use Rattle.crash.specs.Started.{CoversThrough, StartsStand};
+ghost use Rattle.crash.specs.Started.{CoversThrough, StartsCanBeAwaited};
 ghost use Rattle.paged.specs.Caches.{CachesTo, PutsOnceWaited};
 ghost use Rattle.paged.specs.Calls.{AsksAtMost};
 ghost use Rattle.paged.specs.Flush.{has_work, paired};
@@ -74,7 +74,7 @@ impl<B: Blob, H: Sum, Phase> Writer<B, H, Phase> {
         ensures covers { let old = B.life blob.old in let new = B.life blob.new in
             let held = content self.old old.present.readable in
             CoversThrough H.sum_of self.old.page_size held old new }
-        ensures starts { StartsStand (B.life blob.new).present }
+        ensures starts { StartsCanBeAwaited (B.life blob.new).present }
         ensures room { self.old.page_size ≤ self.old.capacity }
         ensures calls { let old = B.life blob.old in let new = B.life blob.new in
             AsksAtMost (replay_calls self.old) old new }

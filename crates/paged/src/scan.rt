@@ -5,7 +5,7 @@ ghost use Rattle.page.specs.Page.{text};
 ghost use Rattle.writer_state.specs.Sound.{IsSound};
 ghost use Rattle.paged_read.specs.Reads.{LookLeaves};
 ghost use Rattle.paged_read.specs.Scans.{IsProven, IsWithinBlob, ReadsUpToEnd, scan_end};
-ghost use Rattle.paged_read.specs.Scans.{scan_start, scan_to, Scans, text_of_first};
+ghost use Rattle.paged_read.specs.Scans.{scan_start, scan_to, ScanAnswers, text_of_first};
 ghost use Rattle.paged_read.specs.Searches.{scan_bytes};
 ghost use Rattle.paged.specs.Recovery.{IsAsOpened};
 ghost use Rattle.paged.specs.Scans.{flushed_pages, IdlesAt, ScanCosts, ScanFirstCosts};
@@ -103,7 +103,7 @@ impl<B: Blob, H: Sum, Phase> Writer<B, H, Phase> {
             let w = self.now in let P = w.page_size in
             let end = scan_end P (flushed_pages w) max_size in
             let len = scan_to H.sum_of P w.full_pages end proven old.present.readable in
-            Scans (end * (P + 12)) (min max_size len) old new result }
+            ScanAnswers (end * (P + 12)) (min max_size len) old new result }
         ensures reads { let old = B.life blob.old in let new = B.life blob.new in
             let w = self.now in let P = w.page_size in
             let end = scan_end P (flushed_pages w) max_size in
@@ -146,7 +146,8 @@ impl<B: Blob, H: Sum, Phase> Writer<B, H, Phase> {
         requires flushed { end ≤ flushed_pages self.now }
         ensures scans { let old = B.life blob.old in let new = B.life blob.new in
             let w = self.now in let P = w.page_size in
-            Scans (end * (P + 12)) (scan_to H.sum_of P w.full_pages end proven old.present.readable)
+            ScanAnswers (end * (P + 12))
+            (scan_to H.sum_of P w.full_pages end proven old.present.readable)
             old new result }
         ensures reads { let old = B.life blob.old in let new = B.life blob.new in
             let w = self.now in let P = w.page_size in

@@ -3,7 +3,7 @@ ghost use Rattle.std.specs.Prelude.{◌≡◌, ◌≤◌, ◌<◌, Ok, IfOk, OnO
 ghost use Rattle.crash.specs.Below.{PagesStay};
 ghost use Rattle.writer_state.specs.declared.sync_state.SyncState.TheVariants.{Dirty};
 ghost use Rattle.writer_state.specs.Sound.{content, IsConsistent};
-ghost use Rattle.crash.specs.Started.{CoversThrough, StartsStand};
+ghost use Rattle.crash.specs.Started.{CoversThrough, StartsCanBeAwaited};
 ghost use Rattle.paged.specs.Caches.{CachesTo, PutsOnceWaited, tail_of};
 ghost use Rattle.paged.specs.Calls.{AsksAtMost, StartsOver};
 ghost use Rattle.paged.specs.Flush.{has_work, paired};
@@ -108,7 +108,7 @@ impl<B: Blob, H: Sum> Writer<B, H> {
         ensures covers { let old = B.life blob.old in let new = B.life blob.new in
             let held = content self.old old.present.readable in
             CoversThrough H.sum_of self.old.page_size held old new }
-        ensures starts { StartsStand (B.life blob.new).present }
+        ensures starts { StartsCanBeAwaited (B.life blob.new).present }
         ensures room { self.old.page_size ≤ self.old.capacity }
         ensures calls { let old = B.life blob.old in let new = B.life blob.new in
             AsksAtMost (snapshot_calls self.old) old new }
@@ -163,7 +163,7 @@ impl<B: Blob, H: Sum> Writer<B, H> {
         ensures covers { let old = B.life blob.old in let new = B.life blob.new in
             let held = content self.old old.present.readable in
             CoversThrough H.sum_of self.old.page_size held old new }
-        ensures starts { StartsStand (B.life blob.new).present }
+        ensures starts { StartsCanBeAwaited (B.life blob.new).present }
         ensures room { OnOk result (self.old.page_size ≤ self.old.capacity) }
         ensures calls { let old = B.life blob.old in let new = B.life blob.new in
             AsksAtMost (seal_calls self.old) old new }

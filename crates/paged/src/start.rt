@@ -4,15 +4,15 @@ ghost use Rattle.std.specs.Prelude.{nat_lt};
 ghost use Rattle.disk.specs.declared.started_sync.StartedSync.TheVariants.{Named};
 ghost use Rattle.writer_state.specs.Sound.{IsSound, IsConsistent, content};
 ghost use Rattle.crash.specs.Below.{PagesStay};
-ghost use Rattle.crash.specs.Started.{CoversThrough, StartsStand};
+ghost use Rattle.crash.specs.Started.{CoversThrough, StartsCanBeAwaited};
 ghost use Rattle.paged.specs.Calls.{AsksAtMost, IsWritten, StartsOver};
 ghost use Rattle.paged.specs.Calls.{start_calls};
 ghost use Rattle.paged.specs.Calls.{started_already, Covers};
 ghost use Rattle.writer_state.specs.WriterState.{started_state};
 ghost use Rattle.paged_read.specs.Replay.{LeavesAllReplays};
 ghost use Rattle.paged_read.specs.Snapshots.{LeavesAllTails};
-ghost use Rattle.paged_read.specs.Snapshots.{LeavesWriters};
-ghost use Rattle.disk.specs.Disk.{StartGoes, WaitsFor};
+ghost use Rattle.paged_read.specs.Snapshots.{LeavesAllWriters};
+ghost use Rattle.disk.specs.Disk.{StartGoes, WaitStartedGoes};
 ghost use Rattle.paged.specs.Calls.{sync_calls, unstarted_calls};
 ghost use Rattle.paged.specs.Flush.{paired};
 ghost use Rattle.paged.specs.Caches.{CachesTo};
@@ -85,7 +85,7 @@ impl<B: Blob, H: Sum, Phase> Writer<B, H, Phase> {
         ensures covers { let old = B.life blob.old in let new = B.life blob.new in
             let held = content self.old old.present.readable in
             CoversThrough H.sum_of self.old.page_size held old new }
-        ensures starts { StartsStand (B.life blob.new).present }
+        ensures starts { StartsCanBeAwaited (B.life blob.new).present }
         ensures room { self.old.page_size ≤ self.old.capacity }
         ensures calls { AsksAtMost (start_calls self.old) (B.life blob.old) (B.life blob.new) }
         ensures idle { start_calls self.old ≡ 0
@@ -111,7 +111,7 @@ impl<B: Blob, H: Sum, Phase> Writer<B, H, Phase> {
         ensures covers { let old = B.life blob.old in let new = B.life blob.new in
             let held = content self.old old.present.readable in
             CoversThrough H.sum_of self.old.page_size held old new }
-        ensures starts { StartsStand (B.life blob.new).present }
+        ensures starts { StartsCanBeAwaited (B.life blob.new).present }
         ensures calls { let old = B.life blob.old in let new = B.life blob.new in
             AsksAtMost (unstarted_calls self.old.sync) old new }
         ensures idle { unstarted_calls self.old.sync ≡ 0
@@ -145,7 +145,7 @@ impl<B: Blob, H: Sum, Phase> Writer<B, H, Phase> {
     /// `SyncFailed` where the device failed, now or as the sync was started or waited for before;
     /// `OutOfMemory`. The writer is gone then.
     pub fn wait_for_sync(mut self, blob: &mut B) -> Result<Self, Error>
-        requires stands { let old = (B.life blob.old).present in
+        requires sound { let old = (B.life blob.old).present in
             IsSound H.sum_of self old ⊎ IsConsistent H.sum_of self old }
         ensures goes { WaitForSyncGoes H.sum_of self (B.life blob.old) (B.life blob.new) result }
         ensures ready { let old = B.life blob.old in let new = B.life blob.new in
@@ -166,13 +166,13 @@ impl<B: Blob, H: Sum, Phase> Writer<B, H, Phase> {
 /// `SyncFailed` where the device failed, now or as the sync was started or waited for before, and
 /// where it started no such sync; `OutOfMemory`. What was durable stays so.
 pub fn wait_sync<B: Blob, H: Sum>(blob: &mut B, started: StartedSync) -> Result<(), Error>
-    ensures waits { WaitsFor started (B.life blob.old) (B.life blob.new) result }
-    ensures writers { LeavesWriters H.sum_of (B.life blob.old) (B.life blob.new) }
+    ensures waits { WaitStartedGoes started (B.life blob.old) (B.life blob.new) result }
+    ensures writers { LeavesAllWriters H.sum_of (B.life blob.old) (B.life blob.new) }
     ensures can_read { (t : Tail) (cache : CacheState) → CanRead t cache (B.life blob.old).present
         → CanRead t cache (B.life blob.new).present }
     ensures tails { (cache : CacheState)
         → LeavesAllTails H.sum_of cache cache (B.life blob.old) (B.life blob.new) }
-    ensures replays { LeavesAllReplays (B.life blob.old) (B.life blob.new) }
+    ensures all_replays { LeavesAllReplays (B.life blob.old) (B.life blob.new) }
 
     // From then on every image keeps what the sync covers.
     ensures durable { OnOk result ((page_size : ℕ) →

@@ -8,17 +8,17 @@ ghost use Rattle.page.specs.Page.{active, slot_bytes, value_len};
 ghost use Rattle.writer_state.specs.declared.sync_state.SyncState.TheVariants.{Clean};
 ghost use Rattle.writer_state.specs.Sound.{IsSound, LeavesItsContent, content};
 ghost use Rattle.crash.specs.Below.{PagesStay};
-ghost use Rattle.crash.specs.Started.{CoversThrough, StartsStand};
+ghost use Rattle.crash.specs.Started.{CoversThrough, StartsCanBeAwaited};
 ghost use Rattle.crash.specs.Stays.{KeepsAll, LeavesOnly};
 ghost use Rattle.paged.specs.Calls.{AsksAtMost, HoldsWithin, SettlesBy, Syncs, sync_calls};
-ghost use Rattle.paged.specs.Flush.{answered, has_work, synced};
-ghost use Rattle.paged.specs.Reads.{HasPages, size_of};
+ghost use Rattle.paged.specs.Flush.{has_work, synced, with_value};
+ghost use Rattle.paged.specs.Reads.{HasWriterPages, size_of};
 ghost use Rattle.paged.specs.Recovery.{IsAsOpened, LeavesText, slot_pages};
 ghost use Rattle.paged_read.specs.Searches.{ReadsWithin};
 ghost use Rattle.paged.specs.Truncate.{Truncates, IsCut, SoundAndKept, KeepsFloorsWithin};
 ghost use Rattle.paged.specs.Truncate.{truncate_calls, WritesSlot, Stages, Rewrites, ResizesTo};
 ghost use Rattle.paged.specs.Truncate.{ReadsOnce, ReadsValue, Shortens, CutsTo, SparesSlot};
-ghost use Rattle.paged.specs.Truncate.{standing};
+ghost use Rattle.paged.specs.Truncate.{writer_at};
 ghost use Rattle.paged.specs.Writer.{FitsBlob};
 ghost use Rattle.paged.specs.Caches.{CachesTo, PutsUpTo, ReadsOn};
 ghost use Rattle.cache.specs.Pages.{CachesOnly, IsFresh};
@@ -59,7 +59,7 @@ impl<B: Blob, H: Sum> Recovery<B, H> {
     /// The writer is gone then.
     pub fn truncate(self, blob: &mut B, cache: &mut CacheRef, size: u64) -> Result<Self, Error>
         requires cached { cache.old.page_size ≡ self.page_size }
-        requires stands { let old = B.life blob.old in
+        requires sound { let old = B.life blob.old in
             IsSound H.sum_of self old.present ⊎ IsAsOpened H.sum_of self old.present }
         ensures goes { let old = B.life blob.old in let new = B.life blob.new in
             TruncateGoes H.sum_of size self cache.old cache.new old new result }
@@ -86,7 +86,7 @@ impl<B: Blob, H: Sum> Recovery<B, H> {
             IsSound H.sum_of self old.present ⊎ IsAsOpened H.sum_of self old.present }
         ensures truncates { let old = B.life blob.old in let new = B.life blob.new in
             Truncates H.sum_of size self old new result }
-        ensures there { IfOk result (λ w. HasPages w (B.life blob.new)) }
+        ensures there { IfOk result (λ w. HasWriterPages w (B.life blob.new)) }
         ensures within { IfOk result (λ w. HoldsWithin w) }
         ensures calls { AsksAtMost (truncate_calls self size) (B.life blob.old) (B.life blob.new) }
         ensures synced { let old = B.life blob.old in let new = B.life blob.new in
@@ -145,7 +145,7 @@ impl<B: Blob, H: Sum> Recovery<B, H> {
             IsSound H.sum_of self old.present
             → CoversThrough H.sum_of self.page_size (take size held) old new }
         ensures starts { let old = B.life blob.old in let new = B.life blob.new in
-            IsSound H.sum_of self old.present → StartsStand new.present }
+            IsSound H.sum_of self old.present → StartsCanBeAwaited new.present }
     {
         self.sync_written(blob, cache)?;
         if size < self.size() {
@@ -161,7 +161,7 @@ impl<B: Blob, H: Sum> Recovery<B, H> {
             IsSound H.sum_of self.old old.present ⊎ IsAsOpened H.sum_of self.old old.present }
         ensures syncs { let old = B.life blob.old in let new = B.life blob.new in
             IsSound H.sum_of self.old old.present
-            → Syncs H.sum_of self.old old new (answered self.new result) }
+            → Syncs H.sum_of self.old old new (with_value self.new result) }
         ensures written { let old = B.life blob.old in let new = B.life blob.new in
             has_work self.old true ≡ false → SettlesBy self.old.sync old new result }
         ensures state { has_work self.old true ≡ false
@@ -173,7 +173,7 @@ impl<B: Blob, H: Sum> Recovery<B, H> {
             IsSound H.sum_of self.old old.present
             → CoversThrough H.sum_of self.old.page_size held old new }
         ensures starts { let old = B.life blob.old in let new = B.life blob.new in
-            IsSound H.sum_of self.old old.present → StartsStand new.present }
+            IsSound H.sum_of self.old old.present → StartsCanBeAwaited new.present }
         ensures calls { AsksAtMost (sync_calls self.old) (B.life blob.old) (B.life blob.new) }
         ensures some { 0 < self.old.page_size }
         ensures small { self.old.page_size < 2 ^ 16 }
@@ -195,7 +195,7 @@ impl<B: Blob, H: Sum> Recovery<B, H> {
         requires clean { self.old.sync ≡ Clean }
         requires less { size < size_of self.old }
         ensures shortens { let old = B.life blob.old in let new = B.life blob.new in
-            Shortens H.sum_of size self.old old new (answered self.new result) }
+            Shortens H.sum_of size self.old old new (with_value self.new result) }
         ensures cuts { CutsTo H.sum_of size self.old (B.life blob.old) (B.life blob.new) }
     {
         if size % u64::from(self.page_size.get()) == 0 {
@@ -212,7 +212,7 @@ impl<B: Blob, H: Sum> Recovery<B, H> {
         requires less { size < size_of self.old }
         requires whole { size % self.old.page_size ≡ 0 }
         ensures shortens { let old = B.life blob.old in let new = B.life blob.new in
-            Shortens H.sum_of size self.old old new (answered self.new result) }
+            Shortens H.sum_of size self.old old new (with_value self.new result) }
         ensures cuts { CutsTo H.sum_of size self.old (B.life blob.old) (B.life blob.new) }
     {
         let pages = size / u64::from(self.page_size.get());
@@ -228,7 +228,7 @@ impl<B: Blob, H: Sum> Recovery<B, H> {
         requires less { size < size_of self.old }
         requires part { 0 < size % self.old.page_size }
         ensures shortens { let old = B.life blob.old in let new = B.life blob.new in
-            Shortens H.sum_of size self.old old new (answered self.new result) }
+            Shortens H.sum_of size self.old old new (with_value self.new result) }
         ensures cuts { CutsTo H.sum_of size self.old (B.life blob.old) (B.life blob.new) }
     {
         let page_size = u64::from(self.page_size.get());
@@ -409,7 +409,7 @@ impl<B: Blob, H: Sum> Recovery<B, H> {
     ) -> Result<(), Error>
         requires short { length bytes.now < self.old.page_size }
         requires fits { FitsBlob self.old.page_size pages (length bytes.now) }
-        ensures ok { OnOk result (self.new ≡ standing self.old pages bytes.now slot) }
+        ensures ok { OnOk result (self.new ≡ writer_at self.old pages bytes.now slot) }
         ensures err { IsOkUnless result Error.OutOfMemory }
     {
         let offset = pages * u64::from(self.page_size.get());

@@ -11,7 +11,7 @@ ghost use Rattle.paged_read.specs.Snapshots.{LeavesReads};
 ghost use Rattle.paged_read.specs.Tail.{CanRead};
 ghost use Rattle.paged.specs.Caches.{tail_of};
 ghost use Rattle.paged.specs.Calls.{HoldsWithin};
-ghost use Rattle.paged.specs.Reads.{HasPages};
+ghost use Rattle.paged.specs.Reads.{HasWriterPages};
 ghost use Rattle.paged.specs.Recovers.{Recovers, GivesId};
 ghost use Rattle.paged.specs.Recovery.{KeepsText, LeavesText, TailIsMended};
 ghost use Rattle.paged.specs.Within.{RecoversWithin, GivesIdWithin};
@@ -63,7 +63,7 @@ fn recover_text<B: Blob, H: Sum>(
     ensures recovers { let old = B.life blob.old in let new = B.life blob.new in
         Recovers H.sum_of cache.old capacity old new result }
     ensures sound { IfOk result (λ w. IsSound H.sum_of w (B.life blob.new).present) }
-    ensures there { IfOk result (λ w. HasPages w (B.life blob.new)) }
+    ensures there { IfOk result (λ w. HasWriterPages w (B.life blob.new)) }
     ensures within { IfOk result (λ w. HoldsWithin w) }
     ensures id { IfOk result (λ w. w.id ≡ cache.old.ids_given) }
     ensures ids { GivesId result cache.old cache.new }
@@ -139,7 +139,7 @@ fn recover_looked<B: Blob, H: Sum>(
     ensures overflow { 2 ^ 64 ≤ adjusted capacity cache.old.page_size
         → result ≡ Err (Refusal.Failed Error.OffsetOverflow) }
     ensures sound { IfOk result (λ w. IsSound H.sum_of w (B.life blob.new).present) }
-    ensures there { IfOk result (λ w. HasPages w (B.life blob.new)) }
+    ensures there { IfOk result (λ w. HasWriterPages w (B.life blob.new)) }
     ensures within { IfOk result (λ w. HoldsWithin w) }
     ensures id { IfOk result (λ w. w.id ≡ cache.old.ids_given) }
     ensures ids { GivesIdWithin result cache.old cache.new }

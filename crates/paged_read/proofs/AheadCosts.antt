@@ -10,7 +10,7 @@ use Rattle.disk.proofs.Logs.{one_more}
 use Rattle.disk.specs.Disk.{Disk, Life, Request, StartReadGoes, StartReadMany, AskedOnce}
 use Rattle.disk.specs.declared.error.Error.{Error}
 use Rattle.disk.specs.declared.error.Error.TheVariants.{ReadFailed, BlobInsufficientLength, OutOfMemory}
-use Rattle.paged_read.specs.ReadAhead.{AreNext, AreOfBatches, HasFirst, IsBatch, ReadsBatches, after, batch_bytes, batch_range, page_after}
+use Rattle.paged_read.specs.ReadAhead.{AreNext, AreOfBatches, HasFirst, IsBatch, ReadsBatches, after_batch, batch_bytes, batch_range, page_after}
 use Rattle.paged_read.specs.declared.ahead.Ahead.{Ahead}
 use Rattle.paged_read.proofs.Searching.{gained_none, gained_once, gained_joins}
 
@@ -59,24 +59,24 @@ module _ (P batch full : ℕ) where
 -- the page after a queue is none before it
 pub page_after_le : (batch full page : ℕ) (queue : List Ahead) → page ≤ page_after batch full page queue
 page_after_le batch full page [] = omega arith
-page_after_le batch full page (a ∷ rest) = omega (arith, page_after_le batch full (after batch full page) rest)
+page_after_le batch full page (a ∷ rest) = omega (arith, page_after_le batch full (after_batch batch full page) rest)
 
 -- as many as are next, or fewer
 pub next_few : (n batch full page : ℕ) (queue : List Ahead) → AreNext n batch full page queue → length queue ≤ n
 next_few zero batch full page queue next = omega (arith, ap (λ (l : List Ahead). length l) next)
 next_few (suc n) batch full page [] next = omega arith
-next_few (suc n) batch full page (a ∷ rest) next = omega (arith, next_few n batch full (after batch full page) rest next.2)
+next_few (suc n) batch full page (a ∷ rest) next = omega (arith, next_few n batch full (after_batch batch full page) rest next.2)
 
 -- a queue that begins a batch later has at most one more
 rest_more : (n batch full page : ℕ) (rest queue : List Ahead) → AreNext n batch full page rest → AreNext (suc n) batch full page queue → length queue ≤ length rest + 1
 rest_more n batch full page rest [] one other = omega arith
 rest_more zero batch full page rest (b ∷ queue) one other = omega (arith, ap (λ (l : List Ahead). length l) other.2)
 rest_more (suc n) batch full page [] (b ∷ queue) one other = absurd (omega (arith, one, other.1))
-rest_more (suc n) batch full page (a ∷ rest) (b ∷ queue) one other = omega (arith, rest_more n batch full (after batch full page) rest queue one.2 other.2)
+rest_more (suc n) batch full page (a ∷ rest) (b ∷ queue) one other = omega (arith, rest_more n batch full (after_batch batch full page) rest queue one.2 other.2)
 
-pub next_no_more : (batch full page : ℕ) (queue now : List Ahead) → AreNext 3 batch full page queue → HasFirst queue → AreNext 3 batch full (after batch full page) now → length now ≤ length queue
+pub next_no_more : (batch full page : ℕ) (queue now : List Ahead) → AreNext 3 batch full page queue → HasFirst queue → AreNext 3 batch full (after_batch batch full page) now → length now ≤ length queue
 next_no_more batch full page [] now next has later = absurd has
-next_no_more batch full page (a ∷ rest) now next has later = omega (arith, rest_more 2 batch full (after batch full page) rest now next.2 later)
+next_no_more batch full page (a ∷ rest) now next has later = omega (arith, rest_more 2 batch full (after_batch batch full page) rest now next.2 later)
 
 -- ---- the first of a queue
 

@@ -1,13 +1,13 @@
 -- Searches from a blob's end back: what they read, told by the log.
 use Rattle.std.proofs.Common.{◌≡◌, inl, inr, ℕ, ◌+◌, ◌-◌, ◌*◌, ◌<◌, ◌≤◌, List, [], ◌∷◌, ◌++◌, length, Result, refl, sym, ap, subst, arith}
-use Rattle.disk.specs.Disk.{Request, Life, ReadAt, ReadMany, StartReadMany, ReadGoes}
+use Rattle.disk.specs.Disk.{Request, Life, ReadAt, ReadMany, StartReadMany, DeviceReadGoes}
 use Rattle.disk.specs.declared.error.Error.{Error}
-use Rattle.paged_read.specs.Searches.{AreWithin, ReadsWithin}
+use Rattle.paged_read.specs.Searches.{AreReadsWithin, ReadsWithin}
 use Rattle.paged_read.specs.Backward.{FallFrom, FallTo, ReadsBack, ReadsDownTo}
 use Rattle.paged_read.proofs.Searching.{within_joins, gained_none, gained_once, gained_joins, gained_then, read_asks}
 
 -- each is of one page
-fall_within : (size top most : ℕ) (xs : List Request) → size ≤ most → FallFrom size top xs → AreWithin most xs
+fall_within : (size top most : ℕ) (xs : List Request) → size ≤ most → FallFrom size top xs → AreReadsWithin most xs
 fall_within size top most [] enough fall = tt
 fall_within size top most (ReadAt offset len ∷ xs) enough fall = (omega (arith, fall.0), fall_within size offset most xs enough fall.2)
 fall_within size top most (ReadMany ranges ∷ xs) enough fall = absurd fall
@@ -42,7 +42,7 @@ pub down_start : (size bottom : ℕ) (life : Life) → bottom ≤ length life.pr
 down_start size bottom life below = gained_none (FallTo size (length life.present.readable) bottom) life life refl below
 
 -- one lower
-pub down_read : (size bottom offset : ℕ) (start old new : Life) (answer : Result (List ℕ) Error) → offset + size ≤ bottom → ReadsDownTo size bottom start old → ReadGoes offset size old new answer → ReadsDownTo size offset start new
+pub down_read : (size bottom offset : ℕ) (start old new : Life) (answer : Result (List ℕ) Error) → offset + size ≤ bottom → ReadsDownTo size bottom start old → DeviceReadGoes offset size old new answer → ReadsDownTo size offset start new
 down_read size bottom offset start old new answer below so_far goes =
     let top = length start.present.readable in
     elim (read_asks offset size old new answer goes) [
@@ -53,12 +53,12 @@ down_read size bottom offset start old new answer below so_far goes =
     ]
 
 -- the page before the last that is left
-pub down_page : (P size n : ℕ) (start old new : Life) (answer : Result (List ℕ) Error) → size ≡ P + 12 → 0 < n → ReadsDownTo (P + 12) (n * (P + 12)) start old → ReadGoes ((n - 1) * size) size old new answer
+pub down_page : (P size n : ℕ) (start old new : Life) (answer : Result (List ℕ) Error) → size ≡ P + 12 → 0 < n → ReadsDownTo (P + 12) (n * (P + 12)) start old → DeviceReadGoes ((n - 1) * size) size old new answer
     → ReadsDownTo (P + 12) ((n - 1) * (P + 12)) start new
 down_page P size n start old new answer is some so_far goes =
     let last : n - 1 + 1 ≡ n = omega arith in
     let below : (n - 1) * (P + 12) + (P + 12) ≤ n * (P + 12) = rw last at (let all : (n - 1) * (P + 12) + (P + 12) ≤ (n - 1 + 1) * (P + 12) = omega arith in all) in
-    down_read (P + 12) (n * (P + 12)) ((n - 1) * (P + 12)) start old new answer below so_far (subst (λ (k : ℕ). ReadGoes ((n - 1) * k) k old new answer) is goes)
+    down_read (P + 12) (n * (P + 12)) ((n - 1) * (P + 12)) start old new answer below so_far (subst (λ (k : ℕ). DeviceReadGoes ((n - 1) * k) k old new answer) is goes)
 
 -- no lower than an offset further down
 pub down_lower : (size bottom offset : ℕ) (old new : Life) → offset ≤ bottom → ReadsDownTo size bottom old new → ReadsDownTo size offset old new
@@ -72,9 +72,9 @@ down_back size bottom old new down = gained_then (FallTo size (length old.presen
 
 -- its reads are within any that have a page
 pub back_within : (size most : ℕ) (old new : Life) → size ≤ most → ReadsBack size old new → ReadsWithin most old new
-back_within size most old new enough back = gained_then (FallFrom size (length old.present.readable)) (AreWithin most) old new (λ xs fall. fall_within size (length old.present.readable) most xs enough fall) back
+back_within size most old new enough back = gained_then (FallFrom size (length old.present.readable)) (AreReadsWithin most) old new (λ xs fall. fall_within size (length old.present.readable) most xs enough fall) back
 
 -- a scan of what was opened
 pub scans_within : (size most : ℕ) (old mid new : Life) → size ≤ most → ReadsBack size old mid → ReadsWithin most mid new → ReadsWithin most old new
 scans_within size most old mid new enough back within =
-    gained_joins (AreWithin most) (AreWithin most) (AreWithin most) old mid new (within_joins most) (back_within size most old mid enough back) within
+    gained_joins (AreReadsWithin most) (AreReadsWithin most) (AreReadsWithin most) old mid new (within_joins most) (back_within size most old mid enough back) within

@@ -12,11 +12,11 @@ use Rattle.cache.specs.CacheState.{CacheState, Puts, put_at}
 use Rattle.cache.specs.Pages.{page_of_content}
 use Rattle.cache.specs.declared.piece.Piece.{Piece}
 use Rattle.paged_read.specs.Failures.{NoneFailed}
-use Rattle.paged_read.specs.Tail.{Tail, told}
+use Rattle.paged_read.specs.Tail.{logical_bytes, Tail}
 use Rattle.paged_read.specs.Ranges.{page_ranges, page_at}
 use Rattle.paged_read.specs.Parts.{with_told, ArePagesFull, PagesFault}
-use Rattle.paged_read.specs.Puts.{PutsPages, PutsFirst, numbered}
-use Rattle.paged_read.specs.Batch.{KeepsPage, AreMarked, IsDelivered, KeepsFault, IsReady, IsTold, IsLack, pieces_in, bytes_found}
+use Rattle.paged_read.specs.Puts.{PutsPages, PutsFirst, delivered_pages}
+use Rattle.paged_read.specs.Batch.{CachesFullPage, AreMarked, IsDelivered, KeepsFault, CanPutPiece, IsTold, IsLack, pieces_in, bytes_found}
 use Rattle.paged_read.specs.declared.lack.Lack.{Lack}
 use Rattle.paged_read.proofs.Leaving.{length-page_at, payload_told}
 use Rattle.crash.proofs.Lists.{within_take}
@@ -90,10 +90,10 @@ delivered_whole t pages readable out reach below delivers = λ k d there.
 pub puts_more : (t : Tail) (cache between after : CacheState) (readable pages : List ℕ) (out : List (ℕ × List ℕ)) (k : ℕ) (bytes : List ℕ) (page : ℕ) → t.full_pages * (t.page_size + 12) ≤ length readable → between.page_size ≡ t.page_size
     → All (λ page. page < t.full_pages) pages → Delivers (page_ranges t.page_size pages) readable out → k < length out → ((d : ℕ × List ℕ) → (get_or out k d).1 ≡ bytes)
     → ((d : ℕ × List ℕ) → page ≡ get_or pages (get_or out k d).0 0) → Puts (t.id, page) (take t.page_size bytes) between after
-    → PutsPages t.id (told t readable) (numbered pages (take k out)) cache between → PutsPages t.id (told t readable) (numbered pages (take (k + 1) out)) cache after
+    → PutsPages t.id (logical_bytes t readable) (delivered_pages pages (take k out)) cache between → PutsPages t.id (logical_bytes t readable) (delivered_pages pages (take (k + 1) out)) cache after
 puts_more t cache between after readable pages out k bytes page reach size below delivers there bytes_is page_is puts before =
     let d : ℕ × List ℕ = (0, []) in
-    let content = told t readable in
+    let content = logical_bytes t readable in
     let number = delivered_number t.page_size pages readable out k d delivers there in
     let here : page ≡ get_or pages (get_or out k d).0 0 = page_is d in
     let less : page < t.full_pages = omega (arith, here, below (get_or out k d).0 0 number) in
@@ -103,33 +103,33 @@ puts_more t cache between after readable pages out k bytes page reach size below
     ap (λ (l : List ℕ). take t.page_size l) is ∙ payload_told t readable reach page less ∙ ap (λ (P : ℕ). page_of_content P content page) (sym size) in
     let one = puts_one t.id page content (take t.page_size bytes) between after payload puts in
     subst (λ (l : List ℕ). PutsPages t.id content l cache after) (sym (numbered_more pages out k d there))
-    (puts_joins t.id content (numbered pages (take k out)) (get_or pages (get_or out k d).0 0 ∷ []) cache between after before (subst (λ (p : ℕ). PutsPages t.id content (p ∷ []) between after) here one))
+    (puts_joins t.id content (delivered_pages pages (take k out)) (get_or pages (get_or out k d).0 0 ∷ []) cache between after before (subst (λ (p : ℕ). PutsPages t.id content (p ∷ []) between after) here one))
 
 -- the pages that were put are full
 pub kept_full : (sum : List ℕ → ℕ) (P : ℕ) (pages readable : List ℕ) (out : List (ℕ × List ℕ)) (k : ℕ) → Delivers (page_ranges P pages) readable out → ((j : ℕ) (d : ℕ × List ℕ) → j < k → value_len sum P (get_or out j d).1 ≡ P)
-    → ArePagesFull sum P (take k (numbered pages out)) readable
+    → ArePagesFull sum P (take k (delivered_pages pages out)) readable
 kept_full sum P pages readable out k delivers full = λ page (j, within, is).
     let d : ℕ × List ℕ = (0, []) in
     let f : ℕ × List ℕ → ℕ = λ r. get_or pages r.0 0 in
-    let size = length-take k (numbered pages out) in
+    let size = length-take k (delivered_pages pages out) in
     let less : j < k = omega (arith, within, size) in
     let there : j < length out = omega (arith, within, size, length-map out f) in
-    let same : get_or pages (get_or out j d).0 0 ≡ page = sym (get_or-map f out j d page there) ∙ sym (get_or-take k (numbered pages out) j page less) ∙ is in
+    let same : get_or pages (get_or out j d).0 0 ≡ page = sym (get_or-map f out j d page there) ∙ sym (get_or-take k (delivered_pages pages out) j page less) ∙ is in
     let number = delivered_number P pages readable out j d delivers there in
     let bytes = delivered_bytes P pages readable out j d page delivers there (slice_get-get_or pages (get_or out j d).0 0 number ∙ ap (λ (p : ℕ). Some p) same) in
     sym (ap (λ (l : List ℕ). value_len sum P l) bytes) ∙ full j d less
 
 -- where one is refused, those before it were put
 pub puts_refused : (sum : List ℕ → ℕ) (t : Tail) (cache between after : CacheState) (pages readable : List ℕ) (out : List (ℕ × List ℕ)) (k : ℕ) → Delivers (page_ranges t.page_size pages) readable out
-    → ((j : ℕ) (d : ℕ × List ℕ) → j < k → value_len sum t.page_size (get_or out j d).1 ≡ t.page_size) → PutsPages t.id (told t readable) (numbered pages (take k out)) cache between → after ≡ between → PutsFirst sum t (numbered pages out) readable cache after
+    → ((j : ℕ) (d : ℕ × List ℕ) → j < k → value_len sum t.page_size (get_or out j d).1 ≡ t.page_size) → PutsPages t.id (logical_bytes t readable) (delivered_pages pages (take k out)) cache between → after ≡ between → PutsFirst sum t (delivered_pages pages out) readable cache after
 puts_refused sum t cache between after pages readable out k delivers full puts same = record {
   count = k;
   full = kept_full sum t.page_size pages readable out k delivers full;
-  puts = subst (λ (l : List ℕ). PutsPages t.id (told t readable) l cache after) (sym (numbered_first pages out k)) (subst (λ (c : CacheState). PutsPages t.id (told t readable) (numbered pages (take k out)) cache c) (sym same) puts);
+  puts = subst (λ (l : List ℕ). PutsPages t.id (logical_bytes t readable) l cache after) (sym (numbered_first pages out k)) (subst (λ (c : CacheState). PutsPages t.id (logical_bytes t readable) (delivered_pages pages (take k out)) cache c) (sym same) puts);
 }
 
 -- a page that is refused isn't put
-pub refused_not_put : (sum : List ℕ → ℕ) (P : ℕ) (key : ℕ × ℕ) (bytes : List ℕ) (old new : CacheState) (e : Error) → KeepsPage sum P key bytes old new (Err e) → new ≡ old
+pub refused_not_put : (sum : List ℕ → ℕ) (P : ℕ) (key : ℕ × ℕ) (bytes : List ℕ) (old new : CacheState) (e : Error) → CachesFullPage sum P key bytes old new (Err e) → new ≡ old
 refused_not_put sum P key bytes old new ReadFailed keeps = absurd keeps
 refused_not_put sum P key bytes old new WriteFailed keeps = absurd keeps
 refused_not_put sum P key bytes old new ResizeFailed keeps = absurd keeps
@@ -143,18 +143,18 @@ refused_not_put sum P key bytes old new IdsExhausted keeps = absurd keeps
 -- ---- pieces that are copied
 
 -- one piece more
-pub told_more : (P : ℕ) (content : List ℕ) (lacks : List Lack) (i : ℕ) (d : Lack) (at : List ℕ) (out : List (ℕ × List ℕ)) (buf part first : List ℕ) (room : ℕ) → i < length lacks → IsReady at out room (get_or lacks i d)
+pub told_more : (P : ℕ) (content : List ℕ) (lacks : List Lack) (i : ℕ) (d : Lack) (at : List ℕ) (out : List (ℕ × List ℕ)) (buf part first : List ℕ) (room : ℕ) → i < length lacks → CanPutPiece at out room (get_or lacks i d)
     → IsTold P content at out (get_or lacks i d) → part ≡ take ((get_or lacks i d).piece.skip + (get_or lacks i d).piece.len - (get_or lacks i d).piece.skip) (drop (get_or lacks i d).piece.skip (bytes_found at out (get_or lacks i d).number))
     → buf ≡ with_told P content (pieces_in (take i lacks)) first
     → put_mid (get_or lacks i d).piece.buf_offset ((get_or lacks i d).piece.buf_offset + (get_or lacks i d).piece.len - (get_or lacks i d).piece.buf_offset) buf part ≡ with_told P content (pieces_in (take (i + 1) lacks)) first
-told_more P content lacks i d at out buf part first room there ready told is before =
+told_more P content lacks i d at out buf part first room there ready logical_bytes is before =
     let lack = get_or lacks i d in
     let piece = lack.piece in
     let found = bytes_found at out lack.number in
     let n : piece.skip + piece.len - piece.skip ≡ piece.len = omega arith in
     let many : length (take piece.len (drop piece.skip found)) ≡ piece.len = length-take-le piece.len (drop piece.skip found) (omega (arith, ready.within, length-drop piece.skip found)) in
     put_mid_is piece.buf_offset piece.len buf part (take piece.len (drop piece.skip found)) (is ∙ ap (λ (m : ℕ). take m (drop piece.skip found)) n) many
-    ∙ ap (λ (l : List ℕ). put_at piece.buf_offset l buf) told
+    ∙ ap (λ (l : List ℕ). put_at piece.buf_offset l buf) logical_bytes
     ∙ ap (λ (l : List ℕ). put_at piece.buf_offset (take piece.len (drop piece.skip (page_of_content P content piece.page))) l) before
     ∙ sym (told_push P content (pieces_in (take i lacks)) piece first)
     ∙ ap (λ (l : List Piece). with_told P content l first) (sym (map-append (λ (l : Lack). l.piece) (take i lacks) (lack ∷ [])) ∙ ap (λ (l : List Lack). pieces_in l) (sym (take_more lacks i d there)))
@@ -186,7 +186,7 @@ found_bytes P pages readable at out number page delivers marked is =
 
 -- each piece can be copied
 pub lacks_ready : (t : Tail) (pages readable at : List ℕ) (out : List (ℕ × List ℕ)) (room : ℕ) (lacks : List Lack) → t.full_pages * (t.page_size + 12) ≤ length readable → All (λ page. page < t.full_pages) pages → Delivers (page_ranges t.page_size pages) readable out
-    → AreMarked at out (length out) → length at ≡ length pages → All (IsLack t.page_size pages room) lacks → All (IsReady at out room) lacks
+    → AreMarked at out (length out) → length at ≡ length pages → All (IsLack t.page_size pages room) lacks → All (CanPutPiece at out room) lacks
 lacks_ready t pages readable at out room lacks reach below delivers marked long each = λ k d less.
     let lack = get_or lacks k d in
     let h = each k d less in
@@ -209,7 +209,7 @@ no_lacks P room pages (lack ∷ lacks) none each =
 
 -- and has the content's bytes
 pub lacks_told : (t : Tail) (pages readable at : List ℕ) (out : List (ℕ × List ℕ)) (room : ℕ) (lacks : List Lack) → t.full_pages * (t.page_size + 12) ≤ length readable → All (λ page. page < t.full_pages) pages → Delivers (page_ranges t.page_size pages) readable out
-    → AreMarked at out (length out) → All (IsLack t.page_size pages room) lacks → All (IsTold t.page_size (told t readable) at out) lacks
+    → AreMarked at out (length out) → All (IsLack t.page_size pages room) lacks → All (IsTold t.page_size (logical_bytes t readable) at out) lacks
 lacks_told t pages readable at out room lacks reach below delivers marked each = λ k d less.
     let lack = get_or lacks k d in
     let piece = lack.piece in
@@ -259,15 +259,15 @@ pub whole_same : (P : ℕ) (pages pages_there : List ℕ) (out out_there : List 
 whole_same P pages pages_there out out_there same_pages same_out whole =
     subst (λ (l : List (ℕ × List ℕ)). All (IsDelivered P (length pages_there)) l) (sym same_out) (subst (λ (ps : List ℕ). All (IsDelivered P (length ps)) out) (sym same_pages) whole)
 
-pub ready_same : (at at_there : List ℕ) (out out_there : List (ℕ × List ℕ)) (room : ℕ) (lacks lacks_there : List Lack) → at_there ≡ at → out_there ≡ out → lacks_there ≡ lacks → All (IsReady at out room) lacks → All (IsReady at_there out_there room) lacks_there
+pub ready_same : (at at_there : List ℕ) (out out_there : List (ℕ × List ℕ)) (room : ℕ) (lacks lacks_there : List Lack) → at_there ≡ at → out_there ≡ out → lacks_there ≡ lacks → All (CanPutPiece at out room) lacks → All (CanPutPiece at_there out_there room) lacks_there
 ready_same at at_there out out_there room lacks lacks_there same_at same_out same_lacks ready =
-    subst (λ (l : List Lack). All (IsReady at_there out_there room) l) (sym same_lacks)
-    (subst (λ (o : List (ℕ × List ℕ)). All (IsReady at_there o room) lacks) (sym same_out) (subst (λ (a : List ℕ). All (IsReady a out room) lacks) (sym same_at) ready))
+    subst (λ (l : List Lack). All (CanPutPiece at_there out_there room) l) (sym same_lacks)
+    (subst (λ (o : List (ℕ × List ℕ)). All (CanPutPiece at_there o room) lacks) (sym same_out) (subst (λ (a : List ℕ). All (CanPutPiece a out room) lacks) (sym same_at) ready))
 
 pub told_same : (P : ℕ) (content at at_there : List ℕ) (out out_there : List (ℕ × List ℕ)) (lacks lacks_there : List Lack) → at_there ≡ at → out_there ≡ out → lacks_there ≡ lacks → All (IsTold P content at out) lacks → All (IsTold P content at_there out_there) lacks_there
-told_same P content at at_there out out_there lacks lacks_there same_at same_out same_lacks told =
+told_same P content at at_there out out_there lacks lacks_there same_at same_out same_lacks logical_bytes =
     subst (λ (l : List Lack). All (IsTold P content at_there out_there) l) (sym same_lacks)
-    (subst (λ (o : List (ℕ × List ℕ)). All (IsTold P content at_there o) lacks) (sym same_out) (subst (λ (a : List ℕ). All (IsTold P content a out) lacks) (sym same_at) told))
+    (subst (λ (o : List (ℕ × List ℕ)). All (IsTold P content at_there o) lacks) (sym same_out) (subst (λ (a : List ℕ). All (IsTold P content a out) lacks) (sym same_at) logical_bytes))
 
 pub marked_same : (at : List ℕ) (out out_there : List (ℕ × List ℕ)) → out_there ≡ out → AreMarked at out_there (length out_there) → AreMarked at out (length out)
 marked_same at out out_there same marked = subst (λ (o : List (ℕ × List ℕ)). AreMarked at o (length o)) same marked

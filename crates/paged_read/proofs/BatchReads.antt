@@ -6,7 +6,7 @@ use Rattle.std.proofs.lemmas.List.{take_all}
 use Rattle.std.proofs.lemmas.List.Elements.{All-nil, All-cons}
 use Rattle.std.proofs.Math.Nat.{suc-mul}
 use Rattle.disk.specs.Disk.Request.{ReadMany}
-use Rattle.disk.specs.Disk.{Life, AskedOnce, ReadManyGoes, Delivers, IsWithin}
+use Rattle.disk.specs.Disk.{Life, AskedOnce, DeviceReadManyGoes, Delivers, IsWithin}
 use Rattle.disk.specs.declared.error.Error.{Error}
 use Rattle.disk.specs.declared.error.Error.TheVariants.{ReadFailed, WriteFailed, ResizeFailed, SyncFailed, InvalidChecksum, BlobInsufficientLength, OffsetOverflow, OutOfMemory, IdsExhausted}
 use Rattle.disk.proofs.Logs.{failed_once}
@@ -17,7 +17,7 @@ use Rattle.paged_read.specs.Batch.{DeliversPages}
 use Rattle.paged_read.proofs.Failing.{none_failed_same}
 
 -- a read of many ranges, whatever it answers
-pub looked_many : (ranges : List (ℕ × ℕ)) (old new : Life) (out : List (ℕ × List ℕ)) (result : Result (Unit {0}) Error) → ReadManyGoes ranges old new out result → Looked old new
+pub looked_many : (ranges : List (ℕ × ℕ)) (old new : Life) (out : List (ℕ × List ℕ)) (result : Result (Unit {0}) Error) → DeviceReadManyGoes ranges old new out result → Looked old new
 looked_many ranges old new out (Ok u) goes = looked_asked (ReadMany ranges) false old new goes.2
 looked_many ranges old new out (Err ReadFailed) goes = looked_asked (ReadMany ranges) true old new goes
 looked_many ranges old new out (Err WriteFailed) goes = absurd goes
@@ -37,7 +37,7 @@ pub not_asked : (ranges : List (ℕ × ℕ)) (old new : Life) → new ≡ old �
 not_asked [] old new is = is
 not_asked (range ∷ ranges) old new is = inl is
 
-pub asks_many : (ranges : List (ℕ × ℕ)) (old new : Life) (out : List (ℕ × List ℕ)) (result : Result (Unit {0}) Error) → 0 < length ranges → ReadManyGoes ranges old new out result → AsksTogether ranges old new
+pub asks_many : (ranges : List (ℕ × ℕ)) (old new : Life) (out : List (ℕ × List ℕ)) (result : Result (Unit {0}) Error) → 0 < length ranges → DeviceReadManyGoes ranges old new out result → AsksTogether ranges old new
 asks_many ranges old new out (Ok u) some goes = asked_together ranges false old new some goes.2
 asks_many ranges old new out (Err ReadFailed) some goes = asked_together ranges true old new some goes
 asks_many ranges old new out (Err WriteFailed) some goes = absurd goes
@@ -57,7 +57,7 @@ page_ranges_within P (page ∷ pages) readable there =
     (page_ranges_within P pages readable (λ k d less. there (suc k) d (omega arith)))
 
 -- why it answers an error
-pub many_fault : (P : ℕ) (pages : List ℕ) (old new : Life) (out : List (ℕ × List ℕ)) (e : Error) → All (λ page. (page + 1) * (P + 12) ≤ length old.present.readable) pages → ReadManyGoes (page_ranges P pages) old new out (Err e) → DeliversPages P pages old new (Err e)
+pub many_fault : (P : ℕ) (pages : List ℕ) (old new : Life) (out : List (ℕ × List ℕ)) (e : Error) → All (λ page. (page + 1) * (P + 12) ≤ length old.present.readable) pages → DeviceReadManyGoes (page_ranges P pages) old new out (Err e) → DeliversPages P pages old new (Err e)
 many_fault P pages old new out ReadFailed there goes = failed_once (ReadMany (page_ranges P pages)) old.present new.present (ap (λ l. l.present.log) goes)
 many_fault P pages old new out WriteFailed there goes = goes
 many_fault P pages old new out ResizeFailed there goes = goes

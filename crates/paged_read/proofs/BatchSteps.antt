@@ -15,8 +15,8 @@ use Rattle.cache.specs.Pages.{page_of_content}
 use Rattle.cache.specs.declared.piece.Piece.{Piece}
 use Rattle.cache.proofs.Reading.{put_length}
 use Rattle.page.specs.Geometry.{EndWithin}
-use Rattle.paged_read.specs.Tail.{Tail, told, size_of, CanRead}
-use Rattle.paged_read.specs.Ranges.{is_served, slice, TriesRead}
+use Rattle.paged_read.specs.Tail.{Tail, logical_bytes, tail_size, CanRead}
+use Rattle.paged_read.specs.Ranges.{is_served, slice, TryReadGoes}
 use Rattle.paged_read.specs.Parts.{with_told}
 use Rattle.paged_read.specs.Batch.{is_page, with_page, IsLack, pieces_in, Gathered}
 use Rattle.paged_read.specs.declared.lack.Lack.{Lack}
@@ -90,7 +90,7 @@ pub gathered_start : (cache : CacheState) (t : Tail) (pages : List ℕ) (lacks :
 gathered_start cache t pages lacks buf no_pages no_lacks = record {
   wanted = no_pages ∙ sym (missing_nil cache t);
   each = subst (λ l. All (IsLack t.page_size pages 0) l) (sym no_lacks) (All-nil (IsLack t.page_size pages 0));
-  bytes = λ d can. ap (λ (l : List Lack). with_told t.page_size (told t d.readable) (pieces_in l) []) no_lacks;
+  bytes = λ d can. ap (λ (l : List Lack). with_told t.page_size (logical_bytes t d.readable) (pieces_in l) []) no_lacks;
 }
 
 -- an empty range
@@ -99,7 +99,7 @@ pub gathered_none : (cache : CacheState) (t : Tail) (ranges : List (ℕ × ℕ))
 gathered_none cache t ranges o buf_offset pages lacks buf g = record {
   wanted = g.wanted ∙ sym (missing_none cache t ranges o);
   each = g.each;
-  bytes = λ d can. g.bytes d can ∙ sym (push_slices (told t d.readable) ranges (o, 0) ∙ append-nil (flat_map (slice (told t d.readable)) ranges));
+  bytes = λ d can. g.bytes d can ∙ sym (push_slices (logical_bytes t d.readable) ranges (o, 0) ∙ append-nil (flat_map (slice (logical_bytes t d.readable)) ranges));
 }
 
 -- a range of two parts
@@ -108,7 +108,7 @@ pub gathered_split : (cache : CacheState) (t : Tail) (ranges : List (ℕ × ℕ)
 gathered_split cache t ranges o d n buf_offset pages lacks buf wide g = record {
   wanted = g.wanted ∙ sym (missing_split cache t ranges o d n wide);
   each = g.each;
-  bytes = λ disk can. g.bytes disk can ∙ sym (slices_split (told t disk.readable) ranges o d n);
+  bytes = λ disk can. g.bytes disk can ∙ sym (slices_split (logical_bytes t disk.readable) ranges o d n);
 }
 
 wider : (P : ℕ) (pages : List ℕ) (room more : ℕ) (lacks : List Lack) → room ≤ more → All (IsLack P pages room) lacks → All (IsLack P pages more) lacks
@@ -118,13 +118,13 @@ wider P pages room more lacks le each = λ k d less.
 
 -- a part that was copied
 pub gathered_served : (cache : CacheState) (t : Tail) (ranges : List (ℕ × ℕ)) (o n buf_offset : ℕ) (pages : List ℕ) (lacks : List Lack) (buf part after : List ℕ) → buf_offset ≤ length buf
-    → is_served cache t (o, n) ≡ true → take (buf_offset + n) after ≡ take buf_offset buf ++ part → ((d : Disk) → CanRead t cache d → part ≡ slice (told t d.readable) (o, n))
+    → is_served cache t (o, n) ≡ true → take (buf_offset + n) after ≡ take buf_offset buf ++ part → ((d : Disk) → CanRead t cache d → part ≡ slice (logical_bytes t d.readable) (o, n))
     → Gathered cache t ranges buf_offset pages lacks buf → Gathered cache t (ranges ++ (o, n) ∷ []) (buf_offset + n) pages lacks after
 gathered_served cache t ranges o n buf_offset pages lacks buf part after fits served front is g = record {
   wanted = g.wanted ∙ sym (missing_served cache t ranges (o, n) served);
   each = wider t.page_size pages buf_offset (buf_offset + n) lacks (omega arith) g.each;
   bytes = λ d can.
-      let content = told t d.readable in
+      let content = logical_bytes t d.readable in
       let short : length (take buf_offset buf) ≡ buf_offset = omega (arith, length-take buf_offset buf, fits) in
       ap (λ (l : List ℕ). with_told t.page_size content (pieces_in lacks) l) front
       ∙ told_front t.page_size content (pieces_in lacks) (take buf_offset buf) part (lacks_room t.page_size pages buf_offset lacks (take buf_offset buf) g.each short)
@@ -171,7 +171,7 @@ piece_is P o n content within =
 
 -- a part that was added to the batch
 pub gathered_lacked : (cache : CacheState) (t : Tail) (ranges : List (ℕ × ℕ)) (o n buf_offset : ℕ) (pages more : List ℕ) (lacks added : List Lack) (piece : Piece) (buf part after : List ℕ) → 0 < t.page_size → 0 < n
-    → buf_offset ≤ length buf → length part ≡ n → o + n ≤ size_of t → EndWithin o ranges → (o < t.full_pages * t.page_size → o % t.page_size + n ≤ t.page_size) → is_served cache t (o, n) ≡ false
+    → buf_offset ≤ length buf → length part ≡ n → o + n ≤ tail_size t → EndWithin o ranges → (o < t.full_pages * t.page_size → o % t.page_size + n ≤ t.page_size) → is_served cache t (o, n) ≡ false
     → take (buf_offset + n) after ≡ take buf_offset buf ++ part → piece ≡ record { page = o / t.page_size; skip = o % t.page_size; buf_offset = buf_offset; len = n } → more ≡ with_page piece.page pages
     → added ≡ lacks ++ record { number = length more - 1; piece = piece } ∷ [] → Gathered cache t ranges buf_offset pages lacks buf → Gathered cache t (ranges ++ (o, n) ∷ []) (buf_offset + n) more added after
 gathered_lacked cache t ranges o n buf_offset pages more lacks added piece buf part after wide some fits size ends before page unserved front piece_eq more_is added_is g =
@@ -194,12 +194,12 @@ gathered_lacked cache t ranges o n buf_offset pages more lacks added piece buf p
       wanted = pages_eq ∙ ap (λ (l : List ℕ). with_page q l) g.wanted ∙ sym (missing_page cache t ranges o n wide some before page unserved);
       each = subst (λ l. All (IsLack P more (buf_offset + n)) l) (sym added_is) (All-push (IsLack P more (buf_offset + n)) lacks lack old_each new_is);
       bytes = λ d can.
-          let content = told t d.readable in
+          let content = logical_bytes t d.readable in
           let short : length (take buf_offset buf) ≡ buf_offset = omega (arith, length-take buf_offset buf, fits) in
           let done = with_told P content (pieces_in lacks) (take buf_offset buf) in
           let room = lacks_room P pages buf_offset lacks (take buf_offset buf) g.each short in
           let long : length done ≡ buf_offset = length_told_pieces P content (pieces_in lacks) (take buf_offset buf) room ∙ short in
-          let all : length content ≡ size_of t = length-told t d.readable can.there in
+          let all : length content ≡ tail_size t = length-told t d.readable can.there in
           let is : piece_bytes P content piece ≡ slice content (o, n) = ap (λ (p : Piece). piece_bytes P content p) piece_eq ∙ piece_is P o n content h.1 in
           let enough : length (slice content (o, n)) ≡ n = omega (arith, length-take n (drop o content), length-drop o content, all, ends) in
           ap (λ (l : List Lack). with_told P content (pieces_in l) (take (buf_offset + n) after)) added_is
@@ -216,21 +216,21 @@ gathered_lacked cache t ranges o n buf_offset pages more lacks added piece buf p
 
 -- ---- what a part without the device answers
 
-pub tried_served : (t : Tail) (range : ℕ × ℕ) (cache : CacheState) (bytes : List ℕ) (answer : Bool) → TriesRead t range cache bytes answer → answer ≡ true → is_served cache t range ≡ true
+pub tried_served : (t : Tail) (range : ℕ × ℕ) (cache : CacheState) (bytes : List ℕ) (answer : Bool) → TryReadGoes t range cache bytes answer → answer ≡ true → is_served cache t range ≡ true
 tried_served t range cache bytes answer tries met = (and_parts _ _ (sym tries.0 ∙ met)).1
 
-pub tried_unserved : (t : Tail) (range : ℕ × ℕ) (cache : CacheState) (bytes : List ℕ) (answer : Bool) → TriesRead t range cache bytes answer → range.0 + range.1 ≤ size_of t → answer ≡ false → is_served cache t range ≡ false
+pub tried_unserved : (t : Tail) (range : ℕ × ℕ) (cache : CacheState) (bytes : List ℕ) (answer : Bool) → TryReadGoes t range cache bytes answer → range.0 + range.1 ≤ tail_size t → answer ≡ false → is_served cache t range ≡ false
 tried_unserved t range cache bytes answer tries ends none =
-    let there : nat_le (range.0 + range.1) (size_of t) ≡ true = le-leb (range.0 + range.1) (size_of t) ends in
+    let there : nat_le (range.0 + range.1) (tail_size t) ≡ true = le-leb (range.0 + range.1) (tail_size t) ends in
     sym (ap (λ (b : Bool). b && is_served cache t range) there) ∙ sym tries.0 ∙ none
 
 -- the part of a buffer for so many bytes
 pub length_part : (buf_offset n : ℕ) (buf : List ℕ) → buf_offset + n ≤ length buf → length (take (buf_offset + n - buf_offset) (drop buf_offset buf)) ≡ n
 length_part buf_offset n buf fits = omega (arith, length-take (buf_offset + n - buf_offset) (drop buf_offset buf), length-drop buf_offset buf, fits)
 
-pub tried_part : (t : Tail) (o n buf_offset : ℕ) (cache : CacheState) (buf bytes : List ℕ) (answer : Bool) → buf_offset + n ≤ length buf → TriesRead t (o, length (take (buf_offset + n - buf_offset) (drop buf_offset buf))) cache bytes answer
-    → TriesRead t (o, n) cache bytes answer
-tried_part t o n buf_offset cache buf bytes answer fits tries = subst (λ (m : ℕ). TriesRead t (o, m) cache bytes answer) (length_part buf_offset n buf fits) tries
+pub tried_part : (t : Tail) (o n buf_offset : ℕ) (cache : CacheState) (buf bytes : List ℕ) (answer : Bool) → buf_offset + n ≤ length buf → TryReadGoes t (o, length (take (buf_offset + n - buf_offset) (drop buf_offset buf))) cache bytes answer
+    → TryReadGoes t (o, n) cache bytes answer
+tried_part t o n buf_offset cache buf bytes answer fits tries = subst (λ (m : ℕ). TryReadGoes t (o, m) cache bytes answer) (length_part buf_offset n buf fits) tries
 
 -- ---- a range, part by part
 
@@ -273,5 +273,5 @@ gathered_more cache t ranges o at n buf_offset pages more lacks added buf after 
     subst (λ (m : ℕ). Gathered cache t (ranges ++ (o, at + n - o) ∷ []) m more added after) reach there
 
 -- what a part within the size answers is whether it's served
-pub tried_is : (t : Tail) (range : ℕ × ℕ) (cache : CacheState) (bytes : List ℕ) (answer : Bool) → TriesRead t range cache bytes answer → range.0 + range.1 ≤ size_of t → answer ≡ is_served cache t range
-tried_is t range cache bytes answer tries ends = tries.0 ∙ ap (λ (b : Bool). b && is_served cache t range) (le-leb (range.0 + range.1) (size_of t) ends)
+pub tried_is : (t : Tail) (range : ℕ × ℕ) (cache : CacheState) (bytes : List ℕ) (answer : Bool) → TryReadGoes t range cache bytes answer → range.0 + range.1 ≤ tail_size t → answer ≡ is_served cache t range
+tried_is t range cache bytes answer tries ends = tries.0 ∙ ap (λ (b : Bool). b && is_served cache t range) (le-leb (range.0 + range.1) (tail_size t) ends)

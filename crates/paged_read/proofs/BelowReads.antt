@@ -8,13 +8,13 @@ use Rattle.std.proofs.lemmas.List.{length-map, length-take-le, take-append-drop,
 use borrow.Rule.Slice.PartMut.{post_of, Post-is}
 use Rattle.disk.specs.Disk.{Disk, Life}
 use Rattle.disk.specs.declared.error.Error.{Error}
-use Rattle.cache.specs.CacheState.{CacheState, held, IsMissing, IsPiece, ReadsCached, pieces_left, with_piece, with_pieces}
+use Rattle.cache.specs.CacheState.{CacheState, cached_page, IsMissing, IsPiece, ReadsCached, pieces_left, with_piece, with_pieces}
 use Rattle.cache.specs.declared.piece.Piece.{Piece}
-use Rattle.paged_read.specs.Tail.{Tail, told, CanRead}
+use Rattle.paged_read.specs.Tail.{Tail, logical_bytes, CanRead}
 use Rattle.paged_read.specs.Ranges.{missing, slice, AsksForMissing}
 use Rattle.paged_read.specs.Pieces.{pieces_of}
 use Rattle.paged_read.specs.Failures.{none_failed_start}
-use Rattle.paged_read.specs.Parts.{IsPieceOf, ReadsPieces, ReadsBelow, TriesBelow, pages_of, with_told}
+use Rattle.paged_read.specs.Parts.{IsPieceOf, FetchesPieces, ReadsBelow, TriesBelow, piece_pages, with_told}
 use Rattle.paged_read.proofs.Windows.{missing_pages}
 use Rattle.paged_read.proofs.Copies.{LeavesPieces, held_agrees, told_agrees, left_fit}
 use Rattle.paged_read.proofs.RangePieces.{pieces_fit, pieces_cover, pieces_true, pieces_below, left_below}
@@ -37,11 +37,11 @@ module _ (t : Tail) (cache : CacheState) (offset len : ℕ) (some : 0 < t.page_s
 
   -- what the cache has of the range, and then what is left, is the range
   copied_all : (d : Disk) (buf new : List ℕ) → CanRead t cache d → length buf ≡ len
-      → new ≡ with_told t.page_size (told t d.readable) (pieces_left cache t.id (pieces_of t.page_size (offset, len) 0)) (with_pieces cache t.id (pieces_of t.page_size (offset, len) 0) buf)
-      → new ≡ slice (told t d.readable) (offset, len)
+      → new ≡ with_told t.page_size (logical_bytes t d.readable) (pieces_left cache t.id (pieces_of t.page_size (offset, len) 0)) (with_pieces cache t.id (pieces_of t.page_size (offset, len) 0) buf)
+      → new ≡ slice (logical_bytes t d.readable) (offset, len)
   copied_all d buf new can size is =
       let P = t.page_size in
-      let content = told t d.readable in
+      let content = logical_bytes t d.readable in
       let pieces = pieces_of P (offset, len) 0 in
       let wanted = slice content (offset, len) in
       let reach : offset + len ≤ length content = omega (arith, length-told t d.readable can.there, below) in
@@ -54,49 +54,49 @@ module _ (t : Tail) (cache : CacheState) (offset len : ℕ) (some : 0 < t.page_s
       (λ i under. elim (copied.agrees i under) [ inl right ↦ inl right | inr (inl left) ↦ inr left | inr (inr none) ↦ absurd none ])
 
   -- whose pages are the missing ones
-  pub left_pages : (pieces left : List Piece) → pieces ≡ pieces_of t.page_size (offset, len) 0 → left ≡ pieces_left cache t.id pieces → pages_of left ≡ missing cache t ((offset, len) ∷ [])
-  left_pages pieces left all is = ap pages_of (is ∙ ap (λ (l : List Piece). pieces_left cache t.id l) all) ∙ sym (missing_pages cache t offset len 0 some below)
+  pub left_pages : (pieces left : List Piece) → pieces ≡ pieces_of t.page_size (offset, len) 0 → left ≡ pieces_left cache t.id pieces → piece_pages left ≡ missing cache t ((offset, len) ∷ [])
+  left_pages pieces left all is = ap piece_pages (is ∙ ap (λ (l : List Piece). pieces_left cache t.id l) all) ∙ sym (missing_pages cache t offset len 0 some below)
 
   -- so the range is read
   pub missing_read : (sum : List ℕ → ℕ) (old new : Life) (left pieces : List Piece) (buf mid after : List ℕ) (result : Result (Unit {0}) Error) → CanRead t cache old.present → length buf ≡ len
       → pieces ≡ pieces_of t.page_size (offset, len) 0 → left ≡ pieces_left cache t.id pieces → mid ≡ with_pieces cache t.id pieces buf
-      → ReadsPieces sum t left mid after old new result → ReadsBelow sum t cache (offset, len) after old new result
+      → FetchesPieces sum t left mid after old new result → ReadsBelow sum t cache (offset, len) after old new result
   missing_read sum old new left pieces buf mid after (Ok u) can size all is copied reads =
       let those : left ≡ pieces_left cache t.id (pieces_of t.page_size (offset, len) 0) = is ∙ ap (λ (l : List Piece). pieces_left cache t.id l) all in
       let there : mid ≡ with_pieces cache t.id (pieces_of t.page_size (offset, len) 0) buf = copied ∙ ap (λ (l : List Piece). with_pieces cache t.id l buf) all in
-      let pages : missing cache t ((offset, len) ∷ []) ≡ pages_of left = missing_pages cache t offset len 0 some below ∙ ap pages_of (sym those) in (
-        copied_all old.present buf after can size (reads.0 ∙ ap (λ (l : List Piece). with_told t.page_size (told t old.present.readable) l mid) those ∙ ap (λ (l : List ℕ). with_told t.page_size (told t old.present.readable) (pieces_left cache t.id (pieces_of t.page_size (offset, len) 0)) l) there),
-        full_missing sum cache t ((offset, len) ∷ []) (pages_of left) old.present.readable pages reads.1,
+      let pages : missing cache t ((offset, len) ∷ []) ≡ piece_pages left = missing_pages cache t offset len 0 some below ∙ ap piece_pages (sym those) in (
+        copied_all old.present buf after can size (reads.0 ∙ ap (λ (l : List Piece). with_told t.page_size (logical_bytes t old.present.readable) l mid) those ∙ ap (λ (l : List ℕ). with_told t.page_size (logical_bytes t old.present.readable) (pieces_left cache t.id (pieces_of t.page_size (offset, len) 0)) l) there),
+        full_missing sum cache t ((offset, len) ∷ []) (piece_pages left) old.present.readable pages reads.1,
         reads.2,
       )
   missing_read sum old new left pieces buf mid after (Err e) can size all is copied reads =
       let those : left ≡ pieces_left cache t.id (pieces_of t.page_size (offset, len) 0) = is ∙ ap (λ (l : List Piece). pieces_left cache t.id l) all in
-      faults_missing sum cache t ((offset, len) ∷ []) (pages_of left) old new e (missing_pages cache t offset len 0 some below ∙ ap pages_of (sym those)) reads
+      faults_missing sum cache t ((offset, len) ∷ []) (piece_pages left) old new e (missing_pages cache t offset len 0 some below ∙ ap piece_pages (sym those)) reads
 
   -- where it lies in one page, which the cache lacks, that page is left, and nothing is copied
-  pub page_lacks : (page : ℕ) → page ≡ offset / t.page_size → 0 < len → offset + len < 2 ^ 64 → cache.page_size ≡ t.page_size → IsMissing cache t.id offset → held cache (t.id, page) ≡ None
+  pub page_lacks : (page : ℕ) → page ≡ offset / t.page_size → 0 < len → offset + len < 2 ^ 64 → cache.page_size ≡ t.page_size → IsMissing cache t.id offset → cached_page cache (t.id, page) ≡ None
   page_lacks page here more fits size none = elim none [
     | inl past ↦ absurd (omega (arith, past, more, fits))
-    | inr lacks ↦ ap (λ n. held cache (t.id, n)) here ∙ ap (λ P. held cache (t.id, offset / P)) (sym size) ∙ lacks
+    | inr lacks ↦ ap (λ n. cached_page cache (t.id, n)) here ∙ ap (λ P. cached_page cache (t.id, offset / P)) (sym size) ∙ lacks
   ]
 
-  pub only_left : (piece : Piece) → held cache (t.id, piece.page) ≡ None → pieces_left cache t.id (piece ∷ []) ≡ piece ∷ []
+  pub only_left : (piece : Piece) → cached_page cache (t.id, piece.page) ≡ None → pieces_left cache t.id (piece ∷ []) ≡ piece ∷ []
   only_left piece lacks = ap (λ (o : Option (List ℕ)). cond (not (is_some o)) (piece ∷ []) []) lacks
 
   pub only_is : (room : ℕ) (piece : Piece) → len ≤ room → pieces_of t.page_size (offset, len) 0 ≡ piece ∷ [] → IsPieceOf t room piece
   only_is room piece fits is = subst (λ (l : List Piece). All (IsPieceOf t room) l) is (pieces_below t.page_size offset len some t room refl below fits) 0 piece (omega arith)
 
   -- so one page is missing
-  pub only_many : (piece : Piece) → held cache (t.id, piece.page) ≡ None → pieces_of t.page_size (offset, len) 0 ≡ piece ∷ [] → length (missing cache t ((offset, len) ∷ [])) ≡ 1
+  pub only_many : (piece : Piece) → cached_page cache (t.id, piece.page) ≡ None → pieces_of t.page_size (offset, len) 0 ≡ piece ∷ [] → length (missing cache t ((offset, len) ∷ [])) ≡ 1
   only_many piece lacks is = sym left_many ∙ ap (λ (l : List Piece). length (pieces_left cache t.id l)) is ∙ ap length (only_left piece lacks)
 
-  pub only_page : (piece : Piece) → held cache (t.id, piece.page) ≡ None → pieces_of t.page_size (offset, len) 0 ≡ piece ∷ [] → piece.page ∷ [] ≡ missing cache t ((offset, len) ∷ [])
+  pub only_page : (piece : Piece) → cached_page cache (t.id, piece.page) ≡ None → pieces_of t.page_size (offset, len) 0 ≡ piece ∷ [] → piece.page ∷ [] ≡ missing cache t ((offset, len) ∷ [])
   only_page piece lacks is = left_pages (piece ∷ []) (piece ∷ []) (sym is) (sym (only_left piece lacks))
 
   -- and where it is read, the range is
   pub only_read : (sum : List ℕ → ℕ) (old new : Life) (piece : Piece) (buf after : List ℕ) (result : Result (Unit {0}) Error) → CanRead t cache old.present → length buf ≡ len
-      → held cache (t.id, piece.page) ≡ None → pieces_of t.page_size (offset, len) 0 ≡ piece ∷ []
-      → ReadsPieces sum t (piece ∷ []) buf after old new result → ReadsBelow sum t cache (offset, len) after old new result
+      → cached_page cache (t.id, piece.page) ≡ None → pieces_of t.page_size (offset, len) 0 ≡ piece ∷ []
+      → FetchesPieces sum t (piece ∷ []) buf after old new result → ReadsBelow sum t cache (offset, len) after old new result
   only_read sum old new piece buf after result can size lacks is reads =
       missing_read sum old new (piece ∷ []) (piece ∷ []) buf buf after result can size (sym is) (sym (only_left piece lacks)) (ap (λ (o : Option (List ℕ)). with_piece o piece buf) (sym lacks)) reads
 
@@ -126,7 +126,7 @@ module _ (t : Tail) (cache : CacheState) (offset : ℕ) (buf mid : List ℕ) (co
   pub below_joins : (sum : List ℕ → ℕ) (old new : Life) (rest all : List ℕ) (result : Result (Unit {0}) Error) → CanRead t cache old.present → offset + length buf ≤ t.full_pages * t.page_size
       → all ≡ take count mid ++ (rest ++ post_of count (length mid - count) mid) → ReadsBelow sum t cache (offset + count, length buf - count) rest old new result → ReadsBelow sum t cache (offset, length buf) all old new result
   below_joins sum old new rest all (Ok u) can below is reads =
-      let content = told t old.present.readable in
+      let content = logical_bytes t old.present.readable in
       let within = cached_within cache t.id offset buf mid count cached in
       let front : take count mid ≡ slice content (offset, count) = cached_bytes cache t.id offset buf mid count cached t refl can.page_size some old.present can below in
       let none : post_of count (length mid - count) mid ≡ [] = none_after count mid (omega (arith, within, cached.size)) in
@@ -155,13 +155,13 @@ module _ (t : Tail) (cache : CacheState) (offset : ℕ) (buf mid : List ℕ) (co
       none_served n is some = absurd (grind (arith, nat_tests, is, some))
 
   -- where the cache had all, that is the range
-  pub cached_whole : (d : Disk) → CanRead t cache d → (0 < length buf → offset + length buf ≤ t.full_pages * t.page_size) → count ≡ length buf → mid ≡ slice (told t d.readable) (offset, length buf)
+  pub cached_whole : (d : Disk) → CanRead t cache d → (0 < length buf → offset + length buf ≤ t.full_pages * t.page_size) → count ≡ length buf → mid ≡ slice (logical_bytes t d.readable) (offset, length buf)
   cached_whole d can below all = elim (cases_lt 0 (length buf)) [
     | inl more ↦
-        sym (take_all count mid (omega (arith, all, cached.size))) ∙ cached_bytes cache t.id offset buf mid count cached t refl can.page_size some d can (below more) ∙ ap (λ n. slice (told t d.readable) (offset, n)) all
+        sym (take_all count mid (omega (arith, all, cached.size))) ∙ cached_bytes cache t.id offset buf mid count cached t refl can.page_size some d can (below more) ∙ ap (λ n. slice (logical_bytes t d.readable) (offset, n)) all
     | inr nothing ↦
         let zero_len : length buf ≡ 0 = omega (arith, nothing) in
-        sym (take_all 0 mid (omega (arith, zero_len, cached.size))) ∙ ap (λ n. slice (told t d.readable) (offset, n)) (sym zero_len)
+        sym (take_all 0 mid (omega (arith, zero_len, cached.size))) ∙ ap (λ n. slice (logical_bytes t d.readable) (offset, n)) (sym zero_len)
   ]
 
   -- and nothing is asked for

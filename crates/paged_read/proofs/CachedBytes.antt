@@ -10,9 +10,9 @@ use Rattle.std.proofs.lemmas.Option.{slice_get_within}
 use Rattle.crash.proofs.Lists.{slice_get-take, element_within, same_elements}
 use Rattle.disk.specs.Disk.{Disk}
 use Rattle.disk.proofs.Lists.{slice_get-drop}
-use Rattle.cache.specs.CacheState.{CacheState, held, ReadsCached, HoldsByte, IsMissing}
+use Rattle.cache.specs.CacheState.{CacheState, cached_page, ReadsCached, HoldsByte, IsMissing}
 use Rattle.cache.specs.Pages.{page_of_content}
-use Rattle.paged_read.specs.Tail.{Tail, told, CanRead}
+use Rattle.paged_read.specs.Tail.{Tail, logical_bytes, CanRead}
 use Rattle.paged_read.specs.Ranges.{touches, missing, slice}
 use Rattle.paged_read.proofs.Windows.{needs, missing_same, missing_none, touches_yes, touches_none, touches_after, touches_before}
 use Rattle.paged_read.proofs.Leaving.{length-told}
@@ -28,7 +28,7 @@ count_within old count More (inr some) = omega (arith, some.0)
 
 -- the page of an offset is held
 abbrev HoldsPage : CacheState → (id offset : ℕ) → Type 0
-HoldsPage cache id offset = is_some (held cache (id, offset / cache.page_size)) ≡ true
+HoldsPage cache id offset = is_some (cached_page cache (id, offset / cache.page_size)) ≡ true
 
 holds_page : (cache : CacheState) (id offset byte : ℕ) → HoldsByte cache id offset byte → HoldsPage cache id offset
 holds_page cache id offset byte holds = ap is_some holds.1
@@ -58,10 +58,10 @@ module _ (cache : CacheState) (id offset : ℕ) (old new : List ℕ) (count : �
 
   module _ (t : Tail) (mine : t.id ≡ id) (size : cache.page_size ≡ t.page_size) (some : 0 < t.page_size) where
     -- so a page with such a byte is
-    page_held : (page i : ℕ) → i < count → page * t.page_size ≤ offset + i → offset + i < (page + 1) * t.page_size → is_some (held cache (t.id, page)) ≡ true
+    page_held : (page i : ℕ) → i < count → page * t.page_size ≤ offset + i → offset + i < (page + 1) * t.page_size → is_some (cached_page cache (t.id, page)) ≡ true
     page_held page i below above under =
         let here : (offset + i) / cache.page_size ≡ page = ap (λ P. (offset + i) / P) size ∙ page_is t.page_size (offset + i) page some above under in
-        ap (λ n. is_some (held cache (n, page))) mine ∙ ap (λ n. is_some (held cache (id, n))) (sym here) ∙ byte_held i below
+        ap (λ n. is_some (cached_page cache (n, page))) mine ∙ ap (λ n. is_some (cached_page cache (id, n))) (sym here) ∙ byte_held i below
 
     -- what they leave finds missing what the whole does
     pub missing_rest : missing cache t ((offset, length old) ∷ []) ≡ missing cache t ((offset + count, length old - count) ∷ [])
@@ -70,7 +70,7 @@ module _ (cache : CacheState) (id offset : ℕ) (old new : List ℕ) (count : �
         P : ℕ
         P = t.page_size
 
-        by_offset : (page : ℕ) → (is_some (held cache (t.id, page)) ≡ true) ⊎ (touches P (offset, length old) page ≡ touches P (offset + count, length old - count) page)
+        by_offset : (page : ℕ) → (is_some (cached_page cache (t.id, page)) ≡ true) ⊎ (touches P (offset, length old) page ≡ touches P (offset + count, length old - count) page)
         by_offset page = elim (cases_lt 0 (length old)) [
           | inr none ↦ inr (touches_none P offset (length old) page (omega (arith, none)) ∙ sym (touches_none P (offset + count) (length old - count) page (omega (arith, none))))
           | inl more ↦ elim (cases_lt (page * P) (offset + length old)) [
@@ -104,15 +104,15 @@ module _ (cache : CacheState) (id offset : ℕ) (old new : List ℕ) (count : �
           let whole : page * P + here % P ≡ here = div-add-mod' here P in
           let rest : here % P < P = mod-lt here some in
           let touched : touches P (offset, length old) page ≡ true = touches_yes P offset (length old) page (omega (arith, short)) (omega (arith, whole, short)) (omega (arith, whole, rest, suc-mul page P)) in
-          let lacks : held cache (t.id, page) ≡ None = ap (λ n. held cache (n, page)) mine ∙ ap (λ s. held cache (id, here / s)) (sym size) ∙ none in
-          let wanted : needs cache t (offset, length old) page ≡ true = ap (λ b. not (is_some (held cache (t.id, page))) && (b || false)) touched ∙ ap (λ (o : Option (List ℕ)). not (is_some o) && (true || false)) lacks in
+          let lacks : cached_page cache (t.id, page) ≡ None = ap (λ n. cached_page cache (n, page)) mine ∙ ap (λ s. cached_page cache (id, here / s)) (sym size) ∙ none in
+          let wanted : needs cache t (offset, length old) page ≡ true = ap (λ b. not (is_some (cached_page cache (t.id, page))) && (b || false)) touched ∙ ap (λ (o : Option (List ℕ)). not (is_some o) && (true || false)) lacks in
           filter_some (needs cache t (offset, length old)) 0 t.full_pages page (omega arith) (omega (arith, div_below here P t.full_pages some (omega (arith, below, short)))) wanted
     ]
 
     -- those that were copied are the content's
-    pub cached_bytes : (d : Disk) → CanRead t cache d → offset + length old ≤ t.full_pages * t.page_size → take count new ≡ slice (told t d.readable) (offset, count)
+    pub cached_bytes : (d : Disk) → CanRead t cache d → offset + length old ≤ t.full_pages * t.page_size → take count new ≡ slice (logical_bytes t d.readable) (offset, count)
     cached_bytes d can below =
-        let content = told t d.readable in
+        let content = logical_bytes t d.readable in
         let all = length-told t d.readable can.there in
         let front : length (take count new) ≡ count = length-take-le count new (omega (arith, cached_within, reads.size)) in
         let wanted : length (slice content (offset, count)) ≡ count = length-take-le count (drop offset content) (omega (arith, length-drop offset content, all, below, cached_within)) in
@@ -122,7 +122,7 @@ module _ (cache : CacheState) (id offset : ℕ) (old new : List ℕ) (count : �
         let page = (offset + i) / cache.page_size in
         let P_some : 0 < cache.page_size = omega (arith, size, some) in
         let below_page : page < t.full_pages = omega (arith, div_below (offset + i) cache.page_size t.full_pages P_some (omega (arith, ap (λ P. t.full_pages * P) size, below, under, cached_within))) in
-        let told_page : holds.0 ≡ page_of_content cache.page_size content page = can.cached page holds.0 below_page (ap (λ n. held cache (n, page)) mine ∙ holds.1) in
+        let told_page : holds.0 ≡ page_of_content cache.page_size content page = can.cached page holds.0 below_page (ap (λ n. cached_page cache (n, page)) mine ∙ holds.1) in
         let r = (offset + i) % cache.page_size in
         let in_page : r < cache.page_size = mod-lt (offset + i) P_some in
         slice_get-take count (drop offset content) i under ∙ slice_get-drop offset content i

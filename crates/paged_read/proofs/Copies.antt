@@ -5,7 +5,7 @@ use Rattle.std.proofs.lemmas.Bool.{cases_lt}
 use Rattle.std.proofs.lemmas.List.{length-take-le}
 use Rattle.std.proofs.lemmas.Option.{slice_get_within}
 use Rattle.crash.proofs.Lists.{slice_get-take, slice_get-append_left, slice_get-append_right, same_elements}
-use Rattle.cache.specs.CacheState.{CacheState, held, put_at, with_piece, with_pieces, pieces_left}
+use Rattle.cache.specs.CacheState.{CacheState, cached_page, put_at, with_piece, with_pieces, pieces_left}
 use Rattle.cache.specs.Pages.{page_of_content}
 use Rattle.cache.specs.declared.piece.Piece.{Piece}
 use Rattle.cache.proofs.Reading.{put_length}
@@ -122,7 +122,7 @@ told_agrees P content (piece ∷ pieces) buf wanted size fit agrees =
 -- those of a cache's pages that are the content's
 abbrev pub AreTrue : CacheState → (id P : ℕ) → List ℕ → List Piece → Type 0
 AreTrue cache id P content [] = Unit {0}
-AreTrue cache id P content (piece ∷ pieces) = ((bytes : List ℕ) → held cache (id, piece.page) ≡ Some bytes → bytes ≡ page_of_content P content piece.page) × AreTrue cache id P content pieces
+AreTrue cache id P content (piece ∷ pieces) = ((bytes : List ℕ) → cached_page cache (id, piece.page) ≡ Some bytes → bytes ≡ page_of_content P content piece.page) × AreTrue cache id P content pieces
 
 -- what a cache's copying leaves is right but for the pieces that are left, and its length
 pub record LeavesPieces (Else : ℕ → Type 0) (wanted : List ℕ) (left : List Piece) (buf : List ℕ) : Type 0 where
@@ -133,13 +133,13 @@ pub held_agrees : (Else : ℕ → Type 0) (cache : CacheState) (id P : ℕ) (con
     → AreTrue cache id P content pieces → AgreesOr (λ i. SomeCovers pieces i ⊎ Else i) buf wanted → LeavesPieces Else wanted (pieces_left cache id pieces) (with_pieces cache id pieces buf)
 held_agrees Else cache id P content [] buf wanted size fit true_pages agrees = record { size = size; agrees = agrees }
 held_agrees Else cache id P content (piece ∷ pieces) buf wanted size fit true_pages agrees =
-    by_held (λ Else buf size agrees. held_agrees Else cache id P content pieces buf wanted size fit.1 true_pages.1 agrees) (held cache (id, piece.page)) refl
+    by_held (λ Else buf size agrees. held_agrees Else cache id P content pieces buf wanted size fit.1 true_pages.1 agrees) (cached_page cache (id, piece.page)) refl
   where
     goes : Option (List ℕ) → Type 0
     goes o = LeavesPieces Else wanted (cond (not (is_some o)) (piece ∷ pieces_left cache id pieces) (pieces_left cache id pieces)) (with_pieces cache id pieces (with_piece o piece buf))
 
     by_held : ((Else : ℕ → Type 0) (buf : List ℕ) → length buf ≡ length wanted → AgreesOr (λ i. SomeCovers pieces i ⊎ Else i) buf wanted → LeavesPieces Else wanted (pieces_left cache id pieces) (with_pieces cache id pieces buf))
-        → (o : Option (List ℕ)) → held cache (id, piece.page) ≡ o → goes o
+        → (o : Option (List ℕ)) → cached_page cache (id, piece.page) ≡ o → goes o
     by_held later None is =
         let rest = later (λ i. Covers piece i ⊎ Else i) buf size (λ i below. elim (agrees i below) [
           | inl right ↦ inl right
@@ -170,7 +170,7 @@ held_agrees Else cache id P content (piece ∷ pieces) buf wanted size fit true_
 -- pieces that are left fit
 pub left_fit : (P : ℕ) (content wanted : List ℕ) (cache : CacheState) (id : ℕ) (pieces : List Piece) → AllFit P content wanted pieces → AllFit P content wanted (pieces_left cache id pieces)
 left_fit P content wanted cache id [] fit = tt
-left_fit P content wanted cache id (piece ∷ pieces) fit = by_test (left_fit P content wanted cache id pieces fit.1) (not (is_some (held cache (id, piece.page))))
+left_fit P content wanted cache id (piece ∷ pieces) fit = by_test (left_fit P content wanted cache id pieces fit.1) (not (is_some (cached_page cache (id, piece.page))))
   where
     by_test : AllFit P content wanted (pieces_left cache id pieces) → (b : Bool) → AllFit P content wanted (cond b (piece ∷ pieces_left cache id pieces) (pieces_left cache id pieces))
     by_test rest true = (fit.0, rest)

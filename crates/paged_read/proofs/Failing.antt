@@ -1,7 +1,7 @@
 -- Calls in which no device call failed.
 use Rattle.std.proofs.Common.{◌≡◌, ◌≢◌, ℕ, List, [], ◌∷◌, ◌++◌, refl, sym, ap, subst, false, Ok, Err, Result}
 use Rattle.std.specs.Prelude.{IfErr}
-use Rattle.disk.specs.Disk.{Disk, Life, Request, ReadAt, AskedOnce, ReadGoes}
+use Rattle.disk.specs.Disk.{Disk, Life, Request, ReadAt, AskedOnce, DeviceReadGoes}
 use Rattle.disk.specs.declared.error.Error.{Error}
 use Rattle.disk.specs.declared.error.Error.TheVariants.{ReadFailed}
 use Rattle.paged_read.specs.Failures.{NoneFailed, none_failed_start}
@@ -18,7 +18,7 @@ pub none_failed_same : (old new : Life) → new ≡ old → NoneFailed old.prese
 none_failed_same old new is = subst (λ (l : Life). NoneFailed old.present l.present) (sym is) (none_failed_start old.present)
 
 -- a read that was answered
-pub none_failed_read : (offset len : ℕ) (old new : Life) (bytes : List ℕ) → ReadGoes offset len old new (Ok bytes) → NoneFailed old.present new.present
+pub none_failed_read : (offset len : ℕ) (old new : Life) (bytes : List ℕ) → DeviceReadGoes offset len old new (Ok bytes) → NoneFailed old.present new.present
 none_failed_read offset len old new bytes goes = none_failed_asked (ReadAt offset len) old new goes.2
 
 -- no device was asked

@@ -1,10 +1,10 @@
 -- Searches that go forward from a page on: what they read, told by the log.
 use Rattle.std.proofs.Common.{◌≡◌, inl, inr, ℕ, ◌+◌, ◌*◌, ◌≤◌, List, [], ◌∷◌, ◌++◌, Bool, false, Result, Ok, refl, sym, ap, subst, arith}
 use Rattle.std.proofs.Math.Nat.{mul-le-mul_left}
-use Rattle.disk.specs.Disk.{Request, Life, ReadAt, ReadMany, StartReadMany, AskedOnce, ReadGoes}
+use Rattle.disk.specs.Disk.{Request, Life, ReadAt, ReadMany, StartReadMany, AskedOnce, DeviceReadGoes}
 use Rattle.disk.specs.declared.error.Error.{Error}
 use Rattle.paged_read.specs.Scans.{AreForward, BeginBy, ReadsForward, StopsAt}
-use Rattle.paged_read.specs.Searches.{Gained, AreWithin, ReadsWithin}
+use Rattle.paged_read.specs.Searches.{Gained, AreReadsWithin, ReadsWithin}
 use Rattle.paged_read.proofs.Searching.{gained_none, gained_once, gained_joins, gained_then, read_asks}
 
 -- reads of which each begins where the one before it ended, from one offset to another
@@ -40,7 +40,7 @@ forward_forget most from at to (StartReadMany ranges ∷ xs) le go = absurd go
 forward_forget most from at to (_ ∷ xs) le go = forward_forget most from at to xs le go
 
 -- whatever their order, they are of so many bytes
-forward_within : (most from to : ℕ) (xs : List Request) → AreForward most from to xs → AreWithin most xs
+forward_within : (most from to : ℕ) (xs : List Request) → AreForward most from to xs → AreReadsWithin most xs
 forward_within most from to [] go = tt
 forward_within most from to (ReadAt offset len ∷ xs) go = (go.1, forward_within most (offset + len) to xs go.3)
 forward_within most from to (ReadMany ranges ∷ xs) go = absurd go
@@ -59,7 +59,7 @@ pub forward_end : (most from at to : ℕ) (old new : Life) → at ≤ to → Rea
 forward_end most from at to old new le reads = gained_then (ForwardTo most from at) (AreForward most from to) old new (λ xs go. forward_forget most from at to xs le go) reads
 
 pub forward_is_within : (most from to : ℕ) (old new : Life) → ReadsForward most from to old new → ReadsWithin most old new
-forward_is_within most from to old new reads = gained_then (AreForward most from to) (AreWithin most) old new (λ xs go. forward_within most from to xs go) reads
+forward_is_within most from to old new reads = gained_then (AreForward most from to) (AreReadsWithin most) old new (λ xs go. forward_within most from to xs go) reads
 
 -- one that was asked for
 forward_asked : (most from at len : ℕ) (start old new : Life) (failed : Bool) → len ≤ most → ReadsTo most from at start old → AskedOnce (ReadAt at len) failed old new → ReadsTo most from (at + len) start new
@@ -69,7 +69,7 @@ forward_asked most from at len start old new failed few so_far asked =
     (gained_once (λ ys. ys ≡ ReadAt at len ∷ []) (ReadAt at len) failed old new (ap (λ (l : Life). l.present.log) asked) refl)
 
 -- one more, whatever it answered
-pub forward_once : (most from at len to : ℕ) (start old new : Life) (answer : Result (List ℕ) Error) → len ≤ most → at + len ≤ to → ReadsTo most from at start old → ReadGoes at len old new answer → ReadsForward most from to start new
+pub forward_once : (most from at len to : ℕ) (start old new : Life) (answer : Result (List ℕ) Error) → len ≤ most → at + len ≤ to → ReadsTo most from at start old → DeviceReadGoes at len old new answer → ReadsForward most from to start new
 forward_once most from at len to start old new answer few le so_far goes =
     elim (read_asks at len old new answer goes) [
       | inl none ↦ subst (λ (l : Life). ReadsForward most from to start l) (sym none) (forward_end most from at to start old (omega (arith, le)) so_far)
@@ -77,22 +77,22 @@ forward_once most from at len to start old new answer few le so_far goes =
     ]
 
 -- one more that was answered
-pub forward_next : (most from at len : ℕ) (start old new : Life) (bytes : List ℕ) → len ≤ most → ReadsTo most from at start old → ReadGoes at len old new (Ok bytes) → ReadsTo most from (at + len) start new
+pub forward_next : (most from at len : ℕ) (start old new : Life) (bytes : List ℕ) → len ≤ most → ReadsTo most from at start old → DeviceReadGoes at len old new (Ok bytes) → ReadsTo most from (at + len) start new
 forward_next most from at len start old new bytes few so_far goes = forward_asked most from at len start old new false few so_far goes.2
 
 -- a batch of pages more, with the numbers that a program has
 pub forward_batch : (P size k b most from to : ℕ) (start old new : Life) (answer : Result (List ℕ) Error) → size ≡ P + 12 → b ≤ most → k * (P + 12) + b * (P + 12) ≤ to → ReadsTo (most * (P + 12)) from (k * (P + 12)) start old
-    → ReadGoes (k * size) (b * size) old new answer → ReadsForward (most * (P + 12)) from to start new
+    → DeviceReadGoes (k * size) (b * size) old new answer → ReadsForward (most * (P + 12)) from to start new
 forward_batch P size k b most from to start old new answer is few le so_far goes =
     let more : (P + 12) * b ≤ (P + 12) * most = mul-le-mul_left (P + 12) few in
-    forward_once (most * (P + 12)) from (k * (P + 12)) (b * (P + 12)) to start old new answer (omega (arith, more)) le so_far (subst (λ (n : ℕ). ReadGoes (k * n) (b * n) old new answer) is goes)
+    forward_once (most * (P + 12)) from (k * (P + 12)) (b * (P + 12)) to start old new answer (omega (arith, more)) le so_far (subst (λ (n : ℕ). DeviceReadGoes (k * n) (b * n) old new answer) is goes)
 
 pub next_batch : (P size k b most from : ℕ) (start old new : Life) (bytes : List ℕ) → size ≡ P + 12 → b ≤ most → ReadsTo (most * (P + 12)) from (k * (P + 12)) start old
-    → ReadGoes (k * size) (b * size) old new (Ok bytes) → ReadsTo (most * (P + 12)) from ((k + b) * (P + 12)) start new
+    → DeviceReadGoes (k * size) (b * size) old new (Ok bytes) → ReadsTo (most * (P + 12)) from ((k + b) * (P + 12)) start new
 next_batch P size k b most from start old new bytes is few so_far goes =
     let more : (P + 12) * b ≤ (P + 12) * most = mul-le-mul_left (P + 12) few in
     subst (λ (n : ℕ). ReadsTo (most * (P + 12)) from n start new) (let e : k * (P + 12) + b * (P + 12) ≡ (k + b) * (P + 12) = omega arith in e)
-    (forward_next (most * (P + 12)) from (k * (P + 12)) (b * (P + 12)) start old new bytes (omega (arith, more)) so_far (subst (λ (n : ℕ). ReadGoes (k * n) (b * n) old new (Ok bytes)) is goes))
+    (forward_next (most * (P + 12)) from (k * (P + 12)) (b * (P + 12)) start old new bytes (omega (arith, more)) so_far (subst (λ (n : ℕ). DeviceReadGoes (k * n) (b * n) old new (Ok bytes)) is goes))
 
 -- ---- where they begin
 
@@ -108,7 +108,7 @@ pub stops_start : (P page : ℕ) (life : Life) → StopsAt P page life life
 stops_start P page life = gained_none (BeginBy (page * (P + 12))) life life refl tt
 
 -- one more, whatever it answered, with the numbers that a program has
-pub stops_read : (P size k len page : ℕ) (start old new : Life) (answer : Result (List ℕ) Error) → size ≡ P + 12 → k ≤ page → StopsAt P page start old → ReadGoes (k * size) len old new answer → StopsAt P page start new
+pub stops_read : (P size k len page : ℕ) (start old new : Life) (answer : Result (List ℕ) Error) → size ≡ P + 12 → k ≤ page → StopsAt P page start old → DeviceReadGoes (k * size) len old new answer → StopsAt P page start new
 stops_read P size k len page start old new answer is le so_far goes =
     let last = page * (P + 12) in
     let less : (P + 12) * k ≤ (P + 12) * page = mul-le-mul_left (P + 12) le in

@@ -1,7 +1,7 @@
 -- Reads of whole pages, and whether they are full.
 use Rattle.std.proofs.Common.{◌≡◌, ℕ, ◌+◌, ◌*◌, ◌-◌, ◌<◌, ◌≤◌, List, [], ◌∷◌, length, length-append, sym, ap, ◌∙◌, arith, false, Ok, Err}
 use Rattle.std.specs.Prelude.{Some, None}
-use Rattle.disk.specs.Disk.{Life, ReadAt, ReadGoes}
+use Rattle.disk.specs.Disk.{DeviceReadGoes, Life, ReadAt}
 use Rattle.disk.specs.declared.error.Error.{Error}
 use Rattle.disk.specs.declared.error.Error.TheVariants.{ReadFailed, WriteFailed, ResizeFailed, SyncFailed, InvalidChecksum, BlobInsufficientLength, OffsetOverflow, OutOfMemory, IdsExhausted}
 use Rattle.disk.proofs.Logs.{failed_once}
@@ -26,7 +26,7 @@ value_says sum P page a size some =
 
 -- why the read of a page that is there answers an error
 pub page_fault : (sum : List ℕ → ℕ) (P page : ℕ) (old new : Life) (e : Error) → page * (P + 12) + (P + 12) ≤ length old.present.readable
-    → ReadGoes (page * (P + 12)) (P + 12) old new (Err e) → ReadsPage sum P page old new (Err e)
+    → DeviceReadGoes (page * (P + 12)) (P + 12) old new (Err e) → ReadsPage sum P page old new (Err e)
 page_fault sum P page old new ReadFailed there goes = failed_once (ReadAt (page * (P + 12)) (P + 12)) old.present new.present (ap (λ l. l.present.log) goes)
 page_fault sum P page old new WriteFailed there goes = goes
 page_fault sum P page old new ResizeFailed there goes = goes
@@ -38,5 +38,5 @@ page_fault sum P page old new OutOfMemory there goes = none_failed_same old new 
 page_fault sum P page old new IdsExhausted there goes = goes
 
 -- one that is answered is one call more
-pub read_longer : (offset len : ℕ) (old new : Life) (bytes : List ℕ) → ReadGoes offset len old new (Ok bytes) → length new.present.log ≡ length old.present.log + 1
+pub read_longer : (offset len : ℕ) (old new : Life) (bytes : List ℕ) → DeviceReadGoes offset len old new (Ok bytes) → length new.present.log ≡ length old.present.log + 1
 read_longer offset len old new bytes goes = omega (arith, ap (λ (l : Life). length l.present.log) goes.2, length-append old.present.log (record { request = ReadAt offset len; failed = false } ∷ []))

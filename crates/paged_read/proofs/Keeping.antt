@@ -8,7 +8,7 @@ use Rattle.page.specs.Page.{active, pages, pieces, text, text_of_pages, value_le
 use Rattle.crash.proofs.Pages.{length-pieces}
 use Rattle.crash.proofs.Texts.{text_full, text_part, value_len_le}
 use Rattle.paged_read.specs.declared.prefix.Prefix.{Prefix}
-use Rattle.paged_read.specs.Hand.{HandState, HasRoom, IsEmptyHand, kept_with, payloads}
+use Rattle.paged_read.specs.Hand.{HandHasRoom, HandState, IsEmptyHand, kept_with, payloads}
 use Rattle.paged_read.specs.Prefix.{prefix_of, tip_of}
 use Rattle.paged_read.specs.Scans.{pages_from}
 use Rattle.paged_read.proofs.Hands.{payloads_fewer, payloads_first, payloads_none, payloads_short}
@@ -28,7 +28,7 @@ kept_joins a b None = refl
 kept_joins a b (Some hand) = ap (λ (l : List ℕ). Some (record hand { bytes = l })) (append_assoc hand.bytes a b)
 
 -- room for what follows
-pub kept_room : (P more : ℕ) (told : List ℕ) (start : Option HandState) → IsEmptyHand P start → length told + more < 2 ^ 64 → HasRoom P more (kept_with told start)
+pub kept_room : (P more : ℕ) (told : List ℕ) (start : Option HandState) → IsEmptyHand P start → length told + more < 2 ^ 64 → HandHasRoom P more (kept_with told start)
 kept_room P more told None empty fits = tt
 kept_room P more told (Some hand) empty fits =
     let none : length (hand.bytes ++ told) ≡ length told = ap (λ (h : HandState). length (h.bytes ++ told)) empty in
@@ -152,12 +152,12 @@ module _ (sum : List ℕ → ℕ) (P : ℕ) where
   kept_from from n readable start = record { values = []; whole = refl; is = kept_start start; few = omega arith }
 
   pub kept_fits : (from n k b : ℕ) (readable bytes : List ℕ) (q : Prefix) (start now : Option HandState) → k + b ≤ n → IsBatch sum P k b readable bytes q → KeptTo from n k readable start now → IsEmptyHand P start → n * (P + 12) < 2 ^ 64
-      → HasRoom P (length bytes) now
+      → HandHasRoom P (length bytes) now
   kept_fits from n k b readable bytes q start now le batch so_far empty fits =
       let rest = drop (k * (P + 12)) readable in
       let size : length bytes ≡ b * (P + 12) = ap (λ (l : List ℕ). length l) batch.read ∙ length-take-le (b * (P + 12)) rest (omega (arith, batch.fits, length-drop (k * (P + 12)) readable)) in
       let more : (P + 12) * (k + b) ≤ (P + 12) * n = mul-le-mul_left (P + 12) le in
-      subst (λ (h : Option HandState). HasRoom P (length bytes) h) (sym so_far.is) (kept_room P (length bytes) so_far.values start empty (omega (arith, so_far.few, size, fits, more)))
+      subst (λ (h : Option HandState). HandHasRoom P (length bytes) h) (sym so_far.is) (kept_room P (length bytes) so_far.values start empty (omega (arith, so_far.few, size, fits, more)))
 
   module _ (from n k b : ℕ) (readable bytes : List ℕ) (q : Prefix) (le : k + b ≤ n) (batch : IsBatch sum P k b readable bytes q) (start now next : Option HandState) (so_far : KeptTo from n k readable start now)
       (adds : next ≡ kept_with (text sum P bytes) now) where

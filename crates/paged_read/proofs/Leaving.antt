@@ -13,7 +13,7 @@ use Rattle.cache.specs.CacheState.{CacheState, Puts, put_at}
 use Rattle.cache.specs.declared.piece.Piece.{Piece}
 use Rattle.cache.specs.Pages.{page_of_content, CachesOnly, IsTrueFor}
 use Rattle.cache.proofs.CacheLaws.{put_weakly, caches_none, caches_put, caches_join, read_true, fresh_stays}
-use Rattle.paged_read.specs.Tail.{Tail, told, size_of, CanRead}
+use Rattle.paged_read.specs.Tail.{Tail, logical_bytes, tail_size, CanRead}
 use Rattle.paged_read.specs.Ranges.{LeavesAll, page_at}
 use Rattle.paged_read.specs.Parts.{IsPieceOf, with_told}
 
@@ -21,11 +21,11 @@ use Rattle.paged_read.specs.Parts.{IsPieceOf, with_told}
 
 module _ (t : Tail) (readable : List ℕ) (reach : t.full_pages * (t.page_size + 12) ≤ length readable) where
   -- as many as its size
-  pub length-told : length (told t readable) ≡ size_of t
+  pub length-told : length (logical_bytes t readable) ≡ tail_size t
   length-told = omega (arith, length-append (stored t.page_size t.full_pages readable) t.bytes, length-stored t.page_size t.full_pages readable reach)
 
   -- what stands in a full page
-  pub told_in_page : (p i n : ℕ) → p < t.full_pages → i + n ≤ t.page_size → take n (drop (p * t.page_size + i) (told t readable)) ≡ take n (drop (p * (t.page_size + 12) + i) readable)
+  pub told_in_page : (p i n : ℕ) → p < t.full_pages → i + n ≤ t.page_size → take n (drop (p * t.page_size + i) (logical_bytes t readable)) ≡ take n (drop (p * (t.page_size + 12) + i) readable)
   told_in_page p i n below fits =
       let P = t.page_size in
       let more : (p + 1) * P ≤ t.full_pages * P = mul-le-mul_right P (omega (arith, below)) in
@@ -33,30 +33,30 @@ module _ (t : Tail) (readable : List ℕ) (reach : t.full_pages * (t.page_size +
       ∙ stored_within P t.full_pages p i n readable reach below fits
 
   -- what stands after them
-  pub told_in_tip : (i : ℕ) → drop (t.full_pages * t.page_size + i) (told t readable) ≡ drop i t.bytes
+  pub told_in_tip : (i : ℕ) → drop (t.full_pages * t.page_size + i) (logical_bytes t readable) ≡ drop i t.bytes
   told_in_tip i =
       let joined = stored t.page_size t.full_pages readable in
       let size : length joined ≡ t.full_pages * t.page_size = length-stored t.page_size t.full_pages readable reach in
       drop_past (t.full_pages * t.page_size + i) joined t.bytes (omega (arith, size)) ∙ ap (λ n. drop n t.bytes) (let e : t.full_pages * t.page_size + i - length joined ≡ i = omega (arith, size) in e)
 
   -- the payload of a page is the content's page
-  pub payload_told : (page : ℕ) → page < t.full_pages → take t.page_size (page_at t.page_size page readable) ≡ page_of_content t.page_size (told t readable) page
+  pub payload_told : (page : ℕ) → page < t.full_pages → take t.page_size (page_at t.page_size page readable) ≡ page_of_content t.page_size (logical_bytes t readable) page
   payload_told page below =
       let zero_here : page * t.page_size + 0 ≡ page * t.page_size = omega arith in
       let zero_there : page * (t.page_size + 12) + 0 ≡ page * (t.page_size + 12) = omega arith in
       take-take t.page_size (t.page_size + 12) (drop (page * (t.page_size + 12)) readable) (omega arith)
       ∙ ap (λ n. take t.page_size (drop n readable)) (sym zero_there)
       ∙ sym (told_in_page page 0 t.page_size below (omega arith))
-      ∙ ap (λ n. take t.page_size (drop n (told t readable))) zero_here
+      ∙ ap (λ n. take t.page_size (drop n (logical_bytes t readable))) zero_here
 
 -- ---- reads go on
 
 -- what a read found, a later one finds
-pub told_later : (t : Tail) (old new : Life) → Looked old new → told t new.present.readable ≡ told t old.present.readable
-told_later t old new looked = ap (λ (l : List ℕ). told t l) (looked_readable old new looked)
+pub told_later : (t : Tail) (old new : Life) → Looked old new → logical_bytes t new.present.readable ≡ logical_bytes t old.present.readable
+told_later t old new looked = ap (λ (l : List ℕ). logical_bytes t l) (looked_readable old new looked)
 
 -- a call that only looked, and put pages of the content
-pub leaves_of : (t : Tail) (cache after : CacheState) (old new : Life) → CanRead t cache old.present → Looked old new → CachesOnly t.id 0 (told t old.present.readable) cache after → LeavesAll t cache after old new
+pub leaves_of : (t : Tail) (cache after : CacheState) (old new : Life) → CanRead t cache old.present → Looked old new → CachesOnly t.id 0 (logical_bytes t old.present.readable) cache after → LeavesAll t cache after old new
 leaves_of t cache after old new can looked caches = record {
   looked = looked;
   cached = caches;
@@ -64,14 +64,14 @@ leaves_of t cache after old new can looked caches = record {
     there = omega (arith, can.there, ap length (looked_readable old new looked));
     page_size = caches.settings.page_size ∙ can.page_size;
     given = omega (arith, can.given, caches.settings.ids_given);
-    cached = subst (λ (content : List ℕ). IsTrueFor t.id content t.full_pages after) (sym (told_later t old new looked)) (read_true t.id (told t old.present.readable) t.full_pages 0 cache after caches can.cached);
+    cached = subst (λ (content : List ℕ). IsTrueFor t.id content t.full_pages after) (sym (told_later t old new looked)) (read_true t.id (logical_bytes t old.present.readable) t.full_pages 0 cache after caches can.cached);
   };
-  fresh = fresh_stays t.id 0 (told t old.present.readable) cache after can.given caches;
+  fresh = fresh_stays t.id 0 (logical_bytes t old.present.readable) cache after can.given caches;
 }
 
 -- one that put none
 pub leaves_cache : (t : Tail) (cache : CacheState) (old new : Life) → CanRead t cache old.present → Looked old new → LeavesAll t cache cache old new
-leaves_cache t cache old new can looked = leaves_of t cache cache old new can looked (caches_none t.id 0 (told t old.present.readable) cache)
+leaves_cache t cache old new can looked = leaves_of t cache cache old new can looked (caches_none t.id 0 (logical_bytes t old.present.readable) cache)
 
 -- none
 pub leaves_none : (t : Tail) (cache : CacheState) (life : Life) → CanRead t cache life.present → LeavesAll t cache cache life life
@@ -82,8 +82,8 @@ pub leaves_put : (t : Tail) (cache after : CacheState) (old new : Life) (page : 
     → bytes ≡ take t.page_size (page_at t.page_size page old.present.readable) → Puts (t.id, page) bytes cache after → LeavesAll t cache after old new
 leaves_put t cache after old new page bytes can looked below is puts =
     let size = can.page_size in
-    let content = told t old.present.readable in
-    let all : length content ≡ size_of t = length-told t old.present.readable can.there in
+    let content = logical_bytes t old.present.readable in
+    let all : length content ≡ tail_size t = length-told t old.present.readable can.there in
     let more : (page + 1) * cache.page_size ≤ t.full_pages * cache.page_size = mul-le-mul_right cache.page_size (omega (arith, below)) in
     let same : t.full_pages * cache.page_size ≡ t.full_pages * t.page_size = ap (λ P. t.full_pages * P) size in
     let page_is : bytes ≡ page_of_content cache.page_size content page = is ∙ payload_told t old.present.readable can.there page below ∙ ap (λ P. page_of_content P content page) (sym size) in
@@ -93,7 +93,7 @@ leaves_put t cache after old new page bytes can looked below is puts =
 pub leaves_joins : (t : Tail) (cache between after : CacheState) (old mid new : Life) → LeavesAll t cache between old mid → LeavesAll t between after mid new → LeavesAll t cache after old new
 leaves_joins t cache between after old mid new first second = record {
   looked = looked_joins old mid new first.looked second.looked;
-  cached = caches_join t.id 0 (told t old.present.readable) cache between after first.cached (subst (λ (content : List ℕ). CachesOnly t.id 0 content between after) (told_later t old mid first.looked) second.cached);
+  cached = caches_join t.id 0 (logical_bytes t old.present.readable) cache between after first.cached (subst (λ (content : List ℕ). CachesOnly t.id 0 content between after) (told_later t old mid first.looked) second.cached);
   can = second.can;
   fresh = λ fresh. second.fresh (first.fresh fresh);
 }
@@ -118,7 +118,7 @@ length-page_at t page readable reach below =
 -- a piece that was copied out of a payload
 pub piece_told : (t : Tail) (readable : List ℕ) (piece : Piece) (buf part : List ℕ) → t.full_pages * (t.page_size + 12) ≤ length readable → IsPieceOf t (length buf) piece
     → part ≡ take (piece.skip + piece.len - piece.skip) (drop piece.skip (take t.page_size (page_at t.page_size piece.page readable)))
-    → put_mid piece.buf_offset (piece.buf_offset + piece.len - piece.buf_offset) buf part ≡ with_told t.page_size (told t readable) (piece ∷ []) buf
+    → put_mid piece.buf_offset (piece.buf_offset + piece.len - piece.buf_offset) buf part ≡ with_told t.page_size (logical_bytes t readable) (piece ∷ []) buf
 piece_told t readable piece buf part reach of is =
     let P = t.page_size in
     let payload = take P (page_at P piece.page readable) in

@@ -1,7 +1,7 @@
 -- Searches that only read a blob.
 use Rattle.std.proofs.Common.{◌≡◌, ℕ, ◌+◌, ◌≤◌, List, length, sym, ap, ◌∙◌, subst, arith, true, false}
 use Rattle.std.specs.Prelude.{Result, Ok, Err}
-use Rattle.disk.specs.Disk.{Life, ReadAt, ReadGoes}
+use Rattle.disk.specs.Disk.{DeviceReadGoes, Life, ReadAt}
 use Rattle.disk.specs.declared.error.Error.{Error}
 use Rattle.disk.specs.declared.error.Error.TheVariants.{ReadFailed, WriteFailed, ResizeFailed, SyncFailed, InvalidChecksum, BlobInsufficientLength, OffsetOverflow, OutOfMemory, IdsExhausted}
 use Rattle.disk.proofs.Logs.{failed_once, failed_later}
@@ -14,19 +14,19 @@ use Rattle.paged_read.specs.Searches.{Finds}
 use Rattle.paged_read.proofs.Failing.{none_failed_read}
 
 -- a look that goes on with a read
-pub looked_on : (offset len : ℕ) (start old new : Life) (bytes : List ℕ) → Looked start old → ReadGoes offset len old new (Ok bytes) → Looked start new
+pub looked_on : (offset len : ℕ) (start old new : Life) (bytes : List ℕ) → Looked start old → DeviceReadGoes offset len old new (Ok bytes) → Looked start new
 looked_on offset len start old new bytes so_far goes = looked_joins start old new so_far (looked_asked (ReadAt offset len) false old new goes.2)
 
 -- and in which no device call failed
-pub none_failed_on : (offset len : ℕ) (start old new : Life) (bytes : List ℕ) → NoneFailed start.present old.present → ReadGoes offset len old new (Ok bytes) → NoneFailed start.present new.present
+pub none_failed_on : (offset len : ℕ) (start old new : Life) (bytes : List ℕ) → NoneFailed start.present old.present → DeviceReadGoes offset len old new (Ok bytes) → NoneFailed start.present new.present
 none_failed_on offset len start old new bytes so_far goes = none_failed_joins start.present old.present new.present so_far (none_failed_read offset len old new bytes goes)
 
 -- what was read was there
-pub read_there : (offset len : ℕ) (start old new : Life) (bytes : List ℕ) → Looked start old → ReadGoes offset len old new (Ok bytes) → offset + len ≤ length start.present.readable
+pub read_there : (offset len : ℕ) (start old new : Life) (bytes : List ℕ) → Looked start old → DeviceReadGoes offset len old new (Ok bytes) → offset + len ≤ length start.present.readable
 read_there offset len start old new bytes so_far goes = omega (arith, goes.0, ap (λ (l : List ℕ). length l) (looked_readable start old so_far))
 
 -- a look that goes on with a read that isn't answered
-pub look_fault : {A : Type 0} (offset len reach : ℕ) (a : A) (start old new : Life) (e : Error) → Looked start old → NoneFailed start.present old.present → offset + len ≤ reach → ReadGoes offset len old new (Err e) → LooksThrough reach a start new (Err e)
+pub look_fault : {A : Type 0} (offset len reach : ℕ) (a : A) (start old new : Life) (e : Error) → Looked start old → NoneFailed start.present old.present → offset + len ≤ reach → DeviceReadGoes offset len old new (Err e) → LooksThrough reach a start new (Err e)
 look_fault offset len reach a start old new ReadFailed so_far none le goes = (
   failed_later ReadFailed start.present old.present new.present so_far.log (failed_once (ReadAt offset len) old.present new.present (ap (λ (l : Life). l.present.log) goes)),
   looked_joins start old new so_far (looked_asked (ReadAt offset len) true old new goes),
@@ -62,7 +62,7 @@ look_finds reach p q old new (Err OutOfMemory) there is looks = looks
 look_finds reach p q old new (Err IdsExhausted) there is looks = looks
 
 -- a look that goes on with a read that isn't answered
-pub finds_fault : (offset len : ℕ) (p : Prefix) (start old new : Life) (e : Error) → Looked start old → NoneFailed start.present old.present → offset + len ≤ length start.present.readable → ReadGoes offset len old new (Err e) → Finds p start new (Err e)
+pub finds_fault : (offset len : ℕ) (p : Prefix) (start old new : Life) (e : Error) → Looked start old → NoneFailed start.present old.present → offset + len ≤ length start.present.readable → DeviceReadGoes offset len old new (Err e) → Finds p start new (Err e)
 finds_fault offset len p start old new ReadFailed so_far none there goes = (
   failed_later ReadFailed start.present old.present new.present so_far.log (failed_once (ReadAt offset len) old.present new.present (ap (λ (l : Life). l.present.log) goes)),
   looked_joins start old new so_far (looked_asked (ReadAt offset len) true old new goes),

@@ -22,9 +22,9 @@ use Rattle.writer_state.proofs.FloorLaws.{floors_of_sound}
 use Rattle.writer_state.proofs.Soundness.{looked_sound}
 use Rattle.writer_state.proofs.StartedLaws.{alike_covers}
 use Rattle.page.specs.Page.{pages}
-use Rattle.paged_read.specs.Tail.{Tail, told, size_of, HasPages, CanRead}
+use Rattle.paged_read.specs.Tail.{Tail, logical_bytes, tail_size, HasPages, CanRead}
 use Rattle.paged_read.specs.Ranges.{LeavesAll, page_at}
-use Rattle.paged_read.specs.Snapshots.{IsTailOf, StandsOn, LeavesTails, LeavesAllTails, LeavesAllReads, LeavesOthers, LeavesReads, LeavesWriter, LeavesWriters}
+use Rattle.paged_read.specs.Snapshots.{IsTailOf, SnapshotReads, LeavesTails, LeavesAllTails, LeavesAllReads, LeavesOthers, LeavesReads, LeavesWriter, LeavesAllWriters}
 use Rattle.paged_read.proofs.Leaving.{length-told, payload_told}
 
 -- ---- a call that leaves the first pages
@@ -34,7 +34,7 @@ module _ (t : Tail) (k : ℕ) (d e : Disk) (below : t.full_pages ≤ k)
   fewer : SamePages t.page_size t.full_pages d e
   fewer = fewer_stay t.page_size t.full_pages k d e below same
 
-  pub still_told : HasPages t d → told t e.readable ≡ told t d.readable
+  pub still_told : HasPages t d → logical_bytes t e.readable ≡ logical_bytes t d.readable
   still_told there =
       ap (λ (s : List ℕ). s ++ t.bytes)
       (stored_still (λ _. 0) t.page_size t.full_pages d e there fewer)
@@ -57,7 +57,7 @@ module _ (t : Tail) (k : ℕ) (d e : Disk) (below : t.full_pages ≤ k)
     given = omega (arith, can.given, caches.settings.ids_given);
     cached = subst (λ (held : List ℕ). IsTrueFor t.id held t.full_pages after)
         (sym (still_told can.there))
-        (caches_true id k content t.id (told t d.readable) t.full_pages cache after caches
+        (caches_true id k content t.id (logical_bytes t d.readable) t.full_pages cache after caches
         (inr below) can.cached);
   }
 
@@ -82,7 +82,7 @@ others_stay id from content cache after caches t d apart can = record {
   there = can.there;
   page_size = caches.settings.page_size ∙ can.page_size;
   given = omega (arith, can.given, caches.settings.ids_given);
-  cached = caches_true id from content t.id (told t d.readable) t.full_pages cache after caches
+  cached = caches_true id from content t.id (logical_bytes t d.readable) t.full_pages cache after caches
       (inl apart) can.cached;
 }
 
@@ -94,17 +94,17 @@ module _ (sum : List ℕ → ℕ) (mine : Tail) (cache after : CacheState) (old 
   -- a page that was put is one below the reading tail
   abbrev IsWithin : Tail → Type 0
   IsWithin t =
-      (page : ℕ) → page < t.full_pages → (page + 1) * mine.page_size ≤ size_of mine
+      (page : ℕ) → page < t.full_pages → (page + 1) * mine.page_size ≤ tail_size mine
       → page < mine.full_pages
 
   same_page : (t : Tail) → CanRead t cache old.present → (page : ℕ) → page < t.full_pages
       → page < mine.full_pages
-      → page_of_content cache.page_size (told mine old.present.readable) page
-      ≡ page_of_content cache.page_size (told t old.present.readable) page
+      → page_of_content cache.page_size (logical_bytes mine old.present.readable) page
+      ≡ page_of_content cache.page_size (logical_bytes t old.present.readable) page
   same_page t other page below within =
-      subst (λ (P : ℕ). page_of_content P (told mine old.present.readable) page
-      ≡ page_of_content P (told t old.present.readable) page) (sym other.page_size)
-      (ap (λ (P : ℕ). page_of_content P (told mine old.present.readable) page) one_size
+      subst (λ (P : ℕ). page_of_content P (logical_bytes mine old.present.readable) page
+      ≡ page_of_content P (logical_bytes t old.present.readable) page) (sym other.page_size)
+      (ap (λ (P : ℕ). page_of_content P (logical_bytes mine old.present.readable) page) one_size
       ∙ sym (payload_told mine old.present.readable can.there page within)
       ∙ ap (λ (P : ℕ). payload P page) (sym one_size)
       ∙ payload_told t old.present.readable other.there page below)
@@ -116,19 +116,19 @@ module _ (sum : List ℕ → ℕ) (mine : Tail) (cache after : CacheState) (old 
       one_size = sym other.page_size ∙ can.page_size
 
   true_still : (t : Tail) → IsWithin t → CanRead t cache old.present
-      → IsTrueFor t.id (told t old.present.readable) t.full_pages after
+      → IsTrueFor t.id (logical_bytes t old.present.readable) t.full_pages after
   true_still t within other page bytes below there = elim (leaves.cached.each (t.id, page)) [
     | inl stays ↦ other.cached page bytes below (sym stays ∙ there)
-        ∙ ap (λ (P : ℕ). page_of_content P (told t old.present.readable) page)
+        ∙ ap (λ (P : ℕ). page_of_content P (logical_bytes t old.present.readable) page)
         (sym leaves.cached.settings.page_size)
     | inr (inl goes) ↦ absurd (cc (goes, there))
     | inr (inr (same, after_none, full, now)) ↦
-        let fits : (page + 1) * mine.page_size ≤ size_of mine =
-        subst (λ (P : ℕ). (page + 1) * P ≤ size_of mine) can.page_size
+        let fits : (page + 1) * mine.page_size ≤ tail_size mine =
+        subst (λ (P : ℕ). (page + 1) * P ≤ tail_size mine) can.page_size
         (omega (arith, full, length-told mine old.present.readable can.there)) in
-        same_Some bytes (page_of_content cache.page_size (told mine old.present.readable) page)
+        same_Some bytes (page_of_content cache.page_size (logical_bytes mine old.present.readable) page)
         (sym there ∙ now) ∙ same_page t other page below (within page below fits)
-        ∙ ap (λ (P : ℕ). page_of_content P (told t old.present.readable) page)
+        ∙ ap (λ (P : ℕ). page_of_content P (logical_bytes t old.present.readable) page)
         (sym leaves.cached.settings.page_size)
   ]
 
@@ -140,12 +140,12 @@ module _ (sum : List ℕ → ℕ) (mine : Tail) (cache after : CacheState) (old 
         there = omega (arith, other.there, ap length same);
         page_size = leaves.cached.settings.page_size ∙ other.page_size;
         given = omega (arith, other.given, leaves.cached.settings.ids_given);
-        cached = subst (λ (l : List ℕ). IsTrueFor t.id (told t l) t.full_pages after)
+        cached = subst (λ (l : List ℕ). IsTrueFor t.id (logical_bytes t l) t.full_pages after)
             (sym same) (true_still t within other);
       }
 
-  still : (t : Tail) (held : List ℕ) → IsWithin t → StandsOn sum t held cache old.present
-      → StandsOn sum t held after new.present
+  still : (t : Tail) (held : List ℕ) → IsWithin t → SnapshotReads sum t held cache old.present
+      → SnapshotReads sum t held after new.present
   still t held within stands =
       let same = looked_readable old new leaves.looked in
       record {
@@ -154,7 +154,7 @@ module _ (sum : List ℕ → ℕ) (mine : Tail) (cache after : CacheState) (old 
           full = subst (λ (l : List ℕ). AreFull sum t.page_size
               (take t.full_pages (pages t.page_size l)))
               (sym same) stands.tail.full;
-          is = ap (λ (l : List ℕ). told t l) same ∙ stands.tail.is;
+          is = ap (λ (l : List ℕ). logical_bytes t l) same ∙ stands.tail.is;
         };
         can = reads_still t within stands.can;
       }
@@ -178,7 +178,7 @@ module _ (sum : List ℕ → ℕ) (mine : Tail) (cache after : CacheState) (old 
   read_leaves_all_reads short t other = reads_still t (fits_below short t) other
 
   pub read_leaves_others : LeavesOthers mine.id cache after
-  read_leaves_others = others_stay mine.id 0 (told mine old.present.readable) cache after leaves.cached
+  read_leaves_others = others_stay mine.id 0 (logical_bytes mine old.present.readable) cache after leaves.cached
 
 -- ---- a read leaves the blob's writer
 
@@ -203,7 +203,7 @@ leaves_writer sum w old new sound still readable stays covers =
     }
 
 pub look_leaves_writers : (sum : List ℕ → ℕ) (old new : Life) → Looked old new
-    → LeavesWriters sum old new
+    → LeavesAllWriters sum old new
 unfolding IsSound
 look_leaves_writers sum old new looked w sound =
     let held = content w old.present.readable in
@@ -230,13 +230,13 @@ alike_tails sum cache old new same t held stands = record {
     there = omega (arith, stands.can.there, ap length same);
     full = subst (λ (l : List ℕ). AreFull sum t.page_size (take t.full_pages (pages t.page_size l)))
         (sym same) stands.tail.full;
-    is = ap (λ (l : List ℕ). told t l) same ∙ stands.tail.is;
+    is = ap (λ (l : List ℕ). logical_bytes t l) same ∙ stands.tail.is;
   };
   can = record {
     there = omega (arith, stands.can.there, ap length same);
     page_size = stands.can.page_size;
     given = stands.can.given;
-    cached = subst (λ (l : List ℕ). IsTrueFor t.id (told t l) t.full_pages cache) (sym same)
+    cached = subst (λ (l : List ℕ). IsTrueFor t.id (logical_bytes t l) t.full_pages cache) (sym same)
         stands.can.cached;
   };
 }
@@ -254,7 +254,7 @@ look_leaves_reads cache old new looked t can =
       there = omega (arith, can.there, ap length same);
       page_size = can.page_size;
       given = can.given;
-      cached = subst (λ (l : List ℕ). IsTrueFor t.id (told t l) t.full_pages cache) (sym same)
+      cached = subst (λ (l : List ℕ). IsTrueFor t.id (logical_bytes t l) t.full_pages cache) (sym same)
           can.cached;
     }
 

@@ -13,7 +13,7 @@ use Rattle.crash.proofs.Lists.{within_same}
 use Rattle.crash.proofs.LookLaws.{looked_readable}
 use Rattle.paged_read.specs.ReadAhead.{batch_bytes, IsBatch}
 use Rattle.paged_read.specs.Replay.{LeavesAllReplays, LeavesReplays}
-use Rattle.paged_read.specs.Tail.{told}
+use Rattle.paged_read.specs.Tail.{logical_bytes}
 use Rattle.paged_read.specs.declared.ahead.Ahead.{Ahead}
 use Rattle.paged_read.proofs.Outliving.{still_told, tail_stays}
 
@@ -72,11 +72,11 @@ alike_replays old new same sum content r is =
         there = omega (arith, is.tail.there, ap (λ (l : List ℕ). length l) same);
         full = subst (λ (l : List ℕ). AreFull sum t.page_size
             (take t.full_pages (pages t.page_size l))) (sym same) is.tail.full;
-        is = ap (λ (l : List ℕ). told t l) same ∙ is.tail.is;
+        is = ap (λ (l : List ℕ). logical_bytes t l) same ∙ is.tail.is;
       };
       can = record {
         there = omega (arith, is.can.there, ap (λ (l : List ℕ). length l) same);
-        hand = is.can.hand ∙ ap (λ (l : List ℕ). take (length r.hand) (drop r.position (told t l))) (sym same);
+        hand = is.can.hand ∙ ap (λ (l : List ℕ). take (length r.hand) (drop r.position (logical_bytes t l))) (sym same);
         queue = λ k a below bytes given. is.can.queue k a below bytes given
             ∙ ap (λ (l : List ℕ). batch_bytes t.page_size r.batch t.full_pages (slice_index_or r.queue k a).page l) (sym same);
       };

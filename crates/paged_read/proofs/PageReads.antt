@@ -13,7 +13,7 @@ use Rattle.cache.specs.declared.piece.Piece.{Piece}
 use Rattle.paged_read.specs.Failures.{NoneFailed, none_failed_joins}
 use Rattle.paged_read.specs.Tail.{Tail}
 use Rattle.paged_read.specs.Ranges.{missing, page_at, AreMissingFull, ReadFault}
-use Rattle.paged_read.specs.Parts.{ArePagesFull, PagesFault, pages_of, with_told}
+use Rattle.paged_read.specs.Parts.{ArePagesFull, PagesFault, piece_pages, with_told}
 
 -- one page alone
 pub one_page : (page p : ℕ) → Contains (page ∷ []) p → p ≡ page
@@ -87,10 +87,10 @@ either_part (x ∷ one) other p has = elim (first_or_later x p (one ++ other) ha
 ]
 
 -- a piece's page is one of their pages
-pub piece_among : (pieces : List Piece) (k : ℕ) (d : Piece) → k < length pieces → Contains (pages_of pieces) (get_or pieces k d).page
+pub piece_among : (pieces : List Piece) (k : ℕ) (d : Piece) → k < length pieces → Contains (piece_pages pieces) (get_or pieces k d).page
 piece_among [] k d below = absurd (omega (arith, below))
-piece_among (piece ∷ pieces) zero d below = has_first piece.page (pages_of pieces)
-piece_among (piece ∷ pieces) (suc k) d below = has_later piece.page (get_or pieces k d).page (pages_of pieces) (piece_among pieces k d (omega (arith, below)))
+piece_among (piece ∷ pieces) zero d below = has_first piece.page (piece_pages pieces)
+piece_among (piece ∷ pieces) (suc k) d below = has_later piece.page (get_or pieces k d).page (piece_pages pieces) (piece_among pieces k d (omega (arith, below)))
 
 -- one piece more is put
 pub told_step : (P : ℕ) (content : List ℕ) (pieces : List Piece) (k : ℕ) (d : Piece) (buf next first : List ℕ) → k < length pieces → next ≡ with_told P content (get_or pieces k d ∷ []) buf
@@ -103,11 +103,11 @@ told_step P content pieces k d buf next first below is before =
     ∙ before
 
 -- and its page is full
-pub full_step : (sum : List ℕ → ℕ) (P : ℕ) (pieces : List Piece) (k : ℕ) (d : Piece) (readable : List ℕ) → k < length pieces → ArePagesFull sum P (pages_of (take k pieces)) readable
-    → ArePagesFull sum P ((get_or pieces k d).page ∷ []) readable → ArePagesFull sum P (pages_of (take (k + 1) pieces)) readable
+pub full_step : (sum : List ℕ → ℕ) (P : ℕ) (pieces : List Piece) (k : ℕ) (d : Piece) (readable : List ℕ) → k < length pieces → ArePagesFull sum P (piece_pages (take k pieces)) readable
+    → ArePagesFull sum P ((get_or pieces k d).page ∷ []) readable → ArePagesFull sum P (piece_pages (take (k + 1) pieces)) readable
 full_step sum P pieces k d readable below before here = λ page has.
-    let split : pages_of (take (k + 1) pieces) ≡ pages_of (take k pieces) ++ (get_or pieces k d).page ∷ [] = ap pages_of (take_more pieces k d below) ∙ map-append (λ (p : Piece). p.page) (take k pieces) (get_or pieces k d ∷ []) in
-    elim (either_part (pages_of (take k pieces)) ((get_or pieces k d).page ∷ []) page (subst (λ (l : List ℕ). Contains l page) split has)) [
+    let split : piece_pages (take (k + 1) pieces) ≡ piece_pages (take k pieces) ++ (get_or pieces k d).page ∷ [] = ap piece_pages (take_more pieces k d below) ∙ map-append (λ (p : Piece). p.page) (take k pieces) (get_or pieces k d ∷ []) in
+    elim (either_part (piece_pages (take k pieces)) ((get_or pieces k d).page ∷ []) page (subst (λ (l : List ℕ). Contains l page) split has)) [
       | inl old ↦ before page old
       | inr new ↦ here page new
     ]

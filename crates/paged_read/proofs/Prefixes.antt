@@ -14,14 +14,14 @@ use Rattle.crash.proofs.Lists.{within_take, within_drop}
 use Rattle.crash.proofs.Pages.{pieces-add, pages_of_take, take-pages, length-pieces}
 use Rattle.paged_read.specs.declared.prefix.Prefix.{Prefix}
 use Rattle.paged_read.specs.Ranges.{page_at}
-use Rattle.paged_read.specs.Prefix.{after, value_and_slot, prefix_of, last_prefix, prefix_pages, partial_pages, tip_of, HasBytes, bad_in}
+use Rattle.paged_read.specs.Prefix.{after_pages, value_and_slot, prefix_of, last_prefix, prefix_pages, partial_pages, tip_of, HasBytes, bad_in}
 
 -- pages in front of pages in front
-pub after-after : (m n : ℕ) (p : Prefix) → after m (after n p) ≡ after (m + n) p
+pub after-after : (m n : ℕ) (p : Prefix) → after_pages m (after_pages n p) ≡ after_pages (m + n) p
 after-after m n p = ap (λ (k : ℕ). record p { full_pages = k }) (let e : m + (n + p.full_pages) ≡ m + n + p.full_pages = omega arith in e)
 
 -- no page in front
-pub after-zero : (p : Prefix) → after 0 p ≡ p
+pub after-zero : (p : Prefix) → after_pages 0 p ≡ p
 after-zero p = ap (λ (k : ℕ). record p { full_pages = k }) (let e : 0 + p.full_pages ≡ p.full_pages = omega arith in e)
 
 -- the last of some pages that fit does too, with the numbers that a program has
@@ -85,7 +85,7 @@ module _ (sum : List ℕ → ℕ) (P : ℕ) where
   value_within page (Some s) at n is fits = omega (arith, (active_is sum P page s (sym is)).fits)
 
   -- the first page is full
-  pub prefix_full : (page : List ℕ) (rest : List (List ℕ)) → value_len sum P page ≡ P → prefix_of sum P (page ∷ rest) ≡ after 1 (prefix_of sum P rest)
+  pub prefix_full : (page : List ℕ) (rest : List (List ℕ)) → value_len sum P page ≡ P → prefix_of sum P (page ∷ rest) ≡ after_pages 1 (prefix_of sum P rest)
   prefix_full page rest full = cond-true (value_len sum P page == P) _ _ (eq-eqb _ _ full)
 
   -- the first page isn't full
@@ -94,7 +94,7 @@ module _ (sum : List ℕ → ℕ) (P : ℕ) where
 
   -- this is the prefix of n pages, where the first k are full
   abbrev pub StandsAt : Prefix → ℕ → ℕ → List ℕ → Type 0
-  StandsAt p n k bytes = p ≡ after k (prefix_of sum P (pieces (n - k) (P + 12) (drop (k * (P + 12)) bytes)))
+  StandsAt p n k bytes = p ≡ after_pages k (prefix_of sum P (pieces (n - k) (P + 12) (drop (k * (P + 12)) bytes)))
 
   -- so it has them
   pub stands_reach : (p : Prefix) (n k : ℕ) (bytes : List ℕ) → StandsAt p n k bytes → k ≤ p.full_pages
@@ -112,16 +112,16 @@ module _ (sum : List ℕ → ℕ) (P : ℕ) where
   -- one page more is full
   pub stands_next : (p : Prefix) (n k : ℕ) (bytes : List ℕ) → k < n → StandsAt p n k bytes → value_len sum P (page_at P k bytes) ≡ P → StandsAt p n (k + 1) bytes
   stands_next p n k bytes lt is full =
-      is ∙ ap (λ (l : List (List ℕ)). after k (prefix_of sum P l)) (pieces_from n k (P + 12) bytes lt)
-      ∙ ap (λ (q : Prefix). after k q) (prefix_full (page_at P k bytes) (pieces (n - (k + 1)) (P + 12) (drop ((k + 1) * (P + 12)) bytes)) full)
+      is ∙ ap (λ (l : List (List ℕ)). after_pages k (prefix_of sum P l)) (pieces_from n k (P + 12) bytes lt)
+      ∙ ap (λ (q : Prefix). after_pages k q) (prefix_full (page_at P k bytes) (pieces (n - (k + 1)) (P + 12) (drop ((k + 1) * (P + 12)) bytes)) full)
       ∙ after-after k 1 (prefix_of sum P (pieces (n - (k + 1)) (P + 12) (drop ((k + 1) * (P + 12)) bytes)))
 
   -- a page isn't full: the prefix ends with it
   pub stands_part : (p : Prefix) (n k : ℕ) (bytes : List ℕ) → k < n → StandsAt p n k bytes → value_len sum P (page_at P k bytes) ≢ P
       → p ≡ record { full_pages = k; partial = value_and_slot (active sum P (page_at P k bytes)) (page_at P k bytes) }
   stands_part p n k bytes lt is part =
-      is ∙ ap (λ (l : List (List ℕ)). after k (prefix_of sum P l)) (pieces_from n k (P + 12) bytes lt)
-      ∙ ap (λ (q : Prefix). after k q) (prefix_part (page_at P k bytes) (pieces (n - (k + 1)) (P + 12) (drop ((k + 1) * (P + 12)) bytes)) part)
+      is ∙ ap (λ (l : List (List ℕ)). after_pages k (prefix_of sum P l)) (pieces_from n k (P + 12) bytes lt)
+      ∙ ap (λ (q : Prefix). after_pages k q) (prefix_part (page_at P k bytes) (pieces (n - (k + 1)) (P + 12) (drop ((k + 1) * (P + 12)) bytes)) part)
       ∙ ap (λ (m : ℕ). record { full_pages = m; partial = value_and_slot (active sum P (page_at P k bytes)) (page_at P k bytes) }) (let e : k + 0 ≡ k = omega arith in e)
 
   -- what was told of a page, with the numbers that a program has
@@ -266,20 +266,20 @@ module _ (sum : List ℕ → ℕ) (P : ℕ) where
   prefix_short [] back short = absurd (omega arith)
   prefix_short (page ∷ front) back short = elim (cases_eq (value_len sum P page) P) [
     | inl full ↦
-        let head : prefix_of sum P (page ∷ front) ≡ after 1 (prefix_of sum P front) = prefix_full page front full in
+        let head : prefix_of sum P (page ∷ front) ≡ after_pages 1 (prefix_of sum P front) = prefix_full page front full in
         let rest : (prefix_of sum P front).full_pages < length front = omega (arith, short, ap (λ (p : Prefix). p.full_pages) head) in
-        prefix_full page (front ++ back) full ∙ ap (λ (p : Prefix). after 1 p) (prefix_short front back rest) ∙ sym head
+        prefix_full page (front ++ back) full ∙ ap (λ (p : Prefix). after_pages 1 p) (prefix_short front back rest) ∙ sym head
     | inr part ↦ prefix_part page (front ++ back) part ∙ sym (prefix_part page front part)
   ]
 
   -- the first pages are full
-  pub prefix_long : (front back : List (List ℕ)) → length front ≤ (prefix_of sum P front).full_pages → prefix_of sum P (front ++ back) ≡ after (length front) (prefix_of sum P back)
+  pub prefix_long : (front back : List (List ℕ)) → length front ≤ (prefix_of sum P front).full_pages → prefix_of sum P (front ++ back) ≡ after_pages (length front) (prefix_of sum P back)
   prefix_long [] back long = sym (after-zero (prefix_of sum P back))
   prefix_long (page ∷ front) back long = elim (cases_eq (value_len sum P page) P) [
     | inl full ↦
         let rest : length front ≤ (prefix_of sum P front).full_pages = omega (arith, long, ap (λ (p : Prefix). p.full_pages) (prefix_full page front full)) in
-        prefix_full page (front ++ back) full ∙ ap (λ (p : Prefix). after 1 p) (prefix_long front back rest) ∙ after-after 1 (length front) (prefix_of sum P back)
-        ∙ ap (λ (n : ℕ). after n (prefix_of sum P back)) (let e : 1 + length front ≡ suc (length front) = omega arith in e)
+        prefix_full page (front ++ back) full ∙ ap (λ (p : Prefix). after_pages 1 p) (prefix_long front back rest) ∙ after-after 1 (length front) (prefix_of sum P back)
+        ∙ ap (λ (n : ℕ). after_pages n (prefix_of sum P back)) (let e : 1 + length front ≡ suc (length front) = omega arith in e)
     | inr part ↦ absurd (omega (arith, long, ap (λ (p : Prefix). p.full_pages) (prefix_part page front part)))
   ]
 
@@ -327,15 +327,15 @@ module _ (sum : List ℕ → ℕ) (P : ℕ) where
     pub stands_ended : (p : Prefix) → StandsAt p n k readable → q.full_pages < b → p ≡ record { full_pages = k + q.full_pages; partial = q.partial }
     stands_ended p is short =
         let shorter : (prefix_of sum P front).full_pages < length front = omega (arith, short, ap (λ (x : Prefix). x.full_pages) front_is, length-pieces b (P + 12) rest) in
-        is ∙ ap (λ (l : List (List ℕ)). after k (prefix_of sum P l)) split ∙ ap (λ (x : Prefix). after k x) (prefix_short front back shorter ∙ sym front_is)
+        is ∙ ap (λ (l : List (List ℕ)). after_pages k (prefix_of sum P l)) split ∙ ap (λ (x : Prefix). after_pages k x) (prefix_short front back shorter ∙ sym front_is)
 
     -- they are full
     pub stands_on : (p : Prefix) → StandsAt p n k readable → b ≤ q.full_pages → StandsAt p n (k + b) readable
     stands_on p is long =
         let longer : length front ≤ (prefix_of sum P front).full_pages = omega (arith, long, ap (λ (x : Prefix). x.full_pages) front_is, length-pieces b (P + 12) rest) in
-        is ∙ ap (λ (l : List (List ℕ)). after k (prefix_of sum P l)) split ∙ ap (λ (x : Prefix). after k x) (prefix_long front back longer)
+        is ∙ ap (λ (l : List (List ℕ)). after_pages k (prefix_of sum P l)) split ∙ ap (λ (x : Prefix). after_pages k x) (prefix_long front back longer)
         ∙ after-after k (length front) (prefix_of sum P back)
-        ∙ ap (λ (m : ℕ). after (k + m) (prefix_of sum P back)) (length-pieces b (P + 12) rest)
+        ∙ ap (λ (m : ℕ). after_pages (k + m) (prefix_of sum P back)) (length-pieces b (P + 12) rest)
 
     -- a page of theirs
     pub page_of_batch : (f : ℕ) → f < b → page_at P f bytes ≡ page_at P (k + f) readable

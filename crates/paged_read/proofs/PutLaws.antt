@@ -12,10 +12,10 @@ use Rattle.cache.specs.CacheState.{CacheState, Puts}
 use Rattle.cache.specs.declared.piece.Piece.{Piece}
 use Rattle.cache.specs.Pages.{page_of_content, CachesOnly}
 use Rattle.cache.proofs.CacheLaws.{put_weakly, caches_none, caches_put, caches_join}
-use Rattle.paged_read.specs.Tail.{Tail, told}
+use Rattle.paged_read.specs.Tail.{logical_bytes, Tail}
 use Rattle.paged_read.specs.Ranges.{page_ranges}
-use Rattle.paged_read.specs.Parts.{ArePagesFull, pages_of}
-use Rattle.paged_read.specs.Puts.{PutsPages, PutsAsked, PutsFirst, PutsInOrder, PutsPage, numbered}
+use Rattle.paged_read.specs.Parts.{ArePagesFull, piece_pages}
+use Rattle.paged_read.specs.Puts.{PutsPages, PutsAsked, PutsFirst, PutsInOrder, PutsPageIfOk, delivered_pages}
 use Rattle.paged_read.proofs.BatchReads.{length-page_ranges}
 use Rattle.paged_read.proofs.PageReads.{has_later, first_or_later}
 
@@ -35,7 +35,7 @@ puts_none sum t pages readable cache = record { count = 0; full = λ page has. a
 
 -- where none of them are asked for
 pub puts_empty : {A : Type 0} (sum : List ℕ → ℕ) (t : Tail) (pages readable : List ℕ) (cache : CacheState) (result : Result A Error) → pages ≡ [] → PutsInOrder sum t pages readable cache cache result
-puts_empty sum t pages readable cache (Ok a) none = subst (λ (l : List ℕ). PutsPages t.id (told t readable) l cache cache) (sym none) refl
+puts_empty sum t pages readable cache (Ok a) none = subst (λ (l : List ℕ). PutsPages t.id (logical_bytes t readable) l cache cache) (sym none) refl
 puts_empty sum t pages readable cache (Err e) none = puts_none sum t pages readable cache
 
 -- a read that asked for nothing
@@ -45,14 +45,14 @@ asked_none sum t pages life cache e = (record { count = 0; full = λ page has. a
 -- or where none are missing
 pub asked_empty : {A : Type 0} (sum : List ℕ → ℕ) (t : Tail) (pages : List ℕ) (life : Life) (cache : CacheState) (a : A) → pages ≡ [] → PutsAsked {A = A} sum t pages life life cache cache (Ok a)
 asked_empty sum t pages life cache a none =
-    (subst (λ (l : List ℕ). PutsPages t.id (told t life.present.readable) l cache cache) (sym none) refl, omega (arith, ap (λ (l : List ℕ). length l) none))
+    (subst (λ (l : List ℕ). PutsPages t.id (logical_bytes t life.present.readable) l cache cache) (sym none) refl, omega (arith, ap (λ (l : List ℕ). length l) none))
 
 -- the log goes on
 pub looked_longer : (old new : Life) → Looked old new → length old.present.log ≤ length new.present.log
 looked_longer old new looked = omega (arith, ap (λ (l : List Entry). length l) looked.log.1, length-append old.present.log looked.log.0)
 
 -- a read of one page
-pub asked_page : {A : Type 0} (sum : List ℕ → ℕ) (t : Tail) (page : ℕ) (old new : Life) (cache after : CacheState) (result : Result A Error) → PutsPage t page old.present.readable cache after result → Looked old new → length new.present.log ≤ length old.present.log + 1
+pub asked_page : {A : Type 0} (sum : List ℕ → ℕ) (t : Tail) (page : ℕ) (old new : Life) (cache after : CacheState) (result : Result A Error) → PutsPageIfOk t page old.present.readable cache after result → Looked old new → length new.present.log ≤ length old.present.log + 1
     → OnOk result (length new.present.log ≡ length old.present.log + 1) → PutsAsked sum t (page ∷ []) old new cache after result
 asked_page sum t page old new cache after (Ok a) put looked asks answered = (put, answered)
 asked_page sum t page old new cache after (Err e) same looked asks answered =
@@ -67,31 +67,31 @@ asked_in_order sum t pages old new cache after (Err e) asked = asked.0
 
 module _ (t : Tail) (pieces : List Piece) (k : ℕ) where
   -- one piece more
-  pub puts_piece_more : (d : Piece) (content later : List ℕ) (old mid new : CacheState) → k < length pieces → later ≡ content → PutsPages t.id content (pages_of (take k pieces)) old mid → PutsPages t.id later ((get_or pieces k d).page ∷ []) mid new
-      → PutsPages t.id content (pages_of (take (k + 1) pieces)) old new
+  pub puts_piece_more : (d : Piece) (content later : List ℕ) (old mid new : CacheState) → k < length pieces → later ≡ content → PutsPages t.id content (piece_pages (take k pieces)) old mid → PutsPages t.id later ((get_or pieces k d).page ∷ []) mid new
+      → PutsPages t.id content (piece_pages (take (k + 1) pieces)) old new
   puts_piece_more d content later old mid new there same before here =
-      let split : pages_of (take (k + 1) pieces) ≡ pages_of (take k pieces) ++ (get_or pieces k d).page ∷ [] = ap pages_of (take_more pieces k d there) ∙ map-append (λ (p : Piece). p.page) (take k pieces) (get_or pieces k d ∷ []) in
+      let split : piece_pages (take (k + 1) pieces) ≡ piece_pages (take k pieces) ++ (get_or pieces k d).page ∷ [] = ap piece_pages (take_more pieces k d there) ∙ map-append (λ (p : Piece). p.page) (take k pieces) (get_or pieces k d ∷ []) in
       subst (λ (l : List ℕ). PutsPages t.id content l old new) (sym split)
-      (puts_joins t.id content (pages_of (take k pieces)) ((get_or pieces k d).page ∷ []) old mid new before (subst (λ (l : List ℕ). PutsPages t.id l ((get_or pieces k d).page ∷ []) mid new) same here))
+      (puts_joins t.id content (piece_pages (take k pieces)) ((get_or pieces k d).page ∷ []) old mid new before (subst (λ (l : List ℕ). PutsPages t.id l ((get_or pieces k d).page ∷ []) mid new) same here))
 
   -- a page that can't be read
-  pub asked_first_pieces : (sum : List ℕ → ℕ) (old between new : Life) (cache mid after : CacheState) (e : Error) → ArePagesFull sum t.page_size (pages_of (take k pieces)) old.present.readable → PutsPages t.id (told t old.present.readable) (pages_of (take k pieces)) cache mid → after ≡ mid
-      → length between.present.log ≡ length old.present.log + k → Looked between new → length new.present.log ≤ length between.present.log + 1 → PutsAsked {A = Unit {0}} sum t (pages_of pieces) old new cache after (Err e)
+  pub asked_first_pieces : (sum : List ℕ → ℕ) (old between new : Life) (cache mid after : CacheState) (e : Error) → ArePagesFull sum t.page_size (piece_pages (take k pieces)) old.present.readable → PutsPages t.id (logical_bytes t old.present.readable) (piece_pages (take k pieces)) cache mid → after ≡ mid
+      → length between.present.log ≡ length old.present.log + k → Looked between new → length new.present.log ≤ length between.present.log + 1 → PutsAsked {A = Unit {0}} sum t (piece_pages pieces) old new cache after (Err e)
   asked_first_pieces sum old between new cache mid after e full before same asks looked more =
       let readable = old.present.readable in
-      let first : pages_of (take k pieces) ≡ take k (pages_of pieces) = sym (take-map (λ (p : Piece). p.page) k pieces) in (
+      let first : piece_pages (take k pieces) ≡ take k (piece_pages pieces) = sym (take-map (λ (p : Piece). p.page) k pieces) in (
         record {
           count = k;
           full = subst (λ (l : List ℕ). ArePagesFull sum t.page_size l readable) first full;
-          puts = subst (λ (l : List ℕ). PutsPages t.id (told t readable) l cache after) first (subst (λ (c : CacheState). PutsPages t.id (told t readable) (pages_of (take k pieces)) cache c) (sym same) before);
+          puts = subst (λ (l : List ℕ). PutsPages t.id (logical_bytes t readable) l cache after) first (subst (λ (c : CacheState). PutsPages t.id (logical_bytes t readable) (piece_pages (take k pieces)) cache c) (sym same) before);
         },
         omega (arith, asks, looked_longer between new looked),
         omega (arith, asks, more),
       )
 
   -- all of them
-  pub puts_all_pieces : (content : List ℕ) (old new : CacheState) → length pieces ≤ k → PutsPages t.id content (pages_of (take k pieces)) old new → PutsPages t.id content (pages_of pieces) old new
-  puts_all_pieces content old new over puts = subst (λ (l : List Piece). PutsPages t.id content (pages_of l) old new) (take_all k pieces over) puts
+  pub puts_all_pieces : (content : List ℕ) (old new : CacheState) → length pieces ≤ k → PutsPages t.id content (piece_pages (take k pieces)) old new → PutsPages t.id content (piece_pages pieces) old new
+  puts_all_pieces content old new over puts = subst (λ (l : List Piece). PutsPages t.id content (piece_pages l) old new) (take_all k pieces over) puts
 
 -- ---- what is put is the content's
 
@@ -144,12 +144,12 @@ listed f (x ∷ xs) first each =
     let rest : map f (range_with_len (first + 1) (length xs)) ≡ xs = listed f xs (first + 1) (λ i less. (let e : first + 1 + i ≡ first + suc i = omega arith in ap f e) ∙ each (suc i) (omega (arith, less))) in
     ap (λ (y : ℕ). y ∷ map f (range_with_len (first + 1) (length xs))) here ∙ ap (λ (l : List ℕ). x ∷ l) rest
 
-numbered_is : (pages : List ℕ) (out : List (ℕ × List ℕ)) → map (λ (n : ℕ). get_or pages n 0) (map (λ (r : ℕ × List ℕ). r.0) out) ≡ numbered pages out
+numbered_is : (pages : List ℕ) (out : List (ℕ × List ℕ)) → map (λ (n : ℕ). get_or pages n 0) (map (λ (r : ℕ × List ℕ). r.0) out) ≡ delivered_pages pages out
 numbered_is pages [] = refl
 numbered_is pages (r ∷ out) = ap (λ (l : List ℕ). get_or pages r.0 0 ∷ l) (numbered_is pages out)
 
 -- they are the pages that were asked for
-pub numbered_each : (P : ℕ) (pages readable : List ℕ) (out : List (ℕ × List ℕ)) → Delivers (page_ranges P pages) readable out → IsPermutation pages (numbered pages out)
+pub numbered_each : (P : ℕ) (pages readable : List ℕ) (out : List (ℕ × List ℕ)) → Delivers (page_ranges P pages) readable out → IsPermutation pages (delivered_pages pages out)
 numbered_each P pages readable out delivers =
     let numbers = map (λ (r : ℕ × List ℕ). r.0) out in
     let size = length-page_ranges P pages in
@@ -157,15 +157,15 @@ numbered_each P pages readable out delivers =
     let those = numbers_permute (length pages) 0 numbers many (λ i from below. delivers.all i (omega (arith, below, size))) in
     let at : ℕ → ℕ = λ n. get_or pages n 0 in
     let start : map at (range_with_len 0 (length pages)) ≡ pages = listed at pages 0 (λ i less. let e : 0 + i ≡ i = omega arith in ap at e) in
-    subst (λ (l : List ℕ). IsPermutation l (numbered pages out)) start
+    subst (λ (l : List ℕ). IsPermutation l (delivered_pages pages out)) start
     (subst (λ (l : List ℕ). IsPermutation (map at (range_with_len 0 (length pages))) l) (numbered_is pages out) (IsPermutation-map at (range_with_len 0 (length pages)) numbers those))
 
 -- one more
-pub numbered_more : (pages : List ℕ) (out : List (ℕ × List ℕ)) (k : ℕ) (d : ℕ × List ℕ) → k < length out → numbered pages (take (k + 1) out) ≡ numbered pages (take k out) ++ get_or pages (get_or out k d).0 0 ∷ []
+pub numbered_more : (pages : List ℕ) (out : List (ℕ × List ℕ)) (k : ℕ) (d : ℕ × List ℕ) → k < length out → delivered_pages pages (take (k + 1) out) ≡ delivered_pages pages (take k out) ++ get_or pages (get_or out k d).0 0 ∷ []
 numbered_more pages out k d there =
     let f : ℕ × List ℕ → ℕ = λ r. get_or pages r.0 0 in
     ap (λ (l : List (ℕ × List ℕ)). map f l) (take_more out k d there) ∙ map-append f (take k out) (get_or out k d ∷ [])
 
 -- the first so many
-pub numbered_first : (pages : List ℕ) (out : List (ℕ × List ℕ)) (k : ℕ) → take k (numbered pages out) ≡ numbered pages (take k out)
+pub numbered_first : (pages : List ℕ) (out : List (ℕ × List ℕ)) (k : ℕ) → take k (delivered_pages pages out) ≡ delivered_pages pages (take k out)
 numbered_first pages out k = take-map (λ (r : ℕ × List ℕ). get_or pages r.0 0) k out

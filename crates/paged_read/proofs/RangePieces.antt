@@ -9,7 +9,7 @@ use Rattle.std.proofs.lemmas.List.{drop-drop, length-take-le}
 use Rattle.std.proofs.lemmas.List.Elements.{All-filter}
 use Rattle.std.proofs.lemmas.List.FromFn.{get_or-map-range_with_len, length-map-range_with_len}
 use Rattle.crash.proofs.Lists.{within_take}
-use Rattle.cache.specs.CacheState.{CacheState, held, pieces_left}
+use Rattle.cache.specs.CacheState.{cached_page, CacheState, pieces_left}
 use Rattle.cache.specs.Pages.{page_of_content, IsTrueFor}
 use Rattle.cache.specs.declared.piece.Piece.{Piece}
 use Rattle.paged_read.specs.Tail.{Tail}
@@ -26,7 +26,7 @@ fit_each P content wanted f first zero each = tt
 fit_each P content wanted f first (suc n) each = (each first (omega arith) (omega arith), fit_each P content wanted f (first + 1) n (λ p above below. each p (omega (arith, above)) (omega (arith, below))))
 
 true_each : (cache : CacheState) (id P : ℕ) (content : List ℕ) (f : ℕ → Piece) (first n : ℕ)
-    → ((p : ℕ) → first ≤ p → p < first + n → (bytes : List ℕ) → held cache (id, (f p).page) ≡ Some bytes → bytes ≡ page_of_content P content (f p).page) → AreTrue cache id P content (map f (range_with_len first n))
+    → ((p : ℕ) → first ≤ p → p < first + n → (bytes : List ℕ) → cached_page cache (id, (f p).page) ≡ Some bytes → bytes ≡ page_of_content P content (f p).page) → AreTrue cache id P content (map f (range_with_len first n))
 true_each cache id P content f first zero each = tt
 true_each cache id P content f first (suc n) each = (each first (omega arith) (omega arith), true_each cache id P content f (first + 1) n (λ p above below. each p (omega (arith, above)) (omega (arith, below))))
 

@@ -13,8 +13,8 @@ use Rattle.disk.specs.declared.error.Error.TheVariants.{ReadFailed, WriteFailed,
 use Rattle.page.proofs.Ranges.{RangesGo-refused}
 use Rattle.cache.specs.CacheState.{CacheState}
 use Rattle.page.specs.Geometry.{EndWithin, AreInOrderFrom, RangeGoes, RangesGo}
-use Rattle.paged_read.specs.Tail.{Tail, size_of}
-use Rattle.paged_read.specs.Ranges.{is_served, served, missed_from, slice, HasServed, Misses}
+use Rattle.paged_read.specs.Tail.{Tail, tail_size}
+use Rattle.paged_read.specs.Ranges.{is_served, served_ranges, missed_from, slice, HasServed, Misses}
 use Rattle.paged_read.specs.Batch.{Gathered, ranges_of}
 use Rattle.paged_read.specs.declared.lack.Lack.{Lack}
 use Rattle.paged_read.proofs.RangedPages.{range_split}
@@ -36,16 +36,16 @@ ends_before offset (range ∷ ranges) (suc i) d order there =
     (ends_before (range.0 + range.1) ranges i d order.1 (omega arith))
 
 -- one range more is counted
-pub served_count : (cache : CacheState) (t : Tail) (ranges : List (ℕ × ℕ)) (i : ℕ) (d : ℕ × ℕ) (count : ℕ) (here : Bool) → i < length ranges → count ≡ served cache t (take i ranges) → here ≡ is_served cache t (get_or ranges i d)
-    → count + cond here 1 0 ≡ served cache t (take (i + 1) ranges)
+pub served_count : (cache : CacheState) (t : Tail) (ranges : List (ℕ × ℕ)) (i : ℕ) (d : ℕ × ℕ) (count : ℕ) (here : Bool) → i < length ranges → count ≡ served_ranges cache t (take i ranges) → here ≡ is_served cache t (get_or ranges i d)
+    → count + cond here 1 0 ≡ served_ranges cache t (take (i + 1) ranges)
 served_count cache t ranges i d count here there before is =
     let range = get_or ranges i d in
     ap (λ (n : ℕ). n + cond here 1 0) before
-    ∙ ap (λ (b : Bool). served cache t (take i ranges) + cond b 1 0) is
-    ∙ ap (λ (n : ℕ). served cache t (take i ranges) + n) (one (is_served cache t range) range)
+    ∙ ap (λ (b : Bool). served_ranges cache t (take i ranges) + cond b 1 0) is
+    ∙ ap (λ (n : ℕ). served_ranges cache t (take i ranges) + n) (one (is_served cache t range) range)
     ∙ sym (length-append (filter (is_served cache t) (take i ranges)) (cond (is_served cache t range) (range ∷ []) []))
     ∙ ap length (sym (filter-append (is_served cache t) (take i ranges) (range ∷ [])))
-    ∙ ap (λ (rs : List (ℕ × ℕ)). served cache t rs) (sym (take_more ranges i d there))
+    ∙ ap (λ (rs : List (ℕ × ℕ)). served_ranges cache t rs) (sym (take_more ranges i d there))
   where
     one : (b : Bool) (r : ℕ × ℕ) → cond b 1 0 ≡ length (cond b (r ∷ []) [])
     one true r = refl
@@ -108,10 +108,10 @@ served_push cache t (first ∷ ranges) range content buf part size long is has =
 pub served_more_bytes : (cache : CacheState) (t : Tail) (ranges : List (ℕ × ℕ)) (i : ℕ) (d : ℕ × ℕ) (content buf after part : List ℕ) (buf_offset : ℕ) → i < length ranges → buf_offset ≤ length buf → buf_offset ≡ sum_by (λ (r : ℕ × ℕ). r.1) (take i ranges)
     → take (buf_offset + (get_or ranges i d).1) after ≡ take buf_offset buf ++ part → length part ≡ (get_or ranges i d).1 → (is_served cache t (get_or ranges i d) ≡ true → part ≡ slice content (get_or ranges i d))
     → HasServed cache t (take i ranges) content (take buf_offset buf) → HasServed cache t (take (i + 1) ranges) content (take (buf_offset + (get_or ranges i d).1) after)
-served_more_bytes cache t ranges i d content buf after part buf_offset there fits is front long served has =
+served_more_bytes cache t ranges i d content buf after part buf_offset there fits is front long served_ranges has =
     subst (λ (l : List ℕ). HasServed cache t (take (i + 1) ranges) content l) (sym front)
     (subst (λ (rs : List (ℕ × ℕ)). HasServed cache t rs content (take buf_offset buf ++ part)) (sym (take_more ranges i d there))
-    (served_push cache t (take i ranges) (get_or ranges i d) content (take buf_offset buf) part (length-take-le buf_offset buf fits ∙ is) long served has))
+    (served_push cache t (take i ranges) (get_or ranges i d) content (take buf_offset buf) part (length-take-le buf_offset buf fits ∙ is) long served_ranges has))
 
 -- ---- ranges that can't be read
 
@@ -190,12 +190,12 @@ pub range_push : (n : ℕ) → range_with_len 0 n ++ n ∷ [] ≡ range_with_len
 range_push n = sym (range_split 0 n 1 (n + 1) n refl (omega arith))
 
 -- where a range can't be read, all are answered
-pub misses_all : (t : Tail) (ranges : List (ℕ × ℕ)) (cache : CacheState) (result : Result (Vec ℕ Global) Error) → (EndWithin (size_of t) ranges → ⊥) → IfOk result (λ all. all.items ≡ range_with_len 0 (length ranges)) → IfOk result (λ missed. Misses t ranges cache missed.items)
+pub misses_all : (t : Tail) (ranges : List (ℕ × ℕ)) (cache : CacheState) (result : Result (Vec ℕ Global) Error) → (EndWithin (tail_size t) ranges → ⊥) → IfOk result (λ all. all.items ≡ range_with_len 0 (length ranges)) → IfOk result (λ missed. Misses t ranges cache missed.items)
 misses_all t ranges cache (Ok all) refused is = inr (refused, is)
 misses_all t ranges cache (Err e) refused is = is
 
 -- where none is, those that aren't served are
-pub misses_within : (t : Tail) (ranges : List (ℕ × ℕ)) (cache : CacheState) (result : Result (Vec ℕ Global) Error) → EndWithin (size_of t) ranges → IfOk result (λ missed. missed.items ≡ missed_from 0 cache t ranges) → IfOk result (λ missed. Misses t ranges cache missed.items)
+pub misses_within : (t : Tail) (ranges : List (ℕ × ℕ)) (cache : CacheState) (result : Result (Vec ℕ Global) Error) → EndWithin (tail_size t) ranges → IfOk result (λ missed. missed.items ≡ missed_from 0 cache t ranges) → IfOk result (λ missed. Misses t ranges cache missed.items)
 misses_within t ranges cache (Ok missed) within is = inl (within, is)
 misses_within t ranges cache (Err e) within is = is
 

@@ -9,7 +9,7 @@ use Rattle.std.proofs.lemmas.Option.{same_Some, slice_get-get_or}
 use Rattle.std.proofs.lemmas.List.Folds.{list_any-append, list_any_at}
 use Rattle.std.proofs.Math.Nat.{div-add-mod', mod-lt, suc-mul, mul-le-mul_right}
 use Rattle.std.proofs.lemmas.Nat.{div_below}
-use Rattle.cache.specs.CacheState.{CacheState, held}
+use Rattle.cache.specs.CacheState.{cached_page, CacheState}
 use Rattle.page.specs.Geometry.{EndWithin}
 use Rattle.paged_read.specs.Tail.{Tail}
 use Rattle.paged_read.specs.Ranges.{touches, missing, is_served}
@@ -156,7 +156,7 @@ abbrev pub is_touched : (P : ℕ) → List (ℕ × ℕ) → ℕ → Bool
 is_touched P ranges page = list_any (λ range. touches P range page) ranges
 
 abbrev pub is_lacked : CacheState → Tail → List (ℕ × ℕ) → ℕ → Bool
-is_lacked cache t ranges page = not (is_some (held cache (t.id, page))) && is_touched t.page_size ranges page
+is_lacked cache t ranges page = not (is_some (cached_page cache (t.id, page))) && is_touched t.page_size ranges page
 
 -- ranges that touch the same pages lack the same
 pub missing_same : (cache : CacheState) (t : Tail) (first second : List (ℕ × ℕ)) → ((p : ℕ) → p < t.full_pages → is_lacked cache t first p ≡ is_lacked cache t second p) → missing cache t first ≡ missing cache t second
@@ -175,7 +175,7 @@ touched_push P ranges range p =
 pub missing_split : (cache : CacheState) (t : Tail) (ranges : List (ℕ × ℕ)) (o d n : ℕ) → 0 < t.page_size → missing cache t (ranges ++ (o, d + n) ∷ []) ≡ missing cache t ((ranges ++ (o, d) ∷ []) ++ (o + d, n) ∷ [])
 missing_split cache t ranges o d n wide = missing_same cache t (ranges ++ (o, d + n) ∷ []) ((ranges ++ (o, d) ∷ []) ++ (o + d, n) ∷ []) (λ p below.
     let P = t.page_size in
-    ap (λ (b : Bool). not (is_some (held cache (t.id, p))) && b) (
+    ap (λ (b : Bool). not (is_some (cached_page cache (t.id, p))) && b) (
     touched_push P ranges (o, d + n) p
     ∙ ap (λ (b : Bool). is_touched P ranges p || b) (touches_split P o d n p wide)
     ∙ or_joins (is_touched P ranges p) (touches P (o, d) p) (touches P (o + d, n) p)
@@ -189,7 +189,7 @@ missing_split cache t ranges o d n wide = missing_same cache t (ranges ++ (o, d 
 pub missing_none : (cache : CacheState) (t : Tail) (ranges : List (ℕ × ℕ)) (o : ℕ) → missing cache t (ranges ++ (o, 0) ∷ []) ≡ missing cache t ranges
 missing_none cache t ranges o = missing_same cache t (ranges ++ (o, 0) ∷ []) ranges (λ p below.
     let P = t.page_size in
-    ap (λ (b : Bool). not (is_some (held cache (t.id, p))) && b) (
+    ap (λ (b : Bool). not (is_some (cached_page cache (t.id, p))) && b) (
     touched_push P ranges (o, 0) p
     ∙ ap (λ (b : Bool). is_touched P ranges p || b) (false_from_ne_true (touches P (o, 0) p) (λ met. absurd (omega (arith, (touch_true P o 0 p met).0))))
     ∙ or_false (is_touched P ranges p)))
@@ -218,10 +218,10 @@ pub each_served : (cache : CacheState) (t : Tail) (ranges : List (ℕ × ℕ)) (
 each_served cache t ranges i d there none =
     let range = get_or ranges i d in
     lacks_served cache t range (λ p below. false_from_ne_true (is_lacked cache t (range ∷ []) p) (λ met.
-    let parts = and_parts (not (is_some (held cache (t.id, p)))) (is_touched t.page_size (range ∷ []) p) met in
+    let parts = and_parts (not (is_some (cached_page cache (t.id, p)))) (is_touched t.page_size (range ∷ []) p) met in
     let touched : is_touched t.page_size ranges p ≡ true = list_any_at (λ r. touches t.page_size r p) ranges i d there (sym (or_false (touches t.page_size range p)) ∙ parts.1) in
     both_ways (is_lacked cache t ranges p) (none_kept (is_lacked cache t ranges) 0 t.full_pages p (ap length none) (omega arith) (omega (arith, below)))
-    (and_from (not (is_some (held cache (t.id, p)))) (is_touched t.page_size ranges p) parts.0 touched)))
+    (and_from (not (is_some (cached_page cache (t.id, p)))) (is_touched t.page_size ranges p) parts.0 touched)))
 
 -- the pages that are missing are below the tail
 pub missing_below : (cache : CacheState) (t : Tail) (ranges : List (ℕ × ℕ)) → All (λ page. page < t.full_pages) (missing cache t ranges)
@@ -231,11 +231,11 @@ missing_below cache t ranges = λ k d less. kept_below (is_lacked cache t ranges
 pub served_split : (cache : CacheState) (t : Tail) (o d n : ℕ) → 0 < t.page_size → is_served cache t (o, d + n) ≡ (is_served cache t (o, d) && is_served cache t (o + d, n))
 served_split cache t o d n wide = same_tests (is_served cache t (o, d + n)) (is_served cache t (o, d) && is_served cache t (o + d, n)) there back
   where
-    split : (p : ℕ) → is_lacked cache t ((o, d + n) ∷ []) p ≡ (not (is_some (held cache (t.id, p))) && (touches t.page_size (o, d) p || touches t.page_size (o + d, n) p))
-    split p = ap (λ (b : Bool). not (is_some (held cache (t.id, p))) && b) (or_false (touches t.page_size (o, d + n) p) ∙ touches_split t.page_size o d n p wide)
+    split : (p : ℕ) → is_lacked cache t ((o, d + n) ∷ []) p ≡ (not (is_some (cached_page cache (t.id, p))) && (touches t.page_size (o, d) p || touches t.page_size (o + d, n) p))
+    split p = ap (λ (b : Bool). not (is_some (cached_page cache (t.id, p))) && b) (or_false (touches t.page_size (o, d + n) p) ∙ touches_split t.page_size o d n p wide)
 
-    one : (a n p : ℕ) → is_lacked cache t ((a, n) ∷ []) p ≡ (not (is_some (held cache (t.id, p))) && touches t.page_size (a, n) p)
-    one a n p = ap (λ (b : Bool). not (is_some (held cache (t.id, p))) && b) (or_false (touches t.page_size (a, n) p))
+    one : (a n p : ℕ) → is_lacked cache t ((a, n) ∷ []) p ≡ (not (is_some (cached_page cache (t.id, p))) && touches t.page_size (a, n) p)
+    one a n p = ap (λ (b : Bool). not (is_some (cached_page cache (t.id, p))) && b) (or_false (touches t.page_size (a, n) p))
 
     parts : (a b c : Bool) → (a && (b || c)) ≡ false → ((a && b) ≡ false) × ((a && c) ≡ false)
     parts true true c is = absurd (both_ways true is refl)
@@ -249,14 +249,14 @@ served_split cache t o d n wide = same_tests (is_served cache t (o, d + n)) (is_
 
     there : is_served cache t (o, d + n) ≡ true → (is_served cache t (o, d) && is_served cache t (o + d, n)) ≡ true
     there served =
-        let h : (p : ℕ) → p < t.full_pages → ((not (is_some (held cache (t.id, p))) && touches t.page_size (o, d) p) ≡ false) × ((not (is_some (held cache (t.id, p))) && touches t.page_size (o + d, n) p) ≡ false) =
-        λ p below. parts (not (is_some (held cache (t.id, p)))) (touches t.page_size (o, d) p) (touches t.page_size (o + d, n) p) (sym (split p) ∙ served_lacks cache t (o, d + n) served p below) in
+        let h : (p : ℕ) → p < t.full_pages → ((not (is_some (cached_page cache (t.id, p))) && touches t.page_size (o, d) p) ≡ false) × ((not (is_some (cached_page cache (t.id, p))) && touches t.page_size (o + d, n) p) ≡ false) =
+        λ p below. parts (not (is_some (cached_page cache (t.id, p)))) (touches t.page_size (o, d) p) (touches t.page_size (o + d, n) p) (sym (split p) ∙ served_lacks cache t (o, d + n) served p below) in
         and_from (is_served cache t (o, d)) (is_served cache t (o + d, n)) (lacks_served cache t (o, d) (λ p below. one o d p ∙ (h p below).0)) (lacks_served cache t (o + d, n) (λ p below. one (o + d) n p ∙ (h p below).1))
 
     back : (is_served cache t (o, d) && is_served cache t (o + d, n)) ≡ true → is_served cache t (o, d + n) ≡ true
     back both =
         let h = and_parts (is_served cache t (o, d)) (is_served cache t (o + d, n)) both in
-        lacks_served cache t (o, d + n) (λ p below. split p ∙ whole (not (is_some (held cache (t.id, p)))) (touches t.page_size (o, d) p) (touches t.page_size (o + d, n) p) (sym (one o d p) ∙ served_lacks cache t (o, d) h.0 p below) (sym (one (o + d) n p) ∙ served_lacks cache t (o + d, n) h.1 p below))
+        lacks_served cache t (o, d + n) (λ p below. split p ∙ whole (not (is_some (cached_page cache (t.id, p)))) (touches t.page_size (o, d) p) (touches t.page_size (o + d, n) p) (sym (one o d p) ∙ served_lacks cache t (o, d) h.0 p below) (sym (one (o + d) n p) ∙ served_lacks cache t (o + d, n) h.1 p below))
 
 -- so it isn't where one of them isn't
 pub part_unserved : (cache : CacheState) (t : Tail) (o n at part : ℕ) → 0 < t.page_size → o ≤ at → at + part ≤ o + n → is_served cache t (at, part) ≡ false → is_served cache t (o, n) ≡ false
@@ -276,7 +276,7 @@ part_unserved cache t o n at part wide after ends none =
 
 -- no ranges lack none
 pub missing_nil : (cache : CacheState) (t : Tail) → missing cache t [] ≡ []
-missing_nil cache t = filter_none (is_lacked cache t []) 0 t.full_pages (λ p lo hi. and_right (not (is_some (held cache (t.id, p)))) false refl)
+missing_nil cache t = filter_none (is_lacked cache t []) 0 t.full_pages (λ p lo hi. and_right (not (is_some (cached_page cache (t.id, p)))) false refl)
 
 -- an empty range is served
 pub served_none : (cache : CacheState) (t : Tail) (o : ℕ) → is_served cache t (o, 0) ≡ true
@@ -285,8 +285,8 @@ served_none cache t o = ap (λ (l : List ℕ). nat_eq (length l) 0) (missing_non
 -- a range that is served adds no page to those that others lack
 pub missing_served : (cache : CacheState) (t : Tail) (ranges : List (ℕ × ℕ)) (range : ℕ × ℕ) → is_served cache t range ≡ true → missing cache t (ranges ++ range ∷ []) ≡ missing cache t ranges
 missing_served cache t ranges range served = missing_same cache t (ranges ++ range ∷ []) ranges (λ p below.
-    ap (λ (b : Bool). not (is_some (held cache (t.id, p))) && b) (touched_push t.page_size ranges range p)
-    ∙ drops (not (is_some (held cache (t.id, p)))) (is_touched t.page_size ranges p) (touches t.page_size range p) (sym (ap (λ (b : Bool). not (is_some (held cache (t.id, p))) && b) (or_false (touches t.page_size range p))) ∙ served_lacks cache t range served p below))
+    ap (λ (b : Bool). not (is_some (cached_page cache (t.id, p))) && b) (touched_push t.page_size ranges range p)
+    ∙ drops (not (is_some (cached_page cache (t.id, p)))) (is_touched t.page_size ranges p) (touches t.page_size range p) (sym (ap (λ (b : Bool). not (is_some (cached_page cache (t.id, p))) && b) (or_false (touches t.page_size range p))) ∙ served_lacks cache t range served p below))
   where
     drops : (a b c : Bool) → (a && c) ≡ false → (a && (b || c)) ≡ (a && b)
     drops true true c none = refl
@@ -295,7 +295,7 @@ missing_served cache t ranges range served = missing_same cache t (ranges ++ ran
 
 -- bytes of one page that aren't served: their page is below the tail and lacked
 pub unserved_page : (cache : CacheState) (t : Tail) (o n : ℕ) → 0 < t.page_size → (o < t.full_pages * t.page_size → o % t.page_size + n ≤ t.page_size) → is_served cache t (o, n) ≡ false
-    → (o / t.page_size < t.full_pages) × (o % t.page_size + n ≤ t.page_size) × (is_some (held cache (t.id, o / t.page_size)) ≡ false)
+    → (o / t.page_size < t.full_pages) × (o % t.page_size + n ≤ t.page_size) × (is_some (cached_page cache (t.id, o / t.page_size)) ≡ false)
 unserved_page cache t o n wide fits unserved = elim (cases_lt o (t.full_pages * t.page_size)) [
   | inl below ↦ (
     div_below o t.page_size t.full_pages wide below,
@@ -303,7 +303,7 @@ unserved_page cache t o n wide fits unserved = elim (cases_lt o (t.full_pages * 
     false_from_ne_true _ (λ there. both_ways _ unserved (lacks_served cache t (o, n) (λ p less. false_from_ne_true _ (λ met.
         let h = and_parts _ _ met in
         let same = touches_one t.page_size o n p wide (fits below) (sym (or_false _) ∙ h.1) in
-        both_ways _ (not_true _ h.0) (ap (λ (q : ℕ). is_some (held cache (t.id, q))) same ∙ there))))),
+        both_ways _ (not_true _ h.0) (ap (λ (q : ℕ). is_some (cached_page cache (t.id, q))) same ∙ there))))),
   )
   | inr after ↦ absurd (both_ways _ unserved (lacks_served cache t (o, n) (λ p less. false_from_ne_true _ (λ met. touches_after t.page_size o n p t.full_pages after less (sym (or_false _) ∙ (and_parts _ _ met).1)))))
 ]
@@ -331,5 +331,5 @@ missing_page cache t ranges o n wide some ends fits unserved =
     let here : touches P (o, n) (o / P) ≡ true = touches_yes P o n (o / P) some (omega (arith, whole, some)) (omega (arith, whole, short, suc-mul (o / P) P)) in
     filter_step (is_lacked cache t ranges) (is_lacked cache t (ranges ++ (o, n) ∷ [])) (o / P) t.full_pages h.0
     (and_from _ _ (ap not h.2) (touched_push P ranges (o, n) (o / P) ∙ or_right _ _ here))
-    (λ p less apart. ap (λ (b : Bool). not (is_some (held cache (t.id, p))) && b) (touched_push P ranges (o, n) p ∙ ap (λ (b : Bool). is_touched P ranges p || b) (false_from_ne_true _ (λ met. apart (touches_one P o n p wide h.1 met))) ∙ or_false _))
+    (λ p less apart. ap (λ (b : Bool). not (is_some (cached_page cache (t.id, p))) && b) (touched_push P ranges (o, n) p ∙ ap (λ (b : Bool). is_touched P ranges p || b) (false_from_ne_true _ (λ met. apart (touches_one P o n p wide h.1 met))) ∙ or_false _))
     (λ p less met. touched_before P ranges p o wide ends (and_parts _ _ met).1)

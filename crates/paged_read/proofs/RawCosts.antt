@@ -4,9 +4,9 @@ use Rattle.std.specs.List.{range_with_len}
 use Rattle.std.proofs.lemmas.List.{map-append}
 use Rattle.std.proofs.lemmas.Bool.{cases_eq}
 use Rattle.std.proofs.lemmas.Nat.{div_below, le-div}
-use Rattle.disk.specs.Disk.{Request, Life, ReadAt, AskedOnce, ReadGoes}
+use Rattle.disk.specs.Disk.{Request, Life, ReadAt, AskedOnce, DeviceReadGoes}
 use Rattle.disk.specs.declared.error.Error.{Error}
-use Rattle.paged_read.specs.RawReads.{page_request, range_end, ReadsOne, ReadsPages, ReadsRange, ReadsRising}
+use Rattle.paged_read.specs.RawReads.{page_request, range_end, ReadsEachPage, ReadsOne, ReadsPagesOf, ReadsRising}
 use Rattle.paged_read.proofs.Searching.{gained_none, gained_once, gained_joins, read_asks}
 
 range_append : (a k n : ℕ) → range_with_len a (k + n) ≡ range_with_len a k ++ range_with_len (a + k) n
@@ -17,14 +17,14 @@ range_append a (suc k) n =
     ∙ ap (λ (l : List ℕ). a ∷ l) (range_append (a + 1) k n ∙ ap (λ (m : ℕ). range_with_len (a + 1) k ++ range_with_len m n) (let e : a + 1 + k ≡ a + suc k = omega arith in e))
 
 -- no page
-pub pages_none : (P page : ℕ) (life : Life) → ReadsPages P page 0 life life
+pub pages_none : (P page : ℕ) (life : Life) → ReadsEachPage P page 0 life life
 pages_none P page life = gained_none (λ (xs : List Request). xs ≡ []) life life refl refl
 
 pub rising_none : (P page count : ℕ) (life : Life) → ReadsRising P page count life life
 rising_none P page count life = (0, omega arith, pages_none P page life)
 
 -- some pages, and then those after them
-pub pages_join : (P page k n : ℕ) (old mid new : Life) → ReadsPages P page k old mid → ReadsPages P (page + k) n mid new → ReadsPages P page (k + n) old new
+pub pages_join : (P page k n : ℕ) (old mid new : Life) → ReadsEachPage P page k old mid → ReadsEachPage P (page + k) n mid new → ReadsEachPage P page (k + n) old new
 pages_join P page k n old mid new first second =
     let f = page_request P in
     let one = range_with_len page k in
@@ -33,23 +33,23 @@ pages_join P page k n old mid new first second =
     (λ xs ys x y. ap (λ (l : List Request). l ++ ys) x ∙ ap (λ (l : List Request). map f one ++ l) y ∙ sym (map-append f one other) ∙ ap (λ (l : List ℕ). map f l) (sym (range_append page k n)))
     first second
 
-pub rising_joins : (P page k n : ℕ) (old mid new : Life) → ReadsPages P page k old mid → ReadsRising P (page + k) n mid new → ReadsRising P page (k + n) old new
+pub rising_joins : (P page k n : ℕ) (old mid new : Life) → ReadsEachPage P page k old mid → ReadsRising P (page + k) n mid new → ReadsRising P page (k + n) old new
 rising_joins P page k n old mid new first (few, less, second) = (k + few, omega (arith, less), pages_join P page k few old mid new first second)
 
 -- not all
 pub rising_fewer : (P page k n : ℕ) (old new : Life) → k ≤ n → ReadsRising P page k old new → ReadsRising P page n old new
 rising_fewer P page k n old new less (few, fewer, pages) = (few, omega (arith, less, fewer), pages)
 
-pub pages_rise : (P page k n : ℕ) (old new : Life) → k ≤ n → ReadsPages P page k old new → ReadsRising P page n old new
+pub pages_rise : (P page k n : ℕ) (old new : Life) → k ≤ n → ReadsEachPage P page k old new → ReadsRising P page n old new
 pages_rise P page k n old new less pages = (k, less, pages)
 
 -- one page, with the numbers that a program has
-pub page_asked : (P page size page_start : ℕ) (failed : Bool) (old new : Life) → size ≡ P + 12 → page_start ≡ page * (P + 12) → AskedOnce (ReadAt page_start size) failed old new → ReadsPages P page 1 old new
+pub page_asked : (P page size page_start : ℕ) (failed : Bool) (old new : Life) → size ≡ P + 12 → page_start ≡ page * (P + 12) → AskedOnce (ReadAt page_start size) failed old new → ReadsEachPage P page 1 old new
 page_asked P page size page_start failed old new size_is page_start_is asked =
     gained_once (λ (xs : List Request). xs ≡ map (page_request P) (range_with_len page 1)) (ReadAt page_start size) failed old new (ap (λ (l : Life). l.present.log) asked)
     (ap (λ (n : ℕ). ReadAt n size ∷ []) page_start_is ∙ ap (λ (n : ℕ). ReadAt (page * (P + 12)) n ∷ []) size_is)
 
-pub page_refused : (P page size page_start : ℕ) (old new : Life) (answer : Result (List ℕ) Error) → size ≡ P + 12 → page_start ≡ page * (P + 12) → ReadGoes page_start size old new answer → ReadsRising P page 1 old new
+pub page_refused : (P page size page_start : ℕ) (old new : Life) (answer : Result (List ℕ) Error) → size ≡ P + 12 → page_start ≡ page * (P + 12) → DeviceReadGoes page_start size old new answer → ReadsRising P page 1 old new
 page_refused P page size page_start old new answer size_is page_start_is goes =
     elim (read_asks page_start size old new answer goes) [
       | inl none ↦ subst (λ (l : Life). ReadsRising P page 1 old l) (sym none) (rising_none P page 1 old)
@@ -57,12 +57,12 @@ page_refused P page size page_start old new answer size_is page_start_is goes =
     ]
 
 -- a page that was read, whatever is made of it
-pub one_read : {A : Type 0} (P page : ℕ) (old new : Life) (result : Result A Error) → ReadsPages P page 1 old new → ReadsOne P page old new result
+pub one_read : {A : Type 0} (P page : ℕ) (old new : Life) (result : Result A Error) → ReadsEachPage P page 1 old new → ReadsOne P page old new result
 one_read P page old new (Ok a) reads = reads
 one_read P page old new (Err e) reads = (1, omega arith, reads)
 
 -- the pages of a range, with the numbers that a program has
-pub range_read : (P size offset len end count : ℕ) (old new : Life) → size ≡ P → end ≡ offset + len → count ≤ (end - 1) / size + 1 - offset / size → ReadsRising P (offset / size) count old new → ReadsRange P offset len old new
+pub range_read : (P size offset len end count : ℕ) (old new : Life) → size ≡ P → end ≡ offset + len → count ≤ (end - 1) / size + 1 - offset / size → ReadsRising P (offset / size) count old new → ReadsPagesOf P offset len old new
 range_read P size offset len end count old new size_is end_is less reads =
     let many : (end - 1) / size + 1 - offset / size ≡ range_end P offset len - offset / P =
     ap (λ (n : ℕ). (end - 1) / n + 1 - offset / n) size_is ∙ ap (λ (e : ℕ). (e - 1) / P + 1 - offset / P) end_is in
@@ -85,7 +85,7 @@ ends_before P last start offset before some start_is before_is more =
     omega (arith, low, high, positive)
 
 -- the pages before the last one that are read for the last bytes
-pub before_read : (P last start offset before : ℕ) (mid new : Life) → 0 < P → start ≡ last * P → before ≡ start - offset → (before ≡ 0 → new ≡ mid) → ReadsRange P offset before mid new → ReadsRising P (offset / P) (last - offset / P) mid new
+pub before_read : (P last start offset before : ℕ) (mid new : Life) → 0 < P → start ≡ last * P → before ≡ start - offset → (before ≡ 0 → new ≡ mid) → ReadsPagesOf P offset before mid new → ReadsRising P (offset / P) (last - offset / P) mid new
 before_read P last start offset before mid new some start_is before_is none reads =
     elim (cases_eq before 0) [
       | inl empty ↦ subst (λ (l : Life). ReadsRising P (offset / P) (last - offset / P) mid l) (sym (none empty)) (rising_none P (offset / P) (last - offset / P) mid)

@@ -5,7 +5,7 @@ use Rattle.std.specs.List.{concat}
 use Rattle.std.proofs.lemmas.Bool.{cases_lt, cond-true, cond-false, eq-eqb, ne_eqb, le-leb, lt-leb, lt-ltb, le-ltb}
 use Rattle.std.proofs.lemmas.List.{length-drop, length-take, length-take-le, take-take, take_all}
 use Rattle.bytes.proofs.Ranges.{drop-take_less}
-use Rattle.disk.specs.Disk.{Life, ReadAt, ReadGoes}
+use Rattle.disk.specs.Disk.{DeviceReadGoes, Life, ReadAt}
 use Rattle.disk.specs.declared.error.Error.{Error}
 use Rattle.disk.specs.declared.error.Error.TheVariants.{ReadFailed, WriteFailed, ResizeFailed, SyncFailed, InvalidChecksum, BlobInsufficientLength, OffsetOverflow, OutOfMemory, IdsExhausted}
 use Rattle.disk.proofs.Logs.{failed_once, failed_later}
@@ -16,7 +16,7 @@ use Rattle.crash.proofs.LookLaws.{looked_read, looked_none, looked_readable}
 use Rattle.crash.proofs.Texts.{active_is, active_none}
 use Rattle.paged_read.specs.Failures.{NoneFailed, none_failed_joins}
 use Rattle.paged_read.specs.Ranges.{page_at}
-use Rattle.paged_read.specs.RawReads.{all_of, after_told, ending_at, joined, part_of, parts_told, range_end, range_told, ReadsTold, some_of, tail_told, value_told}
+use Rattle.paged_read.specs.RawReads.{all_of, after_told, ending_at, joined_results, part_of, parts_told, range_end, range_told, ReadsTold, some_of, tail_told, value_told}
 use Rattle.paged_read.proofs.Failing.{none_failed_read, none_failed_same}
 
 -- ---- one page
@@ -54,7 +54,7 @@ module _ (sum : List ℕ → ℕ) (P page : ℕ) (readable : List ℕ) where
 
 -- a read of a page that isn't answered
 pub value_fault : {A : Type 0} (sum : List ℕ → ℕ) (of : A → List ℕ) (P page size page_start : ℕ) (old new : Life) (e : Error) → size ≡ P + 12 → page_start ≡ page * (P + 12) → (page + 1) * (P + 12) < 2 ^ 64
-    → ReadGoes page_start size old new (Err e) → ReadsTold of (value_told sum P page old.present.readable) old new (Err e)
+    → DeviceReadGoes page_start size old new (Err e) → ReadsTold of (value_told sum P page old.present.readable) old new (Err e)
 value_fault sum of P page size page_start old new ReadFailed size_is page_start_is fits goes =
     (failed_once (ReadAt page_start size) old.present new.present (ap (λ (l : Life). l.present.log) goes), looked_read page_start size old new (Err ReadFailed) goes)
 value_fault sum of P page size page_start old new WriteFailed size_is page_start_is fits goes = absurd goes
@@ -68,16 +68,16 @@ value_fault sum of P page size page_start old new OutOfMemory size_is page_start
 value_fault sum of P page size page_start old new IdsExhausted size_is page_start_is fits goes = absurd goes
 
 -- the page that was read, with the numbers that a program has
-pub page_read : (P page size page_start : ℕ) (old new : Life) (bytes : List ℕ) → size ≡ P + 12 → page_start ≡ page * (P + 12) → ReadGoes page_start size old new (Ok bytes) → bytes ≡ page_at P page old.present.readable
+pub page_read : (P page size page_start : ℕ) (old new : Life) (bytes : List ℕ) → size ≡ P + 12 → page_start ≡ page * (P + 12) → DeviceReadGoes page_start size old new (Ok bytes) → bytes ≡ page_at P page old.present.readable
 page_read P page size page_start old new bytes size_is page_start_is goes =
     goes.1 ∙ ap (λ (n : ℕ). take n (drop page_start old.present.readable)) size_is ∙ ap (λ (n : ℕ). take (P + 12) (drop n old.present.readable)) page_start_is
 
-pub page_there : (P page size page_start : ℕ) (old new : Life) (bytes : List ℕ) → size ≡ P + 12 → page_start ≡ page * (P + 12) → ReadGoes page_start size old new (Ok bytes) → (page + 1) * (P + 12) ≤ length old.present.readable
+pub page_there : (P page size page_start : ℕ) (old new : Life) (bytes : List ℕ) → size ≡ P + 12 → page_start ≡ page * (P + 12) → DeviceReadGoes page_start size old new (Ok bytes) → (page + 1) * (P + 12) ≤ length old.present.readable
 page_there P page size page_start old new bytes size_is page_start_is goes = omega (arith, goes.0, size_is, page_start_is)
 
 -- it has no value
 pub read_missing_value : {A : Type 0} (sum : List ℕ → ℕ) (of : A → List ℕ) (P page size page_start : ℕ) (old new : Life) (bytes : List ℕ) → size ≡ P + 12 → page_start ≡ page * (P + 12) → (page + 1) * (P + 12) < 2 ^ 64
-    → ReadGoes page_start size old new (Ok bytes) → active sum P bytes ≡ None → ReadsTold of (value_told sum P page old.present.readable) old new (Err InvalidChecksum)
+    → DeviceReadGoes page_start size old new (Ok bytes) → active sum P bytes ≡ None → ReadsTold of (value_told sum P page old.present.readable) old new (Err InvalidChecksum)
 read_missing_value sum of P page size page_start old new bytes size_is page_start_is fits goes none =
     let there = page_there P page size page_start old new bytes size_is page_start_is goes in
     let is = page_read P page size page_start old new bytes size_is page_start_is goes in
@@ -85,7 +85,7 @@ read_missing_value sum of P page size page_start old new bytes size_is page_star
 
 -- it has one, of so many bytes
 pub read_value_is : (sum : List ℕ → ℕ) (P page size page_start : ℕ) (old new : Life) (bytes : List ℕ) (slot : ActiveChecksum) → size ≡ P + 12 → page_start ≡ page * (P + 12) → (page + 1) * (P + 12) < 2 ^ 64
-    → ReadGoes page_start size old new (Ok bytes) → active sum P bytes ≡ Some slot → value_told sum P page old.present.readable ≡ Ok (take slot.len bytes)
+    → DeviceReadGoes page_start size old new (Ok bytes) → active sum P bytes ≡ Some slot → value_told sum P page old.present.readable ≡ Ok (take slot.len bytes)
 read_value_is sum P page size page_start old new bytes slot size_is page_start_is fits goes some =
     let readable = old.present.readable in
     let there = page_there P page size page_start old new bytes size_is page_start_is goes in
@@ -164,15 +164,15 @@ told_memory of told start new e so_far none is = subst (λ (x : Error). ReadsTol
 -- ---- a range
 
 -- nothing in front
-pub joined_none : (back : Result (List ℕ) Error) → joined (Ok []) back ≡ back
+pub joined_none : (back : Result (List ℕ) Error) → joined_results (Ok []) back ≡ back
 joined_none (Ok back) = refl
 joined_none (Err e) = refl
 
-pub joined_more : (front more : List ℕ) (back : Result (List ℕ) Error) → joined (Ok front) (joined (Ok more) back) ≡ joined (Ok (front ++ more)) back
+pub joined_more : (front more : List ℕ) (back : Result (List ℕ) Error) → joined_results (Ok front) (joined_results (Ok more) back) ≡ joined_results (Ok (front ++ more)) back
 joined_more front more (Ok back) = ap (λ (l : List ℕ). Ok l) (sym (append_assoc front more back))
 joined_more front more (Err e) = refl
 
-pub joined_last : (front : List ℕ) → joined (Ok front) (Ok []) ≡ Ok front
+pub joined_last : (front : List ℕ) → joined_results (Ok front) (Ok []) ≡ Ok front
 joined_last front = ap (λ (l : List ℕ). Ok l) (append-nil front)
 
 module _ (sum : List ℕ → ℕ) (P from to first end : ℕ) (readable : List ℕ) where
@@ -184,12 +184,12 @@ module _ (sum : List ℕ → ℕ) (P from to first end : ℕ) (readable : List �
 
   -- so much was found before this page
   abbrev pub IsFound : ℕ → List ℕ → Type 0
-  IsFound page found = all ≡ joined (Ok found) (rest page)
+  IsFound page found = all ≡ joined_results (Ok found) (rest page)
 
   pub found_first : IsFound first []
   found_first = sym (joined_none all)
 
-  rest_is : (page : ℕ) → page < end → rest page ≡ joined (part_of P from to page (value_told sum P page readable)) (rest (page + 1))
+  rest_is : (page : ℕ) → page < end → rest page ≡ joined_results (part_of P from to page (value_told sum P page readable)) (rest (page + 1))
   rest_is page less =
       let e : end - page ≡ suc (end - (page + 1)) = omega (arith, less) in
       ap (λ (n : ℕ). parts_told sum P from to n page readable) e
@@ -197,18 +197,18 @@ module _ (sum : List ℕ → ℕ) (P from to first end : ℕ) (readable : List �
   -- one page more
   pub found_next : (page : ℕ) (found part : List ℕ) → page < end → IsFound page found → part_of P from to page (value_told sum P page readable) ≡ Ok part → IsFound (page + 1) (found ++ part)
   found_next page found part less is told =
-      is ∙ ap (λ (r : Result (List ℕ) Error). joined (Ok found) r) (rest_is page less ∙ ap (λ (r : Result (List ℕ) Error). joined r (rest (page + 1))) told)
+      is ∙ ap (λ (r : Result (List ℕ) Error). joined_results (Ok found) r) (rest_is page less ∙ ap (λ (r : Result (List ℕ) Error). joined_results r (rest (page + 1))) told)
       ∙ joined_more found part (rest (page + 1))
 
   -- one that is refused
   pub found_fault : (page : ℕ) (found : List ℕ) (e : Error) → page < end → IsFound page found → part_of P from to page (value_told sum P page readable) ≡ Err e → all ≡ Err e
   found_fault page found e less is told =
-      is ∙ ap (λ (r : Result (List ℕ) Error). joined (Ok found) r) (rest_is page less ∙ ap (λ (r : Result (List ℕ) Error). joined r (rest (page + 1))) told)
+      is ∙ ap (λ (r : Result (List ℕ) Error). joined_results (Ok found) r) (rest_is page less ∙ ap (λ (r : Result (List ℕ) Error). joined_results r (rest (page + 1))) told)
 
   -- all of them
   pub found_all : (page : ℕ) (found : List ℕ) → end ≤ page → IsFound page found → all ≡ Ok found
   found_all page found le is =
-      is ∙ ap (λ (n : ℕ). joined (Ok found) (parts_told sum P from to n page readable)) (let e : end - page ≡ 0 = omega (arith, le) in e) ∙ joined_last found
+      is ∙ ap (λ (n : ℕ). joined_results (Ok found) (parts_told sum P from to n page readable)) (let e : end - page ≡ 0 = omega (arith, le) in e) ∙ joined_last found
 
 module _ (sum : List ℕ → ℕ) (P offset len : ℕ) (readable : List ℕ) where
   abbrev pages : Result (List ℕ) Error
@@ -269,22 +269,22 @@ module _ (sum : List ℕ → ℕ) (P page len : ℕ) (readable bytes : List ℕ)
   abbrev front : Result (List ℕ) Error
   front = range_told sum P (after_end - len) (page * P - (after_end - len)) readable
 
-  after_is : len ≤ after_end → after_told sum P page len readable (Ok bytes) ≡ ending_at after_end (joined front (Ok (drop (after_end - len - page * P) bytes)))
+  after_is : len ≤ after_end → after_told sum P page len readable (Ok bytes) ≡ ending_at after_end (joined_results front (Ok (drop (after_end - len - page * P) bytes)))
   after_is le = cond-false (nat_lt after_end len) _ _ (le-ltb after_end len le)
 
   -- those before the last page decide
   pub after_fault : (e : Error) → len ≤ after_end → front ≡ Err e → after_told sum P page len readable (Ok bytes) ≡ Err e
   after_fault e le told =
-      after_is le ∙ ap (λ (r : Result (List ℕ) Error). ending_at after_end (joined r (Ok (drop (after_end - len - page * P) bytes)))) told
+      after_is le ∙ ap (λ (r : Result (List ℕ) Error). ending_at after_end (joined_results r (Ok (drop (after_end - len - page * P) bytes)))) told
 
   pub after_found : (found : List ℕ) → len ≤ after_end → front ≡ Ok found → after_told sum P page len readable (Ok bytes) ≡ Ok (after_end, found ++ drop (after_end - len - page * P) bytes)
   after_found found le told =
-      after_is le ∙ ap (λ (r : Result (List ℕ) Error). ending_at after_end (joined r (Ok (drop (after_end - len - page * P) bytes)))) told
+      after_is le ∙ ap (λ (r : Result (List ℕ) Error). ending_at after_end (joined_results r (Ok (drop (after_end - len - page * P) bytes)))) told
 
 -- ---- with the numbers that a program has
 
 -- a read gives as many bytes as were asked for
-pub read_len : (page_start size : ℕ) (old new : Life) (bytes : List ℕ) → ReadGoes page_start size old new (Ok bytes) → length bytes ≡ size
+pub read_len : (page_start size : ℕ) (old new : Life) (bytes : List ℕ) → DeviceReadGoes page_start size old new (Ok bytes) → length bytes ≡ size
 read_len page_start size old new bytes goes =
     ap (λ (l : List ℕ). length l) goes.1 ∙ length-take-le size (drop page_start old.present.readable) (omega (arith, goes.0, length-drop page_start old.present.readable))
 

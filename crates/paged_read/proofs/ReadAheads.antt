@@ -16,7 +16,7 @@ use Rattle.std.proofs.Math.Nat.{mul-le-mul_right}
 use Rattle.page.specs.Page.{value_len}
 use Rattle.paged_read.specs.Failures.{TellsFailure}
 use Rattle.paged_read.specs.Ranges.{page_at}
-use Rattle.paged_read.specs.ReadAhead.{AreFullPages, AreNext, FetchesBatch, Follow, IsBatch, batch_bytes, batch_range, after, page_after}
+use Rattle.paged_read.specs.ReadAhead.{AreFullPages, AreNext, FetchesBatch, BatchesFollow, IsBatch, batch_bytes, batch_range, after_batch, page_after}
 use Rattle.paged_read.specs.declared.ahead.Ahead.{Ahead}
 use Rattle.paged_read.proofs.Failing.{none_failed_asked, none_failed_same}
 
@@ -35,36 +35,36 @@ full_more sum P end bytes so_far one = λ page above below. elim (cases_lt page 
 
 -- ---- batches that follow one another
 
-pub after_within : (batch full page : ℕ) → page ≤ full → after batch full page ≤ full
+pub after_within : (batch full page : ℕ) → page ≤ full → after_batch batch full page ≤ full
 after_within batch full page within = omega (arith, within)
 
 -- one more at the end
-pub follow_more : (batch full page : ℕ) (queue : List Ahead) (a : Ahead) → Follow batch full page queue → a.page ≡ page_after batch full page queue → page_after batch full page queue < full
-    → Follow batch full page (queue ++ a ∷ [])
+pub follow_more : (batch full page : ℕ) (queue : List Ahead) (a : Ahead) → BatchesFollow batch full page queue → a.page ≡ page_after batch full page queue → page_after batch full page queue < full
+    → BatchesFollow batch full page (queue ++ a ∷ [])
 follow_more batch full page [] a follow is below = (is, below, after_within batch full page (omega (arith, below)))
-follow_more batch full page (b ∷ rest) a follow is below = (follow.0, follow.1, follow_more batch full (after batch full page) rest a follow.2 is below)
+follow_more batch full page (b ∷ rest) a follow is below = (follow.0, follow.1, follow_more batch full (after_batch batch full page) rest a follow.2 is below)
 
-pub page_after_more : (batch full page : ℕ) (queue : List Ahead) (a : Ahead) → page_after batch full page (queue ++ a ∷ []) ≡ after batch full (page_after batch full page queue)
+pub page_after_more : (batch full page : ℕ) (queue : List Ahead) (a : Ahead) → page_after batch full page (queue ++ a ∷ []) ≡ after_batch batch full (page_after batch full page queue)
 page_after_more batch full page [] a = refl
-page_after_more batch full page (b ∷ rest) a = page_after_more batch full (after batch full page) rest a
+page_after_more batch full page (b ∷ rest) a = page_after_more batch full (after_batch batch full page) rest a
 
 -- so many, or all that there are, are the next
-pub are_next : (n batch full page : ℕ) (queue : List Ahead) → Follow batch full page queue → length queue ≤ n → (length queue ≡ n) ⊎ (full ≤ page_after batch full page queue) → AreNext n batch full page queue
+pub are_next : (n batch full page : ℕ) (queue : List Ahead) → BatchesFollow batch full page queue → length queue ≤ n → (length queue ≡ n) ⊎ (full ≤ page_after batch full page queue) → AreNext n batch full page queue
 are_next zero batch full page [] follow few whole = refl
 are_next zero batch full page (a ∷ rest) follow few whole = absurd (omega (arith, few))
 are_next (suc n) batch full page [] follow few whole = elim whole [ inl same ↦ absurd (omega (arith, same)) | inr ends ↦ ends ]
 are_next (suc n) batch full page (a ∷ rest) follow few whole =
-    (follow.0, follow.1, are_next n batch full (after batch full page) rest follow.2 (omega (arith, few)) (elim whole [ inl same ↦ inl (omega (arith, same)) | inr ends ↦ inr ends ]))
+    (follow.0, follow.1, are_next n batch full (after_batch batch full page) rest follow.2 (omega (arith, few)) (elim whole [ inl same ↦ inl (omega (arith, same)) | inr ends ↦ inr ends ]))
 
 -- the page after them is that after the last one
-pub after_last : (batch full page : ℕ) (queue : List Ahead) (last : Ahead) → Follow batch full page queue → Some last ≡ slice_get queue (length queue - 1)
-    → (page_after batch full page queue ≡ after batch full last.page) × (last.page < full)
+pub after_last : (batch full page : ℕ) (queue : List Ahead) (last : Ahead) → BatchesFollow batch full page queue → Some last ≡ slice_get queue (length queue - 1)
+    → (page_after batch full page queue ≡ after_batch batch full last.page) × (last.page < full)
 after_last batch full page [] last follow is = absurd (cc)
 after_last batch full page (a ∷ []) last follow is =
     let one : last ≡ a = cc in
     let same : last.page ≡ page = ap (λ (x : Ahead). x.page) one ∙ follow.0 in
-    (ap (λ n. after batch full n) (sym same), subst (λ n. n < full) (sym same) follow.1)
-after_last batch full page (a ∷ b ∷ rest) last follow is = after_last batch full (after batch full page) (b ∷ rest) last follow.2
+    (ap (λ n. after_batch batch full n) (sym same), subst (λ n. n < full) (sym same) follow.1)
+after_last batch full page (a ∷ b ∷ rest) last follow is = after_last batch full (after_batch batch full page) (b ∷ rest) last follow.2
     (is ∙ ap (λ k. slice_get (a ∷ b ∷ rest) k) (let e : suc (suc (length rest)) - 1 ≡ suc (length rest) = omega arith in e)
     ∙ ap (λ k. slice_get (b ∷ rest) k) (let e : length rest ≡ suc (length rest) - 1 = omega arith in e))
 

@@ -12,11 +12,11 @@ use Rattle.cache.specs.CacheState.{CacheState}
 use Rattle.cache.specs.Pages.{page_of_content}
 use Rattle.cache.proofs.CacheLaws.{longer_true, fresh_stays}
 use Rattle.crash.specs.Looks.{Looked, looked_start}
-use Rattle.paged_read.specs.Tail.{Tail, told, size_of, CanRead}
+use Rattle.paged_read.specs.Tail.{Tail, logical_bytes, tail_size, CanRead}
 use Rattle.paged_read.specs.Ranges.{AsksForMissing, AsksTogether, ReadFault, Reads, ReadsUpTo, ReadsMany, AreMissingFull, HasServed, Misses, missing, is_served, page_ranges}
 use Rattle.paged_read.specs.Puts.{PutsPages, PutsAsked, PutsInOrder, PutsSome}
 use Rattle.paged_read.specs.Parts.{ArePagesFull, PagesFault}
-use Rattle.paged_read.specs.Reads.{ReadGoes, ReadIntoGoes, ReadUpToGoes, ReadManyGoes, ReadRangesGoes, ReadLeaves, ReadCosts, ReadManyCosts, LookLeaves, TriesMany}
+use Rattle.paged_read.specs.Reads.{ReadGoes, ReadIntoGoes, ReadUpToGoes, ReadManyGoes, ReadRangesGoes, ReadLeaves, ReadCosts, ReadManyCosts, LookLeaves, TryReadManyGoes}
 use Rattle.paged_read.proofs.BatchReads.{not_asked}
 use Rattle.paged_read.proofs.FullReads.{full_reads, full_reads_up_to, full_reads_many, full_of_tail, full_of_sound}
 use Rattle.paged_read.proofs.Leaving.{length-told, payload_told, leaves_of}
@@ -34,7 +34,7 @@ module _ (sum : List ℕ → ℕ) (t : Tail) (cache : CacheState) (old new : Lif
   pub read_goes : {A : Type 0} (range : ℕ × ℕ) (bytes : A → List ℕ) (result : Result A Error)
       → Reads sum t cache range bytes old new result
       → (2 ^ 64 ≤ range.0 + range.1 → result ≡ Err OffsetOverflow)
-      → (range.0 + range.1 < 2 ^ 64 → size_of t < range.0 + range.1 → result ≡ Err BlobInsufficientLength)
+      → (range.0 + range.1 < 2 ^ 64 → tail_size t < range.0 + range.1 → result ≡ Err BlobInsufficientLength)
       → ReadGoes sum t cache range bytes old new result
   read_goes range bytes result answers overflow end = record {
     answers = answers;
@@ -47,8 +47,8 @@ module _ (sum : List ℕ → ℕ) (t : Tail) (cache : CacheState) (old new : Lif
   pub read_into_goes : (offset : ℕ) (buf after : List ℕ) (result : Result (Unit {0}) Error)
       → Reads sum t cache (offset, length buf) (λ _. after) old new result
       → (2 ^ 64 ≤ offset + length buf → result ≡ Err OffsetOverflow)
-      → (offset + length buf < 2 ^ 64 → size_of t < offset + length buf → result ≡ Err BlobInsufficientLength)
-      → (offset + length buf < 2 ^ 64 → offset + length buf ≤ size_of t → is_served cache t (offset, length buf) ≡ true → result ≡ Ok tt)
+      → (offset + length buf < 2 ^ 64 → tail_size t < offset + length buf → result ≡ Err BlobInsufficientLength)
+      → (offset + length buf < 2 ^ 64 → offset + length buf ≤ tail_size t → is_served cache t (offset, length buf) ≡ true → result ≡ Ok tt)
       → length after ≡ length buf → ReadIntoGoes sum t cache offset buf after old new result
   read_into_goes offset buf after result answers overflow end served size = record {
     answers = answers;
@@ -62,7 +62,7 @@ module _ (sum : List ℕ → ℕ) (t : Tail) (cache : CacheState) (old new : Lif
 
   pub read_up_to_goes : (offset len : ℕ) (result : Result (Vec ℕ Global × ℕ) Error)
       → ReadsUpTo sum t cache offset len old new result
-      → (len ≢ 0 → size_of t ≤ offset → result ≡ Err BlobInsufficientLength)
+      → (len ≢ 0 → tail_size t ≤ offset → result ≡ Err BlobInsufficientLength)
       → IfErr result (λ e. len ≢ 0) → ReadUpToGoes sum t cache offset len old new result
   read_up_to_goes offset len result answers end none = record {
     answers = answers;
@@ -83,7 +83,7 @@ module _ (sum : List ℕ → ℕ) (t : Tail) (cache : CacheState) (old new : Lif
   }
 
   pub read_ranges_goes : (ranges : List (ℕ × ℕ)) (buf after : List ℕ) (result : Result ℕ Error)
-      → ReadsMany sum t cache ranges after old new result → IfErr result (λ e. EndWithin (size_of t) ranges → missing cache t ranges ≢ []) → length after ≡ length buf
+      → ReadsMany sum t cache ranges after old new result → IfErr result (λ e. EndWithin (tail_size t) ranges → missing cache t ranges ≢ []) → length after ≡ length buf
       → ReadRangesGoes sum t cache ranges buf after old new result
   read_ranges_goes ranges buf after result answers served size =
       let goes = read_many_goes ranges buf after result answers size in
@@ -100,9 +100,9 @@ on_also (Err e) P Q holds = tt
 
 -- what a read that asks no device answers
 pub tries_many : (t : Tail) (ranges : List (ℕ × ℕ)) (cache : CacheState) (buf after : List ℕ) (result : Result (Vec ℕ Global) Error) → IfOk result (λ missed. Misses t ranges cache missed.items)
-    → OnOk result (EndWithin (size_of t) ranges → (d : Disk) → CanRead t cache d → HasServed cache t ranges (told t d.readable) after) → length after ≡ length buf → IsOkUnless result OutOfMemory → TriesMany t ranges cache buf after result
+    → OnOk result (EndWithin (tail_size t) ranges → (d : Disk) → CanRead t cache d → HasServed cache t ranges (logical_bytes t d.readable) after) → length after ≡ length buf → IsOkUnless result OutOfMemory → TryReadManyGoes t ranges cache buf after result
 tries_many t ranges cache buf after (Ok missed) misses served size is = record { missed = misses; served = served; size = size }
-tries_many t ranges cache buf after (Err e) misses served size is = subst (λ (x : Error). TriesMany t ranges cache buf after (Err x)) (sym is) size
+tries_many t ranges cache buf after (Err e) misses served size is = subst (λ (x : Error). TryReadManyGoes t ranges cache buf after (Err x)) (sym is) size
 
 -- ---- what a read leaves
 
@@ -124,7 +124,7 @@ module _ (sum : List ℕ → ℕ) (t : Tail) (cache after : CacheState) (old new
   abbrev bare : Tail
   bare = record t { bytes = [] }
 
-  same_page : (page : ℕ) → page < t.full_pages → page_of_content t.page_size (told t old.present.readable) page ≡ page_of_content t.page_size (told bare old.present.readable) page
+  same_page : (page : ℕ) → page < t.full_pages → page_of_content t.page_size (logical_bytes t old.present.readable) page ≡ page_of_content t.page_size (logical_bytes bare old.present.readable) page
   same_page page below = sym (payload_told t old.present.readable can.there page below) ∙ payload_told bare old.present.readable can.there page below
 
   can_bare : CanRead bare cache old.present
@@ -132,23 +132,23 @@ module _ (sum : List ℕ → ℕ) (t : Tail) (cache after : CacheState) (old new
     there = can.there;
     page_size = can.page_size;
     given = can.given;
-    cached = longer_true t.id (told t old.present.readable) (told bare old.present.readable) t.full_pages cache
-        (λ page below. subst (λ (P : ℕ). page_of_content P (told bare old.present.readable) page ≡ page_of_content P (told t old.present.readable) page) (sym can.page_size) (sym (same_page page below)))
+    cached = longer_true t.id (logical_bytes t old.present.readable) (logical_bytes bare old.present.readable) t.full_pages cache
+        (λ page below. subst (λ (P : ℕ). page_of_content P (logical_bytes bare old.present.readable) page ≡ page_of_content P (logical_bytes t old.present.readable) page) (sym can.page_size) (sym (same_page page below)))
         can.cached;
   }
 
-  pub read_leaves_puts : (pages : List ℕ) → ((page : ℕ) → Contains pages page → page < t.full_pages) → PutsPages t.id (told t old.present.readable) pages cache after → ReadLeaves sum t cache after old new
+  pub read_leaves_puts : (pages : List ℕ) → ((page : ℕ) → Contains pages page → page < t.full_pages) → PutsPages t.id (logical_bytes t old.present.readable) pages cache after → ReadLeaves sum t cache after old new
   read_leaves_puts pages below puts =
       let sizes : t.full_pages * cache.page_size ≡ t.full_pages * t.page_size = ap (λ (P : ℕ). t.full_pages * P) can.page_size in
-      let fits : t.full_pages * cache.page_size ≤ length (told t old.present.readable) = omega (arith, sizes, length-told t old.present.readable can.there) in
-      let fits_bare : t.full_pages * cache.page_size ≤ length (told bare old.present.readable) = omega (arith, sizes, length-told bare old.present.readable can.there) in
-      let cached = puts_caches t.id (told t old.present.readable) t.full_pages pages cache after fits below puts in
-      let alike = puts_alike t.id t.page_size (told t old.present.readable) (told bare old.present.readable) pages cache after can.page_size (λ page has. same_page page (below page has)) puts in
-      let leaves = leaves_of bare cache after old new can_bare looked (puts_caches t.id (told bare old.present.readable) t.full_pages pages cache after fits_bare below alike) in
+      let fits : t.full_pages * cache.page_size ≤ length (logical_bytes t old.present.readable) = omega (arith, sizes, length-told t old.present.readable can.there) in
+      let fits_bare : t.full_pages * cache.page_size ≤ length (logical_bytes bare old.present.readable) = omega (arith, sizes, length-told bare old.present.readable can.there) in
+      let cached = puts_caches t.id (logical_bytes t old.present.readable) t.full_pages pages cache after fits below puts in
+      let alike = puts_alike t.id t.page_size (logical_bytes t old.present.readable) (logical_bytes bare old.present.readable) pages cache after can.page_size (λ page has. same_page page (below page has)) puts in
+      let leaves = leaves_of bare cache after old new can_bare looked (puts_caches t.id (logical_bytes bare old.present.readable) t.full_pages pages cache after fits_bare below alike) in
       record {
         looked = looked;
         cached = cached;
-        fresh = fresh_stays t.id 0 (told t old.present.readable) cache after can.given cached;
+        fresh = fresh_stays t.id 0 (logical_bytes t old.present.readable) cache after can.given cached;
         writers = look_leaves_writers sum old new looked;
         tails = read_leaves_all_tails sum bare cache after old new can_bare leaves some;
         can_read = read_leaves_all_reads sum bare cache after old new can_bare leaves some;
@@ -249,7 +249,7 @@ reads_refused sum t cache range bytes other old new OutOfMemory reads = reads
 reads_refused sum t cache range bytes other old new IdsExhausted reads = reads
 
 -- a range that is there, and has an offset after it
-pub up_to_refused : {A : Type 0} (sum : List ℕ → ℕ) (t : Tail) (cache : CacheState) (offset len count : ℕ) (bytes : A → List ℕ) (old new : Life) (e : Error) → count ≡ min len (size_of t - offset) → offset + count ≤ size_of t → offset + count < 2 ^ 64
+pub up_to_refused : {A : Type 0} (sum : List ℕ → ℕ) (t : Tail) (cache : CacheState) (offset len count : ℕ) (bytes : A → List ℕ) (old new : Life) (e : Error) → count ≡ min len (tail_size t - offset) → offset + count ≤ tail_size t → offset + count < 2 ^ 64
     → Reads sum t cache (offset, count) bytes old new (Err e) → ReadsUpTo sum t cache offset len old new (Err e)
 up_to_refused sum t cache offset len count bytes old new ReadFailed is within fits reads = reads
 up_to_refused sum t cache offset len count bytes old new WriteFailed is within fits reads = reads
@@ -263,7 +263,7 @@ up_to_refused sum t cache offset len count bytes old new OutOfMemory is within f
 up_to_refused sum t cache offset len count bytes old new IdsExhausted is within fits reads = reads
 
 -- a range that can't be read
-pub many_outside : (sum : List ℕ → ℕ) (t : Tail) (cache : CacheState) (ranges : List (ℕ × ℕ)) (size : ℕ) (bytes : List ℕ) (life : Life) (e : Error) → size ≡ size_of t → RangesGo size ranges (Err e) → ReadsMany sum t cache ranges bytes life life (Err e)
+pub many_outside : (sum : List ℕ → ℕ) (t : Tail) (cache : CacheState) (ranges : List (ℕ × ℕ)) (size : ℕ) (bytes : List ℕ) (life : Life) (e : Error) → size ≡ tail_size t → RangesGo size ranges (Err e) → ReadsMany sum t cache ranges bytes life life (Err e)
 many_outside sum t cache ranges size bytes life ReadFailed is (before, after, (range, there, ends, none)) = absurd none
 many_outside sum t cache ranges size bytes life WriteFailed is (before, after, (range, there, ends, none)) = absurd none
 many_outside sum t cache ranges size bytes life ResizeFailed is (before, after, (range, there, ends, none)) = absurd none
@@ -275,7 +275,7 @@ many_outside sum t cache ranges size bytes life OutOfMemory is (before, after, (
 many_outside sum t cache ranges size bytes life IdsExhausted is (before, after, (range, there, ends, none)) = absurd none
 
 -- a fault of the missing pages
-pub many_refused : (sum : List ℕ → ℕ) (t : Tail) (cache : CacheState) (ranges : List (ℕ × ℕ)) (pages bytes : List ℕ) (old new : Life) (e : Error) → missing cache t ranges ≡ pages → EndWithin (size_of t) ranges → PagesFault sum t.page_size pages old new e → ReadsMany sum t cache ranges bytes old new (Err e)
+pub many_refused : (sum : List ℕ → ℕ) (t : Tail) (cache : CacheState) (ranges : List (ℕ × ℕ)) (pages bytes : List ℕ) (old new : Life) (e : Error) → missing cache t ranges ≡ pages → EndWithin (tail_size t) ranges → PagesFault sum t.page_size pages old new e → ReadsMany sum t cache ranges bytes old new (Err e)
 many_refused sum t cache ranges pages bytes old new ReadFailed is within fault = (within, fault)
 many_refused sum t cache ranges pages bytes old new WriteFailed is within fault = (within, fault)
 many_refused sum t cache ranges pages bytes old new ResizeFailed is within fault = (within, fault)
@@ -297,7 +297,7 @@ costs_refused sum t range cache after old new a e full costs =
         record {
           count = length pages;
           full = subst (λ (l : List ℕ). ArePagesFull sum t.page_size l old.present.readable) all full;
-          puts = subst (λ (l : List ℕ). PutsPages t.id (told t old.present.readable) l cache after) all costs.puts.0;
+          puts = subst (λ (l : List ℕ). PutsPages t.id (logical_bytes t old.present.readable) l cache after) all costs.puts.0;
         },
         omega (arith, costs.puts.1),
         omega (arith, costs.puts.1),

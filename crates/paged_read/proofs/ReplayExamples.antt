@@ -2,7 +2,7 @@
 use Rattle.std.proofs.Common.{◌≡◌, ℕ, List, [], ◌∷◌, ◌++◌, refl, arith, Ok}
 use Rattle.paged_read.specs.declared.ahead.Ahead.{Ahead}
 use Rattle.paged_read.specs.Hand.{payloads, payloads_from}
-use Rattle.paged_read.specs.ReadAhead.{AreNext, batch_of, batch_range, after}
+use Rattle.paged_read.specs.ReadAhead.{AreNext, batch_of, batch_range, after_batch}
 use Rattle.paged_read.specs.Replay.{advanced, end_of, new_replay, ReplayState}
 use Rattle.paged_read.specs.Tail.{Tail}
 
@@ -30,7 +30,7 @@ batches_of_buffers : batch_of 64 76 ∷ batch_of 64 228 ∷ batch_of 64 304 ∷ 
 batches_of_buffers = refl
 
 -- of five pages, by two
-the_last_batch : after 2 5 0 ∷ after 2 5 2 ∷ after 2 5 4 ∷ [] ≡ 2 ∷ 4 ∷ 5 ∷ []
+the_last_batch : after_batch 2 5 0 ∷ after_batch 2 5 2 ∷ after_batch 2 5 4 ∷ [] ≡ 2 ∷ 4 ∷ 5 ∷ []
 the_last_batch = refl
 
 the_range_of_a_batch : batch_range 64 16 80 16 ≡ (1216, 1216)

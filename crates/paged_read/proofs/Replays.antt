@@ -19,11 +19,11 @@ use Rattle.crash.proofs.LookLaws.{looked_readable}
 use Rattle.crash.proofs.Pages.{drop-stored, fewer_fit, length-stored, stored_same, stored_suc, take-stored}
 use Rattle.crash.proofs.Texts.{AreFull_page}
 use Rattle.paged_read.specs.Hand.{payloads}
-use Rattle.paged_read.specs.ReadAhead.{AddsBatch, AreFullPages, AreNext, after, Follow, HasFirst, IsBatch, IsQueue, ReadsBatch, ReadsBatches}
+use Rattle.paged_read.specs.ReadAhead.{AddsBatch, AreFullPages, AreNext, after_batch, BatchesFollow, HasFirst, IsBatch, IsQueue, ReadsBatch, ReadsBatches}
 use Rattle.paged_read.specs.Failures.{NoneFailed, TellsFailure}
-use Rattle.paged_read.specs.Replay.{batches_between, EnsureCosts, IsHad, IsReadAhead, advanced, CanReplay, CopiesBytes, CopiesToSlice, Gives, end_of, Ensures, FillFault, Fills, FillsOnce, HasFilled, IsAhead, IsReplay, IsReplayOf, IsToppedUp, new_replay, ReplaysOn, ReplaysThrough, ReplayState}
+use Rattle.paged_read.specs.Replay.{batches_between, EnsureCosts, IsHad, IsReadAhead, advanced, CanReplay, CopyToBytesGoes, CopyToSliceGoes, Gives, end_of, Ensures, FillFault, StaysFilled, FillsOnce, HasFilled, IsAhead, IsReplay, IsReplayOf, IsToppedUp, new_replay, ReplaysOn, ReplaysThrough, ReplayState}
 use Rattle.paged_read.specs.Snapshots.{IsTailOf}
-use Rattle.paged_read.specs.Tail.{HasFullPages, size_of, Tail, told}
+use Rattle.paged_read.specs.Tail.{HasFullPages, logical_bytes, Tail, tail_size}
 use Rattle.paged_read.specs.declared.ahead.Ahead.{Ahead}
 use Rattle.paged_read.specs.declared.hand.TooFew.{TooFew}
 use Rattle.paged_read.proofs.AheadCosts.{batches_join, batches_none, ceil_step}
@@ -75,7 +75,7 @@ module _ (t : Tail) (readable : List ℕ) (reach : t.full_pages * (t.page_size +
   pages_within = mul-le-mul_right t.page_size within
 
   -- those of the told bytes
-  batch_told : payloads t.page_size run ≡ take (k * t.page_size) (drop (page * t.page_size) (told t readable))
+  batch_told : payloads t.page_size run ≡ take (k * t.page_size) (drop (page * t.page_size) (logical_bytes t readable))
   batch_told =
       let P = t.page_size in
       let all = stored P t.full_pages readable in
@@ -86,19 +86,19 @@ module _ (t : Tail) (readable : List ℕ) (reach : t.full_pages * (t.page_size +
       ∙ ap (λ (l : List ℕ). take (k * P) l) (sym (drop-append-le (page * P) all t.bytes (omega (arith, size, more))))
 
   -- and from an offset in the first page on
-  pub batch_more : (skip : ℕ) → skip ≤ k * t.page_size → drop skip (payloads t.page_size run) ≡ take (k * t.page_size - skip) (drop (page * t.page_size + skip) (told t readable))
+  pub batch_more : (skip : ℕ) → skip ≤ k * t.page_size → drop skip (payloads t.page_size run) ≡ take (k * t.page_size - skip) (drop (page * t.page_size + skip) (logical_bytes t readable))
   batch_more skip less =
       let P = t.page_size in
-      let from = drop (page * P) (told t readable) in
+      let from = drop (page * P) (logical_bytes t readable) in
       let e : k * P ≡ skip + (k * P - skip) = omega (arith, less) in
       ap (λ (l : List ℕ). drop skip l) (batch_told ∙ ap (λ (n : ℕ). take n from) e)
       ∙ drop-take skip (k * P - skip) from
-      ∙ ap (λ (l : List ℕ). take (k * P - skip) l) (drop-drop skip (page * P) (told t readable))
+      ∙ ap (λ (l : List ℕ). take (k * P - skip) l) (drop-drop skip (page * P) (logical_bytes t readable))
 
   pub batch_length : (skip : ℕ) → skip ≤ k * t.page_size → length (drop skip (payloads t.page_size run)) ≡ k * t.page_size - skip
   batch_length skip less =
       let P = t.page_size in
-      let all = told t readable in
+      let all = logical_bytes t readable in
       let more = pages_within in
       ap (λ (l : List ℕ). length l) (batch_more skip less)
       ∙ length-take-le (k * P - skip) (drop (page * P + skip) all) (omega (arith, less, more, length-told t readable reach, length-drop (page * P + skip) all))
@@ -125,30 +125,30 @@ full_each sum t d first end reach full within = λ page above below. AreFull_pag
 
 -- ---- the next batches are a queue
 
-next_follow : (n batch full page : ℕ) (queue : List Ahead) → page ≤ full → AreNext n batch full page queue → Follow batch full page queue × (length queue ≤ n)
+next_follow : (n batch full page : ℕ) (queue : List Ahead) → page ≤ full → AreNext n batch full page queue → BatchesFollow batch full page queue × (length queue ≤ n)
 next_follow zero batch full page queue within next =
-    (subst (λ (l : List Ahead). Follow batch full page l) (sym next) within, omega (arith, ap (λ (l : List Ahead). length l) next))
+    (subst (λ (l : List Ahead). BatchesFollow batch full page l) (sym next) within, omega (arith, ap (λ (l : List Ahead). length l) next))
 next_follow (suc n) batch full page [] within next = (within, omega arith)
 next_follow (suc n) batch full page (a ∷ rest) within next =
-    let more = next_follow n batch full (after batch full page) rest (omega (arith, next.1)) next.2 in
+    let more = next_follow n batch full (after_batch batch full page) rest (omega (arith, next.1)) next.2 in
     ((next.0, next.1, more.0), omega (arith, more.1))
 
 pub next_queue : (batch full page : ℕ) (queue : List Ahead) → page ≤ full → AreNext 3 batch full page queue → IsQueue batch full queue
 next_queue batch full page [] within next = tt {0}
 next_queue batch full page (a ∷ rest) within next =
     let follow = next_follow 3 batch full page (a ∷ rest) within next in
-    (subst (λ (p : ℕ). Follow batch full p (a ∷ rest)) (sym next.0) follow.0, omega (arith, follow.1))
+    (subst (λ (p : ℕ). BatchesFollow batch full p (a ∷ rest)) (sym next.0) follow.0, omega (arith, follow.1))
 
 -- ---- a fill
 
 -- what holds of a fill
 pub record Filled (sum : List ℕ → ℕ) (r now : ReplayState) (old new : Life) (result : Result (Unit {0}) Error) : Type 0 where
   pub fills : FillsOnce sum r now old new result
-  pub step : OnOk result (end_of now / r.tail.page_size ≡ after r.batch r.tail.full_pages (end_of r / r.tail.page_size))
+  pub step : OnOk result (end_of now / r.tail.page_size ≡ after_batch r.batch r.tail.full_pages (end_of r / r.tail.page_size))
   pub can : CanReplay now new.present
   pub is : IsReplay now
 
-module _ (sum : List ℕ → ℕ) (r : ReplayState) (is : IsReplay r) (more : end_of r < size_of r.tail) where
+module _ (sum : List ℕ → ℕ) (r : ReplayState) (is : IsReplay r) (more : end_of r < tail_size r.tail) where
   some : 0 < r.tail.page_size
   some = omega (arith, is.short)
 
@@ -166,7 +166,7 @@ module _ (sum : List ℕ → ℕ) (r : ReplayState) (is : IsReplay r) (more : en
 
   -- where it begins after the full pages it is of none
   pub page_after : r.tail.full_pages * r.tail.page_size ≤ end_of r → r.tail.full_pages ≤ end_of r / r.tail.page_size
-  page_after after = (le-div_iff_mul-le {x = r.tail.full_pages} some).1 after
+  page_after after_batch = (le-div_iff_mul-le {x = r.tail.full_pages} some).1 after_batch
 
   -- the first page is passed over in part only where nothing is at hand
   pub skips_none : 0 < length r.hand → end_of r % r.tail.page_size ≡ 0
@@ -204,7 +204,7 @@ module _ (sum : List ℕ → ℕ) (r : ReplayState) (is : IsReplay r) (more : en
         step = tt {0};
         can = record {
           there = omega (arith, can.there, ap (λ (l : List ℕ). length l) same);
-          hand = subst (λ (l : List ℕ). r.hand ≡ take (length r.hand) (drop r.position (told r.tail l))) (sym same) can.hand;
+          hand = subst (λ (l : List ℕ). r.hand ≡ take (length r.hand) (drop r.position (logical_bytes r.tail l))) (sym same) can.hand;
           queue = batches;
         };
         is = record {
@@ -228,7 +228,7 @@ module _ (sum : List ℕ → ℕ) (r : ReplayState) (is : IsReplay r) (more : en
       let e = end_of r in
       let skip = e % P in
       let short = is.short in
-      let all = told t old.present.readable in
+      let all = logical_bytes t old.present.readable in
       let at : e ≡ t.full_pages * P + skip = end_is ∙ ap (λ (n : ℕ). n * P + skip) last in
       let rest : payloads P t.bytes ≡ t.bytes = payloads_short P t.bytes (omega (arith, short)) ∙ take_all P t.bytes (omega (arith, short)) in
       let given : drop skip (payloads P t.bytes) ≡ drop e all =
@@ -236,7 +236,7 @@ module _ (sum : List ℕ → ℕ) (r : ReplayState) (is : IsReplay r) (more : en
       let added = drop skip (payloads P t.bytes) in
       let count : length added ≡ length t.bytes - skip = ap (λ (l : List ℕ). length (drop skip l)) rest ∙ length-drop skip t.bytes in
       let size : length hand ≡ length r.hand + (length t.bytes - skip) = ap (λ (l : List ℕ). length l) made ∙ length-append r.hand added ∙ ap (λ (n : ℕ). length r.hand + n) count in
-      let ends : r.position + length hand ≡ size_of t = omega (arith, size, at, more) in
+      let ends : r.position + length hand ≡ tail_size t = omega (arith, size, at, more) in
       let offset : (r.position + length hand) / P ≡ t.full_pages =
       let low = le-div t.full_pages (r.position + length hand) P some (omega (arith, ends)) in
       let high = div_below (r.position + length hand) P (t.full_pages + 1) some (omega (arith, ends, short)) in
@@ -285,7 +285,7 @@ module _ (sum : List ℕ → ℕ) (r : ReplayState) (is : IsReplay r) (more : en
       → ReadsBatch sum r.tail.page_size r.batch r.tail.full_pages (end_of r / r.tail.page_size) old new (Ok run)
       → hand ≡ r.hand ++ drop (end_of r % r.tail.page_size) (payloads r.tail.page_size run)
       → Looked old new
-      → AreNext 3 r.batch r.tail.full_pages (after r.batch r.tail.full_pages (end_of r / r.tail.page_size)) queue
+      → AreNext 3 r.batch r.tail.full_pages (after_batch r.batch r.tail.full_pages (end_of r / r.tail.page_size)) queue
       → All (IsBatch r.tail.page_size r.batch r.tail.full_pages new.present) queue
       → Filled sum r (record r { hand = hand; queue = queue }) old new (Ok (tt {0}))
   batch_filled old new run hand queue can under reads made looked next batches =
@@ -300,7 +300,7 @@ module _ (sum : List ℕ → ℕ) (r : ReplayState) (is : IsReplay r) (more : en
       let one_page : 1 * P ≤ k * P = mul-le-mul_right P one in
       let few_pages : k * P ≤ r.batch * P = mul-le-mul_right P (let b : k ≤ r.batch = omega arith in b) in
       let less : skip ≤ k * P = omega (arith, skip_less, one_page) in
-      let all = told t old.present.readable in
+      let all = logical_bytes t old.present.readable in
       let is_run : run ≡ take (k * (P + 12)) (drop (page * (P + 12)) old.present.readable) = one_run run (take (k * (P + 12)) (drop (page * (P + 12)) old.present.readable)) reads.0 in
       let added = drop skip (payloads P run) in
       let count : length added ≡ k * P - skip = batch_length t old.present.readable can.there page k within run is_run skip less in
@@ -324,7 +324,7 @@ module _ (sum : List ℕ → ℕ) (r : ReplayState) (is : IsReplay r) (more : en
         step = offset;
         can = record {
           there = omega (arith, can.there, ap (λ (l : List ℕ). length l) same);
-          hand = subst (λ (l : List ℕ). hand ≡ take (length hand) (drop r.position (told t l))) (sym same)
+          hand = subst (λ (l : List ℕ). hand ≡ take (length hand) (drop r.position (logical_bytes t l))) (sym same)
               (made ∙ hand_more all r.hand added r.position can.hand given ∙ ap (λ (l : List ℕ). take (length l) (drop r.position all)) (sym made));
           queue = batches;
         };
@@ -344,7 +344,7 @@ module _ (sum : List ℕ → ℕ) (r : ReplayState) (is : IsReplay r) (more : en
   why : (old new : Life) (e : Error) → CanReplay r old.present → ReadsBatch sum r.tail.page_size r.batch r.tail.full_pages (end_of r / r.tail.page_size) old new (Err e) → FillFault sum r.tail old new e
   why old new ReadFailed can failed = failed
   why old new InvalidChecksum can not_full = λ full.
-      not_full (full_each sum r.tail old.present (end_of r / r.tail.page_size) (after r.batch r.tail.full_pages (end_of r / r.tail.page_size)) can.there full (omega (arith, page_within)))
+      not_full (full_each sum r.tail old.present (end_of r / r.tail.page_size) (after_batch r.batch r.tail.full_pages (end_of r / r.tail.page_size)) can.there full (omega (arith, page_within)))
   why old new OutOfMemory can failed = tt {0}
   why old new _ can failed = absurd failed
 
@@ -403,7 +403,7 @@ asked_none r life = record {
 }
 
 -- a fill more, of a batch
-asked_batch : (r mid now : ReplayState) (old between new : Life) (n : ℕ) → 0 < r.batch → end_of mid / r.tail.page_size < r.tail.full_pages → n ≡ end_of mid / r.tail.page_size → end_of now / r.tail.page_size ≡ after r.batch r.tail.full_pages n
+asked_batch : (r mid now : ReplayState) (old between new : Life) (n : ℕ) → 0 < r.batch → end_of mid / r.tail.page_size < r.tail.full_pages → n ≡ end_of mid / r.tail.page_size → end_of now / r.tail.page_size ≡ after_batch r.batch r.tail.full_pages n
     → (length mid.hand ≡ length r.hand → between ≡ old) → Asked r mid old between → length new.present.log ≤ length between.present.log + 4
     → (IsReadAhead r → length mid.hand ≡ length r.hand → length new.present.log ≤ length between.present.log + 1)
     → ReadsBatches r.tail.page_size r.batch r.tail.full_pages n between new → Asked r now old new
@@ -416,7 +416,7 @@ asked_batch r mid now old between new n some below at step alone so_far calls se
       let page = end_of mid / r.tail.page_size in
       let next = end_of now / r.tail.page_size in
       let s = min r.batch (full - page) in
-      let goes : next ≡ page + s = step ∙ ap (λ (k : ℕ). after r.batch full k) at in
+      let goes : next ≡ page + s = step ∙ ap (λ (k : ℕ). after_batch r.batch full k) at in
       let was : min full page - first ≡ m * r.batch = omega (arith, whole.1, below) in
       let is : min full next - first ≡ m * r.batch + s = omega (arith, whole.1, below, goes) in
       let more : batches_between r mid + 1 ≤ batches_between r now = omega (
@@ -441,7 +441,7 @@ asked_batch r mid now old between new n some below at step alone so_far calls se
 ]
 
 -- of the bytes after the full pages
-asked_rest : (r mid now : ReplayState) (old between new : Life) → r.tail.full_pages ≤ end_of mid / r.tail.page_size → end_of mid / r.tail.page_size ≤ r.tail.full_pages → end_of now / r.tail.page_size ≡ after r.batch r.tail.full_pages (end_of mid / r.tail.page_size)
+asked_rest : (r mid now : ReplayState) (old between new : Life) → r.tail.full_pages ≤ end_of mid / r.tail.page_size → end_of mid / r.tail.page_size ≤ r.tail.full_pages → end_of now / r.tail.page_size ≡ after_batch r.batch r.tail.full_pages (end_of mid / r.tail.page_size)
     → (length mid.hand ≡ length r.hand → (between ≡ old) × (end_of mid ≡ end_of r)) → Asked r mid old between → new ≡ between → Asked r now old new
 asked_rest r mid now old between new ends within step alone so_far same =
     let next : end_of now / r.tail.page_size ≡ end_of mid / r.tail.page_size = omega (arith, step, ends, within) in
@@ -462,7 +462,7 @@ asked_rest r mid now old between new ends within step alone so_far same =
 
 -- what holds before each fill
 pub record Reached (sum : List ℕ → ℕ) (r : ReplayState) (count : ℕ) (now : ReplayState) (old new : Life) : Type 0 where
-  pub fills : Fills r now
+  pub fills : StaysFilled r now
   pub exhausted : now.exhausted ≡ r.exhausted
   pub few : length now.hand ≤ max (length r.hand) (count + r.batch * r.tail.page_size)
   pub filled : HasFilled sum r now old.present
@@ -500,7 +500,7 @@ reach_idle sum r count mid old between new so_far less idle had = elim had [
 -- a fill more
 pub reach_more : (sum : List ℕ → ℕ) (r : ReplayState) (count : ℕ) (mid now : ReplayState) (old between new : Life) → Reached sum r count mid old between → IsReplay mid → length mid.hand < count
     → FillsOnce sum mid now between new (Ok (tt {0})) → (mid.tail.full_pages * mid.tail.page_size ≤ end_of mid → new ≡ between)
-    → end_of now / mid.tail.page_size ≡ after mid.batch mid.tail.full_pages (end_of mid / mid.tail.page_size) → length new.present.log ≤ length between.present.log + 4 → (IsReadAhead mid → length new.present.log ≤ length between.present.log + 1)
+    → end_of now / mid.tail.page_size ≡ after_batch mid.batch mid.tail.full_pages (end_of mid / mid.tail.page_size) → length new.present.log ≤ length between.present.log + 4 → (IsReadAhead mid → length new.present.log ≤ length between.present.log + 1)
     → ReadsBatches mid.tail.page_size mid.batch mid.tail.full_pages (end_of mid / mid.tail.page_size) between new → CanReplay now new.present → Looked between new → Reached sum r count now old new
 reach_more sum r count mid now old between new so_far is less filled idle stepped calls served reads can looked =
     let t = r.tail in
@@ -522,14 +522,14 @@ reach_more sum r count mid now old between new so_far is less filled idle steppe
       few = omega (arith, filled.3, step, less, so_far.few);
       filled = λ page above below. elim (cases_lt page (end_of mid / P)) [
         | inl before ↦ so_far.filled page above (omega (arith, before, offset))
-        | inr after ↦ next page (omega (arith, after)) below
+        | inr after_batch ↦ next page (omega (arith, after_batch)) below
       ];
       ahead = goes_ahead filled.5 so_far.ahead;
       idle = λ had. reach_idle sum r count mid old between new so_far less idle had;
       alone = λ same. absurd (omega (arith, same, filled.2, so_far.fills.hand));
       asked = elim (cases_lt (end_of mid / P) t.full_pages) [
         | inl below ↦ asked_batch r mid now old between new (end_of mid / P) (omega (arith, is.batch, so_far.fills.batch)) below refl
-            (subst (λ (b : ℕ). end_of now / P ≡ after b t.full_pages (end_of mid / P)) so_far.fills.batch (subst (λ (u : Tail). end_of now / u.page_size ≡ after mid.batch u.full_pages (end_of mid / u.page_size)) so_far.fills.tail stepped))
+            (subst (λ (b : ℕ). end_of now / P ≡ after_batch b t.full_pages (end_of mid / P)) so_far.fills.batch (subst (λ (u : Tail). end_of now / u.page_size ≡ after_batch mid.batch u.full_pages (end_of mid / u.page_size)) so_far.fills.tail stepped))
             (λ same. (so_far.alone same).0) so_far.asked calls (λ has same. served (like has same))
             (subst (λ (b : ℕ). ReadsBatches P b t.full_pages (end_of mid / P) between new) so_far.fills.batch (subst (λ (u : Tail). ReadsBatches u.page_size mid.batch u.full_pages (end_of mid / u.page_size) between new) so_far.fills.tail reads))
         | inr ends ↦
@@ -537,7 +537,7 @@ reach_more sum r count mid now old between new so_far is less filled idle steppe
             let le : t.full_pages * P ≤ end_of mid / P * P = mul-le-mul_right P (omega (arith, ends)) in
             omega (arith, le, div-mul-le_self (end_of mid) P) in
             asked_rest r mid now old between new (omega (arith, ends)) offset
-            (subst (λ (b : ℕ). end_of now / P ≡ after b t.full_pages (end_of mid / P)) so_far.fills.batch (subst (λ (u : Tail). end_of now / u.page_size ≡ after mid.batch u.full_pages (end_of mid / u.page_size)) so_far.fills.tail stepped))
+            (subst (λ (b : ℕ). end_of now / P ≡ after_batch b t.full_pages (end_of mid / P)) so_far.fills.batch (subst (λ (u : Tail). end_of now / u.page_size ≡ after_batch mid.batch u.full_pages (end_of mid / u.page_size)) so_far.fills.tail stepped))
             (λ same. ((so_far.alone same).0, omega (arith, same, so_far.fills.position))) so_far.asked
             (idle (subst (λ (u : Tail). u.full_pages * u.page_size ≤ end_of mid) (sym so_far.fills.tail) past))
       ];
@@ -595,13 +595,13 @@ reach_fails sum r count mid now old between new e so_far filled tells =
     fault _ none = absurd none
 
 -- and all that is left
-pub reach_ends : (sum : List ℕ → ℕ) (r : ReplayState) (count : ℕ) (now : ReplayState) (old new : Life) → Reached sum r count now old new → length now.hand < count → end_of now ≡ size_of now.tail
+pub reach_ends : (sum : List ℕ → ℕ) (r : ReplayState) (count : ℕ) (now : ReplayState) (old new : Life) → Reached sum r count now old new → length now.hand < count → end_of now ≡ tail_size now.tail
     → Ensures sum r count (record now { exhausted = true }) old new (Ok false)
 reach_ends sum r count now old new so_far few ends =
-    let size : size_of now.tail ≡ size_of r.tail = ap (λ (u : Tail). size_of u) so_far.fills.tail in
-    let none : size_of r.tail < r.position + count = omega (arith, ends, size, so_far.fills.position, few) in (
+    let size : tail_size now.tail ≡ tail_size r.tail = ap (λ (u : Tail). tail_size u) so_far.fills.tail in
+    let none : tail_size r.tail < r.position + count = omega (arith, ends, size, so_far.fills.position, few) in (
       record { tail = so_far.fills.tail; batch = so_far.fills.batch; position = so_far.fills.position; hand = so_far.fills.hand },
-      sym (lt-leb (r.position + count) (size_of r.tail) none),
+      sym (lt-leb (r.position + count) (tail_size r.tail) none),
       (λ yes. absurd (true≢false (sym yes))),
       (λ _. (ends ∙ size, refl)),
       so_far.few,
@@ -634,7 +634,7 @@ passed_over told hand position count is = elim (cases_lt (length hand) count) [
 advanced_can : (count : ℕ) (r : ReplayState) (d : Disk) → CanReplay r d → CanReplay (advanced count r) d
 advanced_can count r d can = record {
   there = can.there;
-  hand = passed_over (told r.tail d.readable) r.hand r.position count can.hand;
+  hand = passed_over (logical_bytes r.tail d.readable) r.hand r.position count can.hand;
   queue = can.queue;
 }
 
@@ -681,15 +681,15 @@ new_replays sum t buffer_size content d tail = record {
 }
 
 -- one that was filled
-pub filled_replays : (r now : ReplayState) (old new : Life) → Fills r now → CanReplay now new.present → Looked old new → ReplaysThrough r now old new
+pub filled_replays : (r now : ReplayState) (old new : Life) → StaysFilled r now → CanReplay now new.present → Looked old new → ReplaysThrough r now old new
 filled_replays r now old new fills can looked sum content is =
     let same = looked_readable old new looked in
     let tail : IsTailOf sum r.tail content new.present = record {
       there = omega (arith, is.tail.there, ap (λ (l : List ℕ). length l) same);
       full = subst (λ (l : List ℕ). AreFull sum r.tail.page_size (take r.tail.full_pages (pages r.tail.page_size l))) (sym same) is.tail.full;
-      is = ap (λ (l : List ℕ). told r.tail l) same ∙ is.tail.is;
+      is = ap (λ (l : List ℕ). logical_bytes r.tail l) same ∙ is.tail.is;
     } in
-    let told_is : told now.tail new.present.readable ≡ content = ap (λ (u : Tail). told u new.present.readable) fills.tail ∙ tail.is in
+    let told_is : logical_bytes now.tail new.present.readable ≡ content = ap (λ (u : Tail). logical_bytes u new.present.readable) fills.tail ∙ tail.is in
     record {
       tail = subst (λ (u : Tail). IsTailOf sum u content new.present) (sym fills.tail) tail;
       can = can;
@@ -710,14 +710,14 @@ gives_first r count bytes enough first =
 
 -- what a copy answers, by what each of its exits says
 pub copies_bytes : (r : ReplayState) (count : ℕ) (now : ReplayState) (result : Result (List ℕ) Error) → count ≤ length r.hand → IfOk result (λ bytes. bytes ≡ take count r.hand) → OnOk result (now ≡ advanced count r)
-    → OnErr result (now ≡ r) → IsOkUnless result OutOfMemory → CopiesBytes r count now result
+    → OnErr result (now ≡ r) → IsOkUnless result OutOfMemory → CopyToBytesGoes r count now result
 copies_bytes r count now (Ok bytes) enough first moves same is =
     let gives = gives_first r count bytes enough first in
     record { enough = enough; size = gives.0; first = first; moves = moves; gives = gives.1 }
-copies_bytes r count now (Err e) enough first moves same is = subst (λ (x : Error). CopiesBytes r count now (Err x)) (sym is) same
+copies_bytes r count now (Err e) enough first moves same is = subst (λ (x : Error). CopyToBytesGoes r count now (Err x)) (sym is) same
 
 pub copies_to_slice : (r now : ReplayState) (out after : List ℕ) (result : Result (Unit {0}) TooFew) → OnOk result (after ≡ take (length out) r.hand) → OnOk result (now ≡ advanced (length out) r) → OnOk result (length out ≤ length r.hand)
-    → OnErr result ((now ≡ r) × (after ≡ out)) → IfErr result (λ few. (few.requested ≡ length out) × (few.available ≡ length r.hand) × (few.available < few.requested)) → CopiesToSlice r now out after result
+    → OnErr result ((now ≡ r) × (after ≡ out)) → IfErr result (λ few. (few.requested ≡ length out) × (few.available ≡ length r.hand) × (few.available < few.requested)) → CopyToSliceGoes r now out after result
 copies_to_slice r now out after (Ok u) first moves enough same few =
     let gives = gives_first r (length out) after enough first in
     record { enough = enough; size = gives.0; first = first; moves = moves; gives = gives.1 }

@@ -2,14 +2,14 @@
 use Rattle.std.proofs.Common.{◌≡◌, ◌⊎◌, inl, inr, ℕ, ◌+◌, ◌*◌, ◌/◌, ◌≤◌, max, List, [], ◌∷◌, ◌++◌, map, Bool, true, false, Result, Ok, Err, sym, ap, ◌∙◌, subst, arith, append-nil, append_assoc}
 use Rattle.std.proofs.Math.Nat.{mul-le-mul_left}
 use Rattle.std.proofs.lemmas.List.{map-append}
-use Rattle.disk.specs.Disk.{Request, Entry, Life, ReadAt, ReadMany, StartReadMany, AskedOnce, ReadGoes}
+use Rattle.disk.specs.Disk.{Request, Entry, Life, ReadAt, ReadMany, StartReadMany, AskedOnce, DeviceReadGoes}
 use Rattle.disk.specs.declared.error.Error.{Error}
 use Rattle.disk.specs.declared.error.Error.TheVariants.{ReadFailed, WriteFailed, ResizeFailed, SyncFailed, InvalidChecksum, BlobInsufficientLength, OffsetOverflow, OutOfMemory, IdsExhausted}
-use Rattle.paged_read.specs.Searches.{Gained, AreWithin, ReadsWithin, scan_bytes}
+use Rattle.paged_read.specs.Searches.{Gained, AreReadsWithin, ReadsWithin, scan_bytes}
 
 -- ---- requests
 
-pub within_joins : (most : ℕ) (xs ys : List Request) → AreWithin most xs → AreWithin most ys → AreWithin most (xs ++ ys)
+pub within_joins : (most : ℕ) (xs ys : List Request) → AreReadsWithin most xs → AreReadsWithin most ys → AreReadsWithin most (xs ++ ys)
 within_joins most [] ys first second = second
 within_joins most (ReadAt offset len ∷ xs) ys first second = (first.0, within_joins most xs ys first.1 second)
 within_joins most (ReadMany ranges ∷ xs) ys first second = absurd first
@@ -17,7 +17,7 @@ within_joins most (StartReadMany ranges ∷ xs) ys first second = absurd first
 within_joins most (_ ∷ xs) ys first second = within_joins most xs ys first second
 
 -- more may be read at once
-within_more : (few most : ℕ) (xs : List Request) → few ≤ most → AreWithin few xs → AreWithin most xs
+within_more : (few most : ℕ) (xs : List Request) → few ≤ most → AreReadsWithin few xs → AreReadsWithin most xs
 within_more few most [] enough fit = tt
 within_more few most (ReadAt offset len ∷ xs) enough fit = (omega (arith, fit.0), within_more few most xs enough fit.1)
 within_more few most (ReadMany ranges ∷ xs) enough fit = absurd fit
@@ -49,7 +49,7 @@ gained_then Q R old new then gained = (gained.0, gained.1, then (map (λ (e : En
 -- ---- reads
 
 -- a read asks for nothing else
-pub read_asks : (offset len : ℕ) (old new : Life) (answer : Result (List ℕ) Error) → ReadGoes offset len old new answer → (new ≡ old) ⊎ ((failed : Bool) × AskedOnce (ReadAt offset len) failed old new)
+pub read_asks : (offset len : ℕ) (old new : Life) (answer : Result (List ℕ) Error) → DeviceReadGoes offset len old new answer → (new ≡ old) ⊎ ((failed : Bool) × AskedOnce (ReadAt offset len) failed old new)
 read_asks offset len old new (Ok bytes) goes = inr (false, goes.2)
 read_asks offset len old new (Err ReadFailed) goes = inr (true, goes)
 read_asks offset len old new (Err BlobInsufficientLength) goes = inl goes.0
@@ -66,8 +66,8 @@ read_asks offset len old new (Err IdsExhausted) goes = absurd goes
 -- and what follows it, which reads no more at once
 pub cuts_within : (few most : ℕ) (old mid new : Life) → few ≤ most → ReadsWithin most old mid → ReadsWithin few mid new → ReadsWithin most old new
 cuts_within few most old mid new enough within last =
-    gained_joins (AreWithin most) (AreWithin most) (AreWithin most) old mid new (within_joins most) within
-    (gained_then (AreWithin few) (AreWithin most) mid new (λ xs fit. within_more few most xs enough fit) last)
+    gained_joins (AreReadsWithin most) (AreReadsWithin most) (AreReadsWithin most) old mid new (within_joins most) within
+    (gained_then (AreReadsWithin few) (AreReadsWithin most) mid new (λ xs fit. within_more few most xs enough fit) last)
 
 -- the most that fit, and at least one
 pub scan_bytes_is : (P size buffer_size most : ℕ) → size ≡ P + 12 → most ≡ max (buffer_size / size) 1 → most * (P + 12) ≡ scan_bytes P buffer_size

@@ -11,8 +11,8 @@ use Rattle.disk.specs.declared.error.Error.{Error}
 use Rattle.disk.specs.declared.error.Error.TheVariants.{ReadFailed, WriteFailed, ResizeFailed, SyncFailed, InvalidChecksum, BlobInsufficientLength, OffsetOverflow, OutOfMemory, IdsExhausted}
 use Rattle.cache.specs.CacheState.{CacheState}
 use Rattle.paged_read.specs.Failures.{none_failed_start}
-use Rattle.paged_read.specs.Tail.{Tail, told, size_of, CanRead}
-use Rattle.paged_read.specs.Ranges.{missing, is_served, slice, AsksForMissing, AreMissingFull, ReadFault, Reads, ReadsUpTo, TriesRead}
+use Rattle.paged_read.specs.Tail.{Tail, logical_bytes, tail_size, CanRead}
+use Rattle.paged_read.specs.Ranges.{missing, is_served, slice, AsksForMissing, AreMissingFull, ReadFault, Reads, ReadsUpTo, TryReadGoes}
 use Rattle.paged_read.proofs.Windows.{missing_below, missing_none}
 use Rattle.paged_read.proofs.Leaving.{told_in_tip}
 use Rattle.paged_read.proofs.PageReads.{faults_same, full_missing}
@@ -53,10 +53,10 @@ module _ (t : Tail) (cache : CacheState) (offset len below : ℕ) (is : below �
   part_full sum readable full = full_missing sum cache t ((offset, len) ∷ []) (missing cache t ((offset, below) ∷ [])) readable part_missing full
 
   -- the part below and the part after are the range
-  pub parts_join : (d : Disk) (front back : List ℕ) → CanRead t cache d → front ≡ slice (told t d.readable) (offset, below) → back ≡ take (len - below) (drop (offset + below - t.full_pages * t.page_size) t.bytes)
-      → front ++ back ≡ slice (told t d.readable) (offset, len)
+  pub parts_join : (d : Disk) (front back : List ℕ) → CanRead t cache d → front ≡ slice (logical_bytes t d.readable) (offset, below) → back ≡ take (len - below) (drop (offset + below - t.full_pages * t.page_size) t.bytes)
+      → front ++ back ≡ slice (logical_bytes t d.readable) (offset, len)
   parts_join d front back can front_is back_is =
-      let content = told t d.readable in
+      let content = logical_bytes t d.readable in
       let whole : below + (len - below) ≡ len = omega (arith, is) in
       let after : take (len - below) (drop (offset + below - t.full_pages * t.page_size) t.bytes) ≡ slice content (offset + below, len - below) =
       elim (cases_lt below len) [
@@ -93,9 +93,9 @@ second_len below buf front within size =
 -- ---- reads that ask no device
 
 -- a range within the size whose part below the tail isn't served
-pub tries_no : (t : Tail) (range : ℕ × ℕ) (cache : CacheState) (bytes : List ℕ) → is_served cache t range ≡ false → TriesRead t range cache bytes false
+pub tries_no : (t : Tail) (range : ℕ × ℕ) (cache : CacheState) (bytes : List ℕ) → is_served cache t range ≡ false → TryReadGoes t range cache bytes false
 tries_no t range cache bytes missed = (
-  sym (ap (λ b. nat_le (range.0 + range.1) (size_of t) && b) missed ∙ none (nat_le (range.0 + range.1) (size_of t))),
+  sym (ap (λ b. nat_le (range.0 + range.1) (tail_size t) && b) missed ∙ none (nat_le (range.0 + range.1) (tail_size t))),
   λ no. absurd (cc no),
 )
   where
@@ -104,9 +104,9 @@ tries_no t range cache bytes missed = (
     none false = refl
 
 -- one whose part is
-pub tries_yes : (t : Tail) (range : ℕ × ℕ) (cache : CacheState) (bytes : List ℕ) → range.0 + range.1 ≤ size_of t → is_served cache t range ≡ true → ((d : Disk) → CanRead t cache d → bytes ≡ slice (told t d.readable) range) → TriesRead t range cache bytes true
+pub tries_yes : (t : Tail) (range : ℕ × ℕ) (cache : CacheState) (bytes : List ℕ) → range.0 + range.1 ≤ tail_size t → is_served cache t range ≡ true → ((d : Disk) → CanRead t cache d → bytes ≡ slice (logical_bytes t d.readable) range) → TryReadGoes t range cache bytes true
 tries_yes t range cache bytes within served are = (
-  sym (ap (λ b. nat_le (range.0 + range.1) (size_of t) && b) served ∙ ap (λ b. b && true) (fits (range.0 + range.1) (size_of t) within)),
+  sym (ap (λ b. nat_le (range.0 + range.1) (tail_size t) && b) served ∙ ap (λ b. b && true) (fits (range.0 + range.1) (tail_size t) within)),
   λ same. are,
 )
   where
@@ -122,11 +122,11 @@ vec_written len bytes items many = take_at bytes (drop (length bytes) items) len
 -- what a read of no byte answers
 pub reads_nothing : (sum : List ℕ → ℕ) (t : Tail) (cache : CacheState) (offset len : ℕ) (life : Life) (bytes : Vec ℕ Global) → len ≡ 0 → bytes.items ≡ [] → ReadsUpTo sum t cache offset len life life (Ok (bytes, 0))
 reads_nothing sum t cache offset len life bytes none empty =
-    let zero_len : min len (size_of t - offset) ≡ 0 = omega (arith, none) in
-    let lacks = missing_none cache t offset (min len (size_of t - offset)) zero_len in (
+    let zero_len : min len (tail_size t - offset) ≡ 0 = omega (arith, none) in
+    let lacks = missing_none cache t offset (min len (tail_size t - offset)) zero_len in (
       inl none,
-      empty ∙ ap (λ n. slice (told t life.present.readable) (offset, n)) (sym zero_len),
+      empty ∙ ap (λ n. slice (logical_bytes t life.present.readable) (offset, n)) (sym zero_len),
       sym zero_len,
-      full_missing sum cache t ((offset, min len (size_of t - offset)) ∷ []) [] life.present.readable lacks (λ page has. absurd (omega (arith, has.1))),
+      full_missing sum cache t ((offset, min len (tail_size t - offset)) ∷ []) [] life.present.readable lacks (λ page has. absurd (omega (arith, has.1))),
       none_failed_start life.present,
     )

@@ -7,11 +7,11 @@ use Rattle.std.proofs.lemmas.Bool.{cases_lt}
 use Rattle.std.proofs.Math.Nat.{suc-mul, mul-le-mul_right, mul-le-mul_left}
 use Rattle.std.proofs.lemmas.Bool.Decides.{nat_tests}
 use Rattle.std.proofs.lemmas.List.Elements.{filter-append}
-use Rattle.cache.specs.CacheState.{CacheState, held, pieces_left}
+use Rattle.cache.specs.CacheState.{cached_page, CacheState, pieces_left}
 use Rattle.paged_read.specs.Tail.{Tail}
 use Rattle.paged_read.specs.Ranges.{touches, missing}
 use Rattle.paged_read.specs.Pieces.{piece_of, pieces_of}
-use Rattle.paged_read.specs.Parts.{pages_of}
+use Rattle.paged_read.specs.Parts.{piece_pages}
 use Rattle.paged_read.proofs.Spans.{spans_of, spans_begin, spans_end, page_count_is, page_count_none, spans_within}
 
 -- ---- tests over numbers in a row
@@ -83,10 +83,10 @@ touches_before P offset len page before = grind (arith, nat_tests)
 
 -- a read finds a page missing that it has bytes of and the cache lacks
 abbrev pub needs : CacheState → Tail → ℕ × ℕ → ℕ → Bool
-needs cache t range page = not (is_some (held cache (t.id, page))) && (touches t.page_size range page || false)
+needs cache t range page = not (is_some (cached_page cache (t.id, page))) && (touches t.page_size range page || false)
 
-needs_as : (cache : CacheState) (t : Tail) (range : ℕ × ℕ) (page : ℕ) (b : Bool) → touches t.page_size range page ≡ b → needs cache t range page ≡ (not (is_some (held cache (t.id, page))) && (b || false))
-needs_as cache t range page b is = ap (λ (c : Bool). not (is_some (held cache (t.id, page))) && (c || false)) is
+needs_as : (cache : CacheState) (t : Tail) (range : ℕ × ℕ) (page : ℕ) (b : Bool) → touches t.page_size range page ≡ b → needs cache t range page ≡ (not (is_some (cached_page cache (t.id, page))) && (b || false))
+needs_as cache t range page b is = ap (λ (c : Bool). not (is_some (cached_page cache (t.id, page))) && (c || false)) is
 
 and_false : (b : Bool) → (b && false) ≡ false
 and_false true = refl
@@ -97,7 +97,7 @@ and_true true = refl
 and_true false = refl
 
 -- two ranges that have bytes of the same pages that aren't held
-pub missing_same : (cache : CacheState) (t : Tail) (one other : ℕ × ℕ) → ((page : ℕ) → page < t.full_pages → (is_some (held cache (t.id, page)) ≡ true) ⊎ (touches t.page_size one page ≡ touches t.page_size other page))
+pub missing_same : (cache : CacheState) (t : Tail) (one other : ℕ × ℕ) → ((page : ℕ) → page < t.full_pages → (is_some (cached_page cache (t.id, page)) ≡ true) ⊎ (touches t.page_size one page ≡ touches t.page_size other page))
     → missing cache t (one ∷ []) ≡ missing cache t (other ∷ [])
 missing_same cache t one other same = filter_same (needs cache t one) (needs cache t other) 0 t.full_pages (λ page above below. elim (same page (omega (arith, below))) [
   | inl there ↦
@@ -107,24 +107,24 @@ missing_same cache t one other same = filter_same (needs cache t one) (needs cac
 
 -- the pieces of a range whose pages aren't held have just these pages
 left_pages : (cache : CacheState) (id P : ℕ) (range : ℕ × ℕ) (buf_offset first n : ℕ)
-    → pages_of (pieces_left cache id (map (piece_of P range buf_offset) (range_with_len first n))) ≡ filter (λ page. not (is_some (held cache (id, page)))) (range_with_len first n)
+    → piece_pages (pieces_left cache id (map (piece_of P range buf_offset) (range_with_len first n))) ≡ filter (λ page. not (is_some (cached_page cache (id, page)))) (range_with_len first n)
 left_pages cache id P range buf_offset first zero = refl
-left_pages cache id P range buf_offset first (suc n) = by_test (not (is_some (held cache (id, first)))) (left_pages cache id P range buf_offset (first + 1) n)
+left_pages cache id P range buf_offset first (suc n) = by_test (not (is_some (cached_page cache (id, first)))) (left_pages cache id P range buf_offset (first + 1) n)
   where
-    by_test : (b : Bool) → pages_of (pieces_left cache id (map (piece_of P range buf_offset) (range_with_len (first + 1) n))) ≡ filter (λ page. not (is_some (held cache (id, page)))) (range_with_len (first + 1) n)
-        → pages_of (cond b (piece_of P range buf_offset first ∷ pieces_left cache id (map (piece_of P range buf_offset) (range_with_len (first + 1) n))) (pieces_left cache id (map (piece_of P range buf_offset) (range_with_len (first + 1) n))))
-        ≡ cond b (first ∷ filter (λ page. not (is_some (held cache (id, page)))) (range_with_len (first + 1) n)) (filter (λ page. not (is_some (held cache (id, page)))) (range_with_len (first + 1) n))
+    by_test : (b : Bool) → piece_pages (pieces_left cache id (map (piece_of P range buf_offset) (range_with_len (first + 1) n))) ≡ filter (λ page. not (is_some (cached_page cache (id, page)))) (range_with_len (first + 1) n)
+        → piece_pages (cond b (piece_of P range buf_offset first ∷ pieces_left cache id (map (piece_of P range buf_offset) (range_with_len (first + 1) n))) (pieces_left cache id (map (piece_of P range buf_offset) (range_with_len (first + 1) n))))
+        ≡ cond b (first ∷ filter (λ page. not (is_some (cached_page cache (id, page)))) (range_with_len (first + 1) n)) (filter (λ page. not (is_some (cached_page cache (id, page)))) (range_with_len (first + 1) n))
     by_test true rest = ap (λ (l : List ℕ). first ∷ l) rest
     by_test false rest = rest
 
 -- no byte needs no page
 pub missing_none : (cache : CacheState) (t : Tail) (offset len : ℕ) → len ≡ 0 → missing cache t ((offset, len) ∷ []) ≡ []
 missing_none cache t offset len none =
-    filter_none (needs cache t (offset, len)) 0 t.full_pages (λ page above below. needs_as cache t (offset, len) page false (touches_none t.page_size offset len page none) ∙ and_false (not (is_some (held cache (t.id, page)))))
+    filter_none (needs cache t (offset, len)) 0 t.full_pages (λ page above below. needs_as cache t (offset, len) page false (touches_none t.page_size offset len page none) ∙ and_false (not (is_some (cached_page cache (t.id, page)))))
 
 -- the pages that a range below the tail finds missing are those of the pieces that the cache leaves
 pub missing_pages : (cache : CacheState) (t : Tail) (offset len buf_offset : ℕ) → 0 < t.page_size → offset + len ≤ t.full_pages * t.page_size
-    → missing cache t ((offset, len) ∷ []) ≡ pages_of (pieces_left cache t.id (pieces_of t.page_size (offset, len) buf_offset))
+    → missing cache t ((offset, len) ∷ []) ≡ piece_pages (pieces_left cache t.id (pieces_of t.page_size (offset, len) buf_offset))
 missing_pages cache t offset len buf_offset some below = elim (cases_lt 0 len) [
   | inl more ↦
       let P = t.page_size in
@@ -132,16 +132,16 @@ missing_pages cache t offset len buf_offset some below = elim (cases_lt 0 len) [
       let n = div_ceil (offset % P + len) P in
       let spans = spans_of P offset len some in
       let within : first + n ≤ t.full_pages = spans_within P offset len first n t.full_pages spans below in
-      filter_window (needs cache t (offset, len)) (λ page. not (is_some (held cache (t.id, page)))) first n t.full_pages within
-      (λ page above under. needs_as cache t (offset, len) page true (touches_yes P offset len page more (spans_begin P offset len first n page spans under) (spans_end P offset len first n page spans above)) ∙ and_true (not (is_some (held cache (t.id, page)))))
-      (λ page less. needs_as cache t (offset, len) page false (touches_before P offset len page (before P page first offset spans.begins less)) ∙ and_false (not (is_some (held cache (t.id, page)))))
-      (λ page over. needs_as cache t (offset, len) page false (touches_after P offset len page (after P page (first + n) (offset + len) spans.ends over)) ∙ and_false (not (is_some (held cache (t.id, page)))))
+      filter_window (needs cache t (offset, len)) (λ page. not (is_some (cached_page cache (t.id, page)))) first n t.full_pages within
+      (λ page above under. needs_as cache t (offset, len) page true (touches_yes P offset len page more (spans_begin P offset len first n page spans under) (spans_end P offset len first n page spans above)) ∙ and_true (not (is_some (cached_page cache (t.id, page)))))
+      (λ page less. needs_as cache t (offset, len) page false (touches_before P offset len page (before P page first offset spans.begins less)) ∙ and_false (not (is_some (cached_page cache (t.id, page)))))
+      (λ page over. needs_as cache t (offset, len) page false (touches_after P offset len page (after P page (first + n) (offset + len) spans.ends over)) ∙ and_false (not (is_some (cached_page cache (t.id, page)))))
       ∙ sym (left_pages cache t.id P (offset, len) buf_offset first n)
-      ∙ ap (λ k. pages_of (pieces_left cache t.id (map (piece_of P (offset, len) buf_offset) (range_with_len first k)))) (sym (page_count_is P offset len more))
+      ∙ ap (λ k. piece_pages (pieces_left cache t.id (map (piece_of P (offset, len) buf_offset) (range_with_len first k)))) (sym (page_count_is P offset len more))
   | inr none ↦
       let zero_len : len ≡ 0 = omega (arith, none) in
       missing_none cache t offset len zero_len
-      ∙ ap (λ k. pages_of (pieces_left cache t.id (map (piece_of t.page_size (offset, len) buf_offset) (range_with_len (offset / t.page_size) k)))) (sym (page_count_none t.page_size offset len zero_len))
+      ∙ ap (λ k. piece_pages (pieces_left cache t.id (map (piece_of t.page_size (offset, len) buf_offset) (range_with_len (offset / t.page_size) k)))) (sym (page_count_none t.page_size offset len zero_len))
 ]
   where
     before : (P page first buf_offset : ℕ) → first * P ≤ buf_offset → page < first → (page + 1) * P ≤ buf_offset

@@ -13,7 +13,7 @@ use Rattle.cache.specs.CacheState.{CacheState, Puts}
 use Rattle.cache.specs.Pages.{page_of_content}
 use Rattle.cache.specs.declared.piece.Piece.{Piece}
 use Rattle.paged_read.specs.Failures.{NoneFailed}
-use Rattle.paged_read.specs.Tail.{Tail, told, CanRead}
+use Rattle.paged_read.specs.Tail.{Tail, logical_bytes, CanRead}
 use Rattle.paged_read.specs.Ranges.{missing, slice, page_ranges}
 use Rattle.paged_read.specs.Parts.{with_told, ArePagesFull, PagesFault}
 use Rattle.paged_read.specs.declared.lack.Lack.{Lack}
@@ -46,8 +46,8 @@ pub record Gathered (cache : CacheState) (t : Tail) (ranges : List (ℕ × ℕ))
   pub wanted : pages ≡ missing cache t ranges
   pub each : All (IsLack t.page_size pages buf_offset) lacks
   pub bytes : (d : Disk) → CanRead t cache d
-      → with_told t.page_size (told t d.readable) (pieces_in lacks) (take buf_offset buf)
-      ≡ flat_map (slice (told t d.readable)) ranges
+      → with_told t.page_size (logical_bytes t d.readable) (pieces_in lacks) (take buf_offset buf)
+      ≡ flat_map (slice (logical_bytes t d.readable)) ranges
 
 -- these pages are delivered, each by its number; or the device failed; or it didn't, and memory was
 -- refused
@@ -61,13 +61,13 @@ DeliversPages P pages old new (Err OutOfMemory) = NoneFailed old.present new.pre
 DeliversPages P pages old new (Err _) = ⊥
 
 -- a full page is put in the cache, one that isn't full is refused
-abbrev pub KeepsPage : (List ℕ → ℕ) → (P : ℕ) → ℕ × ℕ → List ℕ → CacheState → CacheState
+abbrev pub CachesFullPage : (List ℕ → ℕ) → (P : ℕ) → ℕ × ℕ → List ℕ → CacheState → CacheState
     → Result (Unit {0}) Error → Type 0
-KeepsPage sum P key bytes old new (Ok _) =
+CachesFullPage sum P key bytes old new (Ok _) =
     (value_len sum P bytes ≡ P) × Puts key (take P bytes) old new
-KeepsPage sum P key bytes old new (Err InvalidChecksum) =
+CachesFullPage sum P key bytes old new (Err InvalidChecksum) =
     (value_len sum P bytes ≢ P) × (new ≡ old)
-KeepsPage sum P key bytes old new (Err _) = ⊥
+CachesFullPage sum P key bytes old new (Err _) = ⊥
 
 -- a delivered page has one of so many numbers, and is whole
 abbrev pub IsDelivered : (P count : ℕ) → ℕ × List ℕ → Type 0
@@ -94,7 +94,8 @@ abbrev pub bytes_found : (at : List ℕ) → List (ℕ × List ℕ) → (number 
 bytes_found at out number = (slice_index_or out (slice_index_or at number 0) (0, [])).1
 
 -- a piece's page is found, and has its bytes, and there is room for them
-pub record IsReady (at : List ℕ) (out : List (ℕ × List ℕ)) (room : ℕ) (lack : Lack) : Type 0 where
+pub record CanPutPiece (at : List ℕ) (out : List (ℕ × List ℕ)) (room : ℕ) (lack : Lack) : Type
+    0 where
   pub number : lack.number < length at
   pub found : slice_index_or at lack.number 0 < length out
   pub within : lack.piece.skip + lack.piece.len ≤ length (bytes_found at out lack.number)
@@ -110,7 +111,7 @@ IsTold P content at out lack =
 abbrev pub ReadsLacks : (List ℕ → ℕ) → Tail → List ℕ → List Lack → List ℕ → List ℕ → Life → Life
     → Result (Unit {0}) Error → Type 0
 ReadsLacks sum t pages lacks buf after old new (Ok _) =
-    (after ≡ with_told t.page_size (told t old.present.readable) (pieces_in lacks) buf)
+    (after ≡ with_told t.page_size (logical_bytes t old.present.readable) (pieces_in lacks) buf)
     × ArePagesFull sum t.page_size pages old.present.readable
     × NoneFailed old.present new.present
 ReadsLacks sum t pages lacks buf after old new (Err e) =

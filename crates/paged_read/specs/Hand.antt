@@ -53,6 +53,6 @@ kept_with more None = None
 kept_with more (Some hand) = Some (record hand { bytes = hand.bytes ++ more })
 
 -- such a caller has pages of this size, and room for so many bytes more
-abbrev pub HasRoom : (P more : ℕ) → Option HandState → Type 0
-HasRoom P more None = Unit {0}
-HasRoom P more (Some hand) = (hand.page_size ≡ P) × (length hand.bytes + more < 2 ^ 64)
+abbrev pub HandHasRoom : (P more : ℕ) → Option HandState → Type 0
+HandHasRoom P more None = Unit {0}
+HandHasRoom P more (Some hand) = (hand.page_size ≡ P) × (length hand.bytes + more < 2 ^ 64)

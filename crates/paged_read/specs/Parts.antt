@@ -10,7 +10,7 @@ use Rattle.cache.specs.CacheState.{CacheState, put_at, IsPiece}
 use Rattle.cache.specs.Pages.{page_of_content}
 use Rattle.cache.specs.declared.piece.Piece.{Piece}
 use Rattle.paged_read.specs.Failures.{NoneFailed}
-use Rattle.paged_read.specs.Tail.{Tail, told, CanRead}
+use Rattle.paged_read.specs.Tail.{Tail, logical_bytes, CanRead}
 use Rattle.paged_read.specs.Ranges.{page_at, slice, is_served, AreMissingFull, ReadFault}
 
 -- a physical page that is there is read and found full; or the device failed; or it didn't, and the
@@ -47,8 +47,8 @@ pub record IsPieceOf (t : Tail) (room : ℕ) (piece : Piece) : Type 0 where
   pub part : IsPiece t.page_size room piece
 
 -- the pages of these pieces
-abbrev pub pages_of : List Piece → List ℕ
-pages_of pieces = map (λ piece. piece.page) pieces
+abbrev pub piece_pages : List Piece → List ℕ
+piece_pages pieces = map (λ piece. piece.page) pieces
 
 -- each piece of a content is put in its place, in order
 abbrev pub with_told : (P : ℕ) → List ℕ → List Piece → List ℕ → List ℕ
@@ -58,20 +58,20 @@ with_told P content (piece ∷ pieces) buf =
     with_told P content pieces (put_at piece.buf_offset bytes buf)
 
 -- these pieces are read: each is put in its place, and its page is full
-abbrev pub ReadsPieces : (List ℕ → ℕ) → Tail → List Piece → List ℕ → List ℕ → Life → Life
+abbrev pub FetchesPieces : (List ℕ → ℕ) → Tail → List Piece → List ℕ → List ℕ → Life → Life
     → Result (Unit {0}) Error → Type 0
-ReadsPieces sum t pieces bytes bytes_after old new (Ok _) =
-    (bytes_after ≡ with_told t.page_size (told t old.present.readable) pieces bytes)
-    × ArePagesFull sum t.page_size (pages_of pieces) old.present.readable
+FetchesPieces sum t pieces bytes bytes_after old new (Ok _) =
+    (bytes_after ≡ with_told t.page_size (logical_bytes t old.present.readable) pieces bytes)
+    × ArePagesFull sum t.page_size (piece_pages pieces) old.present.readable
     × NoneFailed old.present new.present
-ReadsPieces sum t pieces bytes bytes_after old new (Err e) =
-    PagesFault sum t.page_size (pages_of pieces) old new e
+FetchesPieces sum t pieces bytes bytes_after old new (Err e) =
+    PagesFault sum t.page_size (piece_pages pieces) old new e
 
 -- a range below the tail is read
 abbrev pub ReadsBelow : (List ℕ → ℕ) → Tail → CacheState → ℕ × ℕ → List ℕ → Life → Life
     → Result (Unit {0}) Error → Type 0
 ReadsBelow sum t cache range bytes old new (Ok _) =
-    (bytes ≡ slice (told t old.present.readable) range)
+    (bytes ≡ slice (logical_bytes t old.present.readable) range)
     × AreMissingFull sum cache t (range ∷ []) old.present.readable
     × NoneFailed old.present new.present
 ReadsBelow sum t cache range bytes old new (Err e) = ReadFault sum cache t (range ∷ []) old new e
@@ -82,4 +82,4 @@ abbrev pub TriesBelow : Tail → ℕ × ℕ → CacheState → List ℕ → Bool
 TriesBelow t range cache bytes answer =
     (answer ≡ is_served cache t range)
     × (answer ≡ true → (d : Disk) → CanRead t cache d
-    → bytes ≡ slice (told t d.readable) range)
+    → bytes ≡ slice (logical_bytes t d.readable) range)

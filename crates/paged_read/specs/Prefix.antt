@@ -8,8 +8,8 @@ use Rattle.paged_read.specs.declared.prefix.Prefix.{Prefix}
 use Rattle.paged_read.specs.Ranges.{page_at}
 
 -- a prefix with so many full pages more in front
-abbrev pub after : ℕ → Prefix → Prefix
-after n p = record p { full_pages = n + p.full_pages }
+abbrev pub after_pages : ℕ → Prefix → Prefix
+after_pages n p = record p { full_pages = n + p.full_pages }
 
 -- a page's value and the slot that tells it
 abbrev pub value_and_slot : Option ActiveChecksum → List ℕ → Option (List ℕ × ActiveChecksum)
@@ -21,7 +21,7 @@ abbrev pub prefix_of : (List ℕ → ℕ) → ℕ → List (List ℕ) → Prefix
 prefix_of sum P [] = record { full_pages = 0; partial = None }
 prefix_of sum P (page ∷ rest) =
     if value_len sum P page == P
-    then after 1 (prefix_of sum P rest)
+    then after_pages 1 (prefix_of sum P rest)
     else record { full_pages = 0; partial = value_and_slot (active sum P page) page }
 
 -- the first pages of a blob up to the last that has a value; those before that one count as full

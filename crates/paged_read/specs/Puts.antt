@@ -5,7 +5,7 @@ use Rattle.disk.specs.Disk.{Life}
 use Rattle.disk.specs.declared.error.Error.{Error}
 use Rattle.cache.specs.CacheState.{CacheState, Puts}
 use Rattle.cache.specs.Pages.{page_of_content}
-use Rattle.paged_read.specs.Tail.{Tail, told}
+use Rattle.paged_read.specs.Tail.{logical_bytes, Tail}
 use Rattle.paged_read.specs.Parts.{ArePagesFull}
 
 -- these pages of a blob's content are put, one after the other
@@ -20,12 +20,13 @@ pub record PutsFirst (sum : List ℕ → ℕ) (t : Tail) (pages readable : List 
     : Type 0 where
   pub count : ℕ
   pub full : ArePagesFull sum t.page_size (take count pages) readable
-  pub puts : PutsPages t.id (told t readable) (take count pages) old new
+  pub puts : PutsPages t.id (logical_bytes t readable) (take count pages) old new
 
 -- a read of these pages puts all of them, in this order. Where it fails it puts the first ones.
 abbrev pub PutsInOrder : {A : Type 0} → (List ℕ → ℕ) → Tail → (pages readable : List ℕ)
     → CacheState → CacheState → Result A Error → Type 0
-PutsInOrder sum t pages readable old new (Ok _) = PutsPages t.id (told t readable) pages old new
+PutsInOrder sum t pages readable old new (Ok _) =
+    PutsPages t.id (logical_bytes t readable) pages old new
 PutsInOrder sum t pages readable old new (Err _) = PutsFirst sum t pages readable old new
 
 -- a read of these pages puts them so, in some order
@@ -36,18 +37,18 @@ pub record PutsSome {A : Type 0} (sum : List ℕ → ℕ) (t : Tail) (pages read
   pub puts : PutsInOrder sum t order readable old new result
 
 -- a read of one page puts it. Where it fails it puts nothing.
-abbrev pub PutsPage : {A : Type 0} → Tail → (page : ℕ) → List ℕ → CacheState → CacheState
+abbrev pub PutsPageIfOk : {A : Type 0} → Tail → (page : ℕ) → List ℕ → CacheState → CacheState
     → Result A Error → Type 0
-PutsPage t page readable old new (Ok _) =
-    PutsPages t.id (told t readable) (page ∷ []) old new
-PutsPage t page readable old new (Err _) = new ≡ old
+PutsPageIfOk t page readable old new (Ok _) =
+    PutsPages t.id (logical_bytes t readable) (page ∷ []) old new
+PutsPageIfOk t page readable old new (Err _) = new ≡ old
 
 -- a read of these pages one by one: each is asked for once, and put. Where it fails, those are put
 -- that were asked for before the last device call, or before none.
 abbrev pub PutsAsked : {A : Type 0} → (List ℕ → ℕ) → Tail → List ℕ → Life → Life → CacheState
     → CacheState → Result A Error → Type 0
 PutsAsked sum t pages old new cache after (Ok _) =
-    PutsPages t.id (told t old.present.readable) pages cache after
+    PutsPages t.id (logical_bytes t old.present.readable) pages cache after
     × (length new.present.log ≡ length old.present.log + length pages)
 PutsAsked sum t pages old new cache after (Err _) =
     (first : PutsFirst sum t pages old.present.readable cache after)
@@ -55,5 +56,5 @@ PutsAsked sum t pages old new cache after (Err _) =
     × (length new.present.log ≤ length old.present.log + first.count + 1)
 
 -- the pages that were delivered, in the order in which they came
-abbrev pub numbered : (pages : List ℕ) → List (ℕ × List ℕ) → List ℕ
-numbered pages out = map (λ page. slice_index_or pages page.0 0) out
+abbrev pub delivered_pages : (pages : List ℕ) → List (ℕ × List ℕ) → List ℕ
+delivered_pages pages out = map (λ page. slice_index_or pages page.0 0) out

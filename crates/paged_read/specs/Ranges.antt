@@ -11,11 +11,11 @@ use Rattle.disk.specs.declared.error.Error.TheVariants.{BlobInsufficientLength, 
 use Rattle.disk.specs.declared.error.Error.TheVariants.{OutOfMemory}
 use Rattle.page.specs.Geometry.{EndWithin, RangesGo}
 use Rattle.page.specs.Page.{value_len}
-use Rattle.cache.specs.CacheState.{CacheState, held}
+use Rattle.cache.specs.CacheState.{cached_page, CacheState}
 use Rattle.cache.specs.Pages.{CachesOnly, IsFresh}
 use Rattle.crash.specs.Looks.{Looked}
 use Rattle.paged_read.specs.Failures.{NoneFailed}
-use Rattle.paged_read.specs.Tail.{Tail, told, size_of, CanRead}
+use Rattle.paged_read.specs.Tail.{Tail, logical_bytes, tail_size, CanRead}
 
 -- a physical page by its offset
 abbrev pub page_at : ℕ → ℕ → List ℕ → List ℕ
@@ -30,7 +30,7 @@ touches P range page =
 -- once
 abbrev pub missing : CacheState → Tail → List (ℕ × ℕ) → List ℕ
 missing cache t ranges =
-    filter (λ page. not (is_some (held cache (t.id, page)))
+    filter (λ page. not (is_some (cached_page cache (t.id, page)))
     && list_any (λ range. touches t.page_size range page) ranges) (range_with_len 0 t.full_pages)
 
 -- a range needs none of them
@@ -38,8 +38,8 @@ abbrev pub is_served : CacheState → Tail → ℕ × ℕ → Bool
 is_served cache t range = nat_eq (length (missing cache t (range ∷ []))) 0
 
 -- how many ranges do
-abbrev pub served : CacheState → Tail → List (ℕ × ℕ) → ℕ
-served cache t ranges = length (filter (is_served cache t) ranges)
+abbrev pub served_ranges : CacheState → Tail → List (ℕ × ℕ) → ℕ
+served_ranges cache t ranges = length (filter (is_served cache t) ranges)
 
 -- the numbers of the others, rising, from this number on
 abbrev pub missed_from : ℕ → CacheState → Tail → List (ℕ × ℕ) → List ℕ
@@ -75,7 +75,7 @@ ReadFault sum cache t ranges old new _ = ⊥
 -- content that were put, and pages that went for them; and reads go on
 pub record LeavesAll (t : Tail) (cache cache_after : CacheState) (old new : Life) : Type 0 where
   pub looked : Looked old new
-  pub cached : CachesOnly t.id 0 (told t old.present.readable) cache cache_after
+  pub cached : CachesOnly t.id 0 (logical_bytes t old.present.readable) cache cache_after
   pub can : CanRead t cache_after new.present
   pub fresh : IsFresh cache → IsFresh cache_after
 
@@ -86,19 +86,19 @@ pub record LeavesAll (t : Tail) (cache cache_after : CacheState) (old new : Life
 abbrev pub Reads : {A : Type 0} → (List ℕ → ℕ) → Tail → CacheState → ℕ × ℕ → (A → List ℕ) → Life
     → Life → Result A Error → Type 0
 Reads sum t cache range bytes old new (Ok a) =
-    (range.0 + range.1 ≤ size_of t)
-    × (bytes a ≡ slice (told t old.present.readable) range)
+    (range.0 + range.1 ≤ tail_size t)
+    × (bytes a ≡ slice (logical_bytes t old.present.readable) range)
     × AreMissingFull sum cache t (range ∷ []) old.present.readable
     × NoneFailed old.present new.present
 Reads sum t cache range bytes old new (Err OffsetOverflow) =
     (new ≡ old) × (2 ^ 64 ≤ range.0 + range.1)
 Reads sum t cache range bytes old new (Err BlobInsufficientLength) =
-    (new ≡ old) × (range.0 + range.1 < 2 ^ 64) × (size_of t < range.0 + range.1)
+    (new ≡ old) × (range.0 + range.1 < 2 ^ 64) × (tail_size t < range.0 + range.1)
 Reads sum t cache range bytes old new (Err e) = ReadFault sum cache t (range ∷ []) old new e
 
 -- the range from an offset on of at most so many bytes, as far as there are any
 abbrev pub range_up_to : Tail → (offset len : ℕ) → ℕ × ℕ
-range_up_to t offset len = (offset, min len (size_of t - offset))
+range_up_to t offset len = (offset, min len (tail_size t - offset))
 
 -- a read of at most so many bytes from an offset on: it answers those that there are, and how many.
 -- A read of no byte may begin anywhere, one of some bytes only before the end
@@ -106,12 +106,12 @@ abbrev pub ReadsUpTo : (List ℕ → ℕ) → Tail → CacheState → (offset le
     → Result (Vec ℕ Global × ℕ) Error → Type 0
 ReadsUpTo sum t cache offset len old new (Ok r) =
     let range = range_up_to t offset len in
-    ((len ≡ 0) ⊎ (offset < size_of t))
-    × (r.0.items ≡ slice (told t old.present.readable) range) × (r.1 ≡ range.1)
+    ((len ≡ 0) ⊎ (offset < tail_size t))
+    × (r.0.items ≡ slice (logical_bytes t old.present.readable) range) × (r.1 ≡ range.1)
     × AreMissingFull sum cache t (range ∷ []) old.present.readable
     × NoneFailed old.present new.present
 ReadsUpTo sum t cache offset len old new (Err BlobInsufficientLength) =
-    (new ≡ old) × (len ≢ 0) × (size_of t ≤ offset)
+    (new ≡ old) × (len ≢ 0) × (tail_size t ≤ offset)
 ReadsUpTo sum t cache offset len old new (Err OffsetOverflow) = ⊥
 ReadsUpTo sum t cache offset len old new (Err e) =
     ReadFault sum cache t (range_up_to t offset len ∷ []) old new e
@@ -125,11 +125,11 @@ AsksForMissing cache t range old new =
 
 -- a read that asks no device: whether the range lies within the size and is served, and then these
 -- are its bytes over each disk with which the cache agrees
-abbrev pub TriesRead : Tail → ℕ × ℕ → CacheState → List ℕ → Bool → Type 0
-TriesRead t range cache bytes answer =
-    (answer ≡ (nat_le (range.0 + range.1) (size_of t) && is_served cache t range))
+abbrev pub TryReadGoes : Tail → ℕ × ℕ → CacheState → List ℕ → Bool → Type 0
+TryReadGoes t range cache bytes answer =
+    (answer ≡ (nat_le (range.0 + range.1) (tail_size t) && is_served cache t range))
     × (answer ≡ true → (d : Disk) → CanRead t cache d
-    → bytes ≡ slice (told t d.readable) range)
+    → bytes ≡ slice (logical_bytes t d.readable) range)
 
 -- ---- many
 
@@ -138,16 +138,16 @@ TriesRead t range cache bytes answer =
 abbrev pub ReadsMany : (List ℕ → ℕ) → Tail → CacheState → List (ℕ × ℕ) → List ℕ → Life → Life
     → Result ℕ Error → Type 0
 ReadsMany sum t cache ranges bytes old new (Ok count) =
-    EndWithin (size_of t) ranges × (count ≡ served cache t ranges)
-    × (bytes ≡ flat_map (slice (told t old.present.readable)) ranges)
+    EndWithin (tail_size t) ranges × (count ≡ served_ranges cache t ranges)
+    × (bytes ≡ flat_map (slice (logical_bytes t old.present.readable)) ranges)
     × AreMissingFull sum cache t ranges old.present.readable
     × NoneFailed old.present new.present
 ReadsMany sum t cache ranges bytes old new (Err OffsetOverflow) =
-    (new ≡ old) × RangesGo (size_of t) ranges (Err OffsetOverflow)
+    (new ≡ old) × RangesGo (tail_size t) ranges (Err OffsetOverflow)
 ReadsMany sum t cache ranges bytes old new (Err BlobInsufficientLength) =
-    (new ≡ old) × RangesGo (size_of t) ranges (Err BlobInsufficientLength)
+    (new ≡ old) × RangesGo (tail_size t) ranges (Err BlobInsufficientLength)
 ReadsMany sum t cache ranges bytes old new (Err e) =
-    EndWithin (size_of t) ranges × ReadFault sum cache t ranges old new e
+    EndWithin (tail_size t) ranges × ReadFault sum cache t ranges old new e
 
 -- where these pages are
 abbrev pub page_ranges : (P : ℕ) → List ℕ → List (ℕ × ℕ)
@@ -167,8 +167,8 @@ AsksOnce cache t ranges old new =
 -- which ranges would need the device: all where one can't be read
 abbrev pub Misses : Tail → List (ℕ × ℕ) → CacheState → List ℕ → Type 0
 Misses t ranges cache indices =
-    (EndWithin (size_of t) ranges × (indices ≡ missed_from 0 cache t ranges))
-    ⊎ ((EndWithin (size_of t) ranges → ⊥) × (indices ≡ range_with_len 0 (length ranges)))
+    (EndWithin (tail_size t) ranges × (indices ≡ missed_from 0 cache t ranges))
+    ⊎ ((EndWithin (tail_size t) ranges → ⊥) × (indices ≡ range_with_len 0 (length ranges)))
 
 -- the bytes of the others stand in their offsets, over each disk with which the cache agrees
 abbrev pub HasServed : CacheState → Tail → List (ℕ × ℕ) → List ℕ → List ℕ → Type 0

@@ -33,17 +33,17 @@ part_of P from to page (Ok bytes) = some_of (drop (from - page * P) (take (to - 
 part_of P from to page (Err e) = Err e
 
 -- one after the other; the first that is refused decides
-abbrev pub joined : Result (List ℕ) Error → Result (List ℕ) Error → Result (List ℕ) Error
-joined (Ok front) (Ok back) = Ok (front ++ back)
-joined (Ok front) (Err e) = Err e
-joined (Err e) back = Err e
+abbrev pub joined_results : Result (List ℕ) Error → Result (List ℕ) Error → Result (List ℕ) Error
+joined_results (Ok front) (Ok back) = Ok (front ++ back)
+joined_results (Ok front) (Err e) = Err e
+joined_results (Err e) back = Err e
 
 -- what so many pages tell of a range, from this one on
 abbrev pub parts_told : (List ℕ → ℕ) → (P from to count page : ℕ) → List ℕ
     → Result (List ℕ) Error
 parts_told sum P from to zero page readable = Ok []
 parts_told sum P from to (suc count) page readable =
-    joined (part_of P from to page (value_told sum P page readable))
+    joined_results (part_of P from to page (value_told sum P page readable))
     (parts_told sum P from to count (page + 1) readable)
 
 -- these bytes if they are as many as were asked for, and otherwise the refusal
@@ -76,7 +76,7 @@ after_told sum P page len readable (Err e) = Err e
 after_told sum P page len readable (Ok bytes) =
     let end = page * P + length bytes in let from = end - len in
     if nat_lt end len then Err BlobInsufficientLength
-    else ending_at end (joined (range_told sum P from (page * P - from) readable)
+    else ending_at end (joined_results (range_told sum P from (page * P - from) readable)
     (Ok (drop (from - page * P) bytes)))
 
 -- the logical size of a blob of so many physical bytes, and its last bytes, or why they aren't told
@@ -107,22 +107,22 @@ abbrev pub page_request : (P page : ℕ) → Request
 page_request P page = ReadAt (page * (P + 12)) (P + 12)
 
 -- so many pages from this one on were read since, in rising order, each by a read of its own
-abbrev pub ReadsPages : (P page count : ℕ) → Life → Life → Type 0
-ReadsPages P page count old new =
+abbrev pub ReadsEachPage : (P page count : ℕ) → Life → Life → Type 0
+ReadsEachPage P page count old new =
     Gained (λ requests. requests ≡ map (page_request P) (range_with_len page count)) old new
 
 -- or the first of them
 abbrev pub ReadsRising : (P page count : ℕ) → Life → Life → Type 0
-ReadsRising P page count old new = (few : ℕ) × (few ≤ count) × ReadsPages P page few old new
+ReadsRising P page count old new = (few : ℕ) × (few ≤ count) × ReadsEachPage P page few old new
 
 -- so a range is read, from the page that has its first byte on, up to that of its last
-abbrev pub ReadsRange : (P offset len : ℕ) → Life → Life → Type 0
-ReadsRange P offset len old new =
+abbrev pub ReadsPagesOf : (P offset len : ℕ) → Life → Life → Type 0
+ReadsPagesOf P offset len old new =
     ReadsRising P (offset / P) (range_end P offset len - offset / P) old new
 
 -- one page is read, unless the read is refused
 abbrev pub ReadsOne : {A : Type 0} → (P page : ℕ) → Life → Life → Result A Error → Type 0
-ReadsOne P page old new (Ok _) = ReadsPages P page 1 old new
+ReadsOne P page old new (Ok _) = ReadsEachPage P page 1 old new
 ReadsOne P page old new (Err _) = ReadsRising P page 1 old new
 
 -- this page first, and then those before it, from the one that has this offset on

@@ -18,8 +18,8 @@ abbrev pub batch_of : (P buffer_size : ℕ) → ℕ
 batch_of P buffer_size = div_ceil (max 1 (buffer_size / (P + 12))) 4
 
 -- the page after the batch that begins at this one, of so many full pages
-abbrev pub after : (batch full page : ℕ) → ℕ
-after batch full page = page + min batch (full - page)
+abbrev pub after_batch : (batch full page : ℕ) → ℕ
+after_batch batch full page = page + min batch (full - page)
 
 -- the range of that batch
 abbrev pub batch_range : (P batch full page : ℕ) → ℕ × ℕ
@@ -36,27 +36,27 @@ IsBatch P batch full d a =
     → bytes ≡ batch_bytes P batch full a.page d.readable
 
 -- these batches follow one another, from this page on
-abbrev pub Follow : (batch full page : ℕ) → List Ahead → Type 0
-Follow batch full page [] = page ≤ full
-Follow batch full page (a ∷ rest) =
-    (a.page ≡ page) × (page < full) × Follow batch full (after batch full page) rest
+abbrev pub BatchesFollow : (batch full page : ℕ) → List Ahead → Type 0
+BatchesFollow batch full page [] = page ≤ full
+BatchesFollow batch full page (a ∷ rest) =
+    (a.page ≡ page) × (page < full) × BatchesFollow batch full (after_batch batch full page) rest
 
 -- the page that follows them
 abbrev pub page_after : (batch full page : ℕ) → List Ahead → ℕ
 page_after batch full page [] = page
-page_after batch full page (a ∷ rest) = page_after batch full (after batch full page) rest
+page_after batch full page (a ∷ rest) = page_after batch full (after_batch batch full page) rest
 
 -- these are the next n batches from this page on, as far as there are any
 abbrev pub AreNext : (n batch full page : ℕ) → List Ahead → Type 0
 AreNext zero batch full page queue = queue ≡ []
 AreNext (suc n) batch full page [] = full ≤ page
 AreNext (suc n) batch full page (a ∷ rest) =
-    (a.page ≡ page) × (page < full) × AreNext n batch full (after batch full page) rest
+    (a.page ≡ page) × (page < full) × AreNext n batch full (after_batch batch full page) rest
 
 -- these batches are a queue: at most three, one after another
 abbrev pub IsQueue : (batch full : ℕ) → List Ahead → Type 0
 IsQueue batch full [] = Unit {0}
-IsQueue batch full (a ∷ rest) = Follow batch full a.page (a ∷ rest) × (length rest ≤ 2)
+IsQueue batch full (a ∷ rest) = BatchesFollow batch full a.page (a ∷ rest) × (length rest ≤ 2)
 
 -- pages of a blob are full
 abbrev pub AreFullPages : (List ℕ → ℕ) → (P first end : ℕ) → List ℕ → Type 0
@@ -77,9 +77,9 @@ abbrev pub ReadsBatch : (List ℕ → ℕ) → (P batch full page : ℕ) → Lif
     → Result (List ℕ) Error → Type 0
 ReadsBatch sum P batch full page old new (Ok bytes) =
     FetchesBatch P batch full page old new (Ok bytes)
-    × AreFullPages sum P page (after batch full page) old.present.readable
+    × AreFullPages sum P page (after_batch batch full page) old.present.readable
 ReadsBatch sum P batch full page old new (Err InvalidChecksum) =
-    AreFullPages sum P page (after batch full page) old.present.readable → ⊥
+    AreFullPages sum P page (after_batch batch full page) old.present.readable → ⊥
 ReadsBatch sum P batch full page old new (Err e) =
     FetchesBatch P batch full page old new (Err e)
 
@@ -90,7 +90,7 @@ abbrev pub AddsBatch : (List ℕ → ℕ) → (P batch full page skip : ℕ) →
 AddsBatch sum P batch full page skip hand now queue old new (Ok _) =
     (run : List ℕ) × ReadsBatch sum P batch full page old new (Ok run)
     × (now ≡ hand ++ drop skip (payloads P run))
-    × AreNext 3 batch full (after batch full page) queue
+    × AreNext 3 batch full (after_batch batch full page) queue
 AddsBatch sum P batch full page skip hand now queue old new (Err e) =
     (now ≡ hand) × ReadsBatch sum P batch full page old new (Err e)
 

@@ -12,13 +12,13 @@ use Rattle.cache.specs.Pages.{CachesOnly, IsFresh}
 use Rattle.crash.specs.Looks.{Looked}
 use Rattle.writer_state.specs.WriterState.{WriterState}
 use Rattle.writer_state.specs.Sound.{IsSound}
-use Rattle.paged_read.specs.Tail.{Tail, told, size_of, CanRead, HasFullPages}
+use Rattle.paged_read.specs.Tail.{Tail, logical_bytes, tail_size, CanRead, HasFullPages}
 use Rattle.paged_read.specs.Ranges.{Reads, ReadsUpTo, ReadsMany, missing, is_served}
 use Rattle.paged_read.specs.Ranges.{AsksForMissing, AsksOnce, HasServed, Misses}
 use Rattle.paged_read.specs.Puts.{PutsAsked, PutsSome}
 use Rattle.paged_read.specs.Replay.{LeavesAllReplays}
 use Rattle.paged_read.specs.Snapshots.{LeavesAllReads, LeavesAllTails, LeavesOthers}
-use Rattle.paged_read.specs.Snapshots.{LeavesWriters}
+use Rattle.paged_read.specs.Snapshots.{LeavesAllWriters}
 
 -- ---- what a read answers
 
@@ -37,7 +37,7 @@ pub record ReadGoes {A : Type 0} (sum : List ℕ → ℕ) (t : Tail) (cache : Ca
     (range : ℕ × ℕ) (bytes : A → List ℕ) (old new : Life) (result : Result A Error) : Type 0 where
   pub answers : Reads sum t cache range bytes old new result
   pub overflow : 2 ^ 64 ≤ range.0 + range.1 → result ≡ Err OffsetOverflow
-  pub end : range.0 + range.1 < 2 ^ 64 → size_of t < range.0 + range.1
+  pub end : range.0 + range.1 < 2 ^ 64 → tail_size t < range.0 + range.1
       → result ≡ Err BlobInsufficientLength
   pub never : NeverBad sum t old.present result
   pub never_if_sound : NeverBadIfSound sum t old.present result
@@ -47,9 +47,9 @@ pub record ReadIntoGoes (sum : List ℕ → ℕ) (t : Tail) (cache : CacheState)
     (buf after : List ℕ) (old new : Life) (result : Result (Unit {0}) Error) : Type 0 where
   pub answers : Reads sum t cache (offset, length buf) (λ _. after) old new result
   pub overflow : 2 ^ 64 ≤ offset + length buf → result ≡ Err OffsetOverflow
-  pub end : offset + length buf < 2 ^ 64 → size_of t < offset + length buf
+  pub end : offset + length buf < 2 ^ 64 → tail_size t < offset + length buf
       → result ≡ Err BlobInsufficientLength
-  pub served : offset + length buf < 2 ^ 64 → offset + length buf ≤ size_of t
+  pub served : offset + length buf < 2 ^ 64 → offset + length buf ≤ tail_size t
       → is_served cache t (offset, length buf) ≡ true → result ≡ Ok tt
   pub never : NeverBad sum t old.present result
   pub never_if_sound : NeverBadIfSound sum t old.present result
@@ -59,7 +59,7 @@ pub record ReadIntoGoes (sum : List ℕ → ℕ) (t : Tail) (cache : CacheState)
 pub record ReadUpToGoes (sum : List ℕ → ℕ) (t : Tail) (cache : CacheState) (offset len : ℕ)
     (old new : Life) (result : Result (Vec ℕ Global × ℕ) Error) : Type 0 where
   pub answers : ReadsUpTo sum t cache offset len old new result
-  pub end : len ≢ 0 → size_of t ≤ offset → result ≡ Err BlobInsufficientLength
+  pub end : len ≢ 0 → tail_size t ≤ offset → result ≡ Err BlobInsufficientLength
   pub none : IfErr result (λ e. len ≢ 0)
   pub never : NeverBad sum t old.present result
   pub never_if_sound : NeverBadIfSound sum t old.present result
@@ -69,7 +69,7 @@ pub record ReadRangesGoes (sum : List ℕ → ℕ) (t : Tail) (cache : CacheStat
     (ranges : List (ℕ × ℕ)) (buf after : List ℕ) (old new : Life) (result : Result ℕ Error)
     : Type 0 where
   pub answers : ReadsMany sum t cache ranges after old new result
-  pub served : IfErr result (λ e. EndWithin (size_of t) ranges → missing cache t ranges ≢ [])
+  pub served : IfErr result (λ e. EndWithin (tail_size t) ranges → missing cache t ranges ≢ [])
   pub never : NeverBad sum t old.present result
   pub never_if_sound : NeverBadIfSound sum t old.present result
   pub size : length after ≡ length buf
@@ -88,16 +88,17 @@ pub record ReadManyGoes (sum : List ℕ → ℕ) (t : Tail) (cache : CacheState)
 pub record TriedMany (t : Tail) (ranges : List (ℕ × ℕ)) (cache : CacheState) (buf after : List ℕ)
     (indices : List ℕ) : Type 0 where
   pub missed : Misses t ranges cache indices
-  pub served : EndWithin (size_of t) ranges → (d : Disk) → CanRead t cache d
-      → HasServed cache t ranges (told t d.readable) after
+  pub served : EndWithin (tail_size t) ranges → (d : Disk) → CanRead t cache d
+      → HasServed cache t ranges (logical_bytes t d.readable) after
   pub size : length after ≡ length buf
 
 -- a read of many ranges that asks no device, by its answer; its one error is `OutOfMemory`
-abbrev pub TriesMany : Tail → List (ℕ × ℕ) → CacheState → (buf after : List ℕ)
+abbrev pub TryReadManyGoes : Tail → List (ℕ × ℕ) → CacheState → (buf after : List ℕ)
     → Result (Vec ℕ Global) Error → Type 0
-TriesMany t ranges cache buf after (Ok missed) = TriedMany t ranges cache buf after missed.items
-TriesMany t ranges cache buf after (Err OutOfMemory) = length after ≡ length buf
-TriesMany t ranges cache buf after (Err _) = ⊥
+TryReadManyGoes t ranges cache buf after (Ok missed) =
+    TriedMany t ranges cache buf after missed.items
+TryReadManyGoes t ranges cache buf after (Err OutOfMemory) = length after ≡ length buf
+TryReadManyGoes t ranges cache buf after (Err _) = ⊥
 
 -- ---- what a read leaves
 
@@ -107,9 +108,9 @@ TriesMany t ranges cache buf after (Err _) = ⊥
 pub record ReadLeaves (sum : List ℕ → ℕ) (t : Tail) (cache after : CacheState) (old new : Life)
     : Type 0 where
   pub looked : Looked old new
-  pub cached : CachesOnly t.id 0 (told t old.present.readable) cache after
+  pub cached : CachesOnly t.id 0 (logical_bytes t old.present.readable) cache after
   pub fresh : IsFresh cache → IsFresh after
-  pub writers : LeavesWriters sum old new
+  pub writers : LeavesAllWriters sum old new
   pub tails : LeavesAllTails sum cache after old new
   pub can_read : LeavesAllReads cache after old new
   pub replays : LeavesAllReplays old new
@@ -118,7 +119,7 @@ pub record ReadLeaves (sum : List ℕ → ℕ) (t : Tail) (cache after : CacheSt
 -- a call that only looks at a blob, without a cache, leaves all of it
 pub record LookLeaves (sum : List ℕ → ℕ) (old new : Life) : Type 0 where
   pub looked : Looked old new
-  pub writers : LeavesWriters sum old new
+  pub writers : LeavesAllWriters sum old new
   pub tails : (cache : CacheState) → LeavesAllTails sum cache cache old new
   pub can_read : (cache : CacheState) → LeavesAllReads cache cache old new
   pub replays : LeavesAllReplays old new

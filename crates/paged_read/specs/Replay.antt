@@ -9,7 +9,7 @@ use Rattle.disk.specs.declared.error.Error.{Error}
 use Rattle.disk.specs.declared.error.Error.TheVariants.{ReadFailed, InvalidChecksum, OutOfMemory}
 use Rattle.disk.specs.declared.error.Error.TheVariants.{BlobInsufficientLength}
 use Rattle.paged_read.specs.Failures.{TellsFailure}
-use Rattle.paged_read.specs.Tail.{Tail, told, size_of, HasPages, HasFullPages}
+use Rattle.paged_read.specs.Tail.{Tail, logical_bytes, tail_size, HasPages, HasFullPages}
 use Rattle.paged_read.specs.ReadAhead.{batch_of, AreFullPages, AreNext, HasFirst, IsBatch}
 use Rattle.paged_read.specs.ReadAhead.{IsQueue, ReadsBatches}
 use Rattle.paged_read.specs.Snapshots.{IsTailOf}
@@ -45,21 +45,21 @@ end_of r = r.position + length r.hand
 -- what its fields say of one another
 pub record IsReplay (r : ReplayState) : Type 0 where
   pub batch : 0 < r.batch
-  pub within : end_of r ≤ size_of r.tail
-  pub addressable : size_of r.tail < 2 ^ 64
+  pub within : end_of r ≤ tail_size r.tail
+  pub addressable : tail_size r.tail < 2 ^ 64
   pub pages : r.tail.full_pages * (r.tail.page_size + 12) < 2 ^ 64
   pub short : length r.tail.bytes < r.tail.page_size
   -- pages come to hand whole
-  pub whole : 0 < length r.hand → (end_of r % r.tail.page_size ≡ 0) ⊎ (end_of r ≡ size_of r.tail)
+  pub whole : 0 < length r.hand → (end_of r % r.tail.page_size ≡ 0) ⊎ (end_of r ≡ tail_size r.tail)
   pub queue : IsQueue r.batch r.tail.full_pages r.queue
   -- it was said only with all at hand that is left
-  pub exhausted : r.exhausted ≡ true → end_of r ≡ size_of r.tail
+  pub exhausted : r.exhausted ≡ true → end_of r ≡ tail_size r.tail
 
 -- what a caller of a replay is to know: the pages are there, and what is at hand, and what is
 -- queued, is theirs
 pub record CanReplay (r : ReplayState) (d : Disk) : Type 0 where
   pub there : HasPages r.tail d
-  pub hand : r.hand ≡ take (length r.hand) (drop r.position (told r.tail d.readable))
+  pub hand : r.hand ≡ take (length r.hand) (drop r.position (logical_bytes r.tail d.readable))
   pub queue : All (IsBatch r.tail.page_size r.batch r.tail.full_pages d) r.queue
 
 -- a replay gives this content, and none of its batches is refused for a page
@@ -107,7 +107,7 @@ LeavesAllReplays old new =
     → IsReplayOf sum r content old.present → IsReplayOf sum r content new.present
 
 -- a replay stands where it stood, with no fewer bytes at hand
-pub record Fills (r now : ReplayState) : Type 0 where
+pub record StaysFilled (r now : ReplayState) : Type 0 where
   pub tail : now.tail ≡ r.tail
   pub batch : now.batch ≡ r.batch
   pub position : now.position ≡ r.position
@@ -140,13 +140,13 @@ IsAhead r now old new = ((new ≡ old) × (now.queue ≡ r.queue)) ⊎ IsToppedU
 abbrev pub FillsOnce : (List ℕ → ℕ) → ReplayState → ReplayState → Life → Life
     → Result (Unit {0}) Error → Type 0
 FillsOnce sum r now old new (Ok _) =
-    Fills r now × (now.exhausted ≡ r.exhausted) × (length r.hand < length now.hand)
+    StaysFilled r now × (now.exhausted ≡ r.exhausted) × (length r.hand < length now.hand)
     × (length now.hand ≤ length r.hand + r.batch * r.tail.page_size)
     × HasFilled sum r now old.present
     × (IsToppedUp now ⊎ ((new ≡ old) × (now.queue ≡ r.queue)
     × (end_of now / r.tail.page_size ≡ end_of r / r.tail.page_size)))
 FillsOnce sum r now old new (Err e) =
-    Fills r now × (now.exhausted ≡ r.exhausted) × (now.hand ≡ r.hand)
+    StaysFilled r now × (now.exhausted ≡ r.exhausted) × (now.hand ≡ r.hand)
     × FillFault sum r.tail old new e
 
 -- so many bytes are to be at hand: whether there are so many from the position on. What is fetched
@@ -155,14 +155,14 @@ FillsOnce sum r now old new (Err e) =
 abbrev pub Ensures : (List ℕ → ℕ) → ReplayState → (count : ℕ) → ReplayState → Life → Life
     → Result Bool Error → Type 0
 Ensures sum r count now old new (Ok answer) =
-    Fills r now × (answer ≡ nat_le (r.position + count) (size_of r.tail))
+    StaysFilled r now × (answer ≡ nat_le (r.position + count) (tail_size r.tail))
     × (answer ≡ true → count ≤ length now.hand)
-    × (answer ≡ false → (end_of now ≡ size_of r.tail) × (now.exhausted ≡ true))
+    × (answer ≡ false → (end_of now ≡ tail_size r.tail) × (now.exhausted ≡ true))
     × (length now.hand ≤ max (length r.hand) (count + r.batch * r.tail.page_size))
     × HasFilled sum r now old.present × IsAhead r now old new
     × (answer ≡ true → now.exhausted ≡ r.exhausted)
 Ensures sum r count now old new (Err e) =
-    Fills r now × FillFault sum r.tail old new e × HasFilled sum r now old.present
+    StaysFilled r now × FillFault sum r.tail old new e × HasFilled sum r now old.present
     × (length now.hand ≤ max (length r.hand) (count + r.batch * r.tail.page_size))
     × (now.exhausted ≡ r.exhausted)
     × (length now.hand ≡ length r.hand → TellsFailure {A = Bool} old new (Err e))
@@ -216,11 +216,11 @@ pub record Takes (r : ReplayState) (count : ℕ) (now : ReplayState) (bytes : Li
   pub gives : Gives r bytes
 
 -- so many bytes are taken as a copy; or memory is refused, and nothing changes
-abbrev pub CopiesBytes : (r : ReplayState) (count : ℕ) (now : ReplayState)
+abbrev pub CopyToBytesGoes : (r : ReplayState) (count : ℕ) (now : ReplayState)
     → Result (List ℕ) Error → Type 0
-CopiesBytes r count now (Ok bytes) = Takes r count now bytes
-CopiesBytes r count now (Err OutOfMemory) = now ≡ r
-CopiesBytes r count now (Err _) = ⊥
+CopyToBytesGoes r count now (Ok bytes) = Takes r count now bytes
+CopyToBytesGoes r count now (Err OutOfMemory) = now ≡ r
+CopyToBytesGoes r count now (Err _) = ⊥
 
 -- nothing is taken, since fewer bytes are at hand than a slice has room for
 pub record TakesNone (r now : ReplayState) (out after : List ℕ) (few : TooFew) : Type 0 where
@@ -231,18 +231,18 @@ pub record TakesNone (r now : ReplayState) (out after : List ℕ) (few : TooFew)
   pub fewer : few.available < few.requested
 
 -- as many as a slice has room for are taken, or none
-abbrev pub CopiesToSlice : (r now : ReplayState) (out after : List ℕ) → Result (Unit {0}) TooFew
+abbrev pub CopyToSliceGoes : (r now : ReplayState) (out after : List ℕ) → Result (Unit {0}) TooFew
     → Type 0
-CopiesToSlice r now out after (Ok _) = Takes r (length out) now after
-CopiesToSlice r now out after (Err few) = TakesNone r now out after few
+CopyToSliceGoes r now out after (Ok _) = Takes r (length out) now after
+CopyToSliceGoes r now out after (Err few) = TakesNone r now out after few
 
 -- a replay goes to an offset; what is queued stays
 abbrev pub Seeks : ReplayState → (offset : ℕ) → ReplayState → Result (Unit {0}) Error → Type 0
 Seeks r offset now (Ok _) =
-    (offset ≤ size_of r.tail) × (now ≡ record r {
+    (offset ≤ tail_size r.tail) × (now ≡ record r {
       position = offset;
       hand = [];
       exhausted = false;
     })
-Seeks r offset now (Err BlobInsufficientLength) = (size_of r.tail < offset) × (now ≡ r)
+Seeks r offset now (Err BlobInsufficientLength) = (tail_size r.tail < offset) × (now ≡ r)
 Seeks r offset now (Err _) = ⊥

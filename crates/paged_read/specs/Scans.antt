@@ -11,7 +11,7 @@ use Rattle.crash.specs.Full.{AreFull}
 use Rattle.crash.specs.Looks.{Looked}
 use Rattle.paged_read.specs.Failures.{NoneFailed}
 use Rattle.paged_read.specs.declared.prefix.Prefix.{Prefix}
-use Rattle.paged_read.specs.Prefix.{after, prefix_of}
+use Rattle.paged_read.specs.Prefix.{after_pages, prefix_of}
 use Rattle.paged_read.specs.Searches.{Gained}
 
 -- so many physical pages of a blob, from this one on
@@ -57,7 +57,7 @@ text_of_first sum P flushed readable = text_of_pages sum P (pieces flushed (P + 
 -- the prefix of the pages from one to before another, where those in front count as full
 abbrev pub prefix_from : (List ℕ → ℕ) → (P first pages : ℕ) → List ℕ → Prefix
 prefix_from sum P first pages readable =
-    after first (prefix_of sum P (pages_from P (pages - first) first readable))
+    after_pages first (prefix_of sum P (pages_from P (pages - first) first readable))
 
 -- each that reads is a read of at most so many bytes, which begins where the one before it ended,
 -- the first at this offset, and all end at or before that one
@@ -108,9 +108,9 @@ LooksThrough reach a old new (Err OutOfMemory) =
 LooksThrough reach a old new (Err _) = ⊥
 
 -- a scan: the same, unless an offset in its pages passes the greatest
-abbrev pub Scans : (reach answer : ℕ) → Life → Life → Result ℕ Error → Type 0
-Scans reach answer old new (Err OffsetOverflow) = (2 ^ 64 ≤ reach) × (new ≡ old)
-Scans reach answer old new result = LooksThrough reach answer old new result
+abbrev pub ScanAnswers : (reach answer : ℕ) → Life → Life → Result ℕ Error → Type 0
+ScanAnswers reach answer old new (Err OffsetOverflow) = (2 ^ 64 ≤ reach) × (new ≡ old)
+ScanAnswers reach answer old new result = LooksThrough reach answer old new result
 
 -- the answer is no refusal of an offset: nothing passes the greatest, and all that is to be read is
 -- there

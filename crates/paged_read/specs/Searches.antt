@@ -16,16 +16,16 @@ Gained Q old new =
     × Q (map (λ e. e.request) more)
 
 -- each that reads is a read of one range, of at most so many bytes
-abbrev pub AreWithin : ℕ → List Request → Type 0
-AreWithin most [] = Unit {0}
-AreWithin most (ReadAt offset len ∷ rest) = (len ≤ most) × AreWithin most rest
-AreWithin most (ReadMany ranges ∷ rest) = ⊥
-AreWithin most (StartReadMany ranges ∷ rest) = ⊥
-AreWithin most (_ ∷ rest) = AreWithin most rest
+abbrev pub AreReadsWithin : ℕ → List Request → Type 0
+AreReadsWithin most [] = Unit {0}
+AreReadsWithin most (ReadAt offset len ∷ rest) = (len ≤ most) × AreReadsWithin most rest
+AreReadsWithin most (ReadMany ranges ∷ rest) = ⊥
+AreReadsWithin most (StartReadMany ranges ∷ rest) = ⊥
+AreReadsWithin most (_ ∷ rest) = AreReadsWithin most rest
 
 -- each read since is of at most so many bytes
 abbrev pub ReadsWithin : ℕ → Life → Life → Type 0
-ReadsWithin most old new = Gained (AreWithin most) old new
+ReadsWithin most old new = Gained (AreReadsWithin most) old new
 
 -- the bytes of a scan's longest read: the pages that fit so many bytes, and at least one
 abbrev pub scan_bytes : (P buffer_size : ℕ) → ℕ

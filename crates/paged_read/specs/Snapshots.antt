@@ -8,7 +8,7 @@ use Rattle.writer_state.specs.WriterState.{WriterState}
 use Rattle.writer_state.specs.Sound.{IsSound, content}
 use Rattle.crash.specs.Started.{CoversThrough}
 use Rattle.crash.specs.Stays.{KeepsAllFloors, LeavesOnly, StaysThrough}
-use Rattle.paged_read.specs.Tail.{Tail, told, IsView, HasPages, HasFullPages, CanRead}
+use Rattle.paged_read.specs.Tail.{Tail, logical_bytes, IsView, HasPages, HasFullPages, CanRead}
 
 -- what holds of a snapshot's own bytes: they begin after whole pages, are less than one, and have
 -- offsets
@@ -22,11 +22,11 @@ pub record IsSealed (P : ℕ) (tip : Tip) : Type 0 where
 pub record IsTailOf (sum : List ℕ → ℕ) (t : Tail) (content : List ℕ) (d : Disk) : Type 0 where
   pub there : HasPages t d
   pub full : HasFullPages sum t d
-  pub is : told t d.readable ≡ content
+  pub is : logical_bytes t d.readable ≡ content
 
 -- a snapshot is valid: it has this content, and can be read with this cache. So each of its reads
 -- that answers `Ok` gives a slice of the content, and none is refused for a page
-pub record StandsOn (sum : List ℕ → ℕ) (t : Tail) (content : List ℕ) (cache : CacheState)
+pub record SnapshotReads (sum : List ℕ → ℕ) (t : Tail) (content : List ℕ) (cache : CacheState)
     (d : Disk) : Type 0 where
   pub tail : IsTailOf sum t content d
   pub can : CanRead t cache d
@@ -36,13 +36,13 @@ abbrev pub LeavesTails : (List ℕ → ℕ) → (full_pages : ℕ) → CacheStat
     → Type 0
 LeavesTails sum full_pages cache after old new =
     (t : Tail) (content : List ℕ) → t.full_pages ≤ full_pages
-    → StandsOn sum t content cache old.present → StandsOn sum t content after new.present
+    → SnapshotReads sum t content cache old.present → SnapshotReads sum t content after new.present
 
 -- a read leaves all
 abbrev pub LeavesAllTails : (List ℕ → ℕ) → CacheState → CacheState → Life → Life → Type 0
 LeavesAllTails sum cache after old new =
     (t : Tail) (content : List ℕ)
-    → StandsOn sum t content cache old.present → StandsOn sum t content after new.present
+    → SnapshotReads sum t content cache old.present → SnapshotReads sum t content after new.present
 
 -- whatever could be read with the cache can still be read, the blob's writer among it
 abbrev pub LeavesAllReads : CacheState → CacheState → Life → Life → Type 0
@@ -72,6 +72,6 @@ pub record LeavesWriter (sum : List ℕ → ℕ) (w : WriterState) (old new : Li
       (content w old.present.readable) old new
 
 -- each sound writer of the blob stays sound, as `LeavesWriter` has it
-abbrev pub LeavesWriters : (List ℕ → ℕ) → Life → Life → Type 0
-LeavesWriters sum old new =
+abbrev pub LeavesAllWriters : (List ℕ → ℕ) → Life → Life → Type 0
+LeavesAllWriters sum old new =
     (w : WriterState) → IsSound sum w old.present → LeavesWriter sum w old new

@@ -32,12 +32,12 @@ pub record IsView (P : ℕ) (tip : Tip) : Type 0 where
   pub fits : tip.offset / P * (P + 12) < 2 ^ 64
 
 -- the logical bytes: the pages' payloads, and the bytes after them
-abbrev pub told : Tail → List ℕ → List ℕ
-told t readable = stored t.page_size t.full_pages readable ++ t.bytes
+abbrev pub logical_bytes : Tail → List ℕ → List ℕ
+logical_bytes t readable = stored t.page_size t.full_pages readable ++ t.bytes
 
 -- how many there are
-abbrev pub size_of : Tail → ℕ
-size_of t = t.full_pages * t.page_size + length t.bytes
+abbrev pub tail_size : Tail → ℕ
+tail_size t = t.full_pages * t.page_size + length t.bytes
 
 -- the pages are in the blob
 abbrev pub HasPages : Tail → Disk → Type 0
@@ -53,4 +53,4 @@ pub record CanRead (t : Tail) (cache : CacheState) (d : Disk) : Type 0 where
   pub there : HasPages t d
   pub page_size : cache.page_size ≡ t.page_size
   pub given : t.id < cache.ids_given
-  pub cached : IsTrueFor t.id (told t d.readable) t.full_pages cache
+  pub cached : IsTrueFor t.id (logical_bytes t d.readable) t.full_pages cache

@@ -7,9 +7,9 @@ ghost use Rattle.std.specs.Int.NonZero.{non_zero_u16_get};
 ghost use Rattle.crash.specs.Looks.{Looked};
 ghost use Rattle.disk.specs.Disk.{Disk, StartReadGoes};
 ghost use Rattle.paged_read.specs.Failures.{NoneFailed, TellsFailure};
-ghost use Rattle.paged_read.specs.ReadAhead.{batch_range, after, batch_bytes, AreFullPages};
-ghost use Rattle.paged_read.specs.ReadAhead.{AddsBatch, AreNext, FetchesBatch, Follow, IsBatch};
-ghost use Rattle.paged_read.specs.ReadAhead.{HasFirst, IsQueue, page_after, ReadsBatch};
+ghost use Rattle.paged_read.specs.ReadAhead.{batch_range, after_batch, batch_bytes, AreFullPages};
+ghost use Rattle.paged_read.specs.ReadAhead.{AddsBatch, AreNext, BatchesFollow, FetchesBatch};
+ghost use Rattle.paged_read.specs.ReadAhead.{IsBatch, HasFirst, IsQueue, page_after, ReadsBatch};
 ghost use Rattle.paged_read.specs.ReadAhead.{ReadsBatches};
 
 use crate::full::is_full;
@@ -70,14 +70,14 @@ impl Batches {
     /// The page after the batch that begins at this one.
     fn after(self, page: u64) -> u64
         requires { page ≤ self.full_pages }
-        ensures { result ≡ after self.batch self.full_pages page }
+        ensures { result ≡ after_batch self.batch self.full_pages page }
     {
         page + self.batch.min(self.full_pages - page)
     }
 
     /// The page after these batches, which follow one another from a page on.
     fn after_queue(self, queue: &[Ahead], page: u64) -> u64
-        requires { Follow self.batch self.full_pages page queue.now }
+        requires { BatchesFollow self.batch self.full_pages page queue.now }
         ensures next { result ≡ page_after self.batch self.full_pages page queue.now }
         ensures within { result ≤ self.full_pages }
     {
@@ -114,7 +114,7 @@ impl Batches {
         requires fits { self.full_pages * (non_zero_u16_get self.page_size + 12) < 2 ^ 64 }
         requires some { 0 < self.batch }
         requires room { 3 ≤ vec_capacity queue.old }
-        requires follow { Follow self.batch self.full_pages page queue.old.items }
+        requires follow { BatchesFollow self.batch self.full_pages page queue.old.items }
         requires few { length queue.old.items ≤ 3 }
         requires batches { let P = non_zero_u16_get self.page_size in
             All (IsBatch P self.batch self.full_pages (B.life blob.old).present) queue.old.items }
@@ -147,8 +147,8 @@ impl Batches {
         ensures batches { let P = non_zero_u16_get self.page_size in (d : Disk)
             → All (IsBatch P self.batch self.full_pages d) queue.old.items
             → All (IsBatch P self.batch self.full_pages d) queue.new.items }
-        ensures follow { let next = after self.batch self.full_pages page in
-            IfSome result (λ _. Follow self.batch self.full_pages next queue.new.items) }
+        ensures follow { let next = after_batch self.batch self.full_pages page in
+            IfSome result (λ _. BatchesFollow self.batch self.full_pages next queue.new.items) }
         ensures served { (a : Ahead) (bytes : List ℕ) → Some a ≡ slice_get queue.old.items 0
             → a.page ≡ page → a.read ≡ Ok (bytes ∷ []) → result ≡ Some bytes }
         ensures fewer { IfSome result (λ _.
@@ -194,8 +194,8 @@ impl Batches {
         ensures fetches { let P = non_zero_u16_get self.page_size in
             FetchesBatch P self.batch self.full_pages page (B.life blob.old) (B.life blob.new)
             result }
-        ensures follow { let next = after self.batch self.full_pages page in
-            OnOk result (Follow self.batch self.full_pages next queue.new.items) }
+        ensures follow { let next = after_batch self.batch self.full_pages page in
+            OnOk result (BatchesFollow self.batch self.full_pages next queue.new.items) }
         ensures queue { IsQueue self.batch self.full_pages queue.new.items }
         ensures batches { let P = non_zero_u16_get self.page_size in
             All (IsBatch P self.batch self.full_pages (B.life blob.new).present) queue.new.items }
@@ -237,8 +237,8 @@ impl Batches {
         ensures reads { let P = non_zero_u16_get self.page_size in
             ReadsBatch H.sum_of P self.batch self.full_pages page (B.life blob.old)
             (B.life blob.new) result }
-        ensures follow { let next = after self.batch self.full_pages page in
-            OnOk result (Follow self.batch self.full_pages next queue.new.items) }
+        ensures follow { let next = after_batch self.batch self.full_pages page in
+            OnOk result (BatchesFollow self.batch self.full_pages next queue.new.items) }
         ensures queue { IsQueue self.batch self.full_pages queue.new.items }
         ensures batches { let P = non_zero_u16_get self.page_size in
             All (IsBatch P self.batch self.full_pages (B.life blob.new).present) queue.new.items }

@@ -6,8 +6,8 @@ ghost use Rattle.paged_read.specs.Tail.{tail_at, IsView, CanRead};
 ghost use Rattle.crash.specs.Looks.{Looked};
 ghost use Rattle.paged_read.specs.Ranges.{AsksForMissing, missing, is_served};
 ghost use Rattle.std.specs.Prelude.{Ok, OnOk, true};
-ghost use Rattle.paged_read.specs.Parts.{IsPieceOf, ReadsPieces, ReadsBelow, pages_of};
-ghost use Rattle.paged_read.specs.Puts.{PutsAsked, PutsPage};
+ghost use Rattle.paged_read.specs.Parts.{IsPieceOf, FetchesPieces, ReadsBelow, piece_pages};
+ghost use Rattle.paged_read.specs.Puts.{PutsAsked, PutsPageIfOk};
 
 use crate::View;
 use crate::full::read_page;
@@ -32,7 +32,7 @@ impl<B: Blob, H: Sum> View<'_, B, H> {
             IsPieceOf t (length buf.old) piece }
         ensures reads { let t = tail_at self.entry.page_size self.entry.id self.entry.tip.now in
             let old = B.life blob.old in let new = B.life blob.new in
-            ReadsPieces H.sum_of t (piece ∷ []) buf.old buf.new old new result }
+            FetchesPieces H.sum_of t (piece ∷ []) buf.old buf.new old new result }
         ensures asks { let old = B.life blob.old in let new = B.life blob.new in
             length new.present.log ≤ length old.present.log + 1 }
         ensures answered { let old = B.life blob.old in let new = B.life blob.new in
@@ -41,7 +41,8 @@ impl<B: Blob, H: Sum> View<'_, B, H> {
         ensures can { let t = tail_at self.entry.page_size self.entry.id self.entry.tip.now in
             CanRead t cache.new (B.life blob.new).present }
         ensures puts { let t = tail_at self.entry.page_size self.entry.id self.entry.tip.now in
-            PutsPage t piece.page (B.life blob.old).present.readable cache.old cache.new result }
+            PutsPageIfOk t piece.page (B.life blob.old).present.readable cache.old cache.new
+            result }
         ensures size { length buf.new ≡ length buf.old }
     {
         let bytes = read_page::<B, H>(self.alloc, self.page_size, blob, piece.page)?;
@@ -68,13 +69,13 @@ impl<B: Blob, H: Sum> View<'_, B, H> {
             All (IsPieceOf t (length buf.old)) pieces.now }
         ensures reads { let t = tail_at self.entry.page_size self.entry.id self.entry.tip.now in
             let old = B.life blob.old in let new = B.life blob.new in
-            ReadsPieces H.sum_of t pieces.now buf.old buf.new old new result }
+            FetchesPieces H.sum_of t pieces.now buf.old buf.new old new result }
         ensures asks { let old = B.life blob.old in let new = B.life blob.new in
             length new.present.log ≤ length old.present.log + length pieces.now }
         ensures looked { Looked (B.life blob.old) (B.life blob.new) }
         ensures puts { let t = tail_at self.entry.page_size self.entry.id self.entry.tip.now in
             let old = B.life blob.old in let new = B.life blob.new in
-            PutsAsked H.sum_of t (pages_of pieces.now) old new cache.old cache.new result }
+            PutsAsked H.sum_of t (piece_pages pieces.now) old new cache.old cache.new result }
         ensures size { length buf.new ≡ length buf.old }
     {
         for piece in pieces {

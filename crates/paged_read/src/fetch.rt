@@ -8,10 +8,10 @@ ghost use Rattle.crash.specs.Looks.{Looked};
 ghost use Rattle.paged_read.specs.Tail.{tail_at, IsView, CanRead};
 ghost use Rattle.paged_read.specs.Ranges.{AsksTogether, page_ranges};
 ghost use Rattle.paged_read.specs.Parts.{with_told};
-ghost use Rattle.paged_read.specs.Batch.{DeliversPages, KeepsPage, IsDelivered, AreMarked};
-ghost use Rattle.paged_read.specs.Batch.{KeepsFault, IsReady, IsTold, IsLack, ReadsLacks};
+ghost use Rattle.paged_read.specs.Batch.{DeliversPages, CachesFullPage, IsDelivered, AreMarked};
+ghost use Rattle.paged_read.specs.Batch.{KeepsFault, CanPutPiece, IsTold, IsLack, ReadsLacks};
 ghost use Rattle.paged_read.specs.Batch.{pieces_in};
-ghost use Rattle.paged_read.specs.Puts.{PutsInOrder, PutsSome, numbered};
+ghost use Rattle.paged_read.specs.Puts.{PutsInOrder, PutsSome, delivered_pages};
 
 use crate::View;
 use crate::batch::Batch;
@@ -65,7 +65,7 @@ pub(crate) fn keep_page<H: Sum>(
     requires whole { length bytes.now ≡ non_zero_u16_get page_size + 12 }
     requires size { cache.old.page_size ≡ non_zero_u16_get page_size }
     ensures { let P = non_zero_u16_get page_size in
-        KeepsPage H.sum_of P (id, page) bytes.now cache.old cache.new result }
+        CachesFullPage H.sum_of P (id, page) bytes.now cache.old cache.new result }
 {
     let bytes = bytes.as_ref();
     if !is_full::<H>(page_size, bytes) {
@@ -93,7 +93,8 @@ impl<B, H: Sum> View<'_, B, H> {
         ensures puts { let t = tail_at self.entry.page_size self.entry.id self.entry.tip.now in
             (life : Life) → CanRead t cache.old life.present
             → Delivers (page_ranges t.page_size pages.now) life.present.readable out.now
-            → PutsInOrder H.sum_of t (numbered pages.now out.now) life.present.readable cache.old
+            → PutsInOrder H.sum_of t (delivered_pages pages.now out.now) life.present.readable
+            cache.old
             cache.new result }
         ensures full { let P = non_zero_u16_get self.entry.page_size in
             OnOk result (All (λ page. value_len H.sum_of P page.1 ≡ P) out.now) }
@@ -115,7 +116,7 @@ impl<B, H: Sum> View<'_, B, H> {
 
 /// Copies pieces of pages to their places in the buffer.
 fn fill(buf: &mut [u8], lacks: &[Lack], at: &[usize], out: &[(usize, IoBuf)])
-    requires { All (IsReady at.now out.now (length buf.old)) lacks.now }
+    requires { All (CanPutPiece at.now out.now (length buf.old)) lacks.now }
     ensures told { (P : ℕ) (content : List ℕ) → All (IsTold P content at.now out.now) lacks.now
         → buf.new ≡ with_told P content (pieces_in lacks.now) buf.old }
     ensures size { length buf.new ≡ length buf.old }

@@ -5,10 +5,11 @@ ghost use Rattle.std.specs.List.{range_with_len};
 ghost use Rattle.std.specs.Int.NonZero.{non_zero_u16_get, non_zero_usize_get};
 ghost use Rattle.disk.specs.Disk.{Disk};
 ghost use Rattle.page.specs.Geometry.{AreInOrder, EndWithin, RangesGo};
-ghost use Rattle.paged_read.specs.Tail.{tail_at, IsView, size_of, told, CanRead};
-ghost use Rattle.paged_read.specs.Ranges.{is_served, missing, served, missed_from, HasServed};
+ghost use Rattle.paged_read.specs.Tail.{tail_at, IsView, tail_size, logical_bytes, CanRead};
+ghost use Rattle.paged_read.specs.Ranges.{is_served, missing, served_ranges, missed_from};
+ghost use Rattle.paged_read.specs.Ranges.{HasServed};
 ghost use Rattle.paged_read.specs.Reads.{ReadLeaves, ReadManyCosts, ReadManyGoes, ReadRangesGoes};
-ghost use Rattle.paged_read.specs.Reads.{TriesMany};
+ghost use Rattle.paged_read.specs.Reads.{TryReadManyGoes};
 ghost use Rattle.paged_read.specs.Batch.{Gathered, ranges_of};
 
 use crate::View;
@@ -53,7 +54,7 @@ impl<B, H> View<'_, B, H> {
         requires room { buf_offset + len ≤ length buf.old }
         requires within { let t = tail_at self.page_size self.id self.tip.now in
             offset < t.full_pages * t.page_size → offset % t.page_size + len ≤ t.page_size }
-        requires ends { offset + len ≤ size_of (tail_at self.page_size self.id self.tip.now) }
+        requires ends { offset + len ≤ tail_size (tail_at self.page_size self.id self.tip.now) }
         ensures served { let t = tail_at self.entry.page_size self.entry.id self.entry.tip.now in
             IfOk result (λ answer. answer ≡ is_served cache.now t (offset, len)) }
         ensures gathered { let t = tail_at self.entry.page_size self.entry.id self.entry.tip.now in
@@ -95,8 +96,8 @@ impl<B, H> View<'_, B, H> {
         requires view { IsView (non_zero_u16_get self.page_size) self.tip.now }
         requires page_size { cache.now.page_size ≡ non_zero_u16_get self.page_size }
         requires room { buf_offset + len ≤ length buf.old }
-        requires addressable { size_of (tail_at self.page_size self.id self.tip.now) < 2 ^ 64 }
-        requires ends { offset + len ≤ size_of (tail_at self.page_size self.id self.tip.now) }
+        requires addressable { tail_size (tail_at self.page_size self.id self.tip.now) < 2 ^ 64 }
+        requires ends { offset + len ≤ tail_size (tail_at self.page_size self.id self.tip.now) }
         ensures served { let t = tail_at self.entry.page_size self.entry.id self.entry.tip.now in
             IfOk result (λ answer. answer ≡ is_served cache.now t (offset, len)) }
         ensures gathered { let t = tail_at self.entry.page_size self.entry.id self.entry.tip.now in
@@ -135,14 +136,14 @@ impl<B, H> View<'_, B, H> {
         requires page_size { cache.now.page_size ≡ non_zero_u16_get self.page_size }
         requires in_order { AreInOrder ranges.now }
         requires filled { length buf.old ≡ sum_by (λ range. range.1) ranges.now }
-        requires addressable { size_of (tail_at self.page_size self.id self.tip.now) < 2 ^ 64 }
-        requires ends { EndWithin (size_of (tail_at self.page_size self.id self.tip.now))
+        requires addressable { tail_size (tail_at self.page_size self.id self.tip.now) < 2 ^ 64 }
+        requires ends { EndWithin (tail_size (tail_at self.page_size self.id self.tip.now))
             ranges.now }
         ensures gathered { let t = tail_at self.entry.page_size self.entry.id self.entry.tip.now in
             IfOk result (λ batch. Gathered cache.now t ranges.now (length buf.old)
             batch.pages.items batch.lacks.items buf.new) }
         ensures served { let t = tail_at self.entry.page_size self.entry.id self.entry.tip.now in
-            IfOk result (λ batch. batch.served ≡ served cache.now t ranges.now) }
+            IfOk result (λ batch. batch.served ≡ served_ranges cache.now t ranges.now) }
         ensures size { length buf.new ≡ length buf.old }
         ensures refused { let t = tail_at self.entry.page_size self.entry.id self.entry.tip.now in
             IfErr result (λ e. missing cache.now t ranges.now ≢ []) }
@@ -217,13 +218,13 @@ impl<B, H> View<'_, B, H> {
         requires view { IsView (non_zero_u16_get self.page_size) self.tip.now }
         requires page_size { cache.now.page_size ≡ non_zero_u16_get self.page_size }
         requires filled { length buf.old ≡ sum_by (λ range. range.1) ranges.now }
-        requires ends { EndWithin (size_of (tail_at self.page_size self.id self.tip.now))
+        requires ends { EndWithin (tail_size (tail_at self.page_size self.id self.tip.now))
             ranges.now }
         ensures missed { let t = tail_at self.entry.page_size self.entry.id self.entry.tip.now in
             IfOk result (λ missed. missed.items ≡ missed_from 0 cache.now t ranges.now) }
         ensures served { let t = tail_at self.entry.page_size self.entry.id self.entry.tip.now in
             OnOk result ((d : Disk) → CanRead t cache.now d
-            → HasServed cache.now t ranges.now (told t d.readable) buf.new) }
+            → HasServed cache.now t ranges.now (logical_bytes t d.readable) buf.new) }
         ensures size { length buf.new ≡ length buf.old }
         ensures err { IsOkUnless result Error.OutOfMemory }
     {
@@ -259,7 +260,7 @@ impl<B, H> View<'_, B, H> {
         requires asked { AreInOrder ranges.now
             × (length buf.old ≡ sum_by (λ range. range.1) ranges.now) }
         ensures goes { let t = tail_at self.entry.page_size self.entry.id self.entry.tip.now in
-            TriesMany t ranges.now cache.now buf.old buf.new result }
+            TryReadManyGoes t ranges.now cache.now buf.old buf.new result }
     {
         if validate_read_ranges(buf.len(), ranges, self.size()).is_err() {
             return all_below(self.alloc, ranges.len());
@@ -282,7 +283,7 @@ impl<B, H> View<'_, B, H> {
             × (length buf.old ≡ length offsets.now * non_zero_usize_get len) }
         ensures goes { let t = tail_at self.entry.page_size self.entry.id self.entry.tip.now in
             let ranges = ranges_of (non_zero_usize_get len) offsets.now in
-            TriesMany t ranges cache.now buf.old buf.new result }
+            TryReadManyGoes t ranges cache.now buf.old buf.new result }
     {
         let ranges = ranges_of(self.alloc, offsets, len.get())?;
         self.try_read_ranges_sync_into(cache, buf, &ranges)

@@ -7,9 +7,9 @@ ghost use Rattle.page.specs.Page.{value_len};
 ghost use Rattle.crash.specs.Looks.{Looked};
 ghost use Rattle.paged_read.specs.Ranges.{page_at};
 ghost use Rattle.paged_read.specs.RawReads.{after_told, EndsUnread, part_of, range_told};
-ghost use Rattle.paged_read.specs.RawReads.{ReadsBefore, ReadsOne, ReadsRange, ReadsTail};
+ghost use Rattle.paged_read.specs.RawReads.{ReadsBefore, ReadsOne, ReadsPagesOf, ReadsTail};
 ghost use Rattle.paged_read.specs.RawReads.{ReadsTold, tail_told, value_told};
-ghost use Rattle.paged_read.specs.Snapshots.{LeavesWriters};
+ghost use Rattle.paged_read.specs.Snapshots.{LeavesAllWriters};
 
 use crate::search;
 use disk::{Blob, Error, IoBuf, IoBufs, ReadOptions};
@@ -106,9 +106,9 @@ pub fn read_range<B: Blob, H: Sum>(
         → (result ≡ Err Error.OffsetOverflow) × (B.life blob.new ≡ B.life blob.old) }
     ensures empty { len ≡ 0 → (result ≡ Ok []) × (B.life blob.new ≡ B.life blob.old) }
     ensures looked { Looked (B.life blob.old) (B.life blob.new) }
-    ensures writers { LeavesWriters H.sum_of (B.life blob.old) (B.life blob.new) }
+    ensures writers { LeavesAllWriters H.sum_of (B.life blob.old) (B.life blob.new) }
     ensures costs { let old = B.life blob.old in let new = B.life blob.new in
-        ReadsRange (non_zero_u16_get page_size) offset len old new }
+        ReadsPagesOf (non_zero_u16_get page_size) offset len old new }
 {
     let end = offset.checked_add(len as u64).ok_or(Error::OffsetOverflow)?;
     let mut bytes = IoBufs::new(alloc);
@@ -148,7 +148,7 @@ pub fn read_tail<B: Blob, H: Sum>(
     ensures unread { let old = B.life blob.old in let new = B.life blob.new in
         EndsUnread (non_zero_u16_get page_size) physical_size len old new result }
     ensures looked { Looked (B.life blob.old) (B.life blob.new) }
-    ensures writers { LeavesWriters H.sum_of (B.life blob.old) (B.life blob.new) }
+    ensures writers { LeavesAllWriters H.sum_of (B.life blob.old) (B.life blob.new) }
     ensures costs { let old = B.life blob.old in let new = B.life blob.new in
         ReadsTail H.sum_of (non_zero_u16_get page_size) physical_size len old new }
 {

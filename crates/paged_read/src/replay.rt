@@ -6,13 +6,13 @@ ghost use Rattle.std.specs.Int.NonZero.{non_zero_usize_get};
 ghost use Rattle.crash.specs.Looks.{Looked};
 ghost use Rattle.disk.specs.Disk.{Disk};
 ghost use Rattle.paged_read.specs.Failures.{NoneFailed};
-ghost use Rattle.paged_read.specs.ReadAhead.{after, ReadsBatches};
+ghost use Rattle.paged_read.specs.ReadAhead.{after_batch, ReadsBatches};
 ghost use Rattle.paged_read.specs.Reads.{LookLeaves};
-ghost use Rattle.paged_read.specs.Replay.{advanced, CanReplay, CopiesBytes, CopiesToSlice};
+ghost use Rattle.paged_read.specs.Replay.{advanced, CanReplay, CopyToBytesGoes, CopyToSliceGoes};
 ghost use Rattle.paged_read.specs.Replay.{end_of, EnsureCosts, EnsureGoes, FillsOnce, Gives};
 ghost use Rattle.paged_read.specs.Replay.{IsReadAhead, IsReplayOf, new_replay, ReplaysOn, Seeks};
 ghost use Rattle.paged_read.specs.Snapshots.{IsTailOf};
-ghost use Rattle.paged_read.specs.Tail.{size_of};
+ghost use Rattle.paged_read.specs.Tail.{tail_size};
 
 use crate::ahead::{Ahead, Batches, MAX_READ_AHEAD};
 use crate::hand::{Hand, TooFew};
@@ -108,7 +108,7 @@ impl<B, H> Replay<B, H> {
 
     /// The logical bytes of the blob when the replay began.
     pub fn blob_size(&self) -> u64
-        ensures { result ≡ size_of self.now.tail }
+        ensures { result ≡ tail_size self.now.tail }
     {
         self.sealed.size()
     }
@@ -165,7 +165,7 @@ impl<B, H> Replay<B, H> {
     /// copied. `OutOfMemory` alone, and then nothing is taken.
     pub fn copy_to_bytes(&mut self, count: usize) -> Result<IoBuf, Error>
         requires { count ≤ length self.old.hand }
-        ensures goes { CopiesBytes self.old count self.new result }
+        ensures goes { CopyToBytesGoes self.old count self.new result }
         ensures replays { ReplaysOn self.old self.new }
     {
         let bytes = self.hand.copy_to_bytes(count)?;
@@ -176,7 +176,7 @@ impl<B, H> Replay<B, H> {
     /// Takes as many of the bytes at hand as the slice has room for. Where fewer remain nothing
     /// changes.
     pub fn try_copy_to_slice(&mut self, out: &mut [u8]) -> Result<(), TooFew>
-        ensures goes { CopiesToSlice self.old self.new out.old out.new result }
+        ensures goes { CopyToSliceGoes self.old self.new out.old out.new result }
         ensures replays { ReplaysOn self.old self.new }
     {
         let count = out.len();
@@ -225,13 +225,14 @@ impl<B: Blob, H: Sum> Replay<B, H> {
     /// Adds the next batch to what is at hand, or the bytes after the full pages.
     fn fill(&mut self, blob: &mut B) -> Result<(), Error>
         requires can { CanReplay self.old (B.life blob.old).present }
-        requires more { end_of self.old < size_of self.old.tail }
+        requires more { end_of self.old < tail_size self.old.tail }
         ensures fills { let old = B.life blob.old in let new = B.life blob.new in
             FillsOnce H.sum_of self.old self.new old new result }
         ensures failed { IfErr result (λ e. e ≢ Error.ReadFailed
             → NoneFailed (B.life blob.old).present (B.life blob.new).present) }
         ensures step { let full = self.old.tail.full_pages in let P = self.old.tail.page_size in
-            OnOk result (end_of self.new / P ≡ after self.old.batch full (end_of self.old / P)) }
+            OnOk result (end_of self.new / P
+            ≡ after_batch self.old.batch full (end_of self.old / P)) }
         ensures calls { let old = B.life blob.old in let new = B.life blob.new in
             OnOk result (length new.present.log ≤ length old.present.log + 4) }
         ensures refused { let old = B.life blob.old in let new = B.life blob.new in
@@ -271,7 +272,7 @@ impl<B: Blob, H: Sum> Sealed<B, H> {
     ) -> Result<Replay<B, H>, Error>
         ensures begins { let size = non_zero_usize_get buffer_size in
             IfOk result (λ r. r ≡ new_replay self.now size) }
-        ensures replays { (content : List ℕ) (d : Disk) → IsTailOf H.sum_of self.now content d
+        ensures replay_of { (content : List ℕ) (d : Disk) → IsTailOf H.sum_of self.now content d
             → IfOk result (λ r. IsReplayOf H.sum_of r content d) }
         ensures err { IsOkUnless result Error.OutOfMemory }
     {

@@ -5,12 +5,12 @@ ghost use Rattle.std.specs.Int.NonZero.{non_zero_u16_get, non_zero_usize_get};
 ghost use Rattle.std.specs.List.{concat};
 ghost use Rattle.page.specs.Geometry.{AreInOrder};
 ghost use Rattle.paged_read.specs.Batch.{ranges_of};
-ghost use Rattle.paged_read.specs.Ranges.{range_up_to, TriesRead};
+ghost use Rattle.paged_read.specs.Ranges.{range_up_to, TryReadGoes};
 ghost use Rattle.paged_read.specs.Reads.{ReadCosts, ReadGoes, ReadIntoGoes, ReadLeaves};
 ghost use Rattle.paged_read.specs.Reads.{ReadManyCosts, ReadManyGoes, ReadRangesGoes};
-ghost use Rattle.paged_read.specs.Reads.{ReadUpToGoes, TriesMany};
+ghost use Rattle.paged_read.specs.Reads.{ReadUpToGoes, TryReadManyGoes};
 ghost use Rattle.paged_read.specs.Snapshots.{IsSealed};
-ghost use Rattle.paged_read.specs.Tail.{CanRead, IsView, size_of, Tail, tail_at};
+ghost use Rattle.paged_read.specs.Tail.{CanRead, IsView, Tail, tail_at, tail_size};
 
 use crate::View;
 use cache::CacheRef;
@@ -79,7 +79,7 @@ impl<B, H> Sealed<B, H> {
 
     /// The logical bytes.
     pub fn size(&self) -> u64
-        ensures { result ≡ size_of self.now }
+        ensures { result ≡ tail_size self.now }
     {
         self.tip.size()
     }
@@ -100,7 +100,7 @@ impl<B, H> Sealed<B, H> {
     pub(crate) fn full_pages(&self) -> u64
         ensures pages { result ≡ self.now.full_pages }
         ensures fits { self.now.full_pages * (self.now.page_size + 12) < 2 ^ 64 }
-        ensures addressable { size_of self.now < 2 ^ 64 }
+        ensures addressable { tail_size self.now < 2 ^ 64 }
         ensures short { length self.now.bytes < self.now.page_size }
     {
         self.tip.offset() / u64::from(self.page_size.get())
@@ -128,7 +128,7 @@ impl<B, H> Sealed<B, H> {
     /// memory.
     pub fn try_read_sync_into(&self, cache: &CacheRef, buf: &mut [u8], offset: u64) -> bool
         requires page_size { cache.now.page_size ≡ self.now.page_size }
-        ensures tries { TriesRead self.now (offset, length buf.old) cache.now buf.new result }
+        ensures goes { TryReadGoes self.now (offset, length buf.old) cache.now buf.new result }
         ensures size { length buf.new ≡ length buf.old }
     {
         self.view().try_read_sync_into(cache, buf, offset)
@@ -147,7 +147,7 @@ impl<B, H> Sealed<B, H> {
         requires page_size { cache.now.page_size ≡ self.now.page_size }
         requires asked { AreInOrder ranges.now
             × (length buf.old ≡ sum_by (λ range. range.1) ranges.now) }
-        ensures goes { TriesMany self.now ranges.now cache.now buf.old buf.new result }
+        ensures goes { TryReadManyGoes self.now ranges.now cache.now buf.old buf.new result }
     {
         self.view().try_read_ranges_sync_into(cache, buf, ranges)
     }
@@ -165,7 +165,7 @@ impl<B, H> Sealed<B, H> {
         requires asked { AreInOrder (ranges_of (non_zero_usize_get len) offsets.now)
             × (length buf.old ≡ length offsets.now * non_zero_usize_get len) }
         ensures goes { let ranges = ranges_of (non_zero_usize_get len) offsets.now in
-            TriesMany self.now ranges cache.now buf.old buf.new result }
+            TryReadManyGoes self.now ranges cache.now buf.old buf.new result }
     {
         self.view()
             .try_read_many_sync_into(cache, buf, offsets, len)

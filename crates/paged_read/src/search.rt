@@ -6,7 +6,7 @@ ghost use Rattle.page.specs.Page.{active, pages, pieces, text, text_of_pages};
 ghost use Rattle.crash.specs.Built.{kept_len};
 ghost use Rattle.paged_read.specs.Prefix.{prefix_of, last_prefix, prefix_pages, value_and_slot};
 ghost use Rattle.paged_read.specs.Prefix.{HasBytes, bad_in, tip_of};
-ghost use Rattle.paged_read.specs.Hand.{HasRoom, IsEmptyHand, kept_with};
+ghost use Rattle.paged_read.specs.Hand.{HandHasRoom, IsEmptyHand, kept_with};
 ghost use Rattle.paged_read.specs.Scans.{LooksThrough, pages_from, prefix_from, ReadsUpToEnd};
 ghost use Rattle.paged_read.specs.Scans.{text_of_first};
 ghost use Rattle.paged_read.specs.Searches.{Finds, FindsLast, scan_bytes};
@@ -112,7 +112,7 @@ fn keep<H: Sum>(
 ) -> Result<(), Error>
     requires prefix { let P = non_zero_u16_get page_size in
         prefix.now ≡ prefix_of H.sum_of P (pages P bytes.now) }
-    requires room { HasRoom (non_zero_u16_get page_size) (length bytes.now) kept.old }
+    requires room { HandHasRoom (non_zero_u16_get page_size) (length bytes.now) kept.old }
     ensures kept { let P = non_zero_u16_get page_size in
         OnOk result (kept.new ≡ kept_with (text H.sum_of P bytes.now) kept.old) }
     ensures err { IsOkUnless result Error.OutOfMemory }
@@ -147,7 +147,7 @@ pub fn scan<B: Blob, H: Sum>(
         Finds (prefix_of H.sum_of P (pieces pages (P + 12) old.present.readable)) old new result }
     ensures bytes { let old = B.life blob.old in let P = non_zero_u16_get page_size in
         IfOk result (λ p. HasBytes P p.full_pages old.present.readable p.partial) }
-    ensures reads { let old = B.life blob.old in let new = B.life blob.new in
+    ensures costs { let old = B.life blob.old in let new = B.life blob.new in
         let P = non_zero_u16_get page_size in
         ReadsUpToEnd H.sum_of P (scan_bytes P (non_zero_usize_get buffer_size)) 0 pages old new }
     ensures kept { let old = B.life blob.old in let P = non_zero_u16_get page_size in
@@ -173,13 +173,13 @@ pub fn scan_from<B: Blob, H: Sum>(
 ) -> Result<Prefix, Error>
     requires order { first ≤ pages }
     requires fits { pages * (non_zero_u16_get page_size + 12) < 2 ^ 64 }
-    ensures finds { let old = B.life blob.old in let new = B.life blob.new in
+    ensures looks { let old = B.life blob.old in let new = B.life blob.new in
         let P = non_zero_u16_get page_size in
         LooksThrough (pages * (P + 12)) (prefix_from H.sum_of P first pages old.present.readable)
         old new result }
     ensures bytes { let old = B.life blob.old in let P = non_zero_u16_get page_size in
         IfOk result (λ p. HasBytes P p.full_pages old.present.readable p.partial) }
-    ensures reads { let old = B.life blob.old in let new = B.life blob.new in
+    ensures costs { let old = B.life blob.old in let new = B.life blob.new in
         let P = non_zero_u16_get page_size in
         let most = scan_bytes P (non_zero_usize_get buffer_size) in
         ReadsUpToEnd H.sum_of P most first pages old new }
@@ -269,13 +269,13 @@ pub fn last_pages<B: Blob, H: Sum>(
     requires there { let old = B.life blob.old in let P = non_zero_u16_get page_size in
         pages * (P + 12) ≤ length old.present.readable }
     requires fits { pages * (non_zero_u16_get page_size + 12) < 2 ^ 64 }
-    ensures finds { let old = B.life blob.old in let new = B.life blob.new in
+    ensures finds_last { let old = B.life blob.old in let new = B.life blob.new in
         let P = non_zero_u16_get page_size in
         let last = last_prefix H.sum_of P pages old.present.readable in
         FindsLast last (bad_in H.sum_of P old.present.readable last) old new result }
     ensures bytes { let old = B.life blob.old in let P = non_zero_u16_get page_size in
         IfOk result (λ r. HasBytes P r.0.full_pages old.present.readable r.0.partial) }
-    ensures reads { let old = B.life blob.old in let new = B.life blob.new in
+    ensures costs { let old = B.life blob.old in let new = B.life blob.new in
         let P = non_zero_u16_get page_size in
         let last = last_prefix H.sum_of P pages old.present.readable in
         ReadsDownTo (P + 12) ((prefix_pages last - 1) * (P + 12)) old new }

@@ -3,8 +3,8 @@ ghost use Rattle.std.specs.Prelude.{◌≡◌, ◌+◌, ◌-◌, ◌*◌, ◌<�
 ghost use Rattle.std.specs.Prelude.{drop};
 ghost use Rattle.std.specs.Int.NonZero.{non_zero_u16_get};
 ghost use Rattle.std.specs.List.{concat};
-ghost use Rattle.paged_read.specs.Tail.{tail_at, size_of, IsView, CanRead};
-ghost use Rattle.paged_read.specs.Ranges.{TriesRead, range_up_to};
+ghost use Rattle.paged_read.specs.Tail.{tail_at, tail_size, IsView, CanRead};
+ghost use Rattle.paged_read.specs.Ranges.{TryReadGoes, range_up_to};
 ghost use Rattle.paged_read.specs.Parts.{TriesBelow};
 ghost use Rattle.paged_read.specs.Reads.{ReadCosts, ReadGoes, ReadIntoGoes, ReadLeaves};
 ghost use Rattle.paged_read.specs.Reads.{ReadUpToGoes};
@@ -65,7 +65,8 @@ impl<B, H> View<'_, B, H> {
     /// The logical bytes.
     pub fn size(self) -> u64
         requires { IsView (non_zero_u16_get self.page_size) self.tip.now }
-        ensures { result ≡ size_of (tail_at self.entry.page_size self.entry.id self.entry.tip.now) }
+        ensures { result ≡ tail_size
+            (tail_at self.entry.page_size self.entry.id self.entry.tip.now) }
     {
         self.tip.size()
     }
@@ -201,7 +202,7 @@ impl<B, H> View<'_, B, H> {
         requires after { let t = tail_at self.page_size self.id self.tip.now in
             0 < length buf.old → t.full_pages * t.page_size ≤ offset }
         requires within { let t = tail_at self.page_size self.id self.tip.now in
-            offset + length buf.old ≤ size_of t }
+            offset + length buf.old ≤ tail_size t }
         ensures { let t = tail_at self.entry.page_size self.entry.id self.entry.tip.now in
             let skip = offset - t.full_pages * t.page_size in
             buf.new ≡ take (length buf.old) (drop skip t.bytes) }
@@ -232,8 +233,8 @@ impl<B, H> View<'_, B, H> {
     pub fn try_read_sync_into(self, cache: &CacheRef, buf: &mut [u8], offset: u64) -> bool
         requires view { IsView (non_zero_u16_get self.page_size) self.tip.now }
         requires page_size { cache.now.page_size ≡ non_zero_u16_get self.page_size }
-        ensures tries { let t = tail_at self.entry.page_size self.entry.id self.entry.tip.now in
-            TriesRead t (offset, length buf.old) cache.now buf.new result }
+        ensures goes { let t = tail_at self.entry.page_size self.entry.id self.entry.tip.now in
+            TryReadGoes t (offset, length buf.old) cache.now buf.new result }
         ensures size { length buf.new ≡ length buf.old }
     {
         let size = self.size();

@@ -10,7 +10,7 @@ use Rattle.session.specs.Run.{SessionState}
 use Rattle.session.specs.Promise.{AttemptsThrough}
 use Rattle.session.specs.Within.{BeginsWithin}
 use Rattle.protocol.specs.declared.setting.Setting.{Setting}
-use Rattle.protocol.specs.Serve.{Begun, HasAttempted, IsNotBegun, LookedAt, MayRecover, page_bytes}
+use Rattle.protocol.specs.Serve.{HasAttempted, HasBegun, IsNotBegun, LookedAt, MayRecover, page_bytes}
 use Rattle.protocol.specs.Stop.{stop_for}
 
 module _ (sum : List ℕ → ℕ) (setting : Setting) where
@@ -23,7 +23,7 @@ module _ (sum : List ℕ → ℕ) (setting : Setting) where
   may_recover life may = (may.0, told_at life life may.0 may.1 (looked_start life), may.2)
 
   -- a session that begins
-  pub begins : (cache : CacheState) (old new : Life) (now : SessionState) → cache.page_size ≡ page_bytes setting → BeginsWithin sum cache setting.capacity setting.allowed old new (Ok now) → Begun sum setting old new now
+  pub begins : (cache : CacheState) (old new : Life) (now : SessionState) → cache.page_size ≡ page_bytes setting → BeginsWithin sum cache setting.capacity setting.allowed old new (Ok now) → HasBegun sum setting old new now
   begins cache old new now same is = record {
     between = old;
     may = may_recover old (subst (λ (n : ℕ). MayGo sum n setting.allowed old.present.readable) same is.0);

@@ -3,12 +3,12 @@ use Rattle.std.proofs.Common.{◌≡◌, true, false, [], ◌∷◌, refl}
 use Rattle.std.specs.Prelude.{Some, None}
 use Rattle.disk.specs.declared.error.Error.TheVariants.{ReadFailed, SyncFailed, OutOfMemory}
 use Rattle.session.specs.declared.steps.Reply.TheVariants.{Done, Fault}
-use Rattle.protocol.specs.Serve.{fault_of, fault_in, later_fault}
+use Rattle.protocol.specs.Serve.{reply_error, fault_in, later_fault}
 
-pub a_reply_with_an_error : fault_of (Fault SyncFailed) ≡ Some SyncFailed
+pub a_reply_with_an_error : reply_error (Fault SyncFailed) ≡ Some SyncFailed
 a_reply_with_an_error = refl
 
-pub a_reply_without_one : fault_of Done ≡ None
+pub a_reply_without_one : reply_error Done ≡ None
 a_reply_without_one = refl
 
 pub the_only_reply : fault_in (Fault SyncFailed ∷ []) ≡ Some SyncFailed

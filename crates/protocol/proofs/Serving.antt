@@ -22,14 +22,14 @@ use Rattle.protocol.specs.declared.stop.ReadError.{ReadError}
 use Rattle.protocol.specs.declared.stop.ReadError.TheVariants.{Malformed as IsMalformed, Failed as HasFailed, OutOfMemory as NoMemory}
 use Rattle.protocol.specs.declared.stop.Stop.{Stop}
 use Rattle.protocol.specs.declared.stop.Stop.TheVariants.{Malformed, Version, WouldCut, Refused, Lost, LongAnswer, Failed, OutOfMemory}
-use Rattle.protocol.specs.Answer.{answer_bytes, payload, refusal_bytes, status_byte, IsLong, IsTooLong, IsWriteError}
+use Rattle.protocol.specs.Answer.{answer_bytes, reply_payload, refusal_bytes, status_byte, IsLong, IsTooLong, IsWriteError}
 use Rattle.protocol.specs.Input.{IsBroken}
 use Rattle.protocol.specs.Stop.{stop_at}
 use Rattle.protocol.specs.Request.{IsRequest, request_bytes, number_bytes, length_bytes, frame_bytes}
 use Rattle.protocol.proofs.Bytes.{length-number_bytes, length-length_bytes}
 use Rattle.protocol.specs.Serve.AreServed.{no_more, one_more}
 use Rattle.protocol.specs.Serve.Served.{taken, refused}
-use Rattle.protocol.specs.Serve.{requests_bytes, Served, fault_of, fault_in, later_fault, WritesReply, AnsweredAll, EndsSession, IsFaultAmong, IsAny, Took, TookFor, TookNext, Answered, TakesRequest, ReadsNext, ReadsVersion, Serves, Begun, IsNotBegun, Greets, Greeted, EndsEarly, ServedAfter, ServesFile, changes, version_byte}
+use Rattle.protocol.specs.Serve.{requests_bytes, Served, reply_error, fault_in, later_fault, WritesReply, AnsweredAll, EndsSession, IsFaultAmong, IsAny, Took, TookFor, TookNext, Answered, TakesRequest, ReadsNext, ReadsVersion, Serves, HasBegun, IsNotBegun, Greets, Greeted, EndsEarly, ServedAfter, ServesFile, changes, version_byte}
 
 -- ---- lists of bytes
 
@@ -117,9 +117,9 @@ one_of (y ∷ []) x some few is = ap (λ (z : _). z ∷ []) (sym is)
 one_of (y ∷ z ∷ zs) x some few is = absurd (omega (arith, few))
 
 -- an answer with a long payload is too long
-too_long : (reply : Reply) → IsLong (length (payload reply)) → IsTooLong (answer_bytes reply)
+too_long : (reply : Reply) → IsLong (length (reply_payload reply)) → IsTooLong (answer_bytes reply)
 too_long reply long =
-    let body = status_byte reply ∷ payload reply in
+    let body = status_byte reply ∷ reply_payload reply in
     omega (arith, long, length-append (length_bytes (length body)) body, length-length_bytes (length body))
 
 -- both hold
@@ -177,13 +177,13 @@ takes_step sum setting step reply was now cache after old new earlier replies ou
 
 -- ---- the errors of requests
 
-is_fault : (reply : Reply) (error : Error) → fault_of reply ≡ Some error → reply ≡ Fault error
+is_fault : (reply : Reply) (error : Error) → reply_error reply ≡ Some error → reply ≡ Fault error
 is_fault (Fault other) error is = cc is
 is_fault _ error is = absurd (cc is)
 
 -- one reply more
-reply_more : (earlier next : Option Error) (replies : List Reply) (reply : Reply) (had_writer : Bool) → fault_of reply ≡ next → IsFaultAmong earlier replies → IsFaultAmong (later_fault earlier next had_writer) (replies ++ reply ∷ [])
-reply_more None None replies reply had_writer is all = All-push (λ r. fault_of r ≡ None) replies reply all is
+reply_more : (earlier next : Option Error) (replies : List Reply) (reply : Reply) (had_writer : Bool) → reply_error reply ≡ next → IsFaultAmong earlier replies → IsFaultAmong (later_fault earlier next had_writer) (replies ++ reply ∷ [])
+reply_more None None replies reply had_writer is all = All-push (λ r. reply_error r ≡ None) replies reply all is
 reply_more None (Some error) replies reply true is all = subst (λ (r : Reply). Contains (replies ++ r ∷ []) (Fault error)) (sym (is_fault reply error is)) (Contains-push replies (Fault error))
 reply_more None (Some error) replies reply false is all = subst (λ (r : Reply). Contains (replies ++ r ∷ []) (Fault error)) (sym (is_fault reply error is)) (Contains-push replies (Fault error))
 reply_more (Some error) None replies reply had_writer is there = Contains-append_left replies (reply ∷ []) (Fault error) there
@@ -194,7 +194,7 @@ reply_more (Some error) (Some next) replies reply false is there = Contains-appe
 fault_more : (fault : Option Error) (setting : Setting) (request : Request) (steps : List Step) (replies others : List Reply) (answer : List ℕ) (had_writer : Bool) → Served setting request steps others answer → IsFaultAmong fault replies
     → IsFaultAmong (later_fault fault (fault_in others) had_writer) (replies ++ others)
 fault_more fault setting request steps replies others answer had_writer (refused step is) among = subst (IsFaultAmong fault) (sym (append-nil replies)) among
-fault_more fault setting request steps replies others answer had_writer (taken step reply may) among = reply_more fault (fault_of reply) replies reply had_writer refl among
+fault_more fault setting request steps replies others answer had_writer (taken step reply may) among = reply_more fault (reply_error reply) replies reply had_writer refl among
 
 -- ---- request after request
 
@@ -207,7 +207,7 @@ pub record Serving (sum : List ℕ → ℕ) (setting : Setting) (was now : Sessi
 -- none is before the first
 pub serving_begins : (sum : List ℕ → ℕ) (setting : Setting) (was : SessionState) (life : Life) (input out : Option (List ℕ)) → Serving sum setting was was life life input input out out None 1
 unfolding answered_none
-serving_begins sum setting was life input out = record { answered = answered_none sum setting was life input out; among = All-nil (λ r. fault_of r ≡ None); counts = refl }
+serving_begins sum setting was life input out = record { answered = answered_none sum setting was life input out; among = All-nil (λ r. reply_error r ≡ None); counts = refl }
 
 -- one more
 pub serving_more : (sum : List ℕ → ℕ) (setting : Setting) (request : Request) (was mid now : SessionState) (old between new : Life) (input rest last out written kept all : Option (List ℕ)) (fault next after : Option Error) (had_writer : Bool) (number : ℕ)
@@ -319,7 +319,7 @@ version_unread input rest NoMemory stop broken is = subst (λ (x : Stop). ReadsV
 
 -- the size isn't answered
 pub greeting_fails : (sum : List ℕ → ℕ) (setting : Setting) (was now : SessionState) (old mid new : Life) (out after written : Option (List ℕ)) (stop : Stop) (result : Result (SessionState × CacheState) Stop) → IsErrAnd result (λ x. x ≡ stop)
-    → Begun sum setting old mid was → TakesRequest sum setting (StepOf Size) was now mid new after written (Err stop) → Greets sum setting old new out written result
+    → HasBegun sum setting old mid was → TakesRequest sum setting (StepOf Size) was now mid new after written (Err stop) → Greets sum setting old new out written result
 greeting_fails sum setting was now old mid new out after written stop (Ok begun) is begins takes = absurd is
 greeting_fails sum setting was now old mid new out after written stop (Err why) is begins takes =
     by_cause why (subst (λ (x : Stop). TakesRequest sum setting (StepOf Size) was now mid new after written (Err x)) (sym is) takes)
@@ -332,21 +332,21 @@ greeting_fails sum setting was now old mid new out after written stop (Err why) 
     by_cause (Lost error) none = absurd none
     by_cause LongAnswer this = (mid, was, now, begins, this)
     by_cause Failed this = inr (inr (mid, was, now, begins, this))
-    by_cause OutOfMemory same = inr (inl (was, subst (λ (life : Life). Begun sum setting old life was) (sym same.1) begins))
+    by_cause OutOfMemory same = inr (inl (was, subst (λ (life : Life). HasBegun sum setting old life was) (sym same.1) begins))
 
 -- nor asked for
-pub greeting_cut : (sum : List ℕ → ℕ) (setting : Setting) (was : SessionState) (old new : Life) (out written : Option (List ℕ)) (result : Result (SessionState × CacheState) Stop) → IsErrAnd result (λ x. x ≡ Failed) → Begun sum setting old new was → Greets sum setting old new out written result
+pub greeting_cut : (sum : List ℕ → ℕ) (setting : Setting) (was : SessionState) (old new : Life) (out written : Option (List ℕ)) (result : Result (SessionState × CacheState) Stop) → IsErrAnd result (λ x. x ≡ Failed) → HasBegun sum setting old new was → Greets sum setting old new out written result
 greeting_cut sum setting was old new out written (Ok begun) is begins = absurd is
 greeting_cut sum setting was old new out written (Err why) is begins = subst (λ (x : Stop). Greets sum setting old new out written (Err x)) (sym is) (inr (inl (was, begins)))
 
 -- or it isn't out
 pub greeting_unsent : (sum : List ℕ → ℕ) (setting : Setting) (was now : SessionState) (old mid new : Life) (out kept written : Option (List ℕ)) (fault : Option Error) (result : Result (SessionState × CacheState) Stop) → IsErrAnd result (λ x. x ≡ Failed)
-    → Begun sum setting old mid was → TakesRequest sum setting (StepOf Size) was now mid new kept written (Ok fault) → (last : Option (List ℕ)) → Greets sum setting old new out last result
+    → HasBegun sum setting old mid was → TakesRequest sum setting (StepOf Size) was now mid new kept written (Ok fault) → (last : Option (List ℕ)) → Greets sum setting old new out last result
 greeting_unsent sum setting was now old mid new out kept written fault result is begins (steps, replies, answer, served, took, (answers, told)) last =
     greeting_fails sum setting was now old mid new out kept last Failed result is begins (steps, replies, answer, served, took, tt)
 
 -- all of it is
-pub greeted : (sum : List ℕ → ℕ) (setting : Setting) (was now : SessionState) (old mid new : Life) (out first second last : Option (List ℕ)) (fault : Option Error) → Begun sum setting old mid was → Appends out first (version_byte ∷ [])
+pub greeted : (sum : List ℕ → ℕ) (setting : Setting) (was now : SessionState) (old mid new : Life) (out first second last : Option (List ℕ)) (fault : Option Error) → HasBegun sum setting old mid was → Appends out first (version_byte ∷ [])
     → TakesRequest sum setting (StepOf Size) was now mid new first second (Ok fault) → Keeps second last → Greeted sum setting old new now out last
 greeted sum setting was now old mid new out first second last fault begins version (steps, replies, answer, served, took, (answers, told)) keeps = record {
   mid = mid;

@@ -35,22 +35,22 @@ abbrev pub flag_byte : Bool → ℕ
 flag_byte flag = if flag then 1 else 0
 
 -- what is written after the status
-abbrev pub payload : Reply → List ℕ
-payload (At offset) = number_bytes offset
-payload (Length size) = number_bytes size
-payload (Taken index) = number_bytes index
-payload (Replaying index) = number_bytes index
-payload (Started started) = started_bytes started
-payload (Answer answer) = flag_byte answer ∷ []
-payload (Bytes bytes) = bytes.items
-payload (Served count bytes) = number_bytes count ++ bytes.items
-payload (Missed numbers) = flat_map number_bytes numbers.items
-payload (Sealed index started) = number_bytes index ++ started_bytes started
-payload reply = []
+abbrev pub reply_payload : Reply → List ℕ
+reply_payload (At offset) = number_bytes offset
+reply_payload (Length size) = number_bytes size
+reply_payload (Taken index) = number_bytes index
+reply_payload (Replaying index) = number_bytes index
+reply_payload (Started started) = started_bytes started
+reply_payload (Answer answer) = flag_byte answer ∷ []
+reply_payload (Bytes bytes) = bytes.items
+reply_payload (Served count bytes) = number_bytes count ++ bytes.items
+reply_payload (Missed numbers) = flat_map number_bytes numbers.items
+reply_payload (Sealed index started) = number_bytes index ++ started_bytes started
+reply_payload reply = []
 
 -- an answer as it is written
 abbrev pub answer_bytes : Reply → List ℕ
-answer_bytes reply = frame_bytes (status_byte reply ∷ payload reply)
+answer_bytes reply = frame_bytes (status_byte reply ∷ reply_payload reply)
 
 -- the answer to a request for a change, where the client may only read
 abbrev pub refusal_bytes : List ℕ

@@ -26,7 +26,8 @@ use Rattle.protocol.specs.declared.stop.ReadError.TheVariants.{Malformed as IsMa
 use Rattle.protocol.specs.declared.stop.Stop.{Stop}
 use Rattle.protocol.specs.declared.stop.Stop.TheVariants.{Malformed, Version, WouldCut, Refused}
 use Rattle.protocol.specs.declared.stop.Stop.TheVariants.{Lost, LongAnswer, Failed, OutOfMemory}
-use Rattle.protocol.specs.Answer.{answer_bytes, payload, refusal_bytes, IsTooLong, IsWriteError}
+use Rattle.protocol.specs.Answer.{answer_bytes, reply_payload, refusal_bytes, IsTooLong}
+use Rattle.protocol.specs.Answer.{IsWriteError}
 use Rattle.protocol.specs.Request.{IsFlawed, IsRequest, ReadsRequest, request_bytes}
 
 -- requests, one after another
@@ -87,20 +88,20 @@ pub record Answered (sum : List ℕ → ℕ) (setting : Setting) (was now : Sess
 
 -- the error that a reply tells; and of some replies that of the only one, and none where there
 -- isn't just one
-abbrev pub fault_of : Reply → Option Error
-fault_of (Fault error) = Some error
-fault_of reply = None
+abbrev pub reply_error : Reply → Option Error
+reply_error (Fault error) = Some error
+reply_error reply = None
 
 abbrev pub fault_in : List Reply → Option Error
-fault_in (reply ∷ []) = fault_of reply
+fault_in (reply ∷ []) = reply_error reply
 fault_in replies = None
 
 -- a reply was written, by how that ended; where it was, its error is told
 abbrev pub WritesReply : (out written : Option (List ℕ)) → Reply → Result (Option Error) Stop
     → Type 0
 WritesReply out written reply (Ok fault) =
-    Appends out written (answer_bytes reply) × (fault ≡ fault_of reply)
-WritesReply out written reply (Err stop) = IsWriteError (length (payload reply)) stop
+    Appends out written (answer_bytes reply) × (fault ≡ reply_error reply)
+WritesReply out written reply (Err stop) = IsWriteError (length (reply_payload reply)) stop
 
 -- the steps of a request were taken, and this is so of their replies and its answer
 abbrev pub TookWith : (List ℕ → ℕ) → Setting → (List Reply → List ℕ → Type 0) → Request
@@ -169,7 +170,7 @@ BreaksOff sum setting was now old new input out =
 
 -- an error that requests were answered with is among these replies; or none of them tells one
 abbrev pub IsFaultAmong : Option Error → List Reply → Type 0
-IsFaultAmong None replies = All (λ reply. fault_of reply ≡ None) replies
+IsFaultAmong None replies = All (λ reply. reply_error reply ≡ None) replies
 IsFaultAmong (Some error) replies = Contains replies (Fault error)
 
 -- the last of two such errors, where there was a writer as the request of the later one was taken;
@@ -245,7 +246,7 @@ WouldCutMore sum setting old new cut =
     LookedAt sum setting old new cut × (setting.allowed < cut)
 
 -- a look told that the blob may be recovered, and that began a session
-pub record Begun (sum : List ℕ → ℕ) (setting : Setting) (old new : Life)
+pub record HasBegun (sum : List ℕ → ℕ) (setting : Setting) (old new : Life)
     (was : SessionState) : Type 0 where
   pub between : Life
   pub may : MayRecover sum setting old between
@@ -267,22 +268,22 @@ IsNotBegun sum setting old new (Refused error) = HasAttempted sum setting old ne
 IsNotBegun sum setting old new (WouldCut cut) = WouldCutMore sum setting old new cut
 IsNotBegun sum setting old new other = ⊥
 
-abbrev pub Recovers : (List ℕ → ℕ) → Setting → Life → Life
+abbrev pub RecoversSession : (List ℕ → ℕ) → Setting → Life → Life
     → Result (SessionState × CacheState) Stop → Type 0
-Recovers sum setting old new (Ok begun) = Begun sum setting old new begun.0
-Recovers sum setting old new (Err stop) = IsNotBegun sum setting old new stop
+RecoversSession sum setting old new (Ok begun) = HasBegun sum setting old new begun.0
+RecoversSession sum setting old new (Err stop) = IsNotBegun sum setting old new stop
 
 -- the session began, and the step that asks for its size was taken; this is so of its answer
 abbrev pub TookSize : (List ℕ → ℕ) → Setting → (List ℕ → Type 0) → Life → Life → Type 0
 TookSize sum setting Is old new =
-    (mid : Life) × (was : SessionState) × (now : SessionState) × Begun sum setting old mid was
+    (mid : Life) × (was : SessionState) × (now : SessionState) × HasBegun sum setting old mid was
     × TookFor sum setting Is (StepOf Size) was now mid new
 
 -- a session began or it didn't; where it did its size was asked for, or not even that
 abbrev pub EndsEarly : (List ℕ → ℕ) → Setting → Life → Life → Type 0
 EndsEarly sum setting old new =
     HasAttempted sum setting old new
-    ⊎ ((was : SessionState) × Begun sum setting old new was)
+    ⊎ ((was : SessionState) × HasBegun sum setting old new was)
     ⊎ TookSize sum setting IsAny old new
 
 -- a session has begun, and was greeted: by the version, and the answer to a request for the size
@@ -290,14 +291,14 @@ pub record Greeted (sum : List ℕ → ℕ) (setting : Setting) (old new : Life)
     (out written : Option (List ℕ)) : Type 0 where
   pub mid : Life
   pub was : SessionState
-  pub begun : Begun sum setting old mid was
+  pub begun : HasBegun sum setting old mid was
   pub took : TookFor sum setting (λ answer. Appends out written (version_byte ∷ answer))
       (StepOf Size) was now mid new
 
 -- the recovery was refused, and so answered
-abbrev pub IsRefused : (List ℕ → ℕ) → Setting → Life → Life → (out written : Option (List ℕ))
-    → Error → Type 0
-IsRefused sum setting old new out written error =
+abbrev pub IsRecoveryRefused : (List ℕ → ℕ) → Setting → Life → Life
+    → (out written : Option (List ℕ)) → Error → Type 0
+IsRecoveryRefused sum setting old new out written error =
     HasAttempted sum setting old new
     × Appends out written (version_byte ∷ answer_bytes (Fault error))
 
@@ -306,7 +307,7 @@ abbrev pub Greets : (List ℕ → ℕ) → Setting → Life → Life → (out wr
     → Result (SessionState × CacheState) Stop → Type 0
 Greets sum setting old new out written (Ok begun) = Greeted sum setting old new begun.0 out written
 Greets sum setting old new out written (Err (Refused error)) =
-    IsRefused sum setting old new out written error
+    IsRecoveryRefused sum setting old new out written error
 Greets sum setting old new out written (Err (WouldCut cut)) =
     WouldCutMore sum setting old new cut × (written ≡ out)
 Greets sum setting old new out written (Err LongAnswer) = TookSize sum setting IsTooLong old new
@@ -358,7 +359,7 @@ ServesFile sum setting old new input rest out written (Err (Version byte)) =
 ServesFile sum setting old new input rest out written (Err (WouldCut cut)) =
     WouldCutMore sum setting old new cut × (written ≡ out) × (rest ≡ input)
 ServesFile sum setting old new input rest out written (Err (Refused error)) =
-    IsRefused sum setting old new out written error
+    IsRecoveryRefused sum setting old new out written error
 ServesFile sum setting old new input rest out written (Err (Lost error)) =
     ServedAfter sum setting old new input rest out written (Err (Lost error))
 ServesFile sum setting old new input rest out written (Err LongAnswer) =

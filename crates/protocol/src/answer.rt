@@ -2,7 +2,7 @@
 ghost use Rattle.std.specs.Prelude.{◌∷◌, [], ◌++◌, ◌+◌, length, OnOk, IfErr};
 ghost use Rattle.std.specs.List.{flat_map};
 ghost use Rattle.std.specs.Io.KnownBytes.{Appends};
-ghost use Rattle.protocol.specs.Answer.{answer_bytes, payload, refusal_bytes, started_bytes};
+ghost use Rattle.protocol.specs.Answer.{answer_bytes, refusal_bytes, reply_payload, started_bytes};
 ghost use Rattle.protocol.specs.Answer.{IsWriteError};
 ghost use Rattle.protocol.specs.Request.{frame_bytes, length_bytes, number_bytes};
 
@@ -17,7 +17,7 @@ use std::io::Write;
 pub fn write_answer<W: Write>(out: &mut W, reply: &Reply) -> Result<(), Stop>
     ensures answers { OnOk result
         (Appends (W.contents out.old) (W.contents out.new) (answer_bytes reply.now)) }
-    ensures err { IfErr result (IsWriteError (length (payload reply.now))) }
+    ensures err { IfErr result (IsWriteError (length (reply_payload reply.now))) }
 {
     match reply {
         Reply::At(number) | Reply::Length(number) => write_number(out, *number),

@@ -40,7 +40,7 @@ pub fn read_some<R: BufRead>(
 ) -> Result<Vec<u8>, ReadError>
     ensures came { let old = R.remaining input.old in let new = R.remaining input.new in
         IfOk result (λ bytes. Came count old new bytes.items) }
-    ensures bytes { IfOk result (λ bytes. AreBytes bytes.items) }
+    ensures are_bytes { IfOk result (λ bytes. AreBytes bytes.items) }
     ensures broken { IfErr result IsBroken }
 {
     let mut bytes = Vec::new(alloc);

@@ -30,7 +30,7 @@ pub enum Request {
 
 /// Reads a request; none at the end of the input.
 pub fn read_request<R: BufRead>(alloc: Global, input: &mut R) -> Result<Option<Request>, ReadError>
-    ensures reads { ReadsRequest (R.remaining input.old) (R.remaining input.new) result }
+    ensures request { ReadsRequest (R.remaining input.old) (R.remaining input.new) result }
 {
     let mut head = [0; 4];
     let count = read_front(input, &mut head)?;

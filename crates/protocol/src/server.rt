@@ -5,9 +5,9 @@ ghost use Rattle.std.specs.Io.Buffered.{writer_buffer, writer_contents};
 ghost use Rattle.std.specs.Io.KnownBytes.{Keeps};
 ghost use Rattle.session.specs.Run.{IsSessionReady};
 ghost use Rattle.protocol.specs.Input.{IsSent, has_frame};
-ghost use Rattle.protocol.specs.Serve.{EndsSession, Greets, ReadsNext, ReadsVersion, Recovers};
-ghost use Rattle.protocol.specs.Serve.{Serves, ServesFile, TakesRequest, WritesReply};
-ghost use Rattle.protocol.specs.Serve.{changes, later_fault};
+ghost use Rattle.protocol.specs.Serve.{EndsSession, Greets, ReadsNext, ReadsVersion};
+ghost use Rattle.protocol.specs.Serve.{RecoversSession, Serves, ServesFile, TakesRequest};
+ghost use Rattle.protocol.specs.Serve.{WritesReply, changes, later_fault};
 
 use crate::answer::{write_answer, write_refusal};
 use crate::input::read_front;
@@ -98,7 +98,8 @@ fn recover<B: Blob, H: Sum>(
     blob: &mut B,
     setting: &Setting,
 ) -> Result<(Session<B, H>, CacheRef), Stop>
-    ensures recovers { Recovers H.sum_of setting.now (B.life blob.old) (B.life blob.new) result }
+    ensures recovers { RecoversSession H.sum_of setting.now (B.life blob.old) (B.life blob.new)
+        result }
     ensures ready { let new = (B.life blob.new).present in
         IfOk result (λ r. IsSessionReady H.sum_of r.0 r.1 new) }
 {

@@ -12,7 +12,7 @@ use Rattle.hex.proofs.HexLemmas.{decode_of-encode_lower, decode_of-ok, decode_of
 use Rattle.std.specs.Prelude.{IsErrAnd}
 use Rattle.scripts.specs.declared.word.ReadError.{ReadError}
 use Rattle.scripts.specs.Text.{hex_digits, hex_of}
-use Rattle.scripts.specs.Script.{AreBytes, IsReadAs, hex_refused}
+use Rattle.scripts.specs.Script.{AreByteValues, IsReadAs, hex_refused}
 
 -- ---- digits
 
@@ -48,14 +48,14 @@ value-small c v reads = grind (arith)
 
 -- ---- bytes
 
-bytes-head : (b : ℕ) (rest : List ℕ) → AreBytes (b ∷ rest) → b < 256
+bytes-head : (b : ℕ) (rest : List ℕ) → AreByteValues (b ∷ rest) → b < 256
 bytes-head b rest bytes = bytes 0
 
-bytes-tail : (b : ℕ) (rest : List ℕ) → AreBytes (b ∷ rest) → AreBytes rest
+bytes-tail : (b : ℕ) (rest : List ℕ) → AreByteValues (b ∷ rest) → AreByteValues rest
 bytes-tail b rest bytes = λ i. bytes (suc i)
 
 -- the digits that are written are those of the crate `hex`
-hex_digits-encode : (bytes : List ℕ) → AreBytes bytes → flat_map hex_digits bytes ≡ encode_lower bytes
+hex_digits-encode : (bytes : List ℕ) → AreByteValues bytes → flat_map hex_digits bytes ≡ encode_lower bytes
 unfolding encode_with
 hex_digits-encode [] all = refl
 hex_digits-encode (b ∷ rest) all =
@@ -65,7 +65,7 @@ hex_digits-encode (b ∷ rest) all =
     rw (high, low, hex_digits-encode rest (bytes-tail b rest all)) refl
 
 -- what is written has no digit in upper case
-hex_digits-no_upper : (bytes : List ℕ) → AreBytes bytes → list_any is_ascii_uppercase (flat_map hex_digits bytes) ≡ false
+hex_digits-no_upper : (bytes : List ℕ) → AreByteValues bytes → list_any is_ascii_uppercase (flat_map hex_digits bytes) ≡ false
 hex_digits-no_upper [] all = refl
 hex_digits-no_upper (b ∷ rest) all =
     let small = bytes-head b rest all in
@@ -123,12 +123,12 @@ some_digits : (b : ℕ) (rest : List ℕ) → 0 < length (flat_map hex_digits (b
 some_digits b rest = omega arith
 
 -- the word of bytes is not empty, and has no upper case
-pub hex_of-no_upper : (word bytes : List ℕ) → AreBytes bytes → word ≡ hex_of bytes → (0 < length word) × (list_any is_ascii_uppercase word ≡ false)
+pub hex_of-no_upper : (word bytes : List ℕ) → AreByteValues bytes → word ≡ hex_of bytes → (0 < length word) × (list_any is_ascii_uppercase word ≡ false)
 hex_of-no_upper word [] all e = rw e (omega arith, refl)
 hex_of-no_upper word (b ∷ rest) all e = rw e (some_digits b rest, hex_digits-no_upper (b ∷ rest) all)
 
 -- the word of some bytes decodes to them
-pub hex_of-decoded : (word bytes : List ℕ) → AreBytes bytes → word ≡ hex_of bytes → word ≢ codes "-" → decode_of word ≡ Ok bytes
+pub hex_of-decoded : (word bytes : List ℕ) → AreByteValues bytes → word ≡ hex_of bytes → word ≢ codes "-" → decode_of word ≡ Ok bytes
 hex_of-decoded word [] all e other = absurd (other e)
 hex_of-decoded word (b ∷ rest) all e other =
     let written = hex_digits-encode (b ∷ rest) all in
@@ -143,7 +143,7 @@ decoded-hex_of word (b ∷ rest) h none some =
     sym (decoded-hex_digits 0 word (b ∷ rest) (sym (decode_of-even word ok.0) ∙ h) none)
 
 -- what is decoded is bytes
-pub decoded-bytes : (word bytes : List ℕ) → decode_of word ≡ Ok bytes → AreBytes bytes
+pub decoded-bytes : (word bytes : List ℕ) → decode_of word ≡ Ok bytes → AreByteValues bytes
 decoded-bytes word bytes h = (decode_of-ok word bytes h).3
 
 not_refused : (word : List ℕ) (e : FromHexError) (bytes : List ℕ) → (e ≡ hex.OutOfMemory) ⊎ (decode_of word ≡ Err e) → decode_of word ≡ Ok bytes → e ≢ hex.OutOfMemory → ⊥
@@ -152,7 +152,7 @@ not_refused word e bytes (inr refused) decoded other = let no : Err e ≡ Ok byt
 
 -- where decoding is refused, but for memory, the word is that of no bytes
 pub hex_refused-reads : (word : List ℕ) (e : FromHexError) → (e ≡ hex.OutOfMemory) ⊎ (decode_of word ≡ Err e) → word ≢ codes "-"
-    → IsReadAs (λ (bytes : Vec ℕ Global). hex_of bytes.items) (λ bytes. AreBytes bytes.items) word (Err (hex_refused e))
+    → IsReadAs (λ (bytes : Vec ℕ Global). hex_of bytes.items) (λ bytes. AreByteValues bytes.items) word (Err (hex_refused e))
 hex_refused-reads word hex.OutOfMemory refused other = tt
 hex_refused-reads word (hex.InvalidHexCharacter c i) refused other = λ v all same. not_refused word _ v.items refused (hex_of-decoded word v.items all same other) (λ memory. cc)
 hex_refused-reads word hex.OddLength refused other = λ v all same. not_refused word _ v.items refused (hex_of-decoded word v.items all same other) (λ memory. cc)
@@ -160,6 +160,6 @@ hex_refused-reads word hex.InvalidStringLength refused other = λ v all same. no
 
 -- the same of what the conversion of the error gave
 pub converted-reads : (word : List ℕ) (r : Result (Vec ℕ Global) ReadError) (e : FromHexError) → IsErrAnd r (λ x. x ≡ hex_refused e) → (e ≡ hex.OutOfMemory) ⊎ (decode_of word ≡ Err e) → word ≢ codes "-"
-    → IsReadAs (λ (bytes : Vec ℕ Global). hex_of bytes.items) (λ bytes. AreBytes bytes.items) word r
+    → IsReadAs (λ (bytes : Vec ℕ Global). hex_of bytes.items) (λ bytes. AreByteValues bytes.items) word r
 converted-reads word (Ok bytes) e gives refused other = absurd gives
 converted-reads word (Err x) e gives refused other = rw gives (hex_refused-reads word e refused other)

@@ -6,10 +6,10 @@ use Rattle.std.proofs.lemmas.List.Splits.{length-slice_split}
 use Rattle.scripts.specs.declared.script.Line.{Line}
 use Rattle.scripts.specs.declared.script.Line.TheVariants.{Step, Fail, Crash, Recover, Dump}
 use Rattle.session.specs.declared.steps.Step.TheVariants.{Append, Owned, TryAppend, Sync, StartSync, Wait, WaitSync, Needs, Size, Read, ReadUpTo, TryRead, ReadRanges, TryReadRanges, Begin, Truncate, Snapshot, TrySnapshot, Snap, Replay, Ensure, Take, Seek, DropSnapshot, DropReplay, Scan, Seal}
-use Rattle.scripts.specs.Script.{IsLine, AreRanges, line_words, parts_of, ranges_words}
+use Rattle.scripts.specs.Script.{IsLine, AreRangesOfU64, line_words, parts_of, ranges_words}
 
 -- the name of ranges isn't all of a line
-no_name_alone : (ranges : List (ℕ × ℕ)) (name other : List ℕ) → AreRanges ranges → name ∷ [] ≢ other ∷ ranges_words ranges
+no_name_alone : (ranges : List (ℕ × ℕ)) (name other : List ℕ) → AreRangesOfU64 ranges → name ∷ [] ≢ other ∷ ranges_words ranges
 no_name_alone [] name other are same = absurd (omega (arith, are.0))
 no_name_alone (range ∷ ranges) name other are same = cc
 

@@ -9,7 +9,7 @@ use Rattle.std.proofs.lemmas.List.{get_or_append_left, get_or-map, length-append
 use Rattle.std.proofs.lemmas.Str.Parse.{digit_at}
 use Rattle.scripts.specs.declared.word.ReadError.{ReadError}
 use Rattle.scripts.specs.declared.word.ReadError.TheVariants.{Unreadable, OutOfMemory}
-use Rattle.scripts.specs.Script.{IsReadAs, IsU64, IsRange, AreRanges, range_word, ranges_words}
+use Rattle.scripts.specs.Script.{IsReadAs, IsU64, IsRangeOfU64, AreRangesOfU64, range_word, ranges_words}
 use Rattle.scripts.proofs.Numbers.{numerals}
 
 -- ---- one range
@@ -24,7 +24,7 @@ abbrev pub IsFirstColon : List ℕ → ℕ → Type 0
 IsFirstColon word at = (at < length word) × (get_or word at 0 ≡ 58) × ((k : ℕ) → k < at → get_or word k 0 ≢ 58)
 
 -- the first colon of a range stands after its offset
-colon-at : (word : List ℕ) (at : ℕ) (range : ℕ × ℕ) → IsFirstColon word at → IsRange range → word ≡ range_word range → at ≡ length (decimal range.0)
+colon-at : (word : List ℕ) (at : ℕ) (range : ℕ × ℕ) → IsFirstColon word at → IsRangeOfU64 range → word ≡ range_word range → at ≡ length (decimal range.0)
 colon-at word at range first is same =
     elim (cases_lt at (length (decimal range.0))) [
       | inl before ↦
@@ -42,30 +42,30 @@ colon-at word at range first is same =
     ]
 
 -- so what stands before it is the offset, and what stands after it the length
-offset-of : (word : List ℕ) (at : ℕ) (range : ℕ × ℕ) → IsFirstColon word at → IsRange range → word ≡ range_word range → take at word ≡ decimal range.0
+offset-of : (word : List ℕ) (at : ℕ) (range : ℕ × ℕ) → IsFirstColon word at → IsRangeOfU64 range → word ≡ range_word range → take at word ≡ decimal range.0
 offset-of word at range first is same =
     let e = colon-at word at range first is same in
     rw (e, same) (take-append_seam (decimal range.0) (58 ∷ decimal range.1))
 
-length-of : (word : List ℕ) (at : ℕ) (range : ℕ × ℕ) → IsFirstColon word at → IsRange range → word ≡ range_word range → drop (at + 1) word ≡ decimal range.1
+length-of : (word : List ℕ) (at : ℕ) (range : ℕ × ℕ) → IsFirstColon word at → IsRangeOfU64 range → word ≡ range_word range → drop (at + 1) word ≡ decimal range.1
 length-of word at range first is same =
     let e = colon-at word at range first is same in
     rw (e, same) (drop-append-add (decimal range.0) (58 ∷ decimal range.1) 1)
 
 -- a word is no range where what stands before its first colon is no number
-pub offset-unread : (word : List ℕ) (at : ℕ) (e : ReadError) → IsFirstColon word at → IsReadAs decimal IsU64 (take at word) (Err e) → IsReadAs range_word IsRange word (Err e)
+pub offset-unread : (word : List ℕ) (at : ℕ) (e : ReadError) → IsFirstColon word at → IsReadAs decimal IsU64 (take at word) (Err e) → IsReadAs range_word IsRangeOfU64 word (Err e)
 offset-unread word at Unreadable first unread = λ range is same. unread range.0 is.0 (offset-of word at range first is same)
 offset-unread word at OutOfMemory first unread = tt
 
 -- nor where what stands after it is none
-pub length-unread : (word : List ℕ) (at : ℕ) (e : ReadError) → IsFirstColon word at → IsReadAs decimal IsU64 (take (length word - (at + 1)) (drop (at + 1) word)) (Err e) → IsReadAs range_word IsRange word (Err e)
+pub length-unread : (word : List ℕ) (at : ℕ) (e : ReadError) → IsFirstColon word at → IsReadAs decimal IsU64 (take (length word - (at + 1)) (drop (at + 1) word)) (Err e) → IsReadAs range_word IsRangeOfU64 word (Err e)
 length-unread word at Unreadable first unread = λ range is same.
     let all = take_all (length word - (at + 1)) (drop (at + 1) word) (omega (arith, length-drop (at + 1) word)) in
     unread range.1 is.1 (all ∙ length-of word at range first is same)
 length-unread word at OutOfMemory first unread = tt
 
 -- nor where there is no colon
-pub no_colon-unread : (word : List ℕ) → ((k : ℕ) → k < length word → get_or word k 0 ≢ 58) → (range : ℕ × ℕ) → IsRange range → word ≢ range_word range
+pub no_colon-unread : (word : List ℕ) → ((k : ℕ) → k < length word → get_or word k 0 ≢ 58) → (range : ℕ × ℕ) → IsRangeOfU64 range → word ≢ range_word range
 no_colon-unread word none range is same =
     let long : length word ≡ length (range_word range) = ap (λ (w : List ℕ). length w) same in
     let there = ap (λ (w : List ℕ). get_or w (length (decimal range.0)) 0) same in
@@ -92,8 +92,8 @@ one_range_more read words i range d below so_far this =
     map-append range_word read (range ∷ []) ∙ rw (so_far, take_more nows i [] there, item, this) refl
 
 -- no ranges have words of which one is no range
-pub ranges-unread : (words : List (Bor (List ℕ))) (i : ℕ) (e : ReadError) (d : Bor (List ℕ)) → i < length words → IsReadAs range_word IsRange (get_or words i d).now (Err e)
-    → IsReadAs (λ (ranges : Vec (ℕ × ℕ) Global). ranges_words ranges.items) (λ ranges. AreRanges ranges.items) (map (λ (w : Bor (List ℕ)). w.now) words) (Err e)
+pub ranges-unread : (words : List (Bor (List ℕ))) (i : ℕ) (e : ReadError) (d : Bor (List ℕ)) → i < length words → IsReadAs range_word IsRangeOfU64 (get_or words i d).now (Err e)
+    → IsReadAs (λ (ranges : Vec (ℕ × ℕ) Global). ranges_words ranges.items) (λ ranges. AreRangesOfU64 ranges.items) (map (λ (w : Bor (List ℕ)). w.now) words) (Err e)
 ranges-unread words i Unreadable d below unread = λ v are same.
     let nows = map (λ (w : Bor (List ℕ)). w.now) words in
     let item : get_or nows i [] ≡ (get_or words i d).now = get_or-map (λ (w : Bor (List ℕ)). w.now) words i d [] below in

@@ -58,8 +58,8 @@ abbrev pub HasLead : List ℕ → Type 0
 HasLead word = (slice_index word 0 ≡ 43) ⊎ ((slice_index word 0 ≡ 48) × (1 < length word))
 
 -- each of these numbers is a byte
-abbrev pub AreBytes : List ℕ → Type 0
-AreBytes xs = (i : ℕ) → slice_index xs i < 256
+abbrev pub AreByteValues : List ℕ → Type 0
+AreByteValues xs = (i : ℕ) → slice_index xs i < 256
 
 -- a flag as a digit
 abbrev pub flag_digit : Bool → ℕ
@@ -180,12 +180,12 @@ item_line_words line.Recover = codes "recover" ∷ []
 item_line_words line.Dump = codes "dump" ∷ []
 
 -- the numbers of a range are of 64 bits
-abbrev pub IsRange : ℕ × ℕ → Type 0
-IsRange range = IsU64 range.0 × IsU64 range.1
+abbrev pub IsRangeOfU64 : ℕ × ℕ → Type 0
+IsRangeOfU64 range = IsU64 range.0 × IsU64 range.1
 
 -- there are ranges, and their numbers are in range
-abbrev pub AreRanges : List (ℕ × ℕ) → Type 0
-AreRanges ranges = (0 < length ranges) × All IsRange ranges
+abbrev pub AreRangesOfU64 : List (ℕ × ℕ) → Type 0
+AreRangesOfU64 ranges = (0 < length ranges) × All IsRangeOfU64 ranges
 
 -- a buffer's size in bytes
 abbrev pub IsBufferSize : ℕ → Type 0
@@ -197,16 +197,16 @@ IsCallNumber n = (0 < n) × IsU64 n
 
 -- the step of a line has words, its numbers and bytes are in range, and no list of ranges is empty
 abbrev pub IsLine : Line → Type 0
-IsLine (Step (Append bytes)) = AreBytes bytes.items
-IsLine (Step (Owned bytes)) = AreBytes bytes.items
-IsLine (Step (TryAppend bytes)) = AreBytes bytes.items
+IsLine (Step (Append bytes)) = AreByteValues bytes.items
+IsLine (Step (Owned bytes)) = AreByteValues bytes.items
+IsLine (Step (TryAppend bytes)) = AreByteValues bytes.items
 IsLine (Step (WaitSync name)) = IsU64 name
 IsLine (Step (Truncate size)) = IsU64 size
 IsLine (Step (Read offset len)) = IsU64 offset × IsU64 len
 IsLine (Step (ReadUpTo offset len)) = IsU64 offset × IsU64 len
 IsLine (Step (TryRead offset len)) = IsU64 offset × IsU64 len
-IsLine (Step (ReadRanges ranges)) = AreRanges ranges.items
-IsLine (Step (TryReadRanges ranges)) = AreRanges ranges.items
+IsLine (Step (ReadRanges ranges)) = AreRangesOfU64 ranges.items
+IsLine (Step (TryReadRanges ranges)) = AreRangesOfU64 ranges.items
 IsLine (Step (Snap index offset len)) = IsU64 index × IsU64 offset × IsU64 len
 IsLine (Step (Replay size)) = IsBufferSize (non_zero_usize_get size)
 IsLine (Step (Ensure index count)) = IsU64 index × IsU64 count
@@ -221,7 +221,7 @@ IsLine _ = Unit {0}
 
 -- the numbers and bytes of a line of items are in range
 abbrev pub IsItemLine : ItemLine → Type 0
-IsItemLine (line.Step (item.Push bytes)) = AreBytes bytes.items
+IsItemLine (line.Step (item.Push bytes)) = AreByteValues bytes.items
 IsItemLine (line.Step (item.Get i)) = IsU64 i
 IsItemLine (line.Fail number) = IsCallNumber (non_zero_u64_get number)
 IsItemLine _ = Unit {0}
@@ -231,14 +231,14 @@ abbrev pub IsPageSize : ℕ → Type 0
 IsPageSize n = (0 < n) × (n < 2 ^ 16)
 
 -- a number of pages for the cache
-abbrev pub IsPages : ℕ → Type 0
-IsPages n = (0 < n) × (n ≤ 4096)
+abbrev pub IsCacheSize : ℕ → Type 0
+IsCacheSize n = (0 < n) × (n ≤ 4096)
 
 -- the numbers of a first line are in range
 abbrev pub IsStart : Start → Type 0
 IsStart start =
     IsPageSize (non_zero_u16_get start.page_size) × IsU64 start.capacity
-    × IsPages (non_zero_usize_get start.pages)
+    × IsCacheSize (non_zero_usize_get start.pages)
 
 -- an item's size in bytes
 abbrev pub IsItemSize : ℕ → Type 0

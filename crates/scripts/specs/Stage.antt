@@ -4,9 +4,9 @@ use Rattle.disk.specs.Disk.{Disk, Life}
 use Rattle.cache.specs.CacheState.{CacheState}
 use Rattle.cache.specs.Pages.{IsFresh}
 use Rattle.paged.specs.Recovery.{IsDurable}
-use Rattle.session.specs.Run.{SessionState, IsReady, CacheFits}
+use Rattle.session.specs.Run.{SessionState, IsSoundSession, CacheFits}
 use Rattle.items.specs.State.{ItemsState}
-use Rattle.items.specs.Run.{IsOpen}
+use Rattle.items.specs.Run.{IsOpenSession}
 
 -- the session, the cache, if there is one, whether a recovery may follow, and the disk
 pub record StageState : Type 0 where
@@ -22,7 +22,7 @@ IsCacheSet (Some cache) session d = CacheFits session cache d × IsFresh cache
 
 -- the session is ready, and where a recovery may follow, all that a crash left is durable
 pub record IsSet (sum : List ℕ → ℕ) (s : StageState) : Type 0 where
-  pub ready : IsReady sum s.session s.disk
+  pub ready : IsSoundSession sum s.session s.disk
   pub cached : IsCacheSet s.cache s.session s.disk
   pub rests : s.crashed ≡ true → IsDurable s.disk
 
@@ -30,4 +30,4 @@ pub record IsSet (sum : List ℕ → ℕ) (s : StageState) : Type 0 where
 -- under an id that is still to be given, and the items, where there are such, stand with it
 abbrev pub AreItemsSet : (List ℕ → ℕ) → Option ItemsState → Option CacheState → Life → Type 0
 AreItemsSet sum session None life = session ≡ None
-AreItemsSet sum session (Some cache) life = IsFresh cache × IsOpen sum session cache life
+AreItemsSet sum session (Some cache) life = IsFresh cache × IsOpenSession sum session cache life

@@ -12,11 +12,11 @@ error_at number Unreadable = stop.Unreadable number
 error_at number OutOfMemory = stop.Failed
 
 -- the exit status
-abbrev pub status_of : Stop → ℕ
-status_of (stop.Unreadable number) = 2
-status_of stop.Failed = 1
+abbrev pub script_status_of : Stop → ℕ
+script_status_of (stop.Unreadable number) = 2
+script_status_of stop.Failed = 1
 
 -- what is written on standard error
-abbrev pub stop_text : Stop → List ℕ
-stop_text (stop.Unreadable number) = codes "unreadable line " ++ decimal number
-stop_text stop.Failed = codes "pagedctl: stopped"
+abbrev pub script_stop_text : Stop → List ℕ
+script_stop_text (stop.Unreadable number) = codes "unreadable line " ++ decimal number
+script_stop_text stop.Failed = codes "pagedctl: stopped"

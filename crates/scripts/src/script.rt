@@ -85,7 +85,7 @@ impl AnyLine for ItemLine {
 
 /// Reads a whole script. Its lines end in a line feed, which the last may lack.
 pub fn parse(alloc: Global, input: &[u8]) -> Result<Script, Stop>
-    ensures reads { ReadsScript (lines_of input.now) result }
+    ensures script { ReadsScript (lines_of input.now) result }
 {
     let text = without_last_feed(input);
     let lines = parts(alloc, text, b'\n')?;

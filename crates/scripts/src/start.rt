@@ -4,7 +4,7 @@ ghost use Rattle.std.specs.Fmt.{decimal};
 ghost use Rattle.std.specs.Option.{ForSome};
 ghost use Rattle.std.specs.Int.NonZero.{non_zero_u16_get, non_zero_usize_get};
 ghost use Rattle.cache.specs.Pages.{IsFresh};
-ghost use Rattle.scripts.specs.Script.{IsFirst, IsItemSize, IsItemStart, IsPageSize, IsPages};
+ghost use Rattle.scripts.specs.Script.{IsFirst, IsItemSize, IsItemStart, IsPageSize, IsCacheSize};
 ghost use Rattle.scripts.specs.Script.{IsReadAs, IsStart, first_words, item_start_words};
 ghost use Rattle.scripts.specs.Script.{settings_words, start_words, sum_word, words_of};
 
@@ -65,7 +65,7 @@ pub enum SumName {
 impl Start {
     /// The cache that a script holds, or a new one where it holds none.
     pub fn cache(&self, alloc: Global, held: Option<CacheRef>) -> Result<CacheRef, Error>
-        requires held { ForSome held IsFresh }
+        requires fresh { ForSome held IsFresh }
         ensures fresh { IfOk result IsFresh }
     {
         match held {
@@ -170,7 +170,7 @@ pub fn parse_page_size(word: &[u8]) -> Result<NonZeroU16, ReadError>
 
 pub fn parse_pages(word: &[u8]) -> Result<NonZeroUsize, ReadError>
     ensures reads { IsReadAs (λ pages. decimal (non_zero_usize_get pages))
-        (λ pages. IsPages (non_zero_usize_get pages)) word.now result }
+        (λ pages. IsCacheSize (non_zero_usize_get pages)) word.now result }
 {
     parse_up_to(word, MOST_PAGES)
 }

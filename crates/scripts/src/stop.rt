@@ -1,6 +1,6 @@
 // Why a script isn't played to its end.
 ghost use Rattle.std.specs.Prelude.{◌≡◌, Some};
-ghost use Rattle.scripts.specs.Stop.{error_at, status_of, stop_text};
+ghost use Rattle.scripts.specs.Stop.{error_at, script_status_of, script_stop_text};
 
 use crate::word::ReadError;
 use std::alloc::{AllocError, AllocFailed};
@@ -29,7 +29,7 @@ impl Stop {
 
     /// The exit status.
     pub fn status(self) -> u8
-        ensures { result ≡ status_of self }
+        ensures { result ≡ script_status_of self }
     {
         match self {
             Stop::Unreadable(_) => 2,
@@ -39,7 +39,7 @@ impl Stop {
 }
 
 impl fmt::Display for Stop {
-    ghost output = { λ stop. Some (stop_text stop) };
+    ghost output = { λ stop. Some (script_stop_text stop) };
 
     fn fmt<W: fmt::Write>(&self, f: &mut fmt::Formatter<W>) -> fmt::Result {
         match self {

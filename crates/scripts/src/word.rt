@@ -6,9 +6,9 @@ ghost use Rattle.std.specs.Int.NonZero.{non_zero_u64_get};
 ghost use Rattle.std.specs.List.{list_any};
 ghost use Rattle.std.specs.Char.{is_ascii_uppercase};
 ghost use Rattle.scripts.specs.Text.{hex_of};
-ghost use Rattle.scripts.specs.Script.{IsReadAs, IsU64, HasLead, AreBytes, flag_digit, flags_text};
-ghost use Rattle.scripts.specs.Script.{IsRange, AreRanges, range_word, ranges_words};
-ghost use Rattle.scripts.specs.Script.{IsCallNumber, parts_of};
+ghost use Rattle.scripts.specs.Script.{IsReadAs, IsU64, HasLead, AreByteValues, flag_digit};
+ghost use Rattle.scripts.specs.Script.{flags_text, IsRangeOfU64, AreRangesOfU64, range_word};
+ghost use Rattle.scripts.specs.Script.{ranges_words, IsCallNumber, parts_of};
 
 use hex::FromHexError;
 use std::alloc::{AllocError, AllocFailed, Global};
@@ -112,7 +112,8 @@ fn has_lead(word: &[u8]) -> bool
 
 /// Bytes in lower-case hexadecimal digits, two a byte, or `-` for none.
 pub fn parse_hex(alloc: Global, word: &[u8]) -> Result<Vec<u8>, ReadError>
-    ensures reads { IsReadAs (λ bytes. hex_of bytes.items) (λ bytes. AreBytes bytes.items) word.now
+    ensures reads { IsReadAs (λ bytes. hex_of bytes.items) (λ bytes. AreByteValues bytes.items)
+        word.now
         result }
 {
     if is_none(word) {
@@ -139,7 +140,7 @@ fn has_upper(word: &[u8]) -> bool
 
 // A range of bytes: an offset and a length, with a colon between.
 pub fn parse_range(word: &[u8]) -> Result<(u64, usize), ReadError>
-    ensures reads { IsReadAs range_word IsRange word.now result }
+    ensures reads { IsReadAs range_word IsRangeOfU64 word.now result }
 {
     let Some(colon) = word.iter().position(|byte| *byte == b':') else {
         return Err(ReadError::Unreadable);
@@ -152,7 +153,7 @@ pub fn parse_range(word: &[u8]) -> Result<(u64, usize), ReadError>
 /// Ranges of bytes, at least one, each a word.
 pub fn parse_ranges(alloc: Global, words: &[&[u8]]) -> Result<Vec<(u64, usize)>, ReadError>
     ensures reads { IsReadAs (λ ranges. ranges_words ranges.items)
-        (λ ranges. AreRanges ranges.items) (map (λ word. word.now) words.now) result }
+        (λ ranges. AreRangesOfU64 ranges.items) (map (λ word. word.now) words.now) result }
 {
     if words.is_empty() {
         return Err(ReadError::Unreadable);

@@ -3,15 +3,15 @@ use Rattle.std.proofs.Common.{◌≡◌, ◌⊎◌, ℕ, ◌≤◌, List, [], le
 use Rattle.std.specs.Prelude.{All, map, Option, None, option_map}
 use Rattle.disk.specs.Disk.{Disk, Life, life_after}
 use Rattle.crash.specs.Kept.{AllKeep, AllOnly}
-use Rattle.crash.specs.Started.{StartsStand}
-use Rattle.paged_read.specs.Tail.{told}
+use Rattle.crash.specs.Started.{StartsCanBeAwaited}
+use Rattle.paged_read.specs.Tail.{logical_bytes}
 use Rattle.paged_read.specs.Replay.{ReplayState}
 use Rattle.session.specs.declared.steps.Step.{Step}
 use Rattle.session.specs.declared.steps.Reply.{Reply}
-use Rattle.session.specs.Run.{AllCover, Did, HasSoundWriter, IsReady, NamesFit, Replayed, replayed, SessionState, Standing, StandsFor, WriterFits}
+use Rattle.session.specs.Run.{AllCover, Did, HasSoundWriter, IsSoundSession, NamesFit, replay_in_run, Represents, RunReplay, RunState, SessionState, WriterFits}
 
 -- what a session stands for
-pub record StandsApart (sum : List ℕ → ℕ) (P : ℕ) (session : SessionState) (s : Standing) (d : Disk) : Type 0 where
+pub record StandsApart (sum : List ℕ → ℕ) (P : ℕ) (session : SessionState) (s : RunState) (d : Disk) : Type 0 where
   pub fits : WriterFits P session.writer s d
   pub phase : session.recovering ≡ s.recovering
   pub names : NamesFit session.names s.covers
@@ -24,27 +24,27 @@ pub record StandsApart (sum : List ℕ → ℕ) (P : ℕ) (session : SessionStat
 -- what it needs to take steps
 pub record IsReadyApart (sum : List ℕ → ℕ) (session : SessionState) (d : Disk) : Type 0 where
   pub writer : HasSoundWriter sum session.writer d
-  pub starts : (session.names ≡ []) ⊎ StartsStand d
+  pub starts : (session.names ≡ []) ⊎ StartsCanBeAwaited d
 
 -- one step by a session that stood for this, after which its snapshots tell these contents, and its
 -- replays are these
-pub record SteppedApart (sum : List ℕ → ℕ) (P : ℕ) (step : Step) (reply : Reply) (session : SessionState) (old new : Life) (before : Standing) (snapshots : List (Option (List ℕ))) (replays : List (Option Replayed)) : Type 0 where
+pub record SteppedApart (sum : List ℕ → ℕ) (P : ℕ) (step : Step) (reply : Reply) (session : SessionState) (old new : Life) (before : RunState) (snapshots : List (Option (List ℕ))) (replays : List (Option RunReplay)) : Type 0 where
   pub moments : List Disk
   pub goes : new ≡ life_after old moments
-  pub after : Standing
+  pub after : RunState
   pub did : Did sum P step reply old.present moments before after
   pub stands : StandsApart sum P session after new.present
   pub same : after.snapshots ≡ snapshots
   pub alike : after.replays ≡ replays
 
 -- the replays as they were, or all forgotten
-abbrev pub left_replays : (cuts : Bool) → List (Option Replayed) → List (Option Replayed)
+abbrev pub left_replays : (cuts : Bool) → List (Option RunReplay) → List (Option RunReplay)
 left_replays false replays = replays
 left_replays true replays = map (λ r. None) replays
 
 -- one that makes no snapshot, and leaves the replays or forgets them, whatever the session stood for
 abbrev pub AlwaysBy : (cuts : Bool) → (List ℕ → ℕ) → Step → Reply → SessionState → SessionState → Life → Life → Type 0
-AlwaysBy cuts sum step reply was now old new = (P : ℕ) (before : Standing) → StandsApart sum P was before old.present → SteppedApart sum P step reply now old new before before.snapshots (left_replays cuts before.replays)
+AlwaysBy cuts sum step reply was now old new = (P : ℕ) (before : RunState) → StandsApart sum P was before old.present → SteppedApart sum P step reply now old new before before.snapshots (left_replays cuts before.replays)
 
 -- it may take another then
 pub record StepsBy (cuts : Bool) (sum : List ℕ → ℕ) (step : Step) (reply : Reply) (was now : SessionState) (old new : Life) : Type 0 where
@@ -60,7 +60,7 @@ StepsApart sum step reply was now old new = StepsBy false sum step reply was now
 
 -- ---- of what stands with the snapshots and the replays
 
-pub stands_apart : (sum : List ℕ → ℕ) (P : ℕ) (session : SessionState) (s : Standing) (d : Disk) → StandsFor sum P session s d → StandsApart sum P session s d
+pub stands_apart : (sum : List ℕ → ℕ) (P : ℕ) (session : SessionState) (s : RunState) (d : Disk) → Represents sum P session s d → StandsApart sum P session s d
 stands_apart sum P session s d stands = record {
   fits = stands.fits;
   phase = stands.phase;
@@ -73,8 +73,8 @@ stands_apart sum P session s d stands = record {
 }
 
 -- and with them
-pub whole : (sum : List ℕ → ℕ) (P : ℕ) (session : SessionState) (s : Standing) (d : Disk) → s.snapshots ≡ map (option_map (λ t. told t d.readable)) session.snapshots → s.replays ≡ map (option_map (replayed d.readable)) session.replays → StandsApart sum P session s d
-    → StandsFor sum P session s d
+pub whole : (sum : List ℕ → ℕ) (P : ℕ) (session : SessionState) (s : RunState) (d : Disk) → s.snapshots ≡ map (option_map (λ t. logical_bytes t d.readable)) session.snapshots → s.replays ≡ map (option_map (replay_in_run d.readable)) session.replays → StandsApart sum P session s d
+    → Represents sum P session s d
 whole sum P session s d tells gives stands = record {
   fits = stands.fits;
   phase = stands.phase;
@@ -88,13 +88,13 @@ whole sum P session s d tells gives stands = record {
   replays = gives;
 }
 
-pub ready_apart : (sum : List ℕ → ℕ) (session : SessionState) (d : Disk) → IsReady sum session d → IsReadyApart sum session d
+pub ready_apart : (sum : List ℕ → ℕ) (session : SessionState) (d : Disk) → IsSoundSession sum session d → IsReadyApart sum session d
 ready_apart sum session d ready = record { writer = ready.writer; starts = ready.starts }
 
 -- ---- of a session with other replays
 
 -- it stands for what it stood for
-stands_with : (sum : List ℕ → ℕ) (P : ℕ) (session : SessionState) (replays : List (Option ReplayState)) (s : Standing) (d : Disk) → StandsApart sum P session s d → StandsApart sum P (record session { replays = replays }) s d
+stands_with : (sum : List ℕ → ℕ) (P : ℕ) (session : SessionState) (replays : List (Option ReplayState)) (s : RunState) (d : Disk) → StandsApart sum P session s d → StandsApart sum P (record session { replays = replays }) s d
 stands_with sum P session replays s d stands = record {
   fits = stands.fits;
   phase = stands.phase;

@@ -21,13 +21,13 @@ use Rattle.crash.specs.Stays.{Stays, StaysThrough}
 use Rattle.crash.proofs.Moments.{keeps_longer}
 use Rattle.paged.specs.Writer.{physical_blob_size}
 use Rattle.paged.specs.Flush.{has_work}
-use Rattle.paged.specs.Calls.{HadFailed as CallHadFailed, BuffersAll, GoesOn, Appends, TryAppends, IsSettled, HoldsWithin, settle_calls, sync_calls, start_calls, wait_calls, unstarted_calls}
+use Rattle.paged.specs.Calls.{PendingSyncFailed as CallHadFailed, BuffersAll, Succeeds, Appends, TryAppendGoes, IsSettled, HoldsWithin, settle_calls, sync_calls, start_calls, wait_calls, unstarted_calls}
 use Rattle.paged.proofs.Flushes.{size_is_length, begins}
 use Rattle.paged.proofs.Halves.{appends_stay}
 use Rattle.session.specs.declared.steps.Step.TheVariants.{Append, TryAppend}
 use Rattle.session.specs.declared.steps.Reply.{Reply}
 use Rattle.session.specs.declared.steps.Reply.TheVariants.{At, Nothing, Fault}
-use Rattle.session.specs.Run.{Standing, SessionState, has_room, buffered_after, written_after, awaited_after, appended, ended, needs_sync, faults, HasCause, HadFailed, Foretells, Touches, AllCover, pending_in, WriterStandsFor}
+use Rattle.session.specs.Run.{RunState, SessionState, fits_buffer, buffered_after, written_after, awaited_after, appended, ended, needs_sync, faults, HasCause, AwaitedSyncFailed, FaultsComeFirst, UsesDevice, AllCover, pending_in, WriterRepresents}
 use Rattle.session.specs.Run.Touch.{Leaves, Changes}
 use Rattle.session.proofs.Words.{OwesStarts, AppendTold}
 use Rattle.session.proofs.Apart.{AlwaysApart, StandsApart, SteppedApart}
@@ -36,11 +36,11 @@ use Rattle.session.proofs.StepLaws.{held, no_moments, turned_here, few_calls, co
 -- ---- what is buffered
 
 -- bytes that fit
-fit : (s : Standing) (w : WriterState) (more : ℕ) → length w.tip ≡ s.buffered → w.capacity ≡ s.capacity → has_room s more ≡ true → length w.tip + more ≤ w.capacity
+fit : (s : RunState) (w : WriterState) (more : ℕ) → length w.tip ≡ s.buffered → w.capacity ≡ s.capacity → fits_buffer s more ≡ true → length w.tip + more ≤ w.capacity
 fit s w more buffered capacity is = omega (arith, leb-true (s.buffered + more) s.capacity is, buffered, capacity)
 
 -- and bytes that don't
-pass : (s : Standing) (w : WriterState) (more : ℕ) → length w.tip ≡ s.buffered → w.capacity ≡ s.capacity → has_room s more ≡ false → w.capacity < length w.tip + more
+pass : (s : RunState) (w : WriterState) (more : ℕ) → length w.tip ≡ s.buffered → w.capacity ≡ s.capacity → fits_buffer s more ≡ false → w.capacity < length w.tip + more
 pass s w more buffered capacity is =
     let h : s.capacity < s.buffered + more = grind (arith, nat_tests, is) in omega (arith, h, buffered, capacity)
 
@@ -49,7 +49,7 @@ pub rest_is : (P full more tip n : ℕ) → full * P + more ≡ n * P + tip → 
 rest_is P full more tip n same short = sym (mod-eq_of_lt short) ∙ sym (mul-add-mod_self_right n P tip) ∙ ap (λ (k : ℕ). k % P) (sym same) ∙ mul-add-mod_self_right full P more
 
 -- of a writer whose content has grown
-pub rest_left : (sum : List ℕ → ℕ) (w v : WriterState) (old new : Life) (bytes : List ℕ) → IsSound sum w old.present → GoesOn sum w old bytes v new → length v.tip < v.page_size → length v.tip ≡ (length w.tip + length bytes) % w.page_size
+pub rest_left : (sum : List ℕ → ℕ) (w v : WriterState) (old new : Life) (bytes : List ℕ) → IsSound sum w old.present → Succeeds sum w old bytes v new → length v.tip < v.page_size → length v.tip ≡ (length w.tip + length bytes) % w.page_size
 rest_left sum w v old new bytes sound goes short =
     let same : v.page_size ≡ w.page_size = goes.same.page_size in
     let size : w.full_pages * w.page_size + (length w.tip + length bytes) ≡ v.full_pages * w.page_size + length v.tip =
@@ -146,11 +146,11 @@ needs_calls false Clean = refl
 needs_calls false Dirty = refl
 needs_calls false (Pending name) = refl
 
-pub needs_is : (w : WriterState) (P : ℕ) (s : Standing) (d : Disk) → WriterStandsFor P w s d → nat_lt 0 (sync_calls w) ≡ needs_sync s
+pub needs_is : (w : WriterState) (P : ℕ) (s : RunState) (d : Disk) → WriterRepresents P w s d → nat_lt 0 (sync_calls w) ≡ needs_sync s
 needs_is w P s d fits = needs_calls (has_work w true) w.sync ∙ rw (fits.written, fits.awaited) refl
 
 -- where it has, it may be refused
-pub sync_needed : (w : WriterState) (P : ℕ) (s : Standing) (d : Disk) → WriterStandsFor P w s d → (sync_calls w ≡ 0 → ⊥) → needs_sync s ≡ true
+pub sync_needed : (w : WriterState) (P : ℕ) (s : RunState) (d : Disk) → WriterRepresents P w s d → (sync_calls w ≡ 0 → ⊥) → needs_sync s ≡ true
 sync_needed w P s d fits some = sym (needs_is w P s d fits) ∙ (elim (cases_lt 0 (sync_calls w)) [ inl more ↦ (let yes : nat_lt 0 (sync_calls w) ≡ true = grind (arith, nat_tests, more) in yes) | inr none ↦ absurd (some (omega (arith, none))) ])
 
 -- two calls at most
@@ -182,10 +182,10 @@ wait_one Dirty = lit≤ tt
 wait_one (Pending name) = lit≤ tt
 
 -- the sync that a writer waits for had failed
-pub had_failed_as : (state : SyncState) (o : Option ℕ) (d : Disk) → o ≡ pending_in state → CallHadFailed state d → HadFailed o d
+pub had_failed_as : (state : SyncState) (o : Option ℕ) (d : Disk) → o ≡ pending_in state → CallHadFailed state d → AwaitedSyncFailed o d
 had_failed_as Clean o d is had = absurd had
 had_failed_as Dirty o d is had = absurd had
-had_failed_as (Pending name) o d is had = subst (λ (o : Option ℕ). HadFailed o d) (sym is) had
+had_failed_as (Pending name) o d is had = subst (λ (o : Option ℕ). AwaitedSyncFailed o d) (sym is) had
 
 -- whether all is written then, where nothing was appended, or something
 written_stays : (w v : WriterState) (bytes : List ℕ) (written : Bool) → written ≡ nat_eq (start_calls w) 0 → (bytes ≡ [] → v ≡ w) → (0 < length bytes → nat_eq (start_calls v) 0 ≡ false) → written_after bytes written ≡ nat_eq (start_calls v) 0
@@ -201,7 +201,7 @@ buffered_written sum w v bytes d written sound is same =
 -- ---- appends
 
 -- what each moment of an append owes
-append_through : (sum : List ℕ → ℕ) (was : SessionState) (P : ℕ) (w : WriterState) (bytes : List ℕ) (old new : Life) (result : Result (WriterState × ℕ) Error) (before : Standing) → IsSound sum w old.present
+append_through : (sum : List ℕ → ℕ) (was : SessionState) (P : ℕ) (w : WriterState) (bytes : List ℕ) (old new : Life) (result : Result (WriterState × ℕ) Error) (before : RunState) → IsSound sum w old.present
     → Appends sum w bytes old new result → StandsApart sum P (held was (Some w)) before old.present → StaysThrough sum P (before.content ++ bytes) old new
 unfolding IsSound
 append_through sum was P w bytes old new result before sound appends stands =
@@ -209,20 +209,20 @@ append_through sum was P w bytes old new result before sound appends stands =
     (subst (λ (l : List ℕ). StaysThrough sum w.page_size (l ++ bytes) old new) (sym stands.fits.content) (appends_stay sum w bytes old new result sound appends))
 
 -- what a call owes to the started syncs, in the words of the standing
-pub owed_starts : (sum : List ℕ → ℕ) (P : ℕ) (was : SessionState) (w : WriterState) (old new : Life) (before : Standing) → StandsApart sum P (held was (Some w)) before old.present → OwesStarts sum w old new → CoversThrough sum P before.content old new
+pub owed_starts : (sum : List ℕ → ℕ) (P : ℕ) (was : SessionState) (w : WriterState) (old new : Life) (before : RunState) → StandsApart sum P (held was (Some w)) before old.present → OwesStarts sum w old new → CoversThrough sum P before.content old new
 owed_starts sum P was w old new before stands owes =
     subst (λ (n : ℕ). CoversThrough sum n before.content old new) stands.fits.page_size
     (subst (λ (l : List ℕ). CoversThrough sum w.page_size l old new) (sym stands.fits.content) owes.covers)
 
 -- so both halves hold at each, and the covers
-append_halves : (sum : List ℕ → ℕ) (was : SessionState) (P : ℕ) (w : WriterState) (bytes : List ℕ) (old new : Life) (before : Standing) → StandsApart sum P (held was (Some w)) before old.present
+append_halves : (sum : List ℕ → ℕ) (was : SessionState) (P : ℕ) (w : WriterState) (bytes : List ℕ) (old new : Life) (before : RunState) → StandsApart sum P (held was (Some w)) before old.present
     → (through : Moments (Stays sum P (before.content ++ bytes) old.present) old new) → OwesStarts sum w old new → Halves sum P before.content (before.content ++ bytes) before.floor before.covers old new through.moments
 append_halves sum was P w bytes old new before stands through owes =
     halves sum P before.content (before.content ++ bytes) before.floor before.covers old new (begins before.content bytes) (omega (arith, length-append before.content bytes)) stands.floor stands.within through
     (owed_starts sum P was w old new before stands owes) stands.kept stands.covered
 
 -- what a session stands for once bytes are appended
-appended_stands : (sum : List ℕ → ℕ) (was : SessionState) (P : ℕ) (w v : WriterState) (bytes : List ℕ) (old new : Life) (before : Standing) → StandsApart sum P (held was (Some w)) before old.present → GoesOn sum w old bytes v new
+appended_stands : (sum : List ℕ → ℕ) (was : SessionState) (P : ℕ) (w v : WriterState) (bytes : List ℕ) (old new : Life) (before : RunState) → StandsApart sum P (held was (Some w)) before old.present → Succeeds sum w old bytes v new
     → HoldsWithin v → length v.tip ≡ buffered_after P before (length bytes) → written_after bytes before.written ≡ nat_eq (start_calls v) 0 → awaited_after before (length bytes) ≡ pending_in v.sync
     → AllKeep sum P before.content before.floor new.present → AllCover sum P before.content before.covers new.present → Stays sum P (before.content ++ bytes) old.present new.present
     → StandsApart sum P (held was (Some v)) (appended P bytes before) new.present
@@ -254,7 +254,7 @@ physical_by_size P full n some =
     ap (λ (pages : ℕ). pages * (P + 12)) (omega (arith, quotient, part))
 
 -- the offsets that the blob needs, of a writer and of what it stands for
-needed_offsets : (sum : List ℕ → ℕ) (was : SessionState) (P : ℕ) (w : WriterState) (more : ℕ) (life : Life) (before : Standing) → IsSound sum w life.present → StandsApart sum P (held was (Some w)) before life.present
+needed_offsets : (sum : List ℕ → ℕ) (was : SessionState) (P : ℕ) (w : WriterState) (more : ℕ) (life : Life) (before : RunState) → IsSound sum w life.present → StandsApart sum P (held was (Some w)) before life.present
     → physical_blob_size w.page_size w.full_pages (length w.tip + more) ≡ physical_blob_size P 0 (length before.content + more)
 unfolding IsSound
 needed_offsets sum was P w more life before sound stands =
@@ -264,8 +264,8 @@ needed_offsets sum was P w more life before sound stands =
     ∙ ap (λ (n : ℕ). physical_blob_size n 0 (length before.content + more)) stands.fits.page_size
 
 -- an append that passes the greatest number is refused so
-append_foretold : (sum : List ℕ → ℕ) (was : SessionState) (P : ℕ) (w : WriterState) (bytes : Vec ℕ Global) (old new : Life) (result : Result (WriterState × ℕ) Error) (reply : Reply) (before : Standing) → IsSound sum w old.present → StandsApart sum P (held was (Some w)) before old.present
-    → AppendTold sum w bytes.items old new result → (result ≡ Err OffsetOverflow → reply ≡ Fault OffsetOverflow) → Foretells P (Append bytes) reply before
+append_foretold : (sum : List ℕ → ℕ) (was : SessionState) (P : ℕ) (w : WriterState) (bytes : Vec ℕ Global) (old new : Life) (result : Result (WriterState × ℕ) Error) (reply : Reply) (before : RunState) → IsSound sum w old.present → StandsApart sum P (held was (Some w)) before old.present
+    → AppendTold sum w bytes.items old new result → (result ≡ Err OffsetOverflow → reply ≡ Fault OffsetOverflow) → FaultsComeFirst P (Append bytes) reply before
 append_foretold sum was P w bytes old new result reply before sound stands says is =
     (λ overflows. is (says.overflow (omega (arith, overflows, needed_offsets sum was P w (length bytes.items) old before sound stands))), λ none. absurd none)
 
@@ -273,19 +273,19 @@ append_foretold sum was P w bytes old new result reply before sound stands says 
 pub append_steps : (sum : List ℕ → ℕ) (was : SessionState) (w v : WriterState) (bytes : Vec ℕ Global) (n : ℕ) (old new : Life) → IsSound sum w old.present → AppendTold sum w bytes.items old new (Ok (v, n))
     → AlwaysApart sum (Append bytes) (At n) (held was (Some w)) (held was (Some v)) old new
 unfolding Through
-append_steps sum was w v bytes n old new sound says = λ P before stands. by_room P before stands (has_room before (length bytes.items)) refl
+append_steps sum was w v bytes n old new sound says = λ P before stands. by_room P before stands (fits_buffer before (length bytes.items)) refl
   where
-    offset : (P : ℕ) (before : Standing) → StandsApart sum P (held was (Some w)) before old.present → n ≡ length before.content
+    offset : (P : ℕ) (before : RunState) → StandsApart sum P (held was (Some w)) before old.present → n ≡ length before.content
     offset P before stands = says.appends.0 ∙ ap length (sym stands.fits.content)
 
-    foretold : (P : ℕ) (before : Standing) → StandsApart sum P (held was (Some w)) before old.present → Foretells P (Append bytes) (At n) before
+    foretold : (P : ℕ) (before : RunState) → StandsApart sum P (held was (Some w)) before old.present → FaultsComeFirst P (Append bytes) (At n) before
     foretold P before stands = append_foretold sum was P w bytes old new (Ok (v, n)) (At n) before sound stands says (λ is. absurd (cc is))
 
-    by_room : (P : ℕ) (before : Standing) → StandsApart sum P (held was (Some w)) before old.present → (room : Bool) → has_room before (length bytes.items) ≡ room → SteppedApart sum P (Append bytes) (At n) (held was (Some v)) old new before before.snapshots before.replays
+    by_room : (P : ℕ) (before : RunState) → StandsApart sum P (held was (Some w)) before old.present → (room : Bool) → fits_buffer before (length bytes.items) ≡ room → SteppedApart sum P (Append bytes) (At n) (held was (Some v)) old new before before.snapshots before.replays
     by_room P before stands true is =
         let fits = stands.fits in
         let all : (v ≡ record w { tip = w.tip ++ bytes.items }) × (new ≡ old) = says.buffered (fit before w (length bytes.items) fits.buffered fits.capacity is) in
-        let goes : GoesOn sum w old bytes.items v old = subst (λ (life : Life). GoesOn sum w old bytes.items v life) all.1 says.appends.1 in
+        let goes : Succeeds sum w old bytes.items v old = subst (λ (life : Life). Succeeds sum w old bytes.items v life) all.1 says.appends.1 in
         let through : StaysThrough sum P (before.content ++ bytes.items) old old =
         subst (λ (life : Life). StaysThrough sum P (before.content ++ bytes.items) old life) all.1 (append_through sum was P w bytes.items old new (Ok (v, n)) before sound says.appends stands) in
         let tip : length v.tip ≡ before.buffered + length bytes.items =
@@ -316,19 +316,19 @@ append_steps sum was w v bytes n old new sound says = λ P before stands. by_roo
         let awaited : awaited_after before (length bytes.items) ≡ pending_in v.sync =
         subst (λ (b : Bool). (if b then before.awaited else None) ≡ pending_in v.sync) (sym is) (ap pending_in (sym dirty)) in
         stepped sum P (Append bytes) (At n) (held was (Some v)) old new before (appended P bytes.items before) through.moments fits.has_writer (turned_here before.has_writer fits.has_writer) h
-        (subst (λ (b : Bool). Touches (if b then Leaves else Changes 3) old.present through.moments) (sym is) (few_calls old new through.moments 3 h.goes says.calls))
+        (subst (λ (b : Bool). UsesDevice (if b then Leaves else Changes 3) old.present through.moments) (sym is) (few_calls old new through.moments 3 h.goes says.calls))
         (offset P before stands, refl) (foretold P before stands)
         (appended_stands sum was P w v bytes.items old new before stands goes says.within buffered written awaited kept covered h.stays)
 
 -- an append that doesn't fit waits
-pub had_without_room : (awaited : Option ℕ) (d : Disk) (room : Bool) → (room ≡ true → ⊥) → HadFailed awaited d → HadFailed (if room then None else awaited) d
+pub had_without_room : (awaited : Option ℕ) (d : Disk) (room : Bool) → (room ≡ true → ⊥) → AwaitedSyncFailed awaited d → AwaitedSyncFailed (if room then None else awaited) d
 had_without_room awaited d true never had = absurd (never refl)
 had_without_room awaited d false never had = had
 
 -- why an append is refused
-append_cause : (sum : List ℕ → ℕ) (P : ℕ) (w : WriterState) (bytes : Vec ℕ Global) (old new : Life) (e : Error) (before : Standing)
+append_cause : (sum : List ℕ → ℕ) (P : ℕ) (w : WriterState) (bytes : Vec ℕ Global) (old new : Life) (e : Error) (before : RunState)
     → physical_blob_size w.page_size w.full_pages (length w.tip + length bytes.items) ≡ physical_blob_size P 0 (length before.content + length bytes.items) → before.awaited ≡ pending_in w.sync
-    → (has_room before (length bytes.items) ≡ true → e ≡ SyncFailed → ⊥) → Appends sum w bytes.items old new (Err e) → Contains (faults (Append bytes)) e × HasCause P (Append bytes) before old.present new.present e
+    → (fits_buffer before (length bytes.items) ≡ true → e ≡ SyncFailed → ⊥) → Appends sum w bytes.items old new (Err e) → Contains (faults (Append bytes)) e × HasCause P (Append bytes) before old.present new.present e
 append_cause sum P w bytes old new ReadFailed before offsets awaited room goes = absurd goes.cause
 append_cause sum P w bytes old new WriteFailed before offsets awaited room goes = ((0, lit< tt, refl), goes.cause)
 append_cause sum P w bytes old new ResizeFailed before offsets awaited room goes = absurd goes.cause
@@ -336,7 +336,7 @@ append_cause sum P w bytes old new SyncFailed before offsets awaited room goes =
   (1, lit< tt, refl),
   elim goes.cause [
     | inl failed ↦ inl failed
-    | inr had ↦ inr (had_without_room before.awaited old.present (has_room before (length bytes.items)) (λ is. room is refl) (had_failed_as w.sync before.awaited old.present awaited had))
+    | inr had ↦ inr (had_without_room before.awaited old.present (fits_buffer before (length bytes.items)) (λ is. room is refl) (had_failed_as w.sync before.awaited old.present awaited had))
   ],
 )
 append_cause sum P w bytes old new InvalidChecksum before offsets awaited room goes = absurd goes.cause
@@ -354,10 +354,10 @@ append_refused_steps sum was w bytes e old new sound says = λ P before stands.
     let longer = before.content ++ bytes.items in
     let through = append_through sum was P w bytes.items old new (Err e) before sound says.appends stands in
     let h = append_halves sum was P w bytes.items old new before stands through says.owes in
-    let room : has_room before (length bytes.items) ≡ true → BuffersAll w bytes.items old new (Err e) = λ is. says.buffered (fit before w (length bytes.items) fits.buffered fits.capacity is) in
+    let room : fits_buffer before (length bytes.items) ≡ true → BuffersAll w bytes.items old new (Err e) = λ is. says.buffered (fit before w (length bytes.items) fits.buffered fits.capacity is) in
     let cause = append_cause sum P w bytes old new e before (needed_offsets sum was P w (length bytes.items) old before sound stands) fits.awaited (λ is fault. subst (λ (x : Error). BuffersAll w bytes.items old new (Err x)) fault (room is)) says.appends in
     stepped sum P (Append bytes) (Fault e) (held was None) old new before (ended longer before) through.moments fits.has_writer (turned_here before.has_writer fits.has_writer) h
-    (touched through.moments h.goes (has_room before (length bytes.items)) (λ is. stayed e (room is)))
+    (touched through.moments h.goes (fits_buffer before (length bytes.items)) (λ is. stayed e (room is)))
     (cause.0, cause.1, refl) (append_foretold sum was P w bytes old new (Err e) (Fault e) before sound stands says (λ is. cc is)) (stands_ended sum P was w old new before longer through.moments stands h)
   where
     stayed : (e : Error) → BuffersAll w bytes.items old new (Err e) → new ≡ old
@@ -371,20 +371,20 @@ append_refused_steps sum was w bytes e old new sound says = λ P before stands.
     stayed OutOfMemory same = same
     stayed IdsExhausted none = absurd none
 
-    touched : (moments : List Disk) → new ≡ life_after old moments → (room : Bool) → (room ≡ true → new ≡ old) → Touches (if room then Leaves else Changes 3) old.present moments
+    touched : (moments : List Disk) → new ≡ life_after old moments → (room : Bool) → (room ≡ true → new ≡ old) → UsesDevice (if room then Leaves else Changes 3) old.present moments
     touched moments goes true same = no_moments old new moments goes (same refl)
     touched moments goes false same = few_calls old new moments 3 goes says.calls
 
 -- ---- tries
 
 -- a try whose bytes are buffered
-pub try_steps : (sum : List ℕ → ℕ) (was : SessionState) (w v : WriterState) (bytes : Vec ℕ Global) (n : ℕ) (life : Life) → IsSound sum w life.present → TryAppends w bytes.items v (Ok (Some n)) → Appends sum w bytes.items life life (Ok (v, n))
+pub try_steps : (sum : List ℕ → ℕ) (was : SessionState) (w v : WriterState) (bytes : Vec ℕ Global) (n : ℕ) (life : Life) → IsSound sum w life.present → TryAppendGoes w bytes.items v (Ok (Some n)) → Appends sum w bytes.items life life (Ok (v, n))
     → AlwaysApart sum (TryAppend bytes) (At n) (held was (Some w)) (held was (Some v)) life life
 unfolding Through
 try_steps sum was w v bytes n life sound tries appends = λ P before stands.
     let fits = stands.fits in
     let through = append_through sum was P w bytes.items life life (Ok (v, n)) before sound appends stands in
-    let room : has_room before (length bytes.items) ≡ true = le-leb (before.buffered + length bytes.items) before.capacity (omega (arith, tries.1, fits.buffered, fits.capacity)) in
+    let room : fits_buffer before (length bytes.items) ≡ true = le-leb (before.buffered + length bytes.items) before.capacity (omega (arith, tries.1, fits.buffered, fits.capacity)) in
     let tip : length v.tip ≡ before.buffered + length bytes.items =
     ap (λ (x : WriterState). length x.tip) tries.3 ∙ length-append w.tip bytes.items ∙ ap (λ (k : ℕ). k + length bytes.items) fits.buffered in
     let buffered : length v.tip ≡ buffered_after P before (length bytes.items) =
@@ -399,18 +399,18 @@ try_steps sum was w v bytes n life sound tries appends = λ P before stands.
     (appended_stands sum was P w v bytes.items life life before stands appends.1 within buffered written awaited stands.kept stands.covered through.start)
 
 -- a try whose bytes don't fit
-pub try_nothing_steps : (sum : List ℕ → ℕ) (was : SessionState) (w v : WriterState) (bytes : Vec ℕ Global) (life : Life) → IsSound sum w life.present → TryAppends w bytes.items v (Ok None) → AlwaysApart sum (TryAppend bytes) Nothing (held was (Some w)) (held was (Some w)) life life
+pub try_nothing_steps : (sum : List ℕ → ℕ) (was : SessionState) (w v : WriterState) (bytes : Vec ℕ Global) (life : Life) → IsSound sum w life.present → TryAppendGoes w bytes.items v (Ok None) → AlwaysApart sum (TryAppend bytes) Nothing (held was (Some w)) (held was (Some w)) life life
 try_nothing_steps sum was w v bytes life sound tries = λ P before stands.
     let fits = stands.fits in
     let passes : before.capacity < before.buffered + length bytes.items = omega (arith, tries.1, fits.buffered, fits.capacity) in
-    let room : has_room before (length bytes.items) ≡ false = grind (arith, nat_tests, passes) in
+    let room : fits_buffer before (length bytes.items) ≡ false = grind (arith, nat_tests, passes) in
     let offsets = needed_offsets sum was P w (length bytes.items) life before sound stands in
     unasked sum P was w (TryAppend bytes) Nothing (held was (Some w)) life before before (turned_here before.has_writer fits.has_writer) stands (room, refl) (λ overflows. absurd (omega (arith, overflows, offsets, tries.0)), λ none. absurd none) stands
 
 -- why a try is refused
-try_cause : (P : ℕ) (w v : WriterState) (bytes : Vec ℕ Global) (before : Standing) (from to : Disk) (e : Error) → length w.tip ≡ before.buffered → w.capacity ≡ before.capacity
+try_cause : (P : ℕ) (w v : WriterState) (bytes : Vec ℕ Global) (before : RunState) (from to : Disk) (e : Error) → length w.tip ≡ before.buffered → w.capacity ≡ before.capacity
     → physical_blob_size w.page_size w.full_pages (length w.tip + length bytes.items) ≡ physical_blob_size P 0 (length before.content + length bytes.items)
-    → TryAppends w bytes.items v (Err e) → Contains (faults (TryAppend bytes)) e × HasCause P (TryAppend bytes) before from to e × (v ≡ w) × Foretells P (TryAppend bytes) (Fault e) before
+    → TryAppendGoes w bytes.items v (Err e) → Contains (faults (TryAppend bytes)) e × HasCause P (TryAppend bytes) before from to e × (v ≡ w) × FaultsComeFirst P (TryAppend bytes) (Fault e) before
 try_cause P w v bytes before from to ReadFailed buffered capacity offsets tries = absurd tries
 try_cause P w v bytes before from to WriteFailed buffered capacity offsets tries = absurd tries
 try_cause P w v bytes before from to ResizeFailed buffered capacity offsets tries = absurd tries
@@ -427,7 +427,7 @@ try_cause P w v bytes before from to OutOfMemory buffered capacity offsets tries
 try_cause P w v bytes before from to IdsExhausted buffered capacity offsets tries = absurd tries
 
 -- the writer that a refused try leaves
-pub try_same : (w v : WriterState) (bytes : List ℕ) (e : Error) → TryAppends w bytes v (Err e) → v ≡ w
+pub try_same : (w v : WriterState) (bytes : List ℕ) (e : Error) → TryAppendGoes w bytes v (Err e) → v ≡ w
 try_same w v bytes ReadFailed tries = absurd tries
 try_same w v bytes WriteFailed tries = absurd tries
 try_same w v bytes ResizeFailed tries = absurd tries
@@ -439,7 +439,7 @@ try_same w v bytes OutOfMemory tries = tries.2
 try_same w v bytes IdsExhausted tries = absurd tries
 
 -- a try that is refused
-pub try_refused_steps : (sum : List ℕ → ℕ) (was : SessionState) (w v : WriterState) (bytes : Vec ℕ Global) (e : Error) (life : Life) → IsSound sum w life.present → TryAppends w bytes.items v (Err e)
+pub try_refused_steps : (sum : List ℕ → ℕ) (was : SessionState) (w v : WriterState) (bytes : Vec ℕ Global) (e : Error) (life : Life) → IsSound sum w life.present → TryAppendGoes w bytes.items v (Err e)
     → AlwaysApart sum (TryAppend bytes) (Fault e) (held was (Some w)) (held was (Some w)) life life
 try_refused_steps sum was w v bytes e life sound tries = λ P before stands.
     let cause = try_cause P w v bytes before life.present life.present e stands.fits.buffered stands.fits.capacity (needed_offsets sum was P w (length bytes.items) life before sound stands) tries in

@@ -10,7 +10,7 @@ use Rattle.disk.specs.Disk.{Disk, Life}
 use Rattle.writer_state.specs.WriterState.{WriterState}
 use Rattle.writer_state.specs.Sound.{IsSound}
 use Rattle.cache.specs.CacheState.{CacheState, SameSettings}
-use Rattle.paged_read.specs.Tail.{Tail, told, CanRead}
+use Rattle.paged_read.specs.Tail.{Tail, logical_bytes, CanRead}
 use Rattle.paged_read.specs.Replay.{ReplayState, IsReplayOf, LeavesAllReplays, LeavesReplays}
 use Rattle.paged_read.specs.Snapshots.{LeavesAllTails, LeavesOthers, LeavesTails}
 use Rattle.paged.specs.Caches.{tail_of}
@@ -19,9 +19,9 @@ use Rattle.session.specs.declared.steps.Step.{Step}
 use Rattle.session.specs.declared.steps.Reply.{Reply}
 use Rattle.session.specs.declared.steps.Reply.TheVariants.{At, Fault, Nothing}
 use Rattle.disk.specs.declared.error.Error.TheVariants.{OffsetOverflow, OutOfMemory}
-use Rattle.session.specs.Run.{CacheFits, FitsWriter, HasSoundWriter, IsBelow, IsReady, IsReplayIn, IsSnapshot, Replayed, replayed, SessionState, Standing, StandsFor, writer_in}
+use Rattle.session.specs.Run.{CacheFits, FitsWriter, HasSoundWriter, IsBelow, IsReplayIn, IsSnapshot, IsSoundSession, replay_in_run, Represents, RunReplay, RunState, SessionState, writer_in}
 use Rattle.session.specs.Promise.{session_of}
-use Rattle.session.specs.Calls.{LeavesStanding, LeavesTaken, Steps, TriedAppend}
+use Rattle.session.specs.Calls.{LeavesRunState, LeavesTaken, Steps, TriedAppend}
 use Rattle.session.proofs.OtherWriters.{others_gone, others_here, others_on, others_stay, settings_same}
 use Rattle.session.proofs.Apart.{IsReadyApart, left_replays, SteppedApart, StepsApart, StepsBy, stands_apart, whole}
 
@@ -119,7 +119,7 @@ leaves_tried sum (Some w) now bytes cache life (Fault e) (v, is, tries) = absurd
 leaves_tried sum (Some w) now bytes cache life reply tried = absurd tried
 
 -- one that leaves all of them
-pub leaves_all : (sum : List ℕ → ℕ) (o : Option WriterState) (cache after : CacheState) (old new : Life) → LeavesAllTails sum cache after old new → LeavesAllReplays old new → LeavesStanding sum o o cache after old new
+pub leaves_all : (sum : List ℕ → ℕ) (o : Option WriterState) (cache after : CacheState) (old new : Life) → LeavesAllTails sum cache after old new → LeavesAllReplays old new → LeavesRunState sum o o cache after old new
 leaves_all sum o cache after old new tails replays = record {
   snapshots = λ t content below stands. (tails t content stands, below);
   replays = λ r content below gives. (replays sum content r gives, below);
@@ -135,12 +135,12 @@ leaves_cache sum o cache old new tails replays = record { own = leaves_all sum o
 pub record Left (sum : List ℕ → ℕ) (now : Option WriterState) (after : CacheState) (old new : Disk) (t : Tail) : Type 0 where
   pub snapshot : IsSnapshot sum now t new
   pub can : CanRead t after new
-  pub tells : told t new.readable ≡ told t old.readable
+  pub tells : logical_bytes t new.readable ≡ logical_bytes t old.readable
 
 -- it is one still, and tells what it told
 pub record LeftReplay (sum : List ℕ → ℕ) (now : Option WriterState) (old new : Disk) (o : Option ReplayState) : Type 0 where
   pub replay : IsReplayIn sum now new o
-  pub tells : option_map (replayed new.readable) o ≡ option_map (replayed old.readable) o
+  pub tells : option_map (replay_in_run new.readable) o ≡ option_map (replay_in_run old.readable) o
 
 -- a snapshot that stands
 abbrev pub LeftSnapshot : (List ℕ → ℕ) → Option WriterState → CacheState → Disk → Disk → Option Tail → Type 0
@@ -152,11 +152,11 @@ pub record LeftAll (sum : List ℕ → ℕ) (was : SessionState) (now : Option W
   pub replays : All (LeftReplay sum now old new) was.replays
 
 -- of one snapshot
-snapshot_left : (sum : List ℕ → ℕ) (was now : Option WriterState) (cache after : CacheState) (old new : Life) (o : Option Tail) → LeavesStanding sum was now cache after old new → IfSome o (λ t. IsSnapshot sum was t old.present) → IfSome o (λ t. CanRead t cache old.present)
+snapshot_left : (sum : List ℕ → ℕ) (was now : Option WriterState) (cache after : CacheState) (old new : Life) (o : Option Tail) → LeavesRunState sum was now cache after old new → IfSome o (λ t. IsSnapshot sum was t old.present) → IfSome o (λ t. CanRead t cache old.present)
     → LeftSnapshot sum now after old.present new.present o
 snapshot_left sum was now cache after old new None leaves is can = tt
 snapshot_left sum was now cache after old new (Some t) leaves is can =
-    let after_it = leaves.snapshots t (told t old.present.readable) is.below (record { tail = record { there = is.there; full = is.full; is = refl }; can = can }) in
+    let after_it = leaves.snapshots t (logical_bytes t old.present.readable) is.below (record { tail = record { there = is.there; full = is.full; is = refl }; can = can }) in
     let tail = after_it.0.tail in
     record { snapshot = record { there = tail.there; full = tail.full; below = after_it.1 }; can = after_it.0.can; tells = tail.is }
 
@@ -165,17 +165,17 @@ snapshot_same sum writer cache d None is can = tt
 snapshot_same sum writer cache d (Some t) is can = record { snapshot = is; can = can; tells = refl }
 
 -- of one replay
-replay_left : (sum : List ℕ → ℕ) (was now : Option WriterState) (cache after : CacheState) (old new : Life) (o : Option ReplayState) → LeavesStanding sum was now cache after old new → IsReplayIn sum was old.present o → LeftReplay sum now old.present new.present o
+replay_left : (sum : List ℕ → ℕ) (was now : Option WriterState) (cache after : CacheState) (old new : Life) (o : Option ReplayState) → LeavesRunState sum was now cache after old new → IsReplayIn sum was old.present o → LeftReplay sum now old.present new.present o
 replay_left sum was now cache after old new None leaves is = record { replay = tt; tells = refl }
 replay_left sum was now cache after old new (Some r) leaves (gives, below) =
-    let after_it = leaves.replays r (told r.tail old.present.readable) below gives in
-    let tells : told r.tail new.present.readable ≡ told r.tail old.present.readable = after_it.0.tail.is in
+    let after_it = leaves.replays r (logical_bytes r.tail old.present.readable) below gives in
+    let tells : logical_bytes r.tail new.present.readable ≡ logical_bytes r.tail old.present.readable = after_it.0.tail.is in
     record {
       replay = (subst (λ (content : List ℕ). IsReplayOf sum r content new.present) (sym tells) after_it.0, after_it.1);
-      tells = ap (λ (content : List ℕ). Some (record (replayed old.present.readable r) { content = content })) tells;
+      tells = ap (λ (content : List ℕ). Some (record (replay_in_run old.present.readable r) { content = content })) tells;
     }
 
-pub left_by : (sum : List ℕ → ℕ) (was : SessionState) (now : Option WriterState) (cache after : CacheState) (old new : Life) → IsReady sum was old.present → CacheFits was cache old.present → LeavesStanding sum was.writer now cache after old new
+pub left_by : (sum : List ℕ → ℕ) (was : SessionState) (now : Option WriterState) (cache after : CacheState) (old new : Life) → IsSoundSession sum was old.present → CacheFits was cache old.present → LeavesRunState sum was.writer now cache after old new
     → LeftAll sum was now after old.present new.present
 left_by sum was now cache after old new ready fits leaves = record {
   snapshots = λ k o lt. snapshot_left sum was.writer now cache after old new (get_or was.snapshots k o) leaves (ready.snapshots k o lt) (fits.snapshots k o lt);
@@ -183,10 +183,10 @@ left_by sum was now cache after old new ready fits leaves = record {
 }
 
 -- by a step that asks nothing of the device
-pub replays_same : (sum : List ℕ → ℕ) (was : SessionState) (now : Option WriterState) (old new : Life) → IsReady sum was old.present → now ≡ was.writer → new ≡ old → All (LeftReplay sum now old.present new.present) was.replays
+pub replays_same : (sum : List ℕ → ℕ) (was : SessionState) (now : Option WriterState) (old new : Life) → IsSoundSession sum was old.present → now ≡ was.writer → new ≡ old → All (LeftReplay sum now old.present new.present) was.replays
 replays_same sum was now old new ready writer life = rw (writer, life) (λ k o lt. record { replay = ready.replays k o lt; tells = refl })
 
-pub left_same : (sum : List ℕ → ℕ) (was : SessionState) (now : Option WriterState) (cache after : CacheState) (old new : Life) → IsReady sum was old.present → CacheFits was cache old.present → now ≡ was.writer → after ≡ cache → new ≡ old
+pub left_same : (sum : List ℕ → ℕ) (was : SessionState) (now : Option WriterState) (cache after : CacheState) (old new : Life) → IsSoundSession sum was old.present → CacheFits was cache old.present → now ≡ was.writer → after ≡ cache → new ≡ old
     → LeftAll sum was now after old.present new.present
 left_same sum was now cache after old new ready fits writer same life = record {
   snapshots = rw (writer, same, life) (λ k o lt. snapshot_same sum was.writer cache old.present (get_or was.snapshots k o) (ready.snapshots k o lt) (fits.snapshots k o lt));
@@ -225,18 +225,18 @@ abbrev pub MadeSnapshot : (List ℕ → ℕ) → Option WriterState → CacheSta
 MadeSnapshot sum now after new o = IfSome o (λ t. Made sum now after new t)
 
 -- a step that makes these snapshots, and leaves these replays, whatever the session stood for
-abbrev pub AlwaysLeaves : (List ℕ → ℕ) → Step → Reply → SessionState → SessionState → Life → Life → (more : List (Option Tail)) → (replays : (P : ℕ) → Standing → List (Option Replayed)) → Type 0
+abbrev pub AlwaysLeaves : (List ℕ → ℕ) → Step → Reply → SessionState → SessionState → Life → Life → (more : List (Option Tail)) → (replays : (P : ℕ) → RunState → List (Option RunReplay)) → Type 0
 AlwaysLeaves sum step reply was now old new more replays =
-    (P : ℕ) (before : Standing) → StandsFor sum P was before old.present → SteppedApart sum P step reply now old new before (before.snapshots ++ map (option_map (λ t. told t new.present.readable)) more) (replays P before)
+    (P : ℕ) (before : RunState) → Represents sum P was before old.present → SteppedApart sum P step reply now old new before (before.snapshots ++ map (option_map (λ t. logical_bytes t new.present.readable)) more) (replays P before)
 
 -- one that leaves the replays as they were
 abbrev pub AlwaysMakes : (List ℕ → ℕ) → Step → Reply → SessionState → SessionState → Life → Life → (more : List (Option Tail)) → Type 0
 AlwaysMakes sum step reply was now old new more = AlwaysLeaves sum step reply was now old new more (λ P s. s.replays)
 
 -- the replays of a session, and of what it stands for
-pub record HasReplays (sum : List ℕ → ℕ) (was now : SessionState) (old new : Disk) (replays : (P : ℕ) → Standing → List (Option Replayed)) : Type 0 where
+pub record HasReplays (sum : List ℕ → ℕ) (was now : SessionState) (old new : Disk) (replays : (P : ℕ) → RunState → List (Option RunReplay)) : Type 0 where
   pub ready : All (IsReplayIn sum now.writer new) now.replays
-  pub gives : (P : ℕ) (before : Standing) → StandsFor sum P was before old → replays P before ≡ map (option_map (replayed new.readable)) now.replays
+  pub gives : (P : ℕ) (before : RunState) → Represents sum P was before old → replays P before ≡ map (option_map (replay_in_run new.readable)) now.replays
 
 -- what is left, or made, is one, can be read, and tells what it told
 left_is : (sum : List ℕ → ℕ) (now : Option WriterState) (after : CacheState) (old new : Disk) (o : Option Tail) → LeftSnapshot sum now after old new o → IfSome o (λ t. IsSnapshot sum now t new)
@@ -247,7 +247,7 @@ left_can : (sum : List ℕ → ℕ) (now : Option WriterState) (after : CacheSta
 left_can sum now after old new None left = tt
 left_can sum now after old new (Some t) left = left.can
 
-left_tells : (sum : List ℕ → ℕ) (now : Option WriterState) (after : CacheState) (old new : Disk) (o : Option Tail) → LeftSnapshot sum now after old new o → option_map (λ t. told t new.readable) o ≡ option_map (λ t. told t old.readable) o
+left_tells : (sum : List ℕ → ℕ) (now : Option WriterState) (after : CacheState) (old new : Disk) (o : Option Tail) → LeftSnapshot sum now after old new o → option_map (λ t. logical_bytes t new.readable) o ≡ option_map (λ t. logical_bytes t old.readable) o
 left_tells sum now after old new None left = refl
 left_tells sum now after old new (Some t) left = ap Some left.tells
 
@@ -260,13 +260,13 @@ made_can sum now after new None made = tt
 made_can sum now after new (Some t) made = made.can
 
 -- the whole of what it did
-pub framed_by : (sum : List ℕ → ℕ) (step : Step) (reply : Reply) (was now : SessionState) (after : CacheState) (old new : Life) (more : List (Option Tail)) (replays : (P : ℕ) → Standing → List (Option Replayed)) → now.snapshots ≡ was.snapshots ++ more → (now.recovering ≡ true → now.snapshots ≡ [])
+pub framed_by : (sum : List ℕ → ℕ) (step : Step) (reply : Reply) (was now : SessionState) (after : CacheState) (old new : Life) (more : List (Option Tail)) (replays : (P : ℕ) → RunState → List (Option RunReplay)) → now.snapshots ≡ was.snapshots ++ more → (now.recovering ≡ true → now.snapshots ≡ [])
     → IsReadyApart sum now new.present → FitsWriter now.writer after new.present → All (LeftSnapshot sum now.writer after old.present new.present) was.snapshots → HasReplays sum was now old.present new.present replays → All (MadeSnapshot sum now.writer after new.present) more
     → AlwaysLeaves sum step reply was now old new more replays → Steps sum step reply was now old new × CacheFits now after new.present
 framed_by sum step reply was now after old new more replays is begun ready fits left has made always =
     let ts = was.snapshots in
-    let old_told : Option Tail → Option (List ℕ) = option_map (λ t. told t old.present.readable) in
-    let new_told : Option Tail → Option (List ℕ) = option_map (λ t. told t new.present.readable) in
+    let old_told : Option Tail → Option (List ℕ) = option_map (λ t. logical_bytes t old.present.readable) in
+    let new_told : Option Tail → Option (List ℕ) = option_map (λ t. logical_bytes t new.present.readable) in
     let snapshots : All (λ o. IfSome o (λ t. IsSnapshot sum now.writer t new.present)) (ts ++ more) =
     All-append (λ o. IfSome o (λ t. IsSnapshot sum now.writer t new.present)) ts more (λ k o lt. left_is sum now.writer after old.present new.present (get_or ts k o) (left k o lt)) (λ k o lt. made_is sum now.writer after new.present (get_or more k o) (made k o lt)) in
     let can : All (λ o. IfSome o (λ t. CanRead t after new.present)) (ts ++ more) =
@@ -295,9 +295,9 @@ same_replays : (sum : List ℕ → ℕ) (was now : SessionState) (after : CacheS
 same_replays sum was now after old new is left = record {
   ready = subst (λ (l : List (Option ReplayState)). All (IsReplayIn sum now.writer new) l) (sym is) (λ k o lt. (left.replays k o lt).replay);
   gives = λ P before stands.
-      let tells : map (option_map (replayed new.readable)) was.replays ≡ map (option_map (replayed old.readable)) was.replays =
-      maps_alike (option_map (replayed new.readable)) (option_map (replayed old.readable)) was.replays (λ k o lt. (left.replays k o lt).tells) in
-      stands.replays ∙ sym tells ∙ ap (λ (l : List (Option ReplayState)). map (option_map (replayed new.readable)) l) (sym is);
+      let tells : map (option_map (replay_in_run new.readable)) was.replays ≡ map (option_map (replay_in_run old.readable)) was.replays =
+      maps_alike (option_map (replay_in_run new.readable)) (option_map (replay_in_run old.readable)) was.replays (λ k o lt. (left.replays k o lt).tells) in
+      stands.replays ∙ sym tells ∙ ap (λ (l : List (Option ReplayState)). map (option_map (replay_in_run new.readable)) l) (sym is);
 }
 
 -- of one that leaves the replays
@@ -336,20 +336,20 @@ framed_cut sum step reply was now after old new is forgot begun fits left apart 
     (record {
       ready = subst (λ (l : List (Option ReplayState)). All (IsReplayIn sum now.writer new.present) l) (sym forgot) (none_left sum now.writer new.present was.replays);
       gives = λ P before stands.
-          ap (λ (l : List (Option Replayed)). map (λ x. None) l) stands.replays ∙ all_nothing old.present.readable new.present.readable was.replays
-          ∙ ap (λ (l : List (Option ReplayState)). map (option_map (replayed new.present.readable)) l) (sym forgot);
+          ap (λ (l : List (Option RunReplay)). map (λ x. None) l) stands.replays ∙ all_nothing old.present.readable new.present.readable was.replays
+          ∙ ap (λ (l : List (Option ReplayState)). map (option_map (replay_in_run new.present.readable)) l) (sym forgot);
     })
     apart
   where
-    all_nothing : (a b : List ℕ) (os : List (Option ReplayState)) → map (λ x. None) (map (option_map (replayed a)) os) ≡ map (option_map (replayed b)) (map (λ o. None) os)
+    all_nothing : (a b : List ℕ) (os : List (Option ReplayState)) → map (λ x. None) (map (option_map (replay_in_run a)) os) ≡ map (option_map (replay_in_run b)) (map (λ o. None) os)
     all_nothing a b [] = refl
-    all_nothing a b (o ∷ os) = ap (λ (l : List (Option Replayed)). None ∷ l) (all_nothing a b os)
+    all_nothing a b (o ∷ os) = ap (λ (l : List (Option RunReplay)). None ∷ l) (all_nothing a b os)
 
 -- ---- a session that begins
 
-pub begun_ready : (sum : List ℕ → ℕ) (w : WriterState) (session : SessionState) (d : Disk) → session ≡ session_of w → IsSound sum w d → IsReady sum session d
+pub begun_ready : (sum : List ℕ → ℕ) (w : WriterState) (session : SessionState) (d : Disk) → session ≡ session_of w → IsSound sum w d → IsSoundSession sum session d
 begun_ready sum w session d is sound =
-    subst (λ (s : SessionState). IsReady sum s d) (sym is) (record { writer = sound; starts = inl refl; snapshots = λ k t lt. absurd (omega (arith, lt)); begun = λ phase. refl; replays = λ k o lt. absurd (omega (arith, lt)) })
+    subst (λ (s : SessionState). IsSoundSession sum s d) (sym is) (record { writer = sound; starts = inl refl; snapshots = λ k t lt. absurd (omega (arith, lt)); begun = λ phase. refl; replays = λ k o lt. absurd (omega (arith, lt)) })
 
 pub begun_fits : (w : WriterState) (session : SessionState) (cache : CacheState) (d : Disk) → session ≡ session_of w → CanRead (tail_of w) cache d → CacheFits session cache d
 begun_fits w session cache d is can = subst (λ (s : SessionState). CacheFits s cache d) (sym is) (record { writer = can; snapshots = λ k t lt. absurd (omega (arith, lt)) })

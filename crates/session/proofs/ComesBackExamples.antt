@@ -22,14 +22,14 @@ use Rattle.crash.proofs.FloorLaws.{floors_none, floors_sync}
 use Rattle.crash.proofs.Promise.{keeps_at_rest, keeps_nothing, whole_is_chance_free}
 use Rattle.std.proofs.lemmas.Option.{same_Some}
 use Rattle.writer_state.specs.WriterState.{WriterState}
-use Rattle.writer_state.specs.Sound.{content as content_of, HasPage, IsSound, Soundness}
+use Rattle.writer_state.specs.Sound.{content as content_of, HasTipPage, IsSound, Soundness}
 use Rattle.writer_state.specs.declared.sync_state.SyncState.TheVariants.{Clean}
 use Rattle.writer_state.proofs.Soundness.{empty_sound, page_sound, sound_leaves}
 use Rattle.writer_state.proofs.Examples.{durable, six, seven, rewritten, before, after, ef_slot, ef_is_good, six_are_kept, all_only, at_rest, and_then, weak_page, weak_torn, weak_torn_is_image, two_strings_of_one_sum}
 use Rattle.paged.specs.Recovery.{IsDurable}
 use Rattle.paged.specs.Recovers.{IsRecovered, recovered_bytes, recovered_writer}
 use Rattle.paged.proofs.Trims.{leaves_text}
-use Rattle.session.specs.Promise.{IsMoment, HasCrashed, Crashes, Attempts, HasRecovered, ComesBack, LeadsTo, Begins, Survives}
+use Rattle.session.specs.Promise.{IsMoment, HasCrashed, Crashes, Attempts, HasRecovered, ComesBack, LeadsTo, IsPrefixOf, Survives}
 use Rattle.session.specs.Promise.ComesBack.{recovered, crashed, attempted}
 use Rattle.session.proofs.PromiseLaws.{survives, through_moment}
 use Rattle.session.proofs.StepLaws.{no_moments}
@@ -123,7 +123,7 @@ ab_slot = record { slot = First; len = 2; crc = 195 }
 abbrev pub ab_writer : WriterState
 ab_writer = record { page_size = 4; id = 0; capacity = 8; full_pages = 0; tip = ab; flushed = Some ab_slot; durable = Some ab_slot; sync = Clean }
 
-has_ab : HasPage add_sum 4 0 ab ab_page ab_slot
+has_ab : HasTipPage add_sum 4 0 ab ab_page ab_slot
 has_ab = record { size = refl; some = omega arith; there = omega arith; part = omega arith; crc = refl; value = refl; begins = refl; slot = refl }
 
 ab_good : (s : Slot) → IsGood add_sum 4 s ab_page
@@ -285,24 +285,24 @@ all_comes_back =
 
 -- ---- what a disk survives
 
-pub begins : Begins (97 ∷ []) ab
+pub begins : IsPrefixOf (97 ∷ []) ab
 begins = refl
 
-pub begins_with_all : Begins ab ab
+pub begins_with_all : IsPrefixOf ab ab
 begins_with_all = refl
 
-pub begins_not : Begins (98 ∷ []) ab → ⊥
+pub begins_not : IsPrefixOf (98 ∷ []) ab → ⊥
 begins_not is = omega (arith, ap (λ (l : List ℕ). get_or l 0 0) is)
 
-pub no_longer_begins : Begins ab (97 ∷ []) → ⊥
+pub no_longer_begins : IsPrefixOf ab (97 ∷ []) → ⊥
 no_longer_begins is = omega (arith, ap length is)
 
 -- what is at rest says one text
-pub rests : (content other text_of : List ℕ) (d : Disk) → d.since ≡ [] → text add_sum 4 d.base ≡ text_of → Begins text_of content → AllOnly add_sum 4 content other d
+pub rests : (content other text_of : List ℕ) (d : Disk) → d.since ≡ [] → text add_sum 4 d.base ≡ text_of → IsPrefixOf text_of content → AllOnly add_sum 4 content other d
 rests content other text_of d since says begins = record {
   only = λ image is_image free.
       let is : text add_sum 4 image ≡ text_of = rest_only add_sum 4 text_of d image since says is_image in
-      inl (subst (λ (l : List ℕ). Begins l content) (sym is) begins);
+      inl (subst (λ (l : List ℕ). IsPrefixOf l content) (sym is) begins);
   vouched = vouched_at_rest add_sum 4 d since;
 }
 
@@ -339,7 +339,7 @@ of_the_other = survives add_sum 4 [] ab 0 saved (omega arith) (keeps_nothing add
     (record {
       only = λ image is_image free.
           let is : text add_sum 4 image ≡ ab = rest_only add_sum 4 ab saved image refl refl is_image in
-          inr (subst (λ (l : List ℕ). Begins l ab) (sym is) refl);
+          inr (subst (λ (l : List ℕ). IsPrefixOf l ab) (sym is) refl);
       vouched = vouched_at_rest add_sum 4 saved refl;
     })
 
@@ -349,7 +349,7 @@ of_the_other = survives add_sum 4 [] ab 0 saved (omega arith) (keeps_nothing add
 abbrev pub six_writer : WriterState
 six_writer = record { page_size = 4; id = 0; capacity = 8; full_pages = 1; tip = 101 ∷ 102 ∷ []; flushed = Some ef_slot; durable = Some ef_slot; sync = Clean }
 
-has_ef : HasPage add_sum 4 1 (101 ∷ 102 ∷ []) (abcd_page ++ ef_page) ef_slot
+has_ef : HasTipPage add_sum 4 1 (101 ∷ 102 ∷ []) (abcd_page ++ ef_page) ef_slot
 has_ef = record { size = refl; some = omega arith; there = omega arith; part = omega arith; crc = refl; value = refl; begins = refl; slot = refl }
 
 six_sound : Soundness add_sum six_writer durable

@@ -3,7 +3,7 @@
 use Rattle.std.proofs.Common.{◌≡◌, ◌≤◌, ◌<◌, ◌+◌, ◌*◌, ℕ, zero, suc, min, List, [], ◌∷◌, ◌++◌, length, take, slice_get, refl, sym, ap, subst, ◌∙◌, inl, inr, arith, true, false}
 use Rattle.std.specs.Prelude.{Some, None, Ok}
 use Rattle.std.proofs.lemmas.Option.{same_Some}
-use Rattle.disk.specs.Disk.{Disk, Operated, life_after, logged, next, settled_disk}
+use Rattle.disk.specs.Disk.{Disk, HasOperated, life_after, logged, next, settled_disk}
 use Rattle.disk.specs.Disk.Operation.{Resize}
 use Rattle.disk.specs.Disk.Request.{ResizeTo, SyncAll}
 use Rattle.page.specs.Page.{verified_len}
@@ -24,8 +24,8 @@ use Rattle.writer_state.proofs.ShortenLaws.{holds_at_rest, holds_keeps, holds_on
 use Rattle.writer_state.proofs.Examples.{and_then, durable, six, all_keep}
 use Rattle.session.specs.declared.steps.Step.TheVariants.{Truncate}
 use Rattle.session.specs.declared.steps.Reply.TheVariants.{Length}
-use Rattle.session.specs.Run.{Standing, SessionState, StandsFor, last, raised}
-use Rattle.session.specs.Promise.{Survives, Tells, Told, Promises, session_of, fresh}
+use Rattle.session.specs.Run.{RunState, SessionState, Represents, last, raised}
+use Rattle.session.specs.Promise.{Survives, EachStepIsExact, RunIsExact, Promises, session_of, fresh}
 use Rattle.session.specs.Promise.ComesBack.{recovered, crashed}
 use Rattle.session.proofs.PromiseLaws.{survives}
 use Rattle.session.proofs.StepLaws.{keeps_fewer}
@@ -46,7 +46,7 @@ cut_saved = settled_disk (logged SyncAll false cut)
 abbrev pub abcd : List ℕ
 abcd = 97 ∷ 98 ∷ 99 ∷ 100 ∷ []
 
-cut_is_done : Operated (Resize 16) (ResizeTo 16) false durable cut
+cut_is_done : HasOperated (Resize 16) (ResizeTo 16) false durable cut
 cut_is_done = record { readable = partial_whole (Resize 16) (abcd_page ++ ef_page); done = λ fine. refl; rest = refl }
 
 -- in the midst slots hold "abcd", and there is nothing but "abcdef"
@@ -76,12 +76,12 @@ abcd_survive = survives add_sum 4 abcd abcd 4 cut_saved (omega arith) (keeps_at_
 -- ---- a run
 
 -- "abcdef", of which every crash keeps so much
-abbrev pub six_with : (floor : ℕ) → Standing
+abbrev pub six_with : (floor : ℕ) → RunState
 six_with floor = record (fresh 4 8 six) { floor = floor }
 
 -- the truncate resizes the blob and syncs it: no more than four bytes of the floor are kept from its start on, and these at each
 -- moment; and at its end "abcd" is all that may come back
-pub a_cut_tells : (floor : ℕ) → floor ≤ 6 → Tells add_sum 4 (Truncate 4 ∷ []) (Length 4 ∷ []) durable (cut ∷ cut_saved ∷ []) (six_with floor) (fresh 4 8 abcd)
+pub a_cut_tells : (floor : ℕ) → floor ≤ 6 → EachStepIsExact add_sum 4 (Truncate 4 ∷ []) (Length 4 ∷ []) durable (cut ∷ cut_saved ∷ []) (six_with floor) (fresh 4 8 abcd)
 a_cut_tells floor few = (
   six_survive six floor few,
   cut ∷ cut_saved ∷ [],
@@ -99,7 +99,7 @@ a_cut_tells floor few = (
 abbrev pub abcd_writer : WriterState
 abcd_writer = record { page_size = 4; id = 0; capacity = 8; full_pages = 1; tip = []; flushed = None; durable = None; sync = Clean }
 
-pub abcd_stand : StandsFor add_sum 4 (session_of abcd_writer) (fresh 4 8 abcd) cut_saved
+pub abcd_stand : Represents add_sum 4 (session_of abcd_writer) (fresh 4 8 abcd) cut_saved
 abcd_stand = record {
   fits = record { page_size = refl; has_writer = refl; content = refl; otherwise = refl; capacity = refl; buffered = refl; within = omega arith; written = refl; awaited = refl };
   phase = refl;
@@ -113,7 +113,7 @@ abcd_stand = record {
   replays = refl;
 }
 
-pub six_stand_so : StandsFor add_sum 4 (session_of six_writer) (six_with 6) durable
+pub six_stand_so : Represents add_sum 4 (session_of six_writer) (six_with 6) durable
 six_stand_so = record {
   fits = record { page_size = refl; has_writer = refl; content = refl; otherwise = refl; capacity = refl; buffered = refl; within = omega arith; written = refl; awaited = refl };
   phase = refl;
@@ -128,7 +128,7 @@ six_stand_so = record {
 }
 
 -- a session of "abcdef" stands for that with a floor up to six
-six_stood_for : (P : ℕ) (before : Standing) → StandsFor add_sum P (session_of six_writer) before durable → (P ≡ 4) × (before ≡ six_with before.floor) × (before.floor ≤ 6)
+six_stood_for : (P : ℕ) (before : RunState) → Represents add_sum P (session_of six_writer) before durable → (P ≡ 4) × (before ≡ six_with before.floor) × (before.floor ≤ 6)
 six_stood_for P before stands = (
   sym stands.fits.page_size,
   same_standing before (six_with before.floor) stands.fits.has_writer (sym stands.phase) stands.fits.content refl (stands.fits.otherwise ∙ stands.fits.content) (sym stands.fits.capacity) (sym stands.fits.buffered) stands.fits.written stands.fits.awaited
@@ -136,27 +136,27 @@ six_stood_for P before stands = (
   omega (arith, stands.floor, ap length stands.fits.content),
 )
 
-pub a_cut_is_told : (floor : ℕ) → floor ≤ 6 → Told add_sum 4 (Truncate 4 ∷ []) (session_of abcd_writer) (life_of durable) (life_after (life_of durable) (cut ∷ cut_saved ∷ [])) [] (Length 4 ∷ []) (six_with floor)
+pub a_cut_is_told : (floor : ℕ) → floor ≤ 6 → RunIsExact add_sum 4 (Truncate 4 ∷ []) (session_of abcd_writer) (life_of durable) (life_after (life_of durable) (cut ∷ cut_saved ∷ [])) [] (Length 4 ∷ []) (six_with floor)
 a_cut_is_told floor few = record { added = Length 4 ∷ []; adds = refl; moments = cut ∷ cut_saved ∷ []; goes = refl; after = fresh 4 8 abcd; tells = a_cut_tells floor few; stands = abcd_stand }
 
 -- "abcdef" is cut to "abcd": that is promised
 pub a_promise_of_a_cut : Promises add_sum (Truncate 4 ∷ []) (session_of six_writer) (session_of abcd_writer) (life_of durable) (life_after (life_of durable) (cut ∷ cut_saved ∷ [])) [] (Length 4 ∷ [])
 a_promise_of_a_cut P before stands =
     let stood = six_stood_for P before stands in
-    subst (λ (n : ℕ). Told add_sum n (Truncate 4 ∷ []) (session_of abcd_writer) (life_of durable) (life_after (life_of durable) (cut ∷ cut_saved ∷ [])) [] (Length 4 ∷ []) before) (sym stood.0)
-    (subst (λ (s : Standing). Told add_sum 4 (Truncate 4 ∷ []) (session_of abcd_writer) (life_of durable) (life_after (life_of durable) (cut ∷ cut_saved ∷ [])) [] (Length 4 ∷ []) s) (sym stood.1) (a_cut_is_told before.floor stood.2))
+    subst (λ (n : ℕ). RunIsExact add_sum n (Truncate 4 ∷ []) (session_of abcd_writer) (life_of durable) (life_after (life_of durable) (cut ∷ cut_saved ∷ [])) [] (Length 4 ∷ []) before) (sym stood.0)
+    (subst (λ (s : RunState). RunIsExact add_sum 4 (Truncate 4 ∷ []) (session_of abcd_writer) (life_of durable) (life_after (life_of durable) (cut ∷ cut_saved ∷ [])) [] (Length 4 ∷ []) s) (sym stood.1) (a_cut_is_told before.floor stood.2))
 
 -- ---- runs for which it doesn't hold
 
 -- the end of such a run survives with "abcd", whatever its moments were
-ends_with_abcd : (moments : List Disk) (after : Standing) → Tells add_sum 4 (Truncate 4 ∷ []) (Length 4 ∷ []) durable moments (six_with 6) after → Survives add_sum 4 abcd abcd 4 (last durable moments)
+ends_with_abcd : (moments : List Disk) (after : RunState) → EachStepIsExact add_sum 4 (Truncate 4 ∷ []) (Length 4 ∷ []) durable moments (six_with 6) after → Survives add_sum 4 abcd abcd 4 (last durable moments)
 ends_with_abcd moments after told =
     let there : last durable moments ≡ last durable told.1 = one_step (Truncate 4) (Length 4) durable moments (six_with 6) after told in
-    let at_the_end : Survives add_sum 4 abcd abcd 4 (last durable told.1) = subst (λ (s : Standing). Survives add_sum 4 s.content s.otherwise (raised (last durable told.1) s).floor (last durable told.1)) told.5.0.1 told.7.2 in
+    let at_the_end : Survives add_sum 4 abcd abcd 4 (last durable told.1) = subst (λ (s : RunState). Survives add_sum 4 s.content s.otherwise (raised (last durable told.1) s).floor (last durable told.1)) told.5.0.1 told.7.2 in
     subst (λ (d : Disk). Survives add_sum 4 abcd abcd 4 d) (sym there) at_the_end
 
 -- a cut that went too far: a floor is lost
-pub no_cut_too_far : (after : Standing) → Tells add_sum 4 (Truncate 4 ∷ []) (Length 4 ∷ []) durable (cut ∷ empty ∷ []) (six_with 6) after → ⊥
+pub no_cut_too_far : (after : RunState) → EachStepIsExact add_sum 4 (Truncate 4 ∷ []) (Length 4 ∷ []) durable (cut ∷ empty ∷ []) (six_with 6) after → ⊥
 no_cut_too_far after told =
     let s : Survives add_sum 4 abcd abcd 4 empty = ends_with_abcd (cut ∷ empty ∷ []) after told in
     omega (arith, ap length (s.kept true [] (recovered empty [] (an_empty_recovery true))))
@@ -193,7 +193,7 @@ uncut_is_distinct (suc zero) page is = subst (λ (l : List ℕ). (s : Slot) → 
 uncut_is_distinct (suc (suc p)) page is = absurd (cc is)
 
 -- so a cut that isn't synced leaves bytes that may come back: it isn't told
-pub no_cut_without_a_sync : (after : Standing) → Tells add_sum 4 (Truncate 4 ∷ []) (Length 4 ∷ []) durable (cut ∷ []) (six_with 6) after → ⊥
+pub no_cut_without_a_sync : (after : RunState) → EachStepIsExact add_sum 4 (Truncate 4 ∷ []) (Length 4 ∷ []) durable (cut ∷ []) (six_with 6) after → ⊥
 no_cut_without_a_sync after told =
     let s : Survives add_sum 4 abcd abcd 4 cut = ends_with_abcd (cut ∷ []) after told in
     let comes = crashed cut six durable (record { crashed = record { image = base_is_image cut; durable = record { since = refl; base = refl } }; free = λ fair. uncut_is_distinct }) (six_come_back true) in

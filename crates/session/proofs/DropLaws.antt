@@ -8,13 +8,13 @@ use Rattle.disk.specs.Disk.{Disk, Life}
 use Rattle.crash.specs.Kept.{AllOnly, Each}
 use Rattle.writer_state.specs.WriterState.{WriterState}
 use Rattle.cache.specs.CacheState.{CacheState}
-use Rattle.paged_read.specs.Tail.{Tail, told, CanRead}
+use Rattle.paged_read.specs.Tail.{Tail, logical_bytes, CanRead}
 use Rattle.paged_read.specs.Replay.{ReplayState}
 use Rattle.session.specs.declared.steps.Step.{Step}
 use Rattle.session.specs.declared.steps.Step.TheVariants.{DropReplay, DropSnapshot}
 use Rattle.session.specs.declared.steps.Reply.{Reply}
 use Rattle.session.specs.declared.steps.Reply.TheVariants.{Done, NoSuch}
-use Rattle.session.specs.Run.{Answers, CacheFits, content_after, Did, IsReady, IsReplayIn, IsSnapshot, numbered, raised, Replayed, replayed, SessionState, Standing, StandsFor, touch, turned_away, without_replay, without_snapshot, WriterFits}
+use Rattle.session.specs.Run.{AnswersStep, CacheFits, content_after, Did, IsReplayIn, IsSnapshot, IsSoundSession, numbered, raised, replay_in_run, Represents, RunReplay, RunState, SessionState, turned_away, use_of_step, without_replay, without_snapshot, WriterFits}
 use Rattle.session.specs.Calls.{KeepsAllButReplays, KeepsAllButSnapshots, LetsGo, Steps}
 use Rattle.session.proofs.Numbered.{numbered-map}
 use Rattle.session.proofs.StepLaws.{answers_away, answers_here, begun_covers, begun_keeps, leaves, only_there, raise_within}
@@ -26,7 +26,7 @@ LetsGoOf index was now reply o = elim o [ None ↦ (reply ≡ NoSuch) × (now �
 -- ---- of any step that asks no device, and leaves the content
 
 -- where a writer stands for a content, it does whatever else stands
-fits_with : (P : ℕ) (o : Option WriterState) (s : Standing) (snapshots : List (Option (List ℕ))) (replays : List (Option Replayed)) (d : Disk) → WriterFits P o s d → WriterFits P o (record s { snapshots = snapshots; replays = replays }) d
+fits_with : (P : ℕ) (o : Option WriterState) (s : RunState) (snapshots : List (Option (List ℕ))) (replays : List (Option RunReplay)) (d : Disk) → WriterFits P o s d → WriterFits P o (record s { snapshots = snapshots; replays = replays }) d
 fits_with P None s snapshots replays d fits = fits
 fits_with P (Some w) s snapshots replays d fits = record {
   page_size = fits.page_size;
@@ -41,11 +41,11 @@ fits_with P (Some w) s snapshots replays d fits = record {
 }
 
 -- what it did, by its answer
-did_nothing : (sum : List ℕ → ℕ) (P : ℕ) (step : Step) (reply : Reply) (was : SessionState) (d : Disk) (before after : Standing) → ((content : List ℕ) → content_after step content ≡ content) → StandsFor sum P was before d → Answers sum P step reply d d before after
+did_nothing : (sum : List ℕ → ℕ) (P : ℕ) (step : Step) (reply : Reply) (was : SessionState) (d : Disk) (before after : RunState) → ((content : List ℕ) → content_after step content ≡ content) → Represents sum P was before d → AnswersStep sum P step reply d d before after
     → (raised d after).floor ≤ length after.content → Did sum P step reply d [] before after
 did_nothing sum P step reply was d before after stays stands answer within = record {
   answer = answer;
-  touches = leaves (touch P step before) d;
+  touches = leaves (use_of_step P step before) d;
   stopped = λ away. refl;
   kept = (begun_keeps sum P step before d stands.kept, tt);
   covered = (begun_covers sum P step before d stands.covered, tt);
@@ -54,12 +54,12 @@ did_nothing sum P step reply was d before after stays stands answer within = rec
 }
 
 -- the floor once it is raised
-floor_within : (sum : List ℕ → ℕ) (P : ℕ) (was : SessionState) (before : Standing) (d : Disk) → StandsFor sum P was before d → (raised d before).floor ≤ length before.content
+floor_within : (sum : List ℕ → ℕ) (P : ℕ) (was : SessionState) (before : RunState) (d : Disk) → Represents sum P was before d → (raised d before).floor ≤ length before.content
 floor_within sum P was before d stands = raise_within d before.covers before.floor (length before.content) stands.floor stands.within
 
 -- one that is turned away
-away_takes : (sum : List ℕ → ℕ) (step : Step) (was : SessionState) (cache : CacheState) (life : Life) → ((content : List ℕ) → content_after step content ≡ content) → IsReady sum was life.present → CacheFits was cache life.present
-    → ((P : ℕ) (before : Standing) → StandsFor sum P was before life.present → turned_away step before ≡ Some NoSuch) → Steps sum step NoSuch was was life life × CacheFits was cache life.present
+away_takes : (sum : List ℕ → ℕ) (step : Step) (was : SessionState) (cache : CacheState) (life : Life) → ((content : List ℕ) → content_after step content ≡ content) → IsSoundSession sum was life.present → CacheFits was cache life.present
+    → ((P : ℕ) (before : RunState) → Represents sum P was before life.present → turned_away step before ≡ Some NoSuch) → Steps sum step NoSuch was was life life × CacheFits was cache life.present
 away_takes sum step was cache life stays ready fits away = (
   record {
     ready = ready;
@@ -81,13 +81,13 @@ set_none : {A : Type 0} (xs : List (Option A)) (index : ℕ) → xs ≡ [] → s
 set_none xs index none = ap (λ (l : List (Option _)). set l index None) none
 
 -- the snapshot of a number, as a standing has it
-snapshot_of : (sum : List ℕ → ℕ) (P : ℕ) (was : SessionState) (index : ℕ) (o : Option Tail) (before : Standing) (d : Disk) → numbered was.snapshots index ≡ o → StandsFor sum P was before d
-    → turned_away (DropSnapshot index) before ≡ (if is_some (option_map (λ t. told t d.readable) o) then None else Some NoSuch)
+snapshot_of : (sum : List ℕ → ℕ) (P : ℕ) (was : SessionState) (index : ℕ) (o : Option Tail) (before : RunState) (d : Disk) → numbered was.snapshots index ≡ o → Represents sum P was before d
+    → turned_away (DropSnapshot index) before ≡ (if is_some (option_map (λ t. logical_bytes t d.readable) o) then None else Some NoSuch)
 snapshot_of sum P was index o before d at stands =
     ap (λ (l : List (Option (List ℕ))). if is_some (numbered l index) then None else Some NoSuch) stands.snapshots
-    ∙ ap (λ (x : Option (List ℕ)). if is_some x then None else Some NoSuch) (numbered-map (λ (t : Tail). told t d.readable) was.snapshots index ∙ ap (option_map (λ t. told t d.readable)) at)
+    ∙ ap (λ (x : Option (List ℕ)). if is_some x then None else Some NoSuch) (numbered-map (λ (t : Tail). logical_bytes t d.readable) was.snapshots index ∙ ap (option_map (λ t. logical_bytes t d.readable)) at)
 
-drops_snapshot : (sum : List ℕ → ℕ) (was : SessionState) (cache : CacheState) (index : ℕ) (t : Tail) (life : Life) → IsReady sum was life.present → CacheFits was cache life.present → numbered was.snapshots index ≡ Some t
+drops_snapshot : (sum : List ℕ → ℕ) (was : SessionState) (cache : CacheState) (index : ℕ) (t : Tail) (life : Life) → IsSoundSession sum was life.present → CacheFits was cache life.present → numbered was.snapshots index ≡ Some t
     → Steps sum (DropSnapshot index) Done was (record was { snapshots = set was.snapshots index None }) life life × CacheFits (record was { snapshots = set was.snapshots index None }) cache life.present
 drops_snapshot sum was cache index t life ready fits at = (
   record {
@@ -114,7 +114,7 @@ drops_snapshot sum was cache index t life ready fits at = (
         kept = stands.kept;
         covered = stands.covered;
         only = stands.only;
-        snapshots = ap (λ (l : List (Option (List ℕ))). set l index None) stands.snapshots ∙ sym (map-set (option_map (λ u. told u life.present.readable)) was.snapshots index None);
+        snapshots = ap (λ (l : List (Option (List ℕ))). set l index None) stands.snapshots ∙ sym (map-set (option_map (λ u. logical_bytes u life.present.readable)) was.snapshots index None);
         replays = stands.replays;
       };
     };
@@ -122,7 +122,7 @@ drops_snapshot sum was cache index t life ready fits at = (
   record { writer = fits.writer; snapshots = All-set (λ o. IfSome o (λ u. CanRead u cache life.present)) was.snapshots index None tt fits.snapshots },
 )
 
-pub drop_snapshot_takes : (sum : List ℕ → ℕ) (was now : SessionState) (cache : CacheState) (index : ℕ) (life : Life) (reply : Reply) → IsReady sum was life.present → CacheFits was cache life.present → LetsGo index was.snapshots now.snapshots reply
+pub drop_snapshot_takes : (sum : List ℕ → ℕ) (was now : SessionState) (cache : CacheState) (index : ℕ) (life : Life) (reply : Reply) → IsSoundSession sum was life.present → CacheFits was cache life.present → LetsGo index was.snapshots now.snapshots reply
     → KeepsAllButSnapshots was now → Steps sum (DropSnapshot index) reply was now life life × CacheFits now cache life.present
 drop_snapshot_takes sum was now cache index life reply ready fits did rest = by_number (numbered was.snapshots index) refl did
   where
@@ -142,13 +142,13 @@ drop_snapshot_takes sum was now cache index life reply ready fits did rest = by_
 -- ---- of a replay
 
 -- the replay of a number, as a standing has it
-replay_of : (sum : List ℕ → ℕ) (P : ℕ) (was : SessionState) (index : ℕ) (o : Option ReplayState) (before : Standing) (d : Disk) → numbered was.replays index ≡ o → StandsFor sum P was before d
-    → turned_away (DropReplay index) before ≡ (if is_some (option_map (replayed d.readable) o) then None else Some NoSuch)
+replay_of : (sum : List ℕ → ℕ) (P : ℕ) (was : SessionState) (index : ℕ) (o : Option ReplayState) (before : RunState) (d : Disk) → numbered was.replays index ≡ o → Represents sum P was before d
+    → turned_away (DropReplay index) before ≡ (if is_some (option_map (replay_in_run d.readable) o) then None else Some NoSuch)
 replay_of sum P was index o before d at stands =
-    ap (λ (l : List (Option Replayed)). if is_some (numbered l index) then None else Some NoSuch) stands.replays
-    ∙ ap (λ (x : Option Replayed). if is_some x then None else Some NoSuch) (numbered-map (replayed d.readable) was.replays index ∙ ap (option_map (replayed d.readable)) at)
+    ap (λ (l : List (Option RunReplay)). if is_some (numbered l index) then None else Some NoSuch) stands.replays
+    ∙ ap (λ (x : Option RunReplay). if is_some x then None else Some NoSuch) (numbered-map (replay_in_run d.readable) was.replays index ∙ ap (option_map (replay_in_run d.readable)) at)
 
-drops_replay : (sum : List ℕ → ℕ) (was : SessionState) (cache : CacheState) (index : ℕ) (r : ReplayState) (life : Life) → IsReady sum was life.present → CacheFits was cache life.present → numbered was.replays index ≡ Some r
+drops_replay : (sum : List ℕ → ℕ) (was : SessionState) (cache : CacheState) (index : ℕ) (r : ReplayState) (life : Life) → IsSoundSession sum was life.present → CacheFits was cache life.present → numbered was.replays index ≡ Some r
     → Steps sum (DropReplay index) Done was (record was { replays = set was.replays index None }) life life × CacheFits (record was { replays = set was.replays index None }) cache life.present
 drops_replay sum was cache index r life ready fits at = (
   record {
@@ -176,14 +176,14 @@ drops_replay sum was cache index r life ready fits at = (
         covered = stands.covered;
         only = stands.only;
         snapshots = stands.snapshots;
-        replays = ap (λ (l : List (Option Replayed)). set l index None) stands.replays ∙ sym (map-set (option_map (replayed life.present.readable)) was.replays index None);
+        replays = ap (λ (l : List (Option RunReplay)). set l index None) stands.replays ∙ sym (map-set (option_map (replay_in_run life.present.readable)) was.replays index None);
       };
     };
   },
   record { writer = fits.writer; snapshots = fits.snapshots },
 )
 
-pub drop_replay_takes : (sum : List ℕ → ℕ) (was now : SessionState) (cache : CacheState) (index : ℕ) (life : Life) (reply : Reply) → IsReady sum was life.present → CacheFits was cache life.present → LetsGo index was.replays now.replays reply → KeepsAllButReplays was now
+pub drop_replay_takes : (sum : List ℕ → ℕ) (was now : SessionState) (cache : CacheState) (index : ℕ) (life : Life) (reply : Reply) → IsSoundSession sum was life.present → CacheFits was cache life.present → LetsGo index was.replays now.replays reply → KeepsAllButReplays was now
     → Steps sum (DropReplay index) reply was now life life × CacheFits now cache life.present
 drop_replay_takes sum was now cache index life reply ready fits did rest = by_number (numbered was.replays index) refl did
   where

@@ -21,12 +21,12 @@ use Rattle.std.specs.declared.num.NonZeroUsize.{NonZeroUsize}
 use Rattle.session.specs.declared.steps.Step.{Step}
 use Rattle.session.specs.declared.steps.Step.TheVariants.{Append, Owned, TryAppend, Sync, StartSync, Wait, WaitSync, Needs, Size, Read, ReadUpTo, TryRead, ReadRanges, TryReadRanges, Begin, Truncate, Snapshot, TrySnapshot, Snap, Seal, Replay, Ensure, Take, Seek, DropSnapshot, DropReplay, Scan}
 use Rattle.session.specs.declared.steps.Reply.TheVariants.{At, Nothing, Done, Length, Bytes, Fault, Closed, NotRecovering, NoSuch, Served, Missed, BadRanges, Taken, Sealed, NotAppending}
-use Rattle.session.specs.Run.{HasEnsured, is_had, PassesEnd, passed, Replayed, replaying, rewritten, Standing, buffered_after, awaited_after, appended, synced, starting, truncated, noted, flushed, left_by_seal, sealed_by, snapshot_at, waited, begun, needs_sync, raised, started_by, ended, fit_together, turned_away, without_replay, without_snapshot, Accepts, faults, HasCause, Allocates, awaited_name, Refuses, Takes, Foretells, RiseBelow, Answers, touch, Ran}
+use Rattle.session.specs.Run.{HasEnsured, needs_no_device, PassesContent, passed, RunReplay, replaying, rewritten, RunState, buffered_after, awaited_after, appended, after_sync, starting, truncated, noted, flushed, left_by_seal, sealed_by, snapshot_at, after_wait, at_step, needs_sync, raised, answer_of_start, ended, fit_together, turned_away, without_replay, without_snapshot, Accepts, faults, HasCause, Allocates, awaited_name, RefusesStep, TakesStep, FaultsComeFirst, RiseBelow, AnswersStep, use_of_step, Ran}
 use Rattle.session.specs.Run.Touch.{Leaves, Looks, Changes}
 use Rattle.session.specs.Promise.{Crashes, fresh}
 
 -- a writer of "abcdef", all of which every crash keeps: "ef" is buffered, of eight bytes
-abbrev pub six_stand : Standing
+abbrev pub six_stand : RunState
 six_stand = record {
   has_writer = true;
   recovering = true;
@@ -43,11 +43,11 @@ six_stand = record {
 }
 
 -- the same, with nothing synced yet, and all of it buffered
-abbrev pub none_synced : Standing
+abbrev pub none_synced : RunState
 none_synced = record six_stand { floor = 0; buffered = 6; written = false }
 
 -- a started sync of all of it, which isn't complete
-abbrev pub six_started : Standing
+abbrev pub six_started : RunState
 six_started = starting 4 (Named 0) none_synced
 
 -- what a recovery of "abcdef" begins with
@@ -55,19 +55,19 @@ pub a_fresh_session : fresh 4 8 six ≡ six_stand
 a_fresh_session = refl
 
 -- after a sync all of it is kept, and what is left after the full page is buffered
-pub a_sync_step : synced 4 none_synced ≡ six_stand
+pub a_sync_step : after_sync 4 none_synced ≡ six_stand
 a_sync_step = refl
 
 -- a refused sync takes the writer, and what was kept still is
-pub a_refused_sync : Refuses Sync WriteFailed durable durable six_stand (record six_stand { has_writer = false })
+pub a_refused_sync : RefusesStep Sync WriteFailed durable durable six_stand (record six_stand { has_writer = false })
 a_refused_sync = refl
 
 -- a refused read takes nothing
-pub a_refused_read : Refuses (Read 4 3) BlobInsufficientLength durable durable six_stand six_stand
+pub a_refused_read : RefusesStep (Read 4 3) BlobInsufficientLength durable durable six_stand six_stand
 a_refused_read = refl
 
 -- nor does a refused try
-pub a_refused_try : (bytes : Vec ℕ Global) → Refuses (TryAppend bytes) OutOfMemory durable durable six_stand six_stand
+pub a_refused_try : (bytes : Vec ℕ Global) → RefusesStep (TryAppend bytes) OutOfMemory durable durable six_stand six_stand
 a_refused_try bytes = refl
 
 -- where there is no writer, a step that needs one is turned away
@@ -99,10 +99,10 @@ pub a_byte_to_sync : (appended 4 (103 ∷ []) six_stand).written ≡ false
 a_byte_to_sync = refl
 
 -- with nothing to sync, a sync asks the device nothing
-pub an_idle_sync : touch 4 Sync six_stand ≡ Leaves
+pub an_idle_sync : use_of_step 4 Sync six_stand ≡ Leaves
 an_idle_sync = refl
 
-pub a_busy_sync : touch 4 Sync none_synced ≡ Changes 2
+pub a_busy_sync : use_of_step 4 Sync none_synced ≡ Changes 2
 a_busy_sync = refl
 
 -- so it isn't refused
@@ -121,42 +121,42 @@ pub a_started_sync : six_started ≡ record six_stand { floor = 0; awaited = Som
 a_started_sync = refl
 
 -- where all was durable, starting one is a sync
-pub a_sync_at_once : starting 4 AllDone none_synced ≡ synced 4 none_synced
+pub a_sync_at_once : starting 4 AllDone none_synced ≡ after_sync 4 none_synced
 a_sync_at_once = refl
 
 -- it is started once
-pub started_once : started_by six_started durable ≡ Named 0
+pub started_once : answer_of_start six_started durable ≡ Named 0
 started_once = refl
 
-pub nothing_to_start : started_by six_stand durable ≡ AllDone
+pub nothing_to_start : answer_of_start six_stand durable ≡ AllDone
 nothing_to_start = refl
 
 -- with a name of its own
-pub started_anew : started_by none_synced durable ≡ Named 0
+pub started_anew : answer_of_start none_synced durable ≡ Named 0
 started_anew = refl
 
 -- then a sync has something to do, and waits; and nothing once it was waited for
-pub a_sync_that_waits : touch 4 Sync six_started ≡ Changes 1
+pub a_sync_that_waits : use_of_step 4 Sync six_started ≡ Changes 1
 a_sync_that_waits = refl
 
 pub needs_a_sync : needs_sync six_started ≡ true
 needs_a_sync = refl
 
-pub needs_none : needs_sync (waited six_started) ≡ false
+pub needs_none : needs_sync (after_wait six_started) ≡ false
 needs_none = refl
 
 -- a start where nothing was appended since asks the device nothing
-pub an_idle_start : touch 4 StartSync six_started ≡ Leaves
+pub an_idle_start : use_of_step 4 StartSync six_started ≡ Leaves
 an_idle_start = refl
 
-pub a_busy_start : touch 4 StartSync none_synced ≡ Changes 3
+pub a_busy_start : use_of_step 4 StartSync none_synced ≡ Changes 3
 a_busy_start = refl
 
 -- so does a wait where nothing is awaited
-pub an_idle_wait : touch 4 Wait none_synced ≡ Leaves
+pub an_idle_wait : use_of_step 4 Wait none_synced ≡ Leaves
 an_idle_wait = refl
 
-pub a_busy_wait : touch 4 Wait six_started ≡ Changes 1
+pub a_busy_wait : use_of_step 4 Wait six_started ≡ Changes 1
 a_busy_wait = refl
 
 -- an append that is buffered waits for nothing, and another for the started sync
@@ -183,7 +183,7 @@ pub then_a_floor : (raised (record pending { settled = 2 }) six_started).floor �
 then_a_floor = refl
 
 -- a wait answers Ok only then
-pub no_wait_before : Accepts add_sum 4 Wait Done pending pending six_started (waited six_started) → ⊥
+pub no_wait_before : Accepts add_sum 4 Wait Done pending pending six_started (after_wait six_started) → ⊥
 no_wait_before accepts = absurd (false≢true accepts.0)
 
 pub a_wait_done : Accepts add_sum 4 (WaitSync 0) Done pending (record pending { settled = 2 }) six_started six_started
@@ -198,7 +198,7 @@ no_fault_of_another (inl (more, is, failed)) = none_failed SyncFailed pending.lo
 no_fault_of_another (inr had) = absurd (false≢true had)
 
 -- there is no memory for a name: then nothing was done
-pub no_room_for_a_name : Refuses StartSync OutOfMemory durable durable six_stand six_stand
+pub no_room_for_a_name : RefusesStep StartSync OutOfMemory durable durable six_stand six_stand
 no_room_for_a_name = inr (refl, refl, refl)
 
 -- the end of a recovery
@@ -208,7 +208,7 @@ a_recovery_ends = refl
 -- ---- truncates
 
 -- of "abcdef" two bytes are left, all durable and buffered
-abbrev two_stand : Standing
+abbrev two_stand : RunState
 two_stand = record six_stand {
   content = 97 ∷ 98 ∷ [];
   floor = 2;
@@ -219,22 +219,22 @@ pub a_truncate : truncated 4 2 six_stand ≡ two_stand
 a_truncate = refl
 
 -- the same by the steps: six bytes, a sync, and a truncate
-pub a_truncate_after_a_sync : truncated 4 2 (begun (Truncate 2) (synced 4 (appended 4 six (fresh 4 8 [])))) ≡ two_stand
+pub a_truncate_after_a_sync : truncated 4 2 (at_step (Truncate 2) (after_sync 4 (appended 4 six (fresh 4 8 [])))) ≡ two_stand
 a_truncate_after_a_sync = refl
 
 -- as it begins the floor is lowered, and what a started sync covers
-pub a_floor_is_lowered : begun (Truncate 2) six_stand ≡ record six_stand { floor = 2 }
+pub a_floor_is_lowered : at_step (Truncate 2) six_stand ≡ record six_stand { floor = 2 }
 a_floor_is_lowered = refl
 
-pub a_cover_is_lowered : begun (Truncate 2) six_started ≡ record six_started { covers = (0, 2) ∷ [] }
+pub a_cover_is_lowered : at_step (Truncate 2) six_started ≡ record six_started { covers = (0, 2) ∷ [] }
 a_cover_is_lowered = refl
 
 -- no floor is raised
-pub no_floor_is_raised : begun (Truncate 7) six_stand ≡ six_stand
+pub no_floor_is_raised : at_step (Truncate 7) six_stand ≡ six_stand
 no_floor_is_raised = refl
 
 -- other steps begin with what stands
-pub a_sync_begins : begun Sync six_stand ≡ six_stand
+pub a_sync_begins : at_step Sync six_stand ≡ six_stand
 a_sync_begins = refl
 
 -- it answers the size that is left, which isn't what it was asked for where there was less
@@ -244,22 +244,22 @@ a_truncate_done = (refl, refl)
 pub a_truncate_above : Accepts add_sum 4 (Truncate 7) (Length 6) durable durable none_synced six_stand
 a_truncate_above = (refl, refl)
 
-pub no_size_before : Takes add_sum 4 (Truncate 2) (Length 6) durable durable six_stand two_stand → ⊥
+pub no_size_before : TakesStep add_sum 4 (Truncate 2) (Length 6) durable durable six_stand two_stand → ⊥
 no_size_before takes = omega (arith, takes.0)
 
 -- after a sync and a truncate a started sync that completes raises no floor past what is left
-pub a_cut_cover : (raised (record pending { settled = 2 }) (truncated 4 2 (begun (Truncate 2) six_started))).floor ≡ 2
+pub a_cut_cover : (raised (record pending { settled = 2 }) (truncated 4 2 (at_step (Truncate 2) six_started))).floor ≡ 2
 a_cut_cover = refl
 
 -- refused, it takes the writer, and leaves the content or the bytes that it was to leave: no more than these is kept
-pub a_refused_truncate : Refuses (Truncate 2) WriteFailed durable durable (begun (Truncate 2) six_stand) (record six_stand { has_writer = false; floor = 2; otherwise = 97 ∷ 98 ∷ [] })
+pub a_refused_truncate : RefusesStep (Truncate 2) WriteFailed durable durable (at_step (Truncate 2) six_stand) (record six_stand { has_writer = false; floor = 2; otherwise = 97 ∷ 98 ∷ [] })
 a_refused_truncate = refl
 
 -- it isn't taken once the recovery has ended, and then nothing is lowered
 pub no_truncate_appending : turned_away (Truncate 2) (record six_stand { recovering = false }) ≡ Some NotRecovering
 no_truncate_appending = refl
 
-pub nothing_lowered : begun (Truncate 2) (record six_stand { recovering = false }) ≡ record six_stand { recovering = false }
+pub nothing_lowered : at_step (Truncate 2) (record six_stand { recovering = false }) ≡ record six_stand { recovering = false }
 nothing_lowered = refl
 
 -- where there is no writer that is told first
@@ -267,10 +267,10 @@ pub closed_first : turned_away (Truncate 2) (record six_stand { has_writer = fal
 closed_first = refl
 
 -- a cut may ask for eight calls, and a truncate that is none for those of a sync
-pub a_busy_truncate : touch 4 (Truncate 2) six_stand ≡ Changes 8
+pub a_busy_truncate : use_of_step 4 (Truncate 2) six_stand ≡ Changes 8
 a_busy_truncate = refl
 
-pub a_truncate_that_syncs : touch 4 (Truncate 6) six_stand ≡ Changes 2
+pub a_truncate_that_syncs : use_of_step 4 (Truncate 6) six_stand ≡ Changes 2
 a_truncate_that_syncs = refl
 
 -- ---- replies
@@ -287,7 +287,7 @@ pub no_end_within : HasCause 4 (Read 4 2) six_stand durable durable BlobInsuffic
 no_end_within cause = omega (arith, cause.1)
 
 -- where a range passes the end, it is answered so
-pub the_end_is_told : Answers add_sum 4 (Read 4 3) (Fault OutOfMemory) durable durable six_stand six_stand → ⊥
+pub the_end_is_told : AnswersStep add_sum 4 (Read 4 3) (Fault OutOfMemory) durable durable six_stand six_stand → ⊥
 the_end_is_told answers = let is : Fault OutOfMemory ≡ Fault BlobInsufficientLength = answers.1.1 a_read_past_the_end in cc
 
 -- bytes that fit what is buffered stand after the content
@@ -299,11 +299,11 @@ pub a_try_that_does_not_fit : (bytes : Vec ℕ Global) → length bytes.items �
 a_try_that_does_not_fit bytes long = let passes : 8 < 2 + length bytes.items = omega (arith, long) in (grind (arith, nat_tests, passes), refl)
 
 -- and those that fit aren't answered so
-pub no_nothing_that_fits : (bytes : Vec ℕ Global) (after : Standing) → length bytes.items ≡ 6 → Accepts add_sum 4 (TryAppend bytes) Nothing durable durable six_stand after → ⊥
+pub no_nothing_that_fits : (bytes : Vec ℕ Global) (after : RunState) → length bytes.items ≡ 6 → Accepts add_sum 4 (TryAppend bytes) Nothing durable durable six_stand after → ⊥
 no_nothing_that_fits bytes after long accepts = absurd (false≢true (sym accepts.0 ∙ le-leb (2 + length bytes.items) 8 (omega (arith, long))))
 
 -- no other step is answered so, but a read that asks no device, and a snapshot that writes nothing
-pub nothing_is_of_a_try : (sum : List ℕ → ℕ) (P : ℕ) (step : Step) (from to : Disk) (before after : Standing) → Accepts sum P step Nothing from to before after
+pub nothing_is_of_a_try : (sum : List ℕ → ℕ) (P : ℕ) (step : Step) (from to : Disk) (before after : RunState) → Accepts sum P step Nothing from to before after
     → ((bytes : Vec ℕ Global) × (step ≡ TryAppend bytes)) ⊎ (((offset len : ℕ) × (step ≡ TryRead offset len)) ⊎ (step ≡ TrySnapshot))
 nothing_is_of_a_try sum P (TryAppend bytes) from to before after accepts = inl (bytes, refl)
 nothing_is_of_a_try sum P (TryRead offset len) from to before after accepts = inr (inl (offset, len, refl))
@@ -345,7 +345,7 @@ pub some_up_to_at_the_end : HasCause 4 (ReadUpTo 6 1) six_stand durable durable 
 some_up_to_at_the_end = (λ is. cc is, omega arith)
 
 -- a read that asks no device leaves it alone, and only memory is refused
-pub a_try_read_asks_nothing : touch 4 (TryRead 0 4) six_stand ≡ Leaves
+pub a_try_read_asks_nothing : use_of_step 4 (TryRead 0 4) six_stand ≡ Leaves
 a_try_read_asks_nothing = refl
 
 -- ranges that touch can be read in one call, and an empty one at the end of the last
@@ -402,7 +402,7 @@ the_first_decides ranges is = ((0, 2) ∷ [], (18446744073709551615, 1) ∷ [], 
     first zero range lt = omega (arith, lt)
     first (suc k) range lt = absurd (omega (arith, lt))
 
-pub and_alone : (ranges : Vec (ℕ × ℕ) Global) → ranges.items ≡ (0, 2) ∷ (5, 2) ∷ (18446744073709551615, 1) ∷ [] → Takes add_sum 4 (ReadRanges ranges) (Fault OffsetOverflow) durable durable six_stand six_stand × Foretells 4 (ReadRanges ranges) (Fault OffsetOverflow) six_stand → ⊥
+pub and_alone : (ranges : Vec (ℕ × ℕ) Global) → ranges.items ≡ (0, 2) ∷ (5, 2) ∷ (18446744073709551615, 1) ∷ [] → TakesStep add_sum 4 (ReadRanges ranges) (Fault OffsetOverflow) durable durable six_stand six_stand × FaultsComeFirst 4 (ReadRanges ranges) (Fault OffsetOverflow) six_stand → ⊥
 and_alone ranges is takes = let other : Fault OffsetOverflow ≡ Fault BlobInsufficientLength = takes.1.1 (the_first_decides ranges is) in cc other
 
 -- the numbers of missed ranges rise, and are those of ranges
@@ -413,10 +413,10 @@ pub no_number_of_none : (ranges : Vec (ℕ × ℕ) Global) (numbers : Vec ℕ Gl
 no_number_of_none ranges numbers is are accepts = let rise = subst (λ (ns : List ℕ). RiseBelow 0 (length ranges.items) ns) are accepts.0.0 in omega (arith, rise.1, ap length is)
 
 -- a read of ranges only reads, and a question for them leaves the device alone
-pub a_read_of_ranges_looks : (ranges : Vec (ℕ × ℕ) Global) → touch 4 (ReadRanges ranges) six_stand ≡ Looks
+pub a_read_of_ranges_looks : (ranges : Vec (ℕ × ℕ) Global) → use_of_step 4 (ReadRanges ranges) six_stand ≡ Looks
 a_read_of_ranges_looks ranges = refl
 
-pub a_question_leaves : (ranges : Vec (ℕ × ℕ) Global) → touch 4 (TryReadRanges ranges) six_stand ≡ Leaves
+pub a_question_leaves : (ranges : Vec (ℕ × ℕ) Global) → use_of_step 4 (TryReadRanges ranges) six_stand ≡ Leaves
 a_question_leaves ranges = refl
 
 -- a size has no error
@@ -433,7 +433,7 @@ pub no_overflow : HasCause 4 Sync none_synced durable durable OffsetOverflow →
 no_overflow cause = cause
 
 -- a floor is told by the syncs: a refused sync raises none
-pub a_floor_of_a_run : (ended six (synced 4 none_synced)).floor ≡ 6
+pub a_floor_of_a_run : (ended six (after_sync 4 none_synced)).floor ≡ 6
 a_floor_of_a_run = refl
 
 -- the blob says nothing else
@@ -465,7 +465,7 @@ no_other_size accepts = omega (arith, accepts.0)
 -- ---- snapshots
 
 -- with a snapshot, of a writer that appends
-abbrev six_noted : Standing
+abbrev six_noted : RunState
 six_noted = noted (record six_stand { recovering = false })
 
 pub a_snapshot_tells_the_content : six_noted.snapshots ≡ Some six ∷ []
@@ -482,10 +482,10 @@ none_while_a_page_is_buffered = (omega arith, refl)
 pub a_flushed_snapshot : noted (flushed 4 none_synced) ≡ record none_synced { buffered = 2; snapshots = Some six ∷ [] }
 a_flushed_snapshot = refl
 
-pub a_snapshot_that_writes : touch 4 Snapshot none_synced ≡ Changes 2
+pub a_snapshot_that_writes : use_of_step 4 Snapshot none_synced ≡ Changes 2
 a_snapshot_that_writes = refl
 
-pub a_snapshot_that_does_not : touch 4 Snapshot six_stand ≡ Leaves
+pub a_snapshot_that_does_not : use_of_step 4 Snapshot six_stand ≡ Leaves
 a_snapshot_that_does_not = refl
 
 -- it isn't made in recovery, nor where there is no writer
@@ -502,14 +502,14 @@ no_seal_closed = refl
 pub an_idle_seal : Accepts add_sum 4 Seal (Sealed 1 AllDone) durable durable six_noted (record six_noted { has_writer = false; snapshots = Some six ∷ Some six ∷ [] })
 an_idle_seal = (refl, refl, refl)
 
-pub a_seal_that_leaves_the_disk : touch 4 Seal six_noted ≡ Leaves
+pub a_seal_that_leaves_the_disk : use_of_step 4 Seal six_noted ≡ Leaves
 a_seal_that_leaves_the_disk = refl
 
 -- of what isn't it starts a sync of its own, which covers all
 pub a_busy_seal : left_by_seal 4 (Named 0) none_synced ≡ record six_started { has_writer = false; snapshots = Some six ∷ [] }
 a_busy_seal = refl
 
-pub a_seal_that_starts : touch 4 Seal none_synced ≡ Changes 3
+pub a_seal_that_starts : use_of_step 4 Seal none_synced ≡ Changes 3
 a_seal_that_starts = refl
 
 pub it_is_named : sealed_by none_synced durable ≡ Named 0
@@ -532,7 +532,7 @@ it_does_not_move = refl
 
 -- one that was let go is gone, also for a second such step, and the other stands; the next has the
 -- next number
-abbrev second_left : Standing
+abbrev second_left : RunState
 second_left = without_snapshot 0 (noted six_noted)
 
 pub a_snapshot_is_let_go : Accepts add_sum 4 (DropSnapshot 0) Done durable durable (noted six_noted) second_left
@@ -553,10 +553,10 @@ the_third_snapshot = (omega arith, refl, refl)
 -- ---- scans
 
 -- a scan of no bytes asks no device, and another one only reads
-pub a_scan_of_none : (proven : ℕ) (buffer_size : NonZeroUsize) → touch 4 (Scan proven 0 buffer_size) six_stand ≡ Leaves
+pub a_scan_of_none : (proven : ℕ) (buffer_size : NonZeroUsize) → use_of_step 4 (Scan proven 0 buffer_size) six_stand ≡ Leaves
 a_scan_of_none proven buffer_size = refl
 
-pub a_scan_looks : (proven : ℕ) (buffer_size : NonZeroUsize) → touch 4 (Scan proven 100 buffer_size) six_stand ≡ Looks
+pub a_scan_looks : (proven : ℕ) (buffer_size : NonZeroUsize) → use_of_step 4 (Scan proven 100 buffer_size) six_stand ≡ Looks
 a_scan_looks proven buffer_size = refl
 
 -- of the six bytes that the blob tells it counts at most three where it is to look at no more
@@ -570,7 +570,7 @@ three_are_counted buffer_size = (refl, refl)
 
 -- of "abcdef", with a buffer of four pages of sixteen bytes: a page is read at once, and four bytes are
 -- in full pages
-abbrev six_replayed : Replayed
+abbrev six_replayed : RunReplay
 six_replayed = record { content = six; whole = 4; position = 0; hand = 0; batch = 4 }
 
 pub a_replay_begins : (replaying 4 64 six_stand).replays ≡ Some six_replayed ∷ []
@@ -580,10 +580,10 @@ a_replay_begins = refl
 pub a_replay_that_writes : rewritten 4 none_synced ≡ record none_synced { buffered = 2 }
 a_replay_that_writes = refl
 
-pub it_writes : (buffer_size : NonZeroUsize) → touch 4 (Replay buffer_size) none_synced ≡ Changes 2
+pub it_writes : (buffer_size : NonZeroUsize) → use_of_step 4 (Replay buffer_size) none_synced ≡ Changes 2
 it_writes buffer_size = refl
 
-pub it_leaves_what_is_written : (buffer_size : NonZeroUsize) → touch 4 (Replay buffer_size) six_stand ≡ Leaves
+pub it_leaves_what_is_written : (buffer_size : NonZeroUsize) → use_of_step 4 (Replay buffer_size) six_stand ≡ Leaves
 it_leaves_what_is_written buffer_size = refl
 
 -- three bytes are taken of the six at hand, and of two at hand no more than two
@@ -603,7 +603,7 @@ one_is_at_hand = record {
   most = omega arith;
 }
 
-pub none_is_not_said : (now : Replayed) → HasEnsured six_replayed 1 false now → ⊥
+pub none_is_not_said : (now : RunReplay) → HasEnsured six_replayed 1 false now → ⊥
 none_is_not_said now says = false≢true says.exact
 
 -- nor may it fetch the whole blob for one byte
@@ -611,28 +611,28 @@ pub not_all_is_fetched : HasEnsured six_replayed 1 true (record six_replayed { h
 not_all_is_fetched says = absurd (omega (arith, says.most))
 
 -- where all that is left is after the full pages no device is asked
-pub the_rest_is_had : is_had (Some (record six_replayed { position = 4 })) 2 ≡ true
+pub the_rest_is_had : needs_no_device (Some (record six_replayed { position = 4 })) 2 ≡ true
 the_rest_is_had = refl
 
-pub a_page_is_not : is_had (Some six_replayed) 1 ≡ false
+pub a_page_is_not : needs_no_device (Some six_replayed) 1 ≡ false
 a_page_is_not = refl
 
 -- an offset past the end is refused, and the end is not
-pub past_the_end : PassesEnd (Seek 0 7) (replaying 4 64 six_stand)
+pub past_the_end : PassesContent (Seek 0 7) (replaying 4 64 six_stand)
 past_the_end = lit< tt
 
 -- a truncate that is called forgets it, and its number isn't given again
-pub a_cut_forgets : (begun (Truncate 2) (replaying 4 64 six_stand)).replays ≡ None ∷ []
+pub a_cut_forgets : (at_step (Truncate 2) (replaying 4 64 six_stand)).replays ≡ None ∷ []
 a_cut_forgets = refl
 
-pub it_is_gone : turned_away (Ensure 0 1) (begun (Truncate 2) (replaying 4 64 six_stand)) ≡ Some NoSuch
+pub it_is_gone : turned_away (Ensure 0 1) (at_step (Truncate 2) (replaying 4 64 six_stand)) ≡ Some NoSuch
 it_is_gone = refl
 
 pub no_such_replay : turned_away (Take 0 1) six_stand ≡ Some NoSuch
 no_such_replay = refl
 
 -- one that was let go is gone, also for a second such step, and the next has the next number
-abbrev six_dropped : Standing
+abbrev six_dropped : RunState
 six_dropped = without_replay 0 (replaying 4 64 six_stand)
 
 pub it_is_let_go : Accepts add_sum 4 (DropReplay 0) Done durable durable (replaying 4 64 six_stand) six_dropped

@@ -14,7 +14,7 @@ use Rattle.writer_state.specs.WriterState.{WriterState}
 use Rattle.writer_state.specs.Sound.{content as content_of}
 use Rattle.paged.specs.Recovers.{Recovers}
 use Rattle.session.specs.Run.{SessionState}
-use Rattle.session.specs.Promise.{Attempts, closed, session_of, fresh, opened, IsBegun, BeginsBy, AttemptsThrough, RecoversFrom, KeepsFloor, LeavesContent, GivesBack, GivesBackLeft, LeadsOn, StandsWhereSound, GivesId}
+use Rattle.session.specs.Promise.{Attempts, closed, session_of, fresh, opened, IsBegun, BeginsBy, AttemptsThrough, RecoversFrom, BeginsWithFloor, IsPrefixOfEither, GivesBack, GivesBackLeft, LeadsOn, RepresentsWhereSound, GivesSessionId}
 use Rattle.session.specs.Promise.ComesBack.{crashed}
 use Rattle.session.proofs.PromiseLaws.{stands_where_sound, recovered_keeps, recovered_leaves, left_back, unfair}
 use Rattle.session.proofs.ComesBackExamples.{ab, ab_page, empty, unsynced, saved, life_of, a_cache, ab_writer, ab_recovered, empty_writer, a_crash_before_the_sync, a_recovery, an_empty_recovery, an_attempt_that_did_nothing, no_attempt_that_lost, ab_comes_back, none_survives}
@@ -53,17 +53,17 @@ pub no_error_of_none : BeginsBy add_sum a_cache 8 (life_of saved) (life_of saved
 no_error_of_none (same, far) = omega (arith, far)
 
 -- it gives an id
-pub an_id_is_given : GivesId (Ok (session_of ab_writer)) a_cache (record a_cache { ids_given = 1 })
+pub an_id_is_given : GivesSessionId (Ok (session_of ab_writer)) a_cache (record a_cache { ids_given = 1 })
 an_id_is_given = refl
 
-pub no_id_is_kept : GivesId (Ok (session_of ab_writer)) a_cache a_cache → ⊥
+pub no_id_is_kept : GivesSessionId (Ok (session_of ab_writer)) a_cache a_cache → ⊥
 no_id_is_kept same = omega (arith, ap (λ (c : CacheState). c.ids_given) same)
 
 -- a session of a sound writer stands for its content: here as a recovery gives it
 pub opened_as_fresh : opened ab_writer 2 ab_page ≡ fresh 4 8 ab
 opened_as_fresh = refl
 
-pub it_stands_where_sound : StandsWhereSound add_sum ab_writer
+pub it_stands_where_sound : RepresentsWhereSound add_sum ab_writer
 it_stands_where_sound = stands_where_sound add_sum ab_writer
 
 -- ---- what it gives back
@@ -75,16 +75,16 @@ it_recovers = λ fair durable. a_recovery fair
 pub no_recovery_of_other_bytes : RecoversFrom add_sum 4 (record empty { readable = ab_page }) → ⊥
 no_recovery_of_other_bytes from = let long = (from false unfair).image.no_longer in omega (arith, ap length long.1, long.2)
 
-pub it_keeps_the_floor : KeepsFloor add_sum 4 saved ab
+pub it_keeps_the_floor : BeginsWithFloor add_sum 4 saved ab
 it_keeps_the_floor = recovered_keeps add_sum 4 saved ab (a_recovery false)
 
-pub a_floor_is_not_kept : KeepsFloor add_sum 4 saved (97 ∷ []) → ⊥
+pub a_floor_is_not_kept : BeginsWithFloor add_sum 4 saved (97 ∷ []) → ⊥
 a_floor_is_not_kept keeps = omega (arith, ap length (keeps (session_of ab_writer) (fresh 4 8 ab) ab_stands))
 
-pub it_leaves_content : LeavesContent add_sum 4 saved ab
+pub it_leaves_content : IsPrefixOfEither add_sum 4 saved ab
 it_leaves_content = recovered_leaves add_sum 4 saved ab (a_recovery true)
 
-pub another_byte_is_no_content : LeavesContent add_sum 4 saved (97 ∷ 99 ∷ []) → ⊥
+pub another_byte_is_no_content : IsPrefixOfEither add_sum 4 saved (97 ∷ 99 ∷ []) → ⊥
 another_byte_is_no_content leaves = elim (leaves (session_of ab_writer) (fresh 4 8 ab) ab_stands) [ inl is ↦ omega (arith, ap (λ (l : List ℕ). get_or l 1 0) is) | inr is ↦ omega (arith, ap (λ (l : List ℕ). get_or l 1 0) is) ]
 
 pub it_gives_back : GivesBack add_sum 4 saved

@@ -3,7 +3,7 @@
 -- zeros into the first. Pages have 4 bytes, and the checksum is their sum.
 use Rattle.std.proofs.Common.{◌≡◌, ◌≤◌, ℕ, List, [], ◌∷◌, ◌++◌, append-nil, length, take, drop, min, refl, sym, ap, subst, ◌∙◌, inl, inr, arith, lit<, true, false}
 use Rattle.std.specs.Prelude.{Some, Ok}
-use Rattle.disk.specs.Disk.{Disk, Operated, Life, life_after, logged, settled_disk}
+use Rattle.disk.specs.Disk.{Disk, HasOperated, Life, life_after, logged, settled_disk}
 use Rattle.disk.specs.Disk.Operation.{Write}
 use Rattle.disk.specs.Disk.Request.{ReadAt, WriteAt}
 use Rattle.page.specs.Page.{slot_bytes}
@@ -22,8 +22,8 @@ use Rattle.writer_state.proofs.Examples.{at_rest, and_then}
 use Rattle.paged.specs.Recovers.{IsRecovered}
 use Rattle.session.specs.declared.steps.Step.TheVariants.{Truncate}
 use Rattle.session.specs.declared.steps.Reply.TheVariants.{Length}
-use Rattle.session.specs.Run.{Standing, SessionState, StandsFor}
-use Rattle.session.specs.Promise.{ComesBack, Survives, Tells, Told, Promises, session_of, fresh}
+use Rattle.session.specs.Run.{RunState, SessionState, Represents}
+use Rattle.session.specs.Promise.{ComesBack, Survives, EachStepIsExact, RunIsExact, Promises, session_of, fresh}
 use Rattle.session.specs.Promise.ComesBack.{recovered}
 use Rattle.session.proofs.PromiseLaws.{survives}
 use Rattle.session.proofs.StepLaws.{keeps_fewer, through_each}
@@ -66,7 +66,7 @@ a_slot = record { slot = Second; len = 1; crc = 97 }
 
 -- ---- what holds at each of them
 
-written : (offset : ℕ) (bytes : List ℕ) (d : Disk) → Operated (Write offset bytes) (WriteAt offset (length bytes) true) false d (done_once offset bytes d)
+written : (offset : ℕ) (bytes : List ℕ) (d : Disk) → HasOperated (Write offset bytes) (WriteAt offset (length bytes) true) false d (done_once offset bytes d)
 written offset bytes d = record { readable = partial_whole (Write offset bytes) d.readable; done = λ fine. refl; rest = refl }
 
 -- a page at rest holds "ab" by its first slot, or "a" by its second
@@ -160,17 +160,17 @@ inside_survives floor few = (
 
 -- ---- the run
 
-abbrev ab_with : (floor : ℕ) → Standing
+abbrev ab_with : (floor : ℕ) → RunState
 ab_with floor = record (fresh 4 8 ab) { floor = floor }
 
-pub a_cut_inside_tells : (floor : ℕ) → floor ≤ 2 → Tells add_sum 4 (Truncate 1 ∷ []) (Length 1 ∷ []) saved inside (ab_with floor) (fresh 4 8 a)
+pub a_cut_inside_tells : (floor : ℕ) → floor ≤ 2 → EachStepIsExact add_sum 4 (Truncate 1 ∷ []) (Length 1 ∷ []) saved inside (ab_with floor) (fresh 4 8 a)
 a_cut_inside_tells floor few = (ab_survives ab floor few, inside, [], refl, fresh 4 8 a, ((refl, refl), (λ over. absurd over, λ passes. absurd passes)), inside_survives (min 1 floor) (omega arith), (refl, refl, a_survives))
 
 -- the writer of "a"
 abbrev pub a_writer : WriterState
 a_writer = record ab_writer { tip = a; flushed = Some a_slot; durable = Some a_slot }
 
-pub a_stands : StandsFor add_sum 4 (session_of a_writer) (fresh 4 8 a) a_saved
+pub a_stands : Represents add_sum 4 (session_of a_writer) (fresh 4 8 a) a_saved
 a_stands = record {
   fits = record { page_size = refl; has_writer = refl; content = refl; otherwise = refl; capacity = refl; buffered = refl; within = omega arith; written = refl; awaited = refl };
   phase = refl;
@@ -184,7 +184,7 @@ a_stands = record {
   replays = refl;
 }
 
-ab_stood_for : (P : ℕ) (before : Standing) → StandsFor add_sum P (session_of ab_writer) before saved → (P ≡ 4) × (before ≡ ab_with before.floor) × (before.floor ≤ 2)
+ab_stood_for : (P : ℕ) (before : RunState) → Represents add_sum P (session_of ab_writer) before saved → (P ≡ 4) × (before ≡ ab_with before.floor) × (before.floor ≤ 2)
 ab_stood_for P before stands = (
   sym stands.fits.page_size,
   same_standing before (ab_with before.floor) stands.fits.has_writer (sym stands.phase) stands.fits.content refl (stands.fits.otherwise ∙ stands.fits.content) (sym stands.fits.capacity) (sym stands.fits.buffered) stands.fits.written stands.fits.awaited
@@ -192,15 +192,15 @@ ab_stood_for P before stands = (
   omega (arith, stands.floor, ap length stands.fits.content),
 )
 
-a_cut_inside_is_told : (floor : ℕ) → floor ≤ 2 → Told add_sum 4 (Truncate 1 ∷ []) (session_of a_writer) (life_of saved) (life_after (life_of saved) inside) [] (Length 1 ∷ []) (ab_with floor)
+a_cut_inside_is_told : (floor : ℕ) → floor ≤ 2 → RunIsExact add_sum 4 (Truncate 1 ∷ []) (session_of a_writer) (life_of saved) (life_after (life_of saved) inside) [] (Length 1 ∷ []) (ab_with floor)
 a_cut_inside_is_told floor few = record { added = Length 1 ∷ []; adds = refl; moments = inside; goes = refl; after = fresh 4 8 a; tells = a_cut_inside_tells floor few; stands = a_stands }
 
 -- "ab" is cut to "a": that is promised
 pub a_promise_of_a_cut_inside : Promises add_sum (Truncate 1 ∷ []) (session_of ab_writer) (session_of a_writer) (life_of saved) (life_after (life_of saved) inside) [] (Length 1 ∷ [])
 a_promise_of_a_cut_inside P before stands =
     let stood = ab_stood_for P before stands in
-    subst (λ (n : ℕ). Told add_sum n (Truncate 1 ∷ []) (session_of a_writer) (life_of saved) (life_after (life_of saved) inside) [] (Length 1 ∷ []) before) (sym stood.0)
-    (subst (λ (s : Standing). Told add_sum 4 (Truncate 1 ∷ []) (session_of a_writer) (life_of saved) (life_after (life_of saved) inside) [] (Length 1 ∷ []) s) (sym stood.1) (a_cut_inside_is_told before.floor stood.2))
+    subst (λ (n : ℕ). RunIsExact add_sum n (Truncate 1 ∷ []) (session_of a_writer) (life_of saved) (life_after (life_of saved) inside) [] (Length 1 ∷ []) before) (sym stood.0)
+    (subst (λ (s : RunState). RunIsExact add_sum 4 (Truncate 1 ∷ []) (session_of a_writer) (life_of saved) (life_after (life_of saved) inside) [] (Length 1 ∷ []) s) (sym stood.1) (a_cut_inside_is_told before.floor stood.2))
 
 -- ---- a run for which it doesn't hold
 
@@ -240,7 +240,7 @@ nothing_comes_back_of_it = recovered blank [] (record {
 })
 
 -- and no truncate comes by that, though "a" is there at its end
-pub no_slot_is_emptied_first : (after : Standing) → Tells add_sum 4 (Truncate 1 ∷ []) (Length 1 ∷ []) saved (was_read ∷ blank ∷ a_saved ∷ []) (ab_with 2) after → ⊥
+pub no_slot_is_emptied_first : (after : RunState) → EachStepIsExact add_sum 4 (Truncate 1 ∷ []) (Length 1 ∷ []) saved (was_read ∷ blank ∷ a_saved ∷ []) (ab_with 2) after → ⊥
 no_slot_is_emptied_first after told =
     let moments : List Disk = was_read ∷ blank ∷ a_saved ∷ [] in
     let all : told.1 ≡ moments = sym (told.3 ∙ ap (λ (l : List Disk). told.1 ++ l) told.7.0 ∙ append-nil told.1) in

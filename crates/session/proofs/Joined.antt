@@ -7,7 +7,7 @@ use Rattle.cache.specs.CacheState.{CacheState}
 use Rattle.crash.specs.Moments.{life_after-append}
 use Rattle.session.specs.declared.steps.Step.{Step}
 use Rattle.session.specs.declared.steps.Reply.{Reply}
-use Rattle.session.specs.Run.{Standing, SessionState, last, raised, Ran, RunsAlways}
+use Rattle.session.specs.Run.{RunState, SessionState, last, raised, Ran, RunsAlways}
 use Rattle.session.specs.Calls.{RanCalls, RunGoes}
 use Rattle.session.specs.Promise.{Promises}
 pub use Rattle.session.proofs.RunLaws.{runs_none}
@@ -27,13 +27,13 @@ last_present life (d ∷ ds) = last_present (record { present = d; past = life.p
 
 -- what was told of the first run and of the second is told of both
 ran_joins : (sum : List ℕ → ℕ) (P : ℕ) (steps more : List Step) (replies others : List Reply)
-    (from : Disk) (moments later : List Disk) (before mid after : Standing)
+    (from : Disk) (moments later : List Disk) (before mid after : RunState)
     → Ran sum P steps replies from moments before mid
     → Ran sum P more others (last from moments) later mid after
     → Ran sum P (steps ++ more) (replies ++ others) from (moments ++ later) before after
 ran_joins sum P [] more [] others from moments later before mid after (none, same, keeps, only) ran =
     subst (λ (ds : List Disk). Ran sum P more others from (ds ++ later) before after) (sym none)
-    (subst (λ (s : Standing). Ran sum P more others from later s after) same
+    (subst (λ (s : RunState). Ran sum P more others from later s after) same
     (subst (λ (ds : List Disk). Ran sum P more others (last from ds) later mid after) none ran))
 ran_joins sum P (step ∷ steps) more (reply ∷ replies) others from moments later before mid after
     (keeps, only, first, rest, is, between, did, goes) ran = (

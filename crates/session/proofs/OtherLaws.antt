@@ -12,7 +12,7 @@ use Rattle.paged.specs.Caches.{tail_of}
 use Rattle.session.specs.declared.steps.Reply.{Reply}
 use Rattle.session.specs.declared.steps.Reply.TheVariants.{Fault, Nothing, Sealed, Taken}
 use Rattle.session.specs.Run.{numbered, SessionState}
-use Rattle.session.specs.Calls.{Begins, DidSeal, DidSnapshot, DidTrySnapshot, IfAppending, KeepsAllButReplays, KeepsAllButSnapshots, KeepsButReplays, KeepsSnapshots, KeepsUncut, LetsGo, SealsSession, TakesSnapshot, TriesSnapshot}
+use Rattle.session.specs.Calls.{DidBegin, DidSeal, DidSnapshot, DidTrySnapshot, IfAppending, KeepsAllButReplays, KeepsAllButSnapshots, KeepsButReplays, KeepsSnapshots, KeepsUncut, LetsGo, SealsSession, TakesSnapshot, TakesTriedSnapshot}
 use Rattle.session.specs.Promise.{closed, session_of}
 use Rattle.session.specs.Others.{IsNewTo, IsNotOf, IsOther, LeavesOtherBlobs, LeavesOthersAnew, WriterLeavesOthers}
 use Rattle.session.proofs.Below.{of_each}
@@ -79,10 +79,10 @@ pub snap_others : (was : SessionState) (index : ℕ) (t : Tail) (cache after : C
 snap_others was index t cache after at others settings = record { reads = λ u d other can. others u d (of_each (NotOf u.id) was.snapshots index (Some t) at other.snapshots) can; apart = λ id other. other; settings = settings }
 
 -- the end of a recovery
-pub begin_others : (was now : SessionState) (cache : CacheState) (reply : Reply) → Begins was.writer was now reply → LeavesOtherBlobs was now cache cache
+pub begin_others : (was now : SessionState) (cache : CacheState) (reply : Reply) → DidBegin was.writer was now reply → LeavesOtherBlobs was now cache cache
 begin_others was now cache reply goes = by_writer was.writer goes
   where
-    by_writer : (o : Option WriterState) → Begins o was now reply → LeavesOtherBlobs was now cache cache
+    by_writer : (o : Option WriterState) → DidBegin o was now reply → LeavesOtherBlobs was now cache cache
     by_writer None (replied, is) = others_idle was now cache (ap (λ (s : SessionState). s.snapshots) is) (ap (λ (s : SessionState). s.writer) is)
     by_writer (Some w) (replied, is) = others_idle was now cache (ap (λ (s : SessionState). s.snapshots) is) (ap (λ (s : SessionState). s.writer) is)
 
@@ -119,7 +119,7 @@ try_snapshot_others was now cache reply did = by_state was.recovering was.writer
     kept : now ≡ was → LeavesOtherBlobs was now cache cache
     kept is = others_idle was now cache (ap (λ (s : SessionState). s.snapshots) is) (ap (λ (s : SessionState). s.writer) is)
 
-    tries : (w : WriterState) → was.writer ≡ Some w → (r : Reply) → TriesSnapshot w was now r → LeavesOtherBlobs was now cache cache
+    tries : (w : WriterState) → was.writer ≡ Some w → (r : Reply) → TakesTriedSnapshot w was now r → LeavesOtherBlobs was now cache cache
     tries w at (Taken index) (short, number, is) =
         let writer : was.writer ≡ now.writer = at ∙ sym (ap (λ (s : SessionState). s.writer) is) in
         others_made was now (tail_of w) cache cache (ap (λ (s : SessionState). s.snapshots) is) (λ id other. not_of was.writer w (tail_of w) id at refl other)
@@ -128,7 +128,7 @@ try_snapshot_others was now cache reply did = by_state was.recovering was.writer
     tries w at (Fault e) (fault, is) = kept is
     tries w at r goes = absurd goes
 
-    by_state : (phase : Bool) (o : Option WriterState) → was.writer ≡ o → IfAppending phase o reply (now ≡ was) (λ w. TriesSnapshot w was now reply) → LeavesOtherBlobs was now cache cache
+    by_state : (phase : Bool) (o : Option WriterState) → was.writer ≡ o → IfAppending phase o reply (now ≡ was) (λ w. TakesTriedSnapshot w was now reply) → LeavesOtherBlobs was now cache cache
     by_state true None at (replied, is) = kept is
     by_state false None at (replied, is) = kept is
     by_state true (Some w) at (replied, is) = kept is

@@ -24,8 +24,8 @@ use Rattle.paged.specs.Recovers.{Recovers}
 use Rattle.paged.proofs.Recovered.{recovered_capacity}
 use Rattle.session.specs.declared.steps.Step.{Step}
 use Rattle.session.specs.declared.steps.Reply.{Reply}
-use Rattle.session.specs.Run.{Standing, SessionState, raised, begun as begun_with, other_content, last, Ran, StandsFor, RunsAlways}
-use Rattle.session.specs.Promise.{IsMoment, HasCrashed, Crashes, Attempts, HasRecovered, ComesBack, Begins, Survives, Tells, Promises, session_of, fresh, KeepsFloor, LeavesContent, IsBegun, AttemptsThrough, opened, StandsWhereSound, RecoversFrom, GivesBack, GivesBackLeft, LeadsOn}
+use Rattle.session.specs.Run.{RunState, SessionState, raised, at_step as begun_with, other_content, last, Ran, Represents, RunsAlways}
+use Rattle.session.specs.Promise.{IsMoment, HasCrashed, Crashes, Attempts, HasRecovered, ComesBack, IsPrefixOf, Survives, EachStepIsExact, Promises, session_of, fresh, BeginsWithFloor, IsPrefixOfEither, IsBegun, AttemptsThrough, opened, RepresentsWhereSound, RecoversFrom, GivesBack, GivesBackLeft, LeadsOn}
 use Rattle.session.specs.Promise.ComesBack.{recovered, crashed, attempted}
 use Rattle.session.proofs.Apart.{whole}
 use Rattle.session.proofs.StepLaws.{same_moments, begun_within, stands_now}
@@ -60,12 +60,12 @@ each_moment old new before (d ∷ ds) goes =
 -- ---- prefixes
 
 -- a beginning of a beginning
-pub begins_further : (given mid content : List ℕ) → Begins given mid → Begins mid content → Begins given content
+pub begins_further : (given mid content : List ℕ) → IsPrefixOf given mid → IsPrefixOf mid content → IsPrefixOf given content
 begins_further given mid content first second =
     let few : length given ≤ length mid = omega (arith, ap length first, length-take (length given) mid) in
     first ∙ ap (λ (l : List ℕ). take (length given) l) second ∙ take-take (length given) (length mid) content few
 
-begins_either : (given mid a b : List ℕ) → Begins given mid → Begins mid a ⊎ Begins mid b → Begins given a ⊎ Begins given b
+begins_either : (given mid a b : List ℕ) → IsPrefixOf given mid → IsPrefixOf mid a ⊎ IsPrefixOf mid b → IsPrefixOf given a ⊎ IsPrefixOf given b
 begins_either given mid a b first either = elim either [ inl h ↦ inl (begins_further given mid a first h) | inr h ↦ inr (begins_further given mid b first h) ]
 
 -- ---- what every image keeps, through crashes and recoveries
@@ -113,7 +113,7 @@ comes_kept sum P fair content floor d given enough keeps (attempted at out m a r
 crash_leaves : (sum : List ℕ → ℕ) (P : ℕ) (content other : List ℕ) (d e : Disk) → Crashes sum P true d e → AllOnly sum P content other d → AllOnly sum P content other e
 crash_leaves sum P content other d e c only = record {
   only = λ image is_image free.
-      subst (λ (l : List ℕ). Begins (text sum P l) content ⊎ Begins (text sum P l) other) (sym (durable_image e image c.crashed.durable is_image))
+      subst (λ (l : List ℕ). IsPrefixOf (text sum P l) content ⊎ IsPrefixOf (text sum P l) other) (sym (durable_image e image c.crashed.durable is_image))
       (only.only e.readable c.crashed.image (distinct_is_chance_free sum P d e.readable only.vouched c.crashed.image (c.free refl)));
   vouched = vouched_at_rest sum P e c.crashed.durable.since;
 }
@@ -123,20 +123,20 @@ attempt_leaves : (sum : List ℕ → ℕ) (P : ℕ) (content other : List ℕ) (
 attempt_leaves sum P content other d m a only =
     let T = text sum P a.old.present.readable in
     let durable : IsDurable a.old.present = subst IsDurable (sym a.began) (a.durable refl) in
-    let now : Begins (text sum P d.readable) content ⊎ Begins (text sum P d.readable) other = only.only d.readable a.image (durable_free sum P d (a.durable refl)) in
-    let was : Begins T content ⊎ Begins T other = subst (λ (e : Disk). Begins (text sum P e.readable) content ⊎ Begins (text sum P e.readable) other) (sym a.began) now in
+    let now : IsPrefixOf (text sum P d.readable) content ⊎ IsPrefixOf (text sum P d.readable) other = only.only d.readable a.image (durable_free sum P d (a.durable refl)) in
+    let was : IsPrefixOf T content ⊎ IsPrefixOf T other = subst (λ (e : Disk). IsPrefixOf (text sum P e.readable) content ⊎ IsPrefixOf (text sum P e.readable) other) (sym a.began) now in
     let later : AllOnly sum P T T m = through_moment (AllOnly sum P T T) a.old a.new m (a.only durable) a.moment in
     record {
       only = λ image is_image free.
-          let begins : Begins (text sum P image) T = elim (later.only image is_image free) [ inl h ↦ h | inr h ↦ h ] in
+          let begins : IsPrefixOf (text sum P image) T = elim (later.only image is_image free) [ inl h ↦ h | inr h ↦ h ] in
           begins_either (text sum P image) T content other begins was;
       vouched = later.vouched;
     }
 
 -- what comes back is a prefix of one of the contents
-pub comes_only : (sum : List ℕ → ℕ) (P : ℕ) (content other : List ℕ) (d : Disk) (given : List ℕ) → AllOnly sum P content other d → ComesBack sum P true d given → Begins given content ⊎ Begins given other
+pub comes_only : (sum : List ℕ → ℕ) (P : ℕ) (content other : List ℕ) (d : Disk) (given : List ℕ) → AllOnly sum P content other d → ComesBack sum P true d given → IsPrefixOf given content ⊎ IsPrefixOf given other
 comes_only sum P content other d given only (recovered at out r) =
-    subst (λ (l : List ℕ). Begins l content ⊎ Begins l other) (sym (given_text sum P true d given r)) (only.only d.readable r.image (durable_free sum P d (r.durable refl)))
+    subst (λ (l : List ℕ). IsPrefixOf l content ⊎ IsPrefixOf l other) (sym (given_text sum P true d given r)) (only.only d.readable r.image (durable_free sum P d (r.durable refl)))
 comes_only sum P content other d given only (crashed at out e c rest) = comes_only sum P content other e given (crash_leaves sum P content other d e c only) rest
 comes_only sum P content other d given only (attempted at out m a rest) = comes_only sum P content other m given (attempt_leaves sum P content other d m a only) rest
 
@@ -155,8 +155,8 @@ survive_each sum P content other floor [] enough kept only = tt
 survive_each sum P content other floor (d ∷ ds) enough kept only = (survives sum P content other floor d enough kept.0 only.0, survive_each sum P content other floor ds enough kept.1 only.1)
 
 -- a run tells
-pub ran_tells : (sum : List ℕ → ℕ) (P : ℕ) (steps : List Step) (replies : List Reply) (from : Disk) (moments : List Disk) (s after : Standing) → s.floor ≤ length s.content → Ran sum P steps replies from moments s after
-    → Tells sum P steps replies from moments s after
+pub ran_tells : (sum : List ℕ → ℕ) (P : ℕ) (steps : List Step) (replies : List Reply) (from : Disk) (moments : List Disk) (s after : RunState) → s.floor ≤ length s.content → Ran sum P steps replies from moments s after
+    → EachStepIsExact sum P steps replies from moments s after
 ran_tells sum P [] [] from moments s after enough (none, same, keeps, only) = (none, same, survives sum P s.content s.otherwise s.floor from enough keeps only)
 ran_tells sum P (step ∷ steps) (reply ∷ replies) from moments s after enough (keeps, only, first, rest, is, mid, did, ran) = (
   survives sum P s.content s.otherwise s.floor from enough keeps only,
@@ -188,10 +188,10 @@ promises sum steps was now old new earlier replies always = λ P before stands.
 -- ---- how a session begins
 
 -- a session with a sound writer
-pub stands_where_sound : (sum : List ℕ → ℕ) (w : WriterState) → StandsWhereSound sum w
+pub stands_where_sound : (sum : List ℕ → ℕ) (w : WriterState) → RepresentsWhereSound sum w
 unfolding IsSound
 stands_where_sound sum w = λ d floor sound within enough keeps.
-    let s : Standing = opened w floor d.readable in
+    let s : RunState = opened w floor d.readable in
     let life : Life = record { present = d; past = [] } in
     whole sum w.page_size (session_of w) s d refl refl (stands_now sum w.page_size (session_of w) w life life s
     (record {
@@ -215,7 +215,7 @@ tip_is sum w life sound short =
 
 -- a writer that a recovery gave
 pub fresh_stands : (sum : List ℕ → ℕ) (w : WriterState) (cache : CacheState) (capacity : ℕ) (old new : Life) → Recovers sum cache capacity old new (Ok w) → HoldsWithin w
-    → KeepsAll sum cache.page_size (text sum cache.page_size old.present.readable) new → StandsFor sum cache.page_size (session_of w) (fresh cache.page_size (adjusted capacity cache.page_size) (text sum cache.page_size old.present.readable)) new.present
+    → KeepsAll sum cache.page_size (text sum cache.page_size old.present.readable) new → Represents sum cache.page_size (session_of w) (fresh cache.page_size (adjusted capacity cache.page_size) (text sum cache.page_size old.present.readable)) new.present
 unfolding IsSound
 fresh_stands sum w cache capacity old new recovers within durable =
     let P = cache.page_size in
@@ -247,11 +247,11 @@ pub unfair : {A : Type 0} → false ≡ true → A
 unfair is = absurd (false≢true is)
 
 -- what a recovery gave keeps the floor of whatever was stood for as it began
-pub recovered_keeps : (sum : List ℕ → ℕ) (P : ℕ) (d : Disk) (given : List ℕ) → HasRecovered sum P false d given → KeepsFloor sum P d given
+pub recovered_keeps : (sum : List ℕ → ℕ) (P : ℕ) (d : Disk) (given : List ℕ) → HasRecovered sum P false d given → BeginsWithFloor sum P d given
 recovered_keeps sum P d given r = λ was s stands. comes_kept sum P false s.content s.floor d given stands.floor stands.kept (recovered d given r)
 
 -- and chance aside, where all was durable, it is a prefix of one of the contents
-pub recovered_leaves : (sum : List ℕ → ℕ) (P : ℕ) (d : Disk) (given : List ℕ) → HasRecovered sum P true d given → LeavesContent sum P d given
+pub recovered_leaves : (sum : List ℕ → ℕ) (P : ℕ) (d : Disk) (given : List ℕ) → HasRecovered sum P true d given → IsPrefixOfEither sum P d given
 recovered_leaves sum P d given r = λ was s stands. comes_only sum P s.content s.otherwise d given stands.only (recovered d given r)
 
 -- so a session begins
@@ -261,7 +261,7 @@ begun sum w now cache capacity old new is recovers within durable = record {
   writer = w;
   begins = is;
   recovers = recovers;
-  stands = subst (λ (o : SessionState). StandsFor sum cache.page_size o (fresh cache.page_size (adjusted capacity cache.page_size) (text sum cache.page_size old.present.readable)) new.present) (sym is)
+  stands = subst (λ (o : SessionState). Represents sum cache.page_size o (fresh cache.page_size (adjusted capacity cache.page_size) (text sum cache.page_size old.present.readable)) new.present) (sym is)
       (fresh_stands sum w cache capacity old new recovers within durable);
 }
 
@@ -316,19 +316,19 @@ attempts_through sum P old new image kept only = λ fair durable.
 -- ---- a crash, and a recovery after it
 
 -- what came back keeps the floor
-pub crashed_keeps : (sum : List ℕ → ℕ) (P : ℕ) (d e : Disk) (left : List ℕ) → HasCrashed d e → e.readable ≡ left → RecoversFrom sum P e → KeepsFloor sum P d (text sum P left)
+pub crashed_keeps : (sum : List ℕ → ℕ) (P : ℕ) (d e : Disk) (left : List ℕ) → HasCrashed d e → e.readable ≡ left → RecoversFrom sum P e → BeginsWithFloor sum P d (text sum P left)
 crashed_keeps sum P d e left c is from = λ was s stands.
     let comes : ComesBack sum P false d (text sum P e.readable) = crashed d (text sum P e.readable) e (record { crashed = c; free = unfair }) (recovered e (text sum P e.readable) (from false (unfair))) in
     let kept : take s.floor (text sum P e.readable) ≡ take s.floor s.content = comes_kept sum P false s.content s.floor d (text sum P e.readable) stands.floor stands.kept comes in
     subst (λ (l : List ℕ). take s.floor (text sum P l) ≡ take s.floor s.content) is kept
 
 -- and chance aside it is a prefix of what stood
-pub crashed_leaves : (sum : List ℕ → ℕ) (P : ℕ) (d e : Disk) (left : List ℕ) → HasCrashed d e → e.readable ≡ left → RecoversFrom sum P e → IsDistinct sum P d left → LeavesContent sum P d (text sum P left)
+pub crashed_leaves : (sum : List ℕ → ℕ) (P : ℕ) (d e : Disk) (left : List ℕ) → HasCrashed d e → e.readable ≡ left → RecoversFrom sum P e → IsDistinct sum P d left → IsPrefixOfEither sum P d (text sum P left)
 crashed_leaves sum P d e left c is from free = λ was s stands.
     let comes : ComesBack sum P true d (text sum P e.readable) =
     crashed d (text sum P e.readable) e (record { crashed = c; free = λ fair. subst (λ (l : List ℕ). IsDistinct sum P d l) (sym is) free }) (recovered e (text sum P e.readable) (from true (λ fair. c.durable))) in
-    let only : Begins (text sum P e.readable) s.content ⊎ Begins (text sum P e.readable) s.otherwise = comes_only sum P s.content s.otherwise d (text sum P e.readable) stands.only comes in
-    subst (λ (l : List ℕ). Begins (text sum P l) s.content ⊎ Begins (text sum P l) s.otherwise) is only
+    let only : IsPrefixOf (text sum P e.readable) s.content ⊎ IsPrefixOf (text sum P e.readable) s.otherwise = comes_only sum P s.content s.otherwise d (text sum P e.readable) stands.only comes in
+    subst (λ (l : List ℕ). IsPrefixOf (text sum P l) s.content ⊎ IsPrefixOf (text sum P l) s.otherwise) is only
 
 -- by what stood as the crash came
 pub left_back : (sum : List ℕ → ℕ) (P : ℕ) (d e : Disk) (left : List ℕ) → HasCrashed d e → e.readable ≡ left → RecoversFrom sum P e → GivesBackLeft sum P d left

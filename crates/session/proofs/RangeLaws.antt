@@ -11,7 +11,7 @@ use Rattle.disk.specs.declared.error.Error.TheVariants.{ReadFailed, WriteFailed,
 use Rattle.page.specs.Geometry.{AreInOrderFrom, AreInOrder, EndWithin, RangesGo}
 use Rattle.crash.specs.Kept.{AllOnly, Through}
 use Rattle.crash.specs.Looks.{Looked, looked_start}
-use Rattle.crash.specs.Started.{StartsStand}
+use Rattle.crash.specs.Started.{StartsCanBeAwaited}
 use Rattle.writer_state.specs.WriterState.{WriterState}
 use Rattle.writer_state.specs.Sound.{IsSound}
 use Rattle.cache.specs.CacheState.{CacheState}
@@ -27,7 +27,7 @@ use Rattle.session.specs.declared.steps.Step.{Step}
 use Rattle.session.specs.declared.steps.Step.TheVariants.{ReadRanges, TryReadRanges}
 use Rattle.session.specs.declared.steps.Reply.{Reply}
 use Rattle.session.specs.declared.steps.Reply.TheVariants.{At, Nothing, Done, Started, Answer, Length, Bytes, Fault, Closed, NotRecovering, NoSuch, Served, Missed, BadRanges, Taken, Sealed, NotAppending, Replaying}
-use Rattle.session.specs.Run.{Standing, SessionState, in_order_from, fit_together, turned_away, content_after, faults, HasCause, Takes, Foretells, RiseBelow, NumbersSome, touch}
+use Rattle.session.specs.Run.{RunState, SessionState, in_order_from, fit_together, turned_away, content_after, faults, HasCause, TakesStep, FaultsComeFirst, RiseBelow, NumbersSome, use_of_step}
 use Rattle.session.specs.Calls.{CostsRanges, ReadsRanges, ReadRangesSays, DidReadRanges, TriedRanges, DidTryReadRanges}
 use Rattle.paged_read.specs.Reads.{ReadManyCosts}
 use Rattle.paged_read.proofs.PutLaws.{puts_none}
@@ -258,7 +258,7 @@ turned_fit false fit has fits = absurd (false≢true has)
 turned_fit true false has fits = absurd (false≢true fits)
 
 -- a step that is turned away though there is a writer
-pub away_steps : (sum : List ℕ → ℕ) (step : Step) (reply : Reply) (was : SessionState) (w : WriterState) (life : Life) → ((before : Standing) → before.has_writer ≡ true → was.recovering ≡ before.recovering → turned_away step before ≡ Some reply) → ((content : List ℕ) → content_after step content ≡ content)
+pub away_steps : (sum : List ℕ → ℕ) (step : Step) (reply : Reply) (was : SessionState) (w : WriterState) (life : Life) → ((before : RunState) → before.has_writer ≡ true → was.recovering ≡ before.recovering → turned_away step before ≡ Some reply) → ((content : List ℕ) → content_after step content ≡ content)
     → AlwaysApart sum step reply (held was (Some w)) (held was (Some w)) life life
 away_steps sum step reply was w life away same = λ P before stands.
     let only : AllOnly sum P before.content (if before.has_writer then content_after step before.content else before.otherwise) life.present =
@@ -269,7 +269,7 @@ away_steps sum step reply was w life away same = λ P before stands.
       after = before;
       did = record {
         answer = answers_away sum P step reply life.present life.present before (away before stands.fits.has_writer stands.phase);
-        touches = leaves (touch P step before) life.present;
+        touches = leaves (use_of_step P step before) life.present;
         stopped = λ gone. refl;
         kept = (begun_keeps sum P step before life.present stands.kept, tt);
         covered = (begun_covers sum P step before life.present stands.covered, tt);
@@ -282,7 +282,7 @@ away_steps sum step reply was w life away same = λ P before stands.
     }
 
 -- of a session with a writer
-bad_takes : (sum : List ℕ → ℕ) (step : Step) (was : SessionState) (w : WriterState) (old new : Life) (reply : Reply) → ((before : Standing) → before.has_writer ≡ true → turned_away step before ≡ Some BadRanges) → ((content : List ℕ) → content_after step content ≡ content)
+bad_takes : (sum : List ℕ → ℕ) (step : Step) (was : SessionState) (w : WriterState) (old new : Life) (reply : Reply) → ((before : RunState) → before.has_writer ≡ true → turned_away step before ≡ Some BadRanges) → ((content : List ℕ) → content_after step content ≡ content)
     → was.writer ≡ Some w → IsReadyApart sum was old.present → reply ≡ BadRanges → new ≡ old → StepsApart sum step reply was was old new
 bad_takes sum step was w old new reply away stays at ready replied same =
     subst (λ (r : Reply). StepsApart sum step r was was old new) (sym replied)
@@ -290,7 +290,7 @@ bad_takes sum step was w old new reply away stays at ready replied same =
     (held_takes sum step BadRanges was was w (Some w) old old at (same_rest was) at (sound_of sum was w old.present at ready) ready.starts (away_steps sum step BadRanges was w old (λ before has phase. away before has) stays)))
 
 -- why a read of ranges is refused
-ranges_cause : (sum : List ℕ → ℕ) (P : ℕ) (w : WriterState) (cache : CacheState) (ranges : Vec (ℕ × ℕ) Global) (before : Standing) (old new : Life) (e : Error) → size_of w ≡ length before.content → (e ≡ InvalidChecksum → ⊥) → ReadsMany sum (tail_of w) cache ranges.items [] old new (Err e)
+ranges_cause : (sum : List ℕ → ℕ) (P : ℕ) (w : WriterState) (cache : CacheState) (ranges : Vec (ℕ × ℕ) Global) (before : RunState) (old new : Life) (e : Error) → size_of w ≡ length before.content → (e ≡ InvalidChecksum → ⊥) → ReadsMany sum (tail_of w) cache ranges.items [] old new (Err e)
     → Contains (faults (ReadRanges ranges)) e × HasCause P (ReadRanges ranges) before old.present new.present e
 ranges_cause sum P w cache ranges before old new ReadFailed size full goes = ((0, lit< tt, refl), goes.1)
 ranges_cause sum P w cache ranges before old new WriteFailed size full goes = absurd goes.1
@@ -317,13 +317,13 @@ read_ranges_steps : (sum : List ℕ → ℕ) (was : SessionState) (w : WriterSta
 unfolding Through
 read_ranges_steps sum was w cache after ranges old new reply fits sound says = λ P before stands.
     let size : size_of w ≡ length before.content = size_is_length sum w old sound ∙ ap length (sym stands.fits.content) in
-    let foretold : Foretells P (ReadRanges ranges) reply before = (
+    let foretold : FaultsComeFirst P (ReadRanges ranges) reply before = (
       λ passes. says.overflow (subst (λ (n : ℕ). RangesGo n ranges.items (Err OffsetOverflow)) (sym size) passes),
       λ passes. says.end (subst (λ (n : ℕ). RangesGo n ranges.items (Err BlobInsufficientLength)) (sym size) passes),
     ) in
     looked_steps sum was P w (ReadRanges ranges) reply old new before refl refl (turned_fit before.has_writer (fit_together ranges.items) stands.fits.has_writer fits) sound says.looked says.looked.through says.looked.through.each stands (taken reply P before stands size says.full says.reads) foretold
   where
-    taken : (r : Reply) (P : ℕ) (before : Standing) → StandsApart sum P (held was (Some w)) before old.present → size_of w ≡ length before.content → (r ≡ Fault InvalidChecksum → ⊥) → ReadsRanges sum w cache ranges.items old new r → Takes sum P (ReadRanges ranges) r old.present new.present before before
+    taken : (r : Reply) (P : ℕ) (before : RunState) → StandsApart sum P (held was (Some w)) before old.present → size_of w ≡ length before.content → (r ≡ Fault InvalidChecksum → ⊥) → ReadsRanges sum w cache ranges.items old new r → TakesStep sum P (ReadRanges ranges) r old.present new.present before before
     taken (Served count bytes) P before stands size full reads =
         let few : count ≤ length ranges.items = omega (arith, reads.1, filter_few (is_served cache (tail_of w)) ranges.items) in (
           (subst (λ (n : ℕ). EndWithin n ranges.items) size reads.0, reads.2 ∙ ap (λ (l : List ℕ). flat_map (λ (range : ℕ × ℕ). take range.1 (drop range.0 l)) ranges.items) (sym stands.fits.content)),
@@ -358,7 +358,7 @@ read_ranges_takes sum was cache after ranges old new reply ready goes = by_write
     by_writer (Some w) at false is goes = bad_takes sum (ReadRanges ranges) was w old new reply (λ before has. turned_bad before.has_writer (fit_together ranges.items) has is) (λ content. refl) at ready goes.0 goes.1
     by_writer (Some w) at true is says =
         let sound = sound_of sum was w old.present at ready in
-        let starts : (was.names ≡ []) ⊎ StartsStand new.present = elim ready.starts [ inl none ↦ inl none | inr stand ↦ inr (alike_stays_started old.present new.present says.looked.same stand) ] in
+        let starts : (was.names ≡ []) ⊎ StartsCanBeAwaited new.present = elim ready.starts [ inl none ↦ inl none | inr stand ↦ inr (alike_stays_started old.present new.present says.looked.same stand) ] in
         held_takes sum (ReadRanges ranges) reply was was w (Some w) old new at (same_rest was) at (reads_keep_sound sum w old new says.looked sound) starts (read_ranges_steps sum was w cache after ranges old new reply is sound says)
 
 -- ---- a question for ranges
@@ -395,9 +395,9 @@ try_read_ranges_steps sum was w cache ranges life reply fits sound tried = λ P 
     let size : size_of w ≡ length before.content = size_is_length sum w life sound ∙ ap length (sym stands.fits.content) in
     unasked sum P was w (TryReadRanges ranges) reply (held was (Some w)) life before before (turned_fit before.has_writer (fit_together ranges.items) stands.fits.has_writer fits) stands (taken reply P before size tried) (λ none. absurd none, λ none. absurd none) stands
   where
-    taken : (r : Reply) (P : ℕ) (before : Standing) → size_of w ≡ length before.content → TriedRanges w cache ranges.items r → Takes sum P (TryReadRanges ranges) r life.present life.present before before
+    taken : (r : Reply) (P : ℕ) (before : RunState) → size_of w ≡ length before.content → TriedRanges w cache ranges.items r → TakesStep sum P (TryReadRanges ranges) r life.present life.present before before
     taken (Missed numbers) P before size misses = (numbers_some w cache ranges.items before.content numbers.items size misses, refl)
-    taken (Fault e) P before size is = subst (λ (x : Error). Takes sum P (TryReadRanges ranges) (Fault x) life.present life.present before before) (sym is) ((0, lit< tt, refl), tt, refl)
+    taken (Fault e) P before size is = subst (λ (x : Error). TakesStep sum P (TryReadRanges ranges) (Fault x) life.present life.present before before) (sym is) ((0, lit< tt, refl), tt, refl)
     taken (At n) P before size tried = absurd tried
     taken Nothing P before size tried = absurd tried
     taken Done P before size tried = absurd tried

@@ -9,7 +9,7 @@ use Rattle.disk.specs.Disk.{Disk, Life}
 use Rattle.disk.specs.declared.error.Error.{Error}
 use Rattle.disk.specs.declared.error.Error.TheVariants.{ReadFailed, WriteFailed, ResizeFailed, SyncFailed, InvalidChecksum, BlobInsufficientLength, OffsetOverflow, OutOfMemory, IdsExhausted}
 use Rattle.crash.specs.Kept.{Through}
-use Rattle.crash.specs.Started.{StartsStand}
+use Rattle.crash.specs.Started.{StartsCanBeAwaited}
 use Rattle.writer_state.specs.WriterState.{WriterState}
 use Rattle.writer_state.specs.Sound.{IsSound}
 use Rattle.cache.specs.CacheState.{CacheState}
@@ -21,15 +21,15 @@ use Rattle.paged.proofs.Flushes.{size_is_length}
 use Rattle.paged.proofs.There.{reads_keep_sound}
 use Rattle.std.specs.declared.num.NonZeroUsize.{NonZeroUsize}
 use Rattle.page.specs.Page.{text}
-use Rattle.paged_read.specs.Scans.{IsWithinBlob, Scans, scan_end, scan_to}
+use Rattle.paged_read.specs.Scans.{IsWithinBlob, ScanAnswers, scan_end, scan_to}
 use Rattle.paged.specs.Scans.{flushed_pages}
 use Rattle.std.specs.Int.NonZero.{non_zero_usize_get}
 use Rattle.session.specs.declared.steps.Step.TheVariants.{ReadUpTo, Scan, TryRead}
 use Rattle.session.specs.declared.steps.Reply.{Reply}
 use Rattle.session.specs.declared.steps.Reply.TheVariants.{At, Nothing, Done, Started, Answer, Length, Bytes, Fault, Closed, NotRecovering, NoSuch, Served, Missed, BadRanges, Taken, Sealed, NotAppending, Replaying}
-use Rattle.session.specs.Run.{Standing, SessionState, faults, HasCause, Takes, Touches, Foretells, FitsWriter}
+use Rattle.session.specs.Run.{RunState, SessionState, faults, HasCause, TakesStep, UsesDevice, FaultsComeFirst, FitsWriter}
 use Rattle.session.specs.Run.Touch.{Leaves, Looks}
-use Rattle.session.specs.Calls.{ReadsBytesUpTo, ReadsUpToRange, DidReadUpTo, TriedBytes, DidTryRead, Counts, ScansBlob, DidScan}
+use Rattle.session.specs.Calls.{ReadsBytesUpTo, ReadsUpToRange, DidReadUpTo, TriedBytes, DidTryRead, ScanCounts, ScansBlob, DidScan}
 use Rattle.session.proofs.StepLaws.{no_moments, held, turned_here, turned_closed, unasked}
 use Rattle.session.proofs.SizeLaws.{looked_steps, alike_stays_started}
 use Rattle.session.proofs.SessionLaws.{closed_takes, held_takes, sound_of, can_of, same_rest}
@@ -47,7 +47,7 @@ take_up_to xs offset len size is =
     ]
 
 -- why such a read is refused
-up_to_cause : (sum : List ℕ → ℕ) (P : ℕ) (w : WriterState) (cache : CacheState) (offset len : ℕ) (before : Standing) (old new : Life) (e : Error) → size_of w ≡ length before.content → (e ≡ InvalidChecksum → ⊥)
+up_to_cause : (sum : List ℕ → ℕ) (P : ℕ) (w : WriterState) (cache : CacheState) (offset len : ℕ) (before : RunState) (old new : Life) (e : Error) → size_of w ≡ length before.content → (e ≡ InvalidChecksum → ⊥)
     → ReadsUpTo sum (tail_of w) cache offset len old new (Err e) → Contains (faults (ReadUpTo offset len)) e × HasCause P (ReadUpTo offset len) before old.present new.present e
 up_to_cause sum P w cache offset len before old new ReadFailed size full goes = ((0, lit< tt, refl), goes)
 up_to_cause sum P w cache offset len before old new WriteFailed size full goes = absurd goes
@@ -68,12 +68,12 @@ read_up_to_steps sum was w cache after offset len old new reply sound says = λ 
     let both = taken reply P before stands size says.reads in
     looked_steps sum was P w (ReadUpTo offset len) reply old new before refl refl (turned_here before.has_writer stands.fits.has_writer) sound says.looked says.looked.through says.looked.through.each stands both.0 both.1
   where
-    some : (P : ℕ) (before : Standing) → size_of w ≡ length before.content → (len ≡ 0) ⊎ (offset < size_of w) → (len ≡ 0) ⊎ (offset < length before.content)
+    some : (P : ℕ) (before : RunState) → size_of w ≡ length before.content → (len ≡ 0) ⊎ (offset < size_of w) → (len ≡ 0) ⊎ (offset < length before.content)
     some P before size (inl none) = inl none
     some P before size (inr there) = inr (omega (arith, size, there))
 
-    taken : (r : Reply) (P : ℕ) (before : Standing) → StandsApart sum P (held was (Some w)) before old.present → size_of w ≡ length before.content → ReadsBytesUpTo sum (tail_of w) cache after offset len old new r
-        → Takes sum P (ReadUpTo offset len) r old.present new.present before before × Foretells P (ReadUpTo offset len) r before
+    taken : (r : Reply) (P : ℕ) (before : RunState) → StandsApart sum P (held was (Some w)) before old.present → size_of w ≡ length before.content → ReadsBytesUpTo sum (tail_of w) cache after offset len old new r
+        → TakesStep sum P (ReadUpTo offset len) r old.present new.present before before × FaultsComeFirst P (ReadUpTo offset len) r before
     taken (Bytes bytes) P before stands size (count, reads) =
         let goes = reads.goes in
         let is : bytes.items ≡ take (min len (size_of w - offset)) (drop offset before.content) = goes.answers.1 ∙ ap (λ (l : List ℕ). take (min len (size_of w - offset)) (drop offset l)) (sym stands.fits.content) in
@@ -108,13 +108,13 @@ read_up_to_takes sum was cache after offset len old new reply ready goes = by_wr
     by_writer None at goes = closed_takes sum (ReadUpTo offset len) was was old new reply (λ before none. turned_closed before.has_writer none) at ready goes.0 refl goes.1
     by_writer (Some w) at says =
         let sound = sound_of sum was w old.present at ready in
-        let starts : (was.names ≡ []) ⊎ StartsStand new.present = elim ready.starts [ inl none ↦ inl none | inr stand ↦ inr (alike_stays_started old.present new.present says.looked.same stand) ] in
+        let starts : (was.names ≡ []) ⊎ StartsCanBeAwaited new.present = elim ready.starts [ inl none ↦ inl none | inr stand ↦ inr (alike_stays_started old.present new.present says.looked.same stand) ] in
         held_takes sum (ReadUpTo offset len) reply was was w (Some w) old new at (same_rest was) at (reads_keep_sound sum w old new says.looked sound) starts (read_up_to_steps sum was w cache after offset len old new reply sound says)
 
 -- ---- scans
 
 -- why one is refused
-scan_cause : (P proven most reach len : ℕ) (buffer_size : NonZeroUsize) (old new : Life) (before : Standing) (e : Error) → Scans reach len old new (Err e) → IsWithinBlob {A = ℕ} (Err e) → (most ≡ 0 → ⊥)
+scan_cause : (P proven most reach len : ℕ) (buffer_size : NonZeroUsize) (old new : Life) (before : RunState) (e : Error) → ScanAnswers reach len old new (Err e) → IsWithinBlob {A = ℕ} (Err e) → (most ≡ 0 → ⊥)
     → Contains (faults (Scan proven most buffer_size)) e × HasCause P (Scan proven most buffer_size) before old.present new.present e
 scan_cause P proven most reach len buffer_size old new before ReadFailed scans within some = ((0, lit< tt, refl), scans.0)
 scan_cause P proven most reach len buffer_size old new before OutOfMemory scans within some = ((1, lit< tt, refl), some)
@@ -134,12 +134,12 @@ scan_steps sum was w proven most buffer_size old new reply sound says = λ P bef
     looked_steps sum was P w (Scan proven most buffer_size) reply old new before refl refl (turned_here before.has_writer stands.fits.has_writer) sound says.looked says.looked.through (touched (nat_eq most 0) refl both.1) stands
     both.0 (λ none. absurd none, λ none. absurd none)
   where
-    touched : (test : Bool) → nat_eq most 0 ≡ test → (most ≡ 0 → new ≡ old) → Touches (if test then Leaves else Looks) old.present says.looked.through.moments
+    touched : (test : Bool) → nat_eq most 0 ≡ test → (most ≡ 0 → new ≡ old) → UsesDevice (if test then Leaves else Looks) old.present says.looked.through.moments
     touched true none idle = let zero_most : most ≡ 0 = grind (arith, nat_tests, none) in no_moments old new says.looked.through.moments says.looked.through.goes (idle zero_most)
     touched false some idle = says.looked.through.each
 
-    taken : (r : Reply) (P : ℕ) (before : Standing) → StandsApart sum P (held was (Some w)) before old.present → Counts sum w proven most (non_zero_usize_get buffer_size) old new r
-        → Takes sum P (Scan proven most buffer_size) r old.present new.present before before × (most ≡ 0 → new ≡ old)
+    taken : (r : Reply) (P : ℕ) (before : RunState) → StandsApart sum P (held was (Some w)) before old.present → ScanCounts sum w proven most (non_zero_usize_get buffer_size) old new r
+        → TakesStep sum P (Scan proven most buffer_size) r old.present new.present before before × (most ≡ 0 → new ≡ old)
     taken (Length n) P before stands counts =
         let text_is : n ≡ min most (length (text sum w.page_size old.present.readable)) = counts.goes.text sound in
         ((text_is ∙ ap (λ (p : ℕ). min most (length (text sum p old.present.readable))) stands.fits.page_size, refl), λ none. (counts.goes.none none).1)
@@ -174,7 +174,7 @@ scan_takes sum was proven most buffer_size old new reply ready goes = by_writer 
     by_writer None at goes = closed_takes sum (Scan proven most buffer_size) was was old new reply (λ before none. turned_closed before.has_writer none) at ready goes.0 refl goes.1
     by_writer (Some w) at says =
         let sound = sound_of sum was w old.present at ready in
-        let starts : (was.names ≡ []) ⊎ StartsStand new.present = elim ready.starts [ inl none ↦ inl none | inr stand ↦ inr (alike_stays_started old.present new.present says.looked.same stand) ] in
+        let starts : (was.names ≡ []) ⊎ StartsCanBeAwaited new.present = elim ready.starts [ inl none ↦ inl none | inr stand ↦ inr (alike_stays_started old.present new.present says.looked.same stand) ] in
         held_takes sum (Scan proven most buffer_size) reply was was w (Some w) old new at (same_rest was) at (reads_keep_sound sum w old new says.looked sound) starts (scan_steps sum was w proven most buffer_size old new reply sound says)
 
 -- ---- bytes that need no device
@@ -185,13 +185,13 @@ try_read_steps sum was w cache offset len life reply sound can tried = λ P befo
     let size : size_of w ≡ length before.content = size_is_length sum w life sound ∙ ap length (sym stands.fits.content) in
     unasked sum P was w (TryRead offset len) reply (held was (Some w)) life before before (turned_here before.has_writer stands.fits.has_writer) stands (taken reply P before stands size tried) (λ none. absurd none, λ none. absurd none) stands
   where
-    taken : (r : Reply) (P : ℕ) (before : Standing) → StandsApart sum P (held was (Some w)) before life.present → size_of w ≡ length before.content → TriedBytes w cache offset len r → Takes sum P (TryRead offset len) r life.present life.present before before
+    taken : (r : Reply) (P : ℕ) (before : RunState) → StandsApart sum P (held was (Some w)) before life.present → size_of w ≡ length before.content → TriedBytes w cache offset len r → TakesStep sum P (TryRead offset len) r life.present life.present before before
     taken (Bytes bytes) P before stands size tries =
         let within : offset + len ≤ size_of w = leb-true (offset + len) (size_of w) (and_parts (nat_le (offset + len) (size_of w)) (is_served cache (tail_of w) (offset, len)) (sym tries.0)).0 in
         ((omega (arith, size, within), tries.1 refl life.present can ∙ ap (λ (l : List ℕ). take len (drop offset l)) (sym stands.fits.content)), refl)
     taken Nothing P before stands size tried = refl
     taken (Fault e) P before stands size (is, within) =
-        subst (λ (x : Error). Takes sum P (TryRead offset len) (Fault x) life.present life.present before before) (sym is) ((0, lit< tt, refl), omega (arith, size, within), refl)
+        subst (λ (x : Error). TakesStep sum P (TryRead offset len) (Fault x) life.present life.present before before) (sym is) ((0, lit< tt, refl), omega (arith, size, within), refl)
     taken (At n) P before stands size tried = absurd tried
     taken Done P before stands size tried = absurd tried
     taken (Started sync) P before stands size tried = absurd tried

@@ -18,15 +18,15 @@ use Rattle.session.specs.declared.steps.Step.{Step}
 use Rattle.session.specs.declared.steps.Step.TheVariants.{Append, Sync, StartSync, Wait, Truncate, Size}
 use Rattle.session.specs.declared.steps.Reply.{Reply}
 use Rattle.session.specs.declared.steps.Reply.TheVariants.{At, Done, Fault, Length, Started}
-use Rattle.session.specs.Run.{Standing, appended, starting, waited, ended, raised, last, is_complete}
-use Rattle.session.specs.Promise.{Survives, Tells, Told, session_of, fresh}
+use Rattle.session.specs.Run.{RunState, appended, starting, after_wait, ended, raised, last, is_complete}
+use Rattle.session.specs.Promise.{Survives, EachStepIsExact, RunIsExact, session_of, fresh}
 use Rattle.session.proofs.PromiseLaws.{survives}
 use Rattle.session.proofs.StepLaws.{keeps_fewer}
 use Rattle.session.proofs.ComesBackExamples.{ab, ab_page, empty, unsynced, saved, life_of, empty_writer, rests, empty_survives, none_survives, nothing_is_kept, ab_comes_back}
 use Rattle.session.proofs.PromiseExamples.{nothing_yet, steps_of, unsynced_only, unsynced_survives, within_a_page}
 
 -- where one step is told, its moments are all that there are
-pub one_step : (step : Step) (reply : Reply) (from : Disk) (moments : List Disk) (s after : Standing) (told : Tells add_sum 4 (step ∷ []) (reply ∷ []) from moments s after) → last from moments ≡ last from told.1
+pub one_step : (step : Step) (reply : Reply) (from : Disk) (moments : List Disk) (s after : RunState) (told : EachStepIsExact add_sum 4 (step ∷ []) (reply ∷ []) from moments s after) → last from moments ≡ last from told.1
 one_step step reply from moments s after told =
     ap (λ (l : List Disk). last from l) told.3 ∙ ap (λ (l : List Disk). last from (told.1 ++ l)) told.7.0 ∙ ap (λ (l : List Disk). last from l) (append-nil told.1)
 
@@ -46,10 +46,10 @@ abbrev pub failed : Disk
 failed = logged SyncAll true unsynced
 
 -- the writer is gone, and nothing is kept
-abbrev pub after_failure : Standing
+abbrev pub after_failure : RunState
 after_failure = ended ab (appended 4 ab (fresh 4 8 []))
 
-pub a_refused_run : (bytes : Vec ℕ Global) → bytes.items ≡ ab → Tells add_sum 4 (steps_of bytes) (At 0 ∷ Fault SyncFailed ∷ []) empty (unsynced ∷ failed ∷ []) (fresh 4 8 []) after_failure
+pub a_refused_run : (bytes : Vec ℕ Global) → bytes.items ≡ ab → EachStepIsExact add_sum 4 (steps_of bytes) (At 0 ∷ Fault SyncFailed ∷ []) empty (unsynced ∷ failed ∷ []) (fresh 4 8 []) after_failure
 a_refused_run bytes is = (
   none_survives,
   [],
@@ -74,7 +74,7 @@ a_refused_run bytes is = (
     it_failed = (record { request = WriteAt 0 16 false; failed = false } ∷ record { request = SyncAll; failed = true } ∷ [], refl, inr (inl (refl, refl)))
 
 pub a_refusal_is_told : (bytes : Vec ℕ Global) → bytes.items ≡ ab
-    → Told add_sum 4 (steps_of bytes) (record (session_of empty_writer) { writer = None }) (life_of empty) (life_after (life_of empty) (unsynced ∷ failed ∷ [])) [] (At 0 ∷ Fault SyncFailed ∷ []) (fresh 4 8 [])
+    → RunIsExact add_sum 4 (steps_of bytes) (record (session_of empty_writer) { writer = None }) (life_of empty) (life_after (life_of empty) (unsynced ∷ failed ∷ [])) [] (At 0 ∷ Fault SyncFailed ∷ []) (fresh 4 8 [])
 a_refusal_is_told bytes is = record {
   added = At 0 ∷ Fault SyncFailed ∷ [];
   adds = refl;
@@ -102,7 +102,7 @@ none_failed fault log [] is some = some
 none_failed fault log (e ∷ es) is some = omega (arith, ap length is, length-append log (e ∷ es))
 
 -- no sync is refused where no call failed
-pub no_fault_of_its_own : (after : Standing) → Tells add_sum 4 (Sync ∷ []) (Fault SyncFailed ∷ []) saved [] (fresh 4 8 ab) after → ⊥
+pub no_fault_of_its_own : (after : RunState) → EachStepIsExact add_sum 4 (Sync ∷ []) (Fault SyncFailed ∷ []) saved [] (fresh 4 8 ab) after → ⊥
 no_fault_of_its_own after told =
     let there : saved ≡ last saved told.1 = one_step Sync (Fault SyncFailed) saved [] (fresh 4 8 ab) after told in
     by_cause (subst (λ (d : Disk). HasFailed SyncFailed saved d ⊎ ⊥) (sym there) told.5.0.1)
@@ -112,7 +112,7 @@ no_fault_of_its_own after told =
     by_cause (inr had) = had
 
 -- nor by an error that no sync has
-pub no_overflow_of_a_sync : (moments : List Disk) (after : Standing) → Tells add_sum 4 (Sync ∷ []) (Fault OffsetOverflow ∷ []) saved moments (fresh 4 8 ab) after → ⊥
+pub no_overflow_of_a_sync : (moments : List Disk) (after : RunState) → EachStepIsExact add_sum 4 (Sync ∷ []) (Fault OffsetOverflow ∷ []) saved moments (fresh 4 8 ab) after → ⊥
 no_overflow_of_a_sync moments after told = told.5.0.1
 
 -- ---- a sync that is started
@@ -125,17 +125,17 @@ started = starts false unsynced
 abbrev pub complete : Disk
 complete = logged (WaitSync 0) false (disk_settled_to (1, ab_page) started)
 
-abbrev pub ab_started : Standing
+abbrev pub ab_started : RunState
 ab_started = starting 4 (Named 0) (appended 4 ab (fresh 4 8 []))
 
-abbrev pub ab_waited : Standing
-ab_waited = record (waited ab_started) { floor = 2 }
+abbrev pub ab_waited : RunState
+ab_waited = record (after_wait ab_started) { floor = 2 }
 
 pub complete_survives : (floor : ℕ) → floor ≤ 2 → Survives add_sum 4 ab ab floor complete
 complete_survives floor enough = survives add_sum 4 ab ab floor complete enough (keeps_fewer add_sum 4 ab floor 2 complete enough (keeps_at_rest add_sum 4 complete refl)) (rests ab ab ab complete refl refl refl)
 
 -- before the wait nothing is kept, and after it "ab" is
-pub a_started_run : (bytes : Vec ℕ Global) → bytes.items ≡ ab → Tells add_sum 4 (Append bytes ∷ StartSync ∷ Wait ∷ []) (At 0 ∷ Started (Named 0) ∷ Done ∷ []) empty (unsynced ∷ started ∷ complete ∷ []) (fresh 4 8 []) ab_waited
+pub a_started_run : (bytes : Vec ℕ Global) → bytes.items ≡ ab → EachStepIsExact add_sum 4 (Append bytes ∷ StartSync ∷ Wait ∷ []) (At 0 ∷ Started (Named 0) ∷ Done ∷ []) empty (unsynced ∷ started ∷ complete ∷ []) (fresh 4 8 []) ab_waited
 a_started_run bytes is = (
   none_survives,
   [],
@@ -157,7 +157,7 @@ a_started_run bytes is = (
       complete ∷ [],
       [],
       refl,
-      waited ab_started,
+      after_wait ab_started,
       ((refl, refl), (λ over. absurd over, λ passes. absurd passes)),
       ((alike started refl refl).0, (complete_survives 0 (omega arith), tt)),
       (refl, refl, complete_survives 2 (omega arith)),
@@ -166,7 +166,7 @@ a_started_run bytes is = (
 )
 
 -- no wait is done where what was started isn't complete
-pub no_wait_in_vain : (after : Standing) → Tells add_sum 4 (Wait ∷ []) (Done ∷ []) started [] ab_started after → ⊥
+pub no_wait_in_vain : (after : RunState) → EachStepIsExact add_sum 4 (Wait ∷ []) (Done ∷ []) started [] ab_started after → ⊥
 no_wait_in_vain after told =
     let there : started ≡ last started told.1 = one_step Wait Done started [] ab_started after told in
     let complete_then : is_complete started 0 ≡ true = subst (λ (d : Disk). is_complete d 0 ≡ true) (sym there) told.5.0.0 in
@@ -175,21 +175,21 @@ no_wait_in_vain after told =
 -- ---- a truncate
 
 -- it answers the size that is left
-pub no_size_before : (moments : List Disk) (after : Standing) → Tells add_sum 4 (Truncate 1 ∷ []) (Length 2 ∷ []) saved moments (fresh 4 8 ab) after → ⊥
+pub no_size_before : (moments : List Disk) (after : RunState) → EachStepIsExact add_sum 4 (Truncate 1 ∷ []) (Length 2 ∷ []) saved moments (fresh 4 8 ab) after → ⊥
 no_size_before moments after told = omega (arith, told.5.0.0)
 
 -- and not before it is done
-pub no_cut_left_undone : (after : Standing) → Tells add_sum 4 (Truncate 1 ∷ []) (Length 1 ∷ []) saved [] (fresh 4 8 ab) after → ⊥
+pub no_cut_left_undone : (after : RunState) → EachStepIsExact add_sum 4 (Truncate 1 ∷ []) (Length 1 ∷ []) saved [] (fresh 4 8 ab) after → ⊥
 no_cut_left_undone after told =
     let there : saved ≡ last saved told.1 = one_step (Truncate 1) (Length 1) saved [] (fresh 4 8 ab) after told in
-    let at_the_end : Survives add_sum 4 (97 ∷ []) (97 ∷ []) 1 (last saved told.1) = subst (λ (s : Standing). Survives add_sum 4 s.content s.otherwise (raised (last saved told.1) s).floor (last saved told.1)) told.5.0.1 told.7.2 in
+    let at_the_end : Survives add_sum 4 (97 ∷ []) (97 ∷ []) 1 (last saved told.1) = subst (λ (s : RunState). Survives add_sum 4 s.content s.otherwise (raised (last saved told.1) s).floor (last saved told.1)) told.5.0.1 told.7.2 in
     let s : Survives add_sum 4 (97 ∷ []) (97 ∷ []) 1 saved = subst (λ (d : Disk). Survives add_sum 4 (97 ∷ []) (97 ∷ []) 1 d) (sym there) at_the_end in
     elim (s.only ab ab_comes_back) [ inl is ↦ omega (arith, ap length is) | inr is ↦ omega (arith, ap length is) ]
 
 -- ---- a moment in the midst
 
 -- no step is told of a blob that was empty in its midst, though all is there again at its end
-pub no_moment_that_lost : (after : Standing) → Tells add_sum 4 (Size ∷ []) (Length 2 ∷ []) saved (empty ∷ saved ∷ []) (fresh 4 8 ab) after → ⊥
+pub no_moment_that_lost : (after : RunState) → EachStepIsExact add_sum 4 (Size ∷ []) (Length 2 ∷ []) saved (empty ∷ saved ∷ []) (fresh 4 8 ab) after → ⊥
 no_moment_that_lost after told =
     let all : told.1 ≡ empty ∷ saved ∷ [] = sym (told.3 ∙ ap (λ (l : List Disk). told.1 ++ l) told.7.0 ∙ append-nil told.1) in
     let each : Each (Survives add_sum 4 ab ab 2) (saved ∷ empty ∷ saved ∷ []) = subst (λ (l : List Disk). Each (Survives add_sum 4 ab ab 2) (saved ∷ l)) all told.6 in

@@ -13,7 +13,7 @@ use Rattle.crash.specs.Moments.{life_after-append}
 use Rattle.cache.specs.CacheState.{CacheState}
 use Rattle.session.specs.declared.steps.Step.{Step}
 use Rattle.session.specs.declared.steps.Reply.{Reply}
-use Rattle.session.specs.Run.{Standing, SessionState, is_complete, raised_floor, raised, AllCover, StandsFor, last, Did, Ran, RunsAlways, WriterFits, IsSessionReady}
+use Rattle.session.specs.Run.{RunState, SessionState, is_complete, raised_floor, raised, AllCover, Represents, last, Did, Ran, RunsAlways, WriterFits, IsSessionReady}
 use Rattle.session.specs.Calls.{DidCall, RanCalls, RunGoes, Steps}
 use Rattle.session.proofs.StepLaws.{last_is, raise_within}
 
@@ -49,7 +49,7 @@ raised_keeps sum P content (c ∷ covers) floor d would keeps =
     (raised_once sum P content c.0 c.1 floor d (would 0 c (omega arith)) keeps)
 
 -- a writer stands for the same
-raised_fits : (P : ℕ) (o : Option WriterState) (s : Standing) (d : Disk) → WriterFits P o s d → WriterFits P o (raised d s) d
+raised_fits : (P : ℕ) (o : Option WriterState) (s : RunState) (d : Disk) → WriterFits P o s d → WriterFits P o (raised d s) d
 raised_fits P None s d fits = fits
 raised_fits P (Some w) s d fits = record {
   page_size = fits.page_size;
@@ -64,7 +64,7 @@ raised_fits P (Some w) s d fits = record {
 }
 
 -- where a session stands for something, it stands for it with the floor raised
-pub raised_stands : (sum : List ℕ → ℕ) (P : ℕ) (session : SessionState) (s : Standing) (d : Disk) → StandsFor sum P session s d → StandsFor sum P session (raised d s) d
+pub raised_stands : (sum : List ℕ → ℕ) (P : ℕ) (session : SessionState) (s : RunState) (d : Disk) → Represents sum P session s d → Represents sum P session (raised d s) d
 raised_stands sum P session s d stands = record {
   fits = raised_fits P session.writer s d stands.fits;
   phase = stands.phase;
@@ -86,18 +86,18 @@ last-append d [] ys = refl
 last-append d (x ∷ xs) ys = last-append x xs ys
 
 -- one step more
-pub ran_more : (sum : List ℕ → ℕ) (P : ℕ) (steps : List Step) (replies : List Reply) (step : Step) (reply : Reply) (from to : Disk) (moments more : List Disk) (before mid after : Standing)
+pub ran_more : (sum : List ℕ → ℕ) (P : ℕ) (steps : List Step) (replies : List Reply) (step : Step) (reply : Reply) (from to : Disk) (moments more : List Disk) (before mid after : RunState)
     → Ran sum P steps replies from moments before mid → to ≡ last from moments → Did sum P step reply to more mid after
     → AllKeep sum P after.content (raised (last to more) after).floor (last to more) → AllOnly sum P after.content after.otherwise (last to more)
     → Ran sum P (steps ++ step ∷ []) (replies ++ reply ∷ []) from (moments ++ more) before (raised (last to more) after)
 ran_more sum P [] [] step reply from to moments more before mid after (none, same, keeps, has) reaches did kept only =
     let at : to ≡ from = reaches ∙ ap (λ (ds : List Disk). last from ds) none in
     let stood : AllKeep sum P mid.content mid.floor to × AllOnly sum P mid.content mid.otherwise to =
-    subst (λ (s : Standing). AllKeep sum P s.content s.floor to × AllOnly sum P s.content s.otherwise to) (sym same)
+    subst (λ (s : RunState). AllKeep sum P s.content s.floor to × AllOnly sum P s.content s.otherwise to) (sym same)
     (subst (λ (d : Disk). AllKeep sum P before.content before.floor d × AllOnly sum P before.content before.otherwise d) (sym at) (keeps, has)) in
     let one : Ran sum P (step ∷ []) (reply ∷ []) to more mid (raised (last to more) after) = (stood.0, stood.1, more, [], sym (append-nil more), after, did, (refl, refl, kept, only)) in
     subst (λ (ds : List Disk). Ran sum P (step ∷ []) (reply ∷ []) from (ds ++ more) before (raised (last to more) after)) (sym none)
-    (subst (λ (s : Standing). Ran sum P (step ∷ []) (reply ∷ []) from more s (raised (last to more) after)) same
+    (subst (λ (s : RunState). Ran sum P (step ∷ []) (reply ∷ []) from more s (raised (last to more) after)) same
     (subst (λ (d : Disk). Ran sum P (step ∷ []) (reply ∷ []) d more mid (raised (last to more) after)) at one))
 ran_more sum P (x ∷ xs) (r ∷ rs) step reply from to moments more before mid after (keeps, has, first, rest, is, between, one, others) reaches did kept only = (
   keeps,
@@ -132,14 +132,14 @@ runs_more sum steps step reply was mid now old between new earlier replies more 
       let a = ran.runs P before stands in
       let b = takes.always P a.after a.stands in
       let end : new.present ≡ last between.present b.moments = ap (λ (life : Life). life.present) b.goes ∙ last_is between b.moments in
-      let final : StandsFor sum P now (raised (last between.present b.moments) b.after) (last between.present b.moments) =
-      raised_stands sum P now b.after (last between.present b.moments) (subst (λ (d : Disk). StandsFor sum P now b.after d) end b.stands) in
+      let final : Represents sum P now (raised (last between.present b.moments) b.after) (last between.present b.moments) =
+      raised_stands sum P now b.after (last between.present b.moments) (subst (λ (d : Disk). Represents sum P now b.after d) end b.stands) in
       record {
         moments = a.moments ++ b.moments;
         goes = b.goes ∙ ap (λ (life : Life). life_after life b.moments) a.goes ∙ sym (life_after-append old a.moments b.moments);
         after = raised (last between.present b.moments) b.after;
         ran = ran_more sum P steps ran.added step reply old.present between.present a.moments b.moments before a.after b.after a.ran (ap (λ (life : Life). life.present) a.goes ∙ last_is old a.moments) b.did final.kept final.only;
-        stands = subst (λ (d : Disk). StandsFor sum P now (raised (last between.present b.moments) b.after) d) (sym end) final;
+        stands = subst (λ (d : Disk). Represents sum P now (raised (last between.present b.moments) b.after) d) (sym end) final;
       };
 }
 

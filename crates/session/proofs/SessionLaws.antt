@@ -5,7 +5,7 @@ use Rattle.std.specs.declared.alloc.Global.{Global}
 use Rattle.disk.specs.Disk.{Disk, Life}
 use Rattle.disk.specs.declared.error.Error.{Error}
 use Rattle.disk.specs.declared.error.Error.TheVariants.{ReadFailed, WriteFailed, ResizeFailed, SyncFailed, InvalidChecksum, BlobInsufficientLength, OffsetOverflow, OutOfMemory, IdsExhausted}
-use Rattle.crash.specs.Started.{StartsStand}
+use Rattle.crash.specs.Started.{StartsCanBeAwaited}
 use Rattle.writer_state.specs.WriterState.{WriterState}
 use Rattle.writer_state.specs.Sound.{IsSound}
 use Rattle.cache.specs.CacheState.{CacheState}
@@ -17,8 +17,8 @@ use Rattle.session.specs.declared.steps.Step.{Step}
 use Rattle.session.specs.declared.steps.Step.TheVariants.{Append, Owned, TryAppend, Sync, Size, Read}
 use Rattle.session.specs.declared.steps.Reply.{Reply}
 use Rattle.session.specs.declared.steps.Reply.TheVariants.{At, Nothing, Done, Started, Answer, Length, Bytes, Fault, Closed, NotRecovering, NoSuch, Served, Missed, BadRanges, Taken, Sealed, NotAppending, Replaying}
-use Rattle.session.specs.Run.{Standing, SessionState, turned_away, HasCause, Takes, Foretells, Answers, last, HasSoundWriter, FitsWriter}
-use Rattle.session.specs.Calls.{IsClosed, KeepsRest, Appended, TriedAppend, Synced, Sized, DidRead}
+use Rattle.session.specs.Run.{RunState, SessionState, turned_away, HasCause, TakesStep, FaultsComeFirst, AnswersStep, last, HasSoundWriter, FitsWriter}
+use Rattle.session.specs.Calls.{IsClosed, KeepsRest, DidAppend, TriedAppend, DidSync, Sized, DidRead}
 use Rattle.session.proofs.Apart.{AlwaysApart, AlwaysBy, IsReadyApart, StepsApart, StepsBy}
 use Rattle.session.proofs.StepLaws.{held, held_same, turned_closed, closed_steps}
 use Rattle.session.proofs.WordLaws.{append_told, sync_told}
@@ -29,7 +29,7 @@ use Rattle.session.proofs.SizeLaws.{alike_stays_started, read_steps, size_steps}
 -- ---- a step of a session
 
 -- a step of a session that is closed
-pub closed_takes : (sum : List ℕ → ℕ) (step : Step) (was now : SessionState) (old new : Life) (reply : Reply) → ((before : Standing) → before.has_writer ≡ false → turned_away step before ≡ Some Closed) → was.writer ≡ None → IsReadyApart sum was old.present
+pub closed_takes : (sum : List ℕ → ℕ) (step : Step) (was now : SessionState) (old new : Life) (reply : Reply) → ((before : RunState) → before.has_writer ≡ false → turned_away step before ≡ Some Closed) → was.writer ≡ None → IsReadyApart sum was old.present
     → reply ≡ Closed → now ≡ was → new ≡ old → StepsApart sum step reply was now old new
 closed_takes sum step was now old new reply away none ready replied same_session same = record {
   ready = subst (λ (life : Life). IsReadyApart sum now life.present) (sym same) (subst (λ (x : SessionState). IsReadyApart sum x old.present) (sym same_session) ready);
@@ -37,14 +37,14 @@ closed_takes sum step was now old new reply away none ready replied same_session
 }
 
 -- the same of a call that leaves the rest of the session
-closed_rest : (sum : List ℕ → ℕ) (step : Step) (was now : SessionState) (old new : Life) (reply : Reply) → ((before : Standing) → before.has_writer ≡ false → turned_away step before ≡ Some Closed) → was.writer ≡ None → IsReadyApart sum was old.present
+closed_rest : (sum : List ℕ → ℕ) (step : Step) (was now : SessionState) (old new : Life) (reply : Reply) → ((before : RunState) → before.has_writer ≡ false → turned_away step before ≡ Some Closed) → was.writer ≡ None → IsReadyApart sum was old.present
     → KeepsRest was now → IsClosed now.writer old new reply → StepsApart sum step reply was now old new
 closed_rest sum step was now old new reply away none ready rest closed =
     closed_takes sum step was now old new reply away none ready closed.replied (rest ∙ ap (λ (o : Option WriterState). held was o) (closed.writer ∙ sym none) ∙ sym (held_same was was.writer refl)) closed.life
 
 -- a step of a session with a writer, in the words of that and of the rest
 pub held_by : (cuts : Bool) (sum : List ℕ → ℕ) (step : Step) (reply : Reply) (was now : SessionState) (w : WriterState) (o : Option WriterState) (old new : Life) → was.writer ≡ Some w → KeepsRest was now → now.writer ≡ o → HasSoundWriter sum o new.present
-    → (was.names ≡ []) ⊎ StartsStand new.present → AlwaysBy cuts sum step reply (held was (Some w)) (held was o) old new → StepsBy cuts sum step reply was now old new
+    → (was.names ≡ []) ⊎ StartsCanBeAwaited new.present → AlwaysBy cuts sum step reply (held was (Some w)) (held was o) old new → StepsBy cuts sum step reply was now old new
 held_by cuts sum step reply was now w o old new at rest is sound starts always =
     let after_it : now ≡ held was o = rest ∙ ap (λ (x : Option WriterState). held was x) is in
     subst (λ (x : SessionState). StepsBy cuts sum step reply was x old new) (sym after_it)
@@ -55,7 +55,7 @@ held_by cuts sum step reply was now w o old new at rest is sound starts always =
 
 -- and leaves the replays
 pub held_takes : (sum : List ℕ → ℕ) (step : Step) (reply : Reply) (was now : SessionState) (w : WriterState) (o : Option WriterState) (old new : Life) → was.writer ≡ Some w → KeepsRest was now → now.writer ≡ o → HasSoundWriter sum o new.present
-    → (was.names ≡ []) ⊎ StartsStand new.present → AlwaysApart sum step reply (held was (Some w)) (held was o) old new → StepsApart sum step reply was now old new
+    → (was.names ≡ []) ⊎ StartsCanBeAwaited new.present → AlwaysApart sum step reply (held was (Some w)) (held was o) old new → StepsApart sum step reply was now old new
 held_takes sum step reply was now w o old new at rest is sound starts always = held_by false sum step reply was now w o old new at rest is sound starts always
 
 -- its writer is sound
@@ -67,11 +67,11 @@ pub can_of : (was : SessionState) (w : WriterState) (cache : CacheState) (d : Di
 can_of was w cache d at fits = subst (λ (o : Option WriterState). FitsWriter o cache d) at fits
 
 -- an append by a session
-pub appended_takes : (sum : List ℕ → ℕ) (was now : SessionState) (bytes : Vec ℕ Global) (cache after : CacheState) (old new : Life) (reply : Reply) → IsReadyApart sum was old.present → KeepsRest was now → Appended sum was.writer now.writer bytes.items cache after old new reply
+pub appended_takes : (sum : List ℕ → ℕ) (was now : SessionState) (bytes : Vec ℕ Global) (cache after : CacheState) (old new : Life) (reply : Reply) → IsReadyApart sum was old.present → KeepsRest was now → DidAppend sum was.writer now.writer bytes.items cache after old new reply
     → StepsApart sum (Append bytes) reply was now old new
 appended_takes sum was now bytes cache after old new reply ready rest goes = by_writer was.writer refl reply goes
   where
-    by_writer : (o : Option WriterState) → was.writer ≡ o → (reply : Reply) → Appended sum o now.writer bytes.items cache after old new reply → StepsApart sum (Append bytes) reply was now old new
+    by_writer : (o : Option WriterState) → was.writer ≡ o → (reply : Reply) → DidAppend sum o now.writer bytes.items cache after old new reply → StepsApart sum (Append bytes) reply was now old new
     by_writer None at reply goes = closed_rest sum (Append bytes) was now old new reply (λ before none. turned_closed before.has_writer none) at ready rest goes.0
     by_writer (Some w) at (At n) (v, is, whole, call) =
         let says = append_told sum w cache after old new bytes.items (Ok (v, n)) whole call in
@@ -97,7 +97,7 @@ appended_takes sum was now bytes cache after old new reply ready rest goes = by_
     by_writer (Some w) at (Replaying number) goes = absurd goes
 
 -- a cause of an append is one of an append of a buffer
-owned_cause : (P : ℕ) (bytes : Vec ℕ Global) (s : Standing) (from to : Disk) (e : Error) → HasCause P (Append bytes) s from to e → HasCause P (Owned bytes) s from to e
+owned_cause : (P : ℕ) (bytes : Vec ℕ Global) (s : RunState) (from to : Disk) (e : Error) → HasCause P (Append bytes) s from to e → HasCause P (Owned bytes) s from to e
 owned_cause P bytes s from to ReadFailed cause = cause
 owned_cause P bytes s from to WriteFailed cause = cause
 owned_cause P bytes s from to ResizeFailed cause = cause
@@ -109,7 +109,7 @@ owned_cause P bytes s from to OutOfMemory cause = cause
 owned_cause P bytes s from to IdsExhausted cause = cause
 
 -- so is what it takes
-owned_takes : (sum : List ℕ → ℕ) (P : ℕ) (bytes : Vec ℕ Global) (reply : Reply) (s after : Standing) (from to : Disk) → Takes sum P (Append bytes) reply from to s after → Takes sum P (Owned bytes) reply from to s after
+owned_takes : (sum : List ℕ → ℕ) (P : ℕ) (bytes : Vec ℕ Global) (reply : Reply) (s after : RunState) (from to : Disk) → TakesStep sum P (Append bytes) reply from to s after → TakesStep sum P (Owned bytes) reply from to s after
 owned_takes sum P bytes (Fault e) s after from to (listed, cause, refuses) = (listed, owned_cause P bytes s from to e cause, refuses)
 owned_takes sum P bytes (At n) s after from to takes = takes
 owned_takes sum P bytes Nothing s after from to takes = takes
@@ -129,11 +129,11 @@ owned_takes sum P bytes (Sealed index sync) s after from to takes = takes
 owned_takes sum P bytes NotAppending s after from to takes = takes
 owned_takes sum P bytes (Replaying number) s after from to takes = takes
 
-owned_answers : (sum : List ℕ → ℕ) (P : ℕ) (bytes : Vec ℕ Global) (reply : Reply) (s after : Standing) (from to : Disk) → Answers sum P (Append bytes) reply from to s after → Answers sum P (Owned bytes) reply from to s after
+owned_answers : (sum : List ℕ → ℕ) (P : ℕ) (bytes : Vec ℕ Global) (reply : Reply) (s after : RunState) (from to : Disk) → AnswersStep sum P (Append bytes) reply from to s after → AnswersStep sum P (Owned bytes) reply from to s after
 owned_answers sum P bytes reply s after from to = by_turn (if s.has_writer then None else Some Closed)
   where
-    by_turn : (turn : Option Reply) → (elim turn as (λ (o : Option Reply). Type 0) [ Some other ↦ (reply ≡ other) × (after ≡ s) | None ↦ Takes sum P (Append bytes) reply from to s after × Foretells P (Append bytes) reply s ])
-        → (elim turn as (λ (o : Option Reply). Type 0) [ Some other ↦ (reply ≡ other) × (after ≡ s) | None ↦ Takes sum P (Owned bytes) reply from to s after × Foretells P (Owned bytes) reply s ])
+    by_turn : (turn : Option Reply) → (elim turn as (λ (o : Option Reply). Type 0) [ Some other ↦ (reply ≡ other) × (after ≡ s) | None ↦ TakesStep sum P (Append bytes) reply from to s after × FaultsComeFirst P (Append bytes) reply s ])
+        → (elim turn as (λ (o : Option Reply). Type 0) [ Some other ↦ (reply ≡ other) × (after ≡ s) | None ↦ TakesStep sum P (Owned bytes) reply from to s after × FaultsComeFirst P (Owned bytes) reply s ])
     by_turn None (takes, foretells) = (owned_takes sum P bytes reply s after from to takes, foretells)
     by_turn (Some other) is = is
 
@@ -196,10 +196,10 @@ tried_takes sum was now bytes life reply ready rest goes = by_writer was.writer 
     by_writer (Some w) at (Replaying number) goes = absurd goes
 
 -- a sync by a session
-pub synced_takes : (sum : List ℕ → ℕ) (was now : SessionState) (cache after : CacheState) (old new : Life) (reply : Reply) → IsReadyApart sum was old.present → KeepsRest was now → Synced sum was.writer now.writer cache after old new reply → StepsApart sum Sync reply was now old new
+pub synced_takes : (sum : List ℕ → ℕ) (was now : SessionState) (cache after : CacheState) (old new : Life) (reply : Reply) → IsReadyApart sum was old.present → KeepsRest was now → DidSync sum was.writer now.writer cache after old new reply → StepsApart sum Sync reply was now old new
 synced_takes sum was now cache after old new reply ready rest goes = by_writer was.writer refl reply goes
   where
-    by_writer : (o : Option WriterState) → was.writer ≡ o → (reply : Reply) → Synced sum o now.writer cache after old new reply → StepsApart sum Sync reply was now old new
+    by_writer : (o : Option WriterState) → was.writer ≡ o → (reply : Reply) → DidSync sum o now.writer cache after old new reply → StepsApart sum Sync reply was now old new
     by_writer None at reply goes = closed_rest sum Sync was now old new reply (λ before none. turned_closed before.has_writer none) at ready rest goes.0
     by_writer (Some w) at Done (v, is, whole, call) =
         let says = sync_told sum w cache after old new (Ok v) whole call in
@@ -247,5 +247,5 @@ read_takes sum was cache after offset len old new reply ready goes = by_writer w
     by_writer None at goes = closed_takes sum (Read offset len) was was old new reply (λ before none. turned_closed before.has_writer none) at ready goes.0 refl goes.1
     by_writer (Some w) at says =
         let sound = sound_of sum was w old.present at ready in
-        let starts : (was.names ≡ []) ⊎ StartsStand new.present = elim ready.starts [ inl none ↦ inl none | inr stand ↦ inr (alike_stays_started old.present new.present says.looked.same stand) ] in
+        let starts : (was.names ≡ []) ⊎ StartsCanBeAwaited new.present = elim ready.starts [ inl none ↦ inl none | inr stand ↦ inr (alike_stays_started old.present new.present says.looked.same stand) ] in
         held_takes sum (Read offset len) reply was was w (Some w) old new at (same_rest was) at (reads_keep_sound sum w old new says.looked sound) starts (read_steps sum was w cache after offset len old new reply sound says)

@@ -7,7 +7,7 @@ use Rattle.disk.specs.Disk.{Disk, Life, coverings}
 use Rattle.disk.specs.declared.error.Error.{Error}
 use Rattle.disk.specs.declared.error.Error.TheVariants.{ReadFailed, WriteFailed, ResizeFailed, SyncFailed, InvalidChecksum, BlobInsufficientLength, OffsetOverflow, OutOfMemory, IdsExhausted}
 use Rattle.crash.specs.Kept.{AllKeep, Through, Moments}
-use Rattle.crash.specs.Started.{CoversStay, CoversThrough, StartsStand}
+use Rattle.crash.specs.Started.{CoversStay, CoversThrough, StartsCanBeAwaited}
 use Rattle.writer_state.specs.WriterState.{WriterState}
 use Rattle.writer_state.specs.Sound.{IsSound, content as content_of}
 use Rattle.crash.specs.Stays.{Stays, StaysThrough}
@@ -17,7 +17,7 @@ use Rattle.crash.proofs.Moments.{stays_itself, stays_alike}
 use Rattle.writer_state.proofs.StartedLaws.{alike_would}
 use Rattle.paged.proofs.Flushes.{size_is_length, begins}
 use Rattle.cache.specs.CacheState.{CacheState}
-use Rattle.paged_read.specs.Tail.{Tail, size_of as size_of_tail}
+use Rattle.paged_read.specs.Tail.{Tail, tail_size as size_of_tail}
 use Rattle.paged_read.specs.Failures.{none_failed_start}
 use Rattle.paged_read.specs.Ranges.{Reads, missing}
 use Rattle.paged_read.specs.Reads.{ReadCosts, ReadIntoGoes}
@@ -28,8 +28,8 @@ use Rattle.session.specs.declared.steps.Step.{Step}
 use Rattle.session.specs.declared.steps.Step.TheVariants.{Size, Read}
 use Rattle.session.specs.declared.steps.Reply.{Reply}
 use Rattle.session.specs.declared.steps.Reply.TheVariants.{At, Nothing, Done, Started, Answer, Length, Bytes, Fault, Closed, NotRecovering, NoSuch, Served, Missed, BadRanges, Taken, Sealed, NotAppending, Replaying}
-use Rattle.session.specs.Run.{Standing, SessionState, begun, turned_away, faults, HasCause, content_after, Takes, Foretells, touch, Touches, AllCover}
-use Rattle.session.specs.Calls.{ReadsBytes, ReadsRange, RefusesRoom}
+use Rattle.session.specs.Run.{RunState, SessionState, at_step, turned_away, faults, HasCause, content_after, TakesStep, FaultsComeFirst, use_of_step, UsesDevice, AllCover}
+use Rattle.session.specs.Calls.{RangeStepGoes, ReadsBytes, RefusesRoom}
 use Rattle.session.proofs.Apart.{AlwaysApart, StandsApart, SteppedApart}
 use Rattle.session.proofs.StepLaws.{held, turned_here, each_end, stepped, unasked, stands_now, Halves}
 use Rattle.session.proofs.SyncLaws.{same_halves}
@@ -37,12 +37,12 @@ use Rattle.session.proofs.SyncLaws.{same_halves}
 -- ---- reads and sizes
 
 -- where only the log changed, started syncs stay as they were
-pub alike_stays_started : (d e : Disk) → SameButLog d e → StartsStand d → StartsStand e
-alike_stays_started d e alike stand = subst StartsStand (sym alike) stand
+pub alike_stays_started : (d e : Disk) → SameButLog d e → StartsCanBeAwaited d → StartsCanBeAwaited e
+alike_stays_started d e alike stand = subst StartsCanBeAwaited (sym alike) stand
 
 -- a step that only reads and leaves the standing
-pub looked_steps : (sum : List ℕ → ℕ) (was : SessionState) (P : ℕ) (w : WriterState) (step : Step) (reply : Reply) (old new : Life) (before : Standing) → content_after step before.content ≡ before.content → begun step before ≡ before → turned_away step before ≡ None
-    → IsSound sum w old.present → Looked old new → (seen : Moments (SameButLog old.present) old new) → Touches (touch P step before) old.present seen.moments → StandsApart sum P (held was (Some w)) before old.present → Takes sum P step reply old.present new.present before before → Foretells P step reply before
+pub looked_steps : (sum : List ℕ → ℕ) (was : SessionState) (P : ℕ) (w : WriterState) (step : Step) (reply : Reply) (old new : Life) (before : RunState) → content_after step before.content ≡ before.content → at_step step before ≡ before → turned_away step before ≡ None
+    → IsSound sum w old.present → Looked old new → (seen : Moments (SameButLog old.present) old new) → UsesDevice (use_of_step P step before) old.present seen.moments → StandsApart sum P (held was (Some w)) before old.present → TakesStep sum P step reply old.present new.present before before → FaultsComeFirst P step reply before
     → SteppedApart sum P step reply (held was (Some w)) old new before before.snapshots before.replays
 unfolding Through IsSound
 looked_steps sum was P w step reply old new before same begins here sound looked seen touches stands takes foretells =
@@ -68,7 +68,7 @@ looked_steps sum was P w step reply old new before same begins here sound looked
       each = each_then (SameButLog old.present) (CoversStay sum P before.content old.present) seen.moments cover seen.each;
     } in
     let h = same_halves sum was P w old new before stands through covering in
-    stepped sum P step reply (held was (Some w)) old new before before through.moments fits.has_writer here (subst (λ (s : Standing). Halves sum P before.content (content_after step before.content) s.floor s.covers old new through.moments) (sym begins)
+    stepped sum P step reply (held was (Some w)) old new before before through.moments fits.has_writer here (subst (λ (s : RunState). Halves sum P before.content (content_after step before.content) s.floor s.covers old new through.moments) (sym begins)
     (subst (λ (l : List ℕ). Halves sum P before.content l before.floor before.covers old new through.moments) (sym same) h)) touches takes
     foretells
     (stands_now sum P was w old new before
@@ -87,7 +87,7 @@ looked_steps sum was P w step reply old new before same begins here sound looked
     (each_end (AllCover sum P before.content before.covers) old new through.moments h.goes h.covered) h.stays)
 
 -- why a read is refused: a sound writer has no page below its tip that isn't full
-read_cause : (sum : List ℕ → ℕ) (P : ℕ) (w : WriterState) (cache : CacheState) (offset len : ℕ) (before : Standing) (old new : Life) (e : Error) → size_of w ≡ length before.content → (e ≡ InvalidChecksum → ⊥)
+read_cause : (sum : List ℕ → ℕ) (P : ℕ) (w : WriterState) (cache : CacheState) (offset len : ℕ) (before : RunState) (old new : Life) (e : Error) → size_of w ≡ length before.content → (e ≡ InvalidChecksum → ⊥)
     → Reads {A = Vec ℕ Global} sum (tail_of w) cache (offset, len) (λ b. b.items) old new (Err e) → Contains (faults (Read offset len)) e × HasCause P (Read offset len) before old.present new.present e
 read_cause sum P w cache offset len before old new ReadFailed size full goes = ((0, lit< tt, refl), goes)
 read_cause sum P w cache offset len before old new WriteFailed size full goes = absurd goes
@@ -107,7 +107,7 @@ costs_none sum t cache offset len life e = record {
 }
 
 -- no room was made for what is to be read
-pub room_refused : (sum : List ℕ → ℕ) (t : Tail) (cache : CacheState) (offset len size : ℕ) (life : Life) (e : Error) → size ≡ size_of_tail t → size < 2 ^ 64 → RefusesRoom size offset len e → ReadsRange sum t cache cache offset len life life (Fault e)
+pub room_refused : (sum : List ℕ → ℕ) (t : Tail) (cache : CacheState) (offset len size : ℕ) (life : Life) (e : Error) → size ≡ size_of_tail t → size < 2 ^ 64 → RefusesRoom size offset len e → RangeStepGoes sum t cache cache offset len life life (Fault e)
 room_refused sum t cache offset len size life OffsetOverflow is small passes = record {
   reads = record {
     goes = record {
@@ -156,7 +156,7 @@ room_refused sum t cache offset len size life IdsExhausted is small none = absur
 
 -- what was read to where there was room for it is told
 pub read_says : (sum : List ℕ → ℕ) (t : Tail) (cache after : CacheState) (offset len size : ℕ) (old new : Life) (was buf : List ℕ) (bytes : Vec ℕ Global) → size ≡ size_of_tail t → size < 2 ^ 64 → bytes.items ≡ buf → length was ≡ len
-    → ReadIntoGoes sum t cache offset was buf old new (Ok tt) → ReadCosts {A = Unit {0}} sum t (offset, length was) cache after old new (Ok tt) → Looked old new → ReadsRange sum t cache after offset len old new (Bytes bytes)
+    → ReadIntoGoes sum t cache offset was buf old new (Ok tt) → ReadCosts {A = Unit {0}} sum t (offset, length was) cache after old new (Ok tt) → Looked old new → RangeStepGoes sum t cache after offset len old new (Bytes bytes)
 read_says sum t cache after offset len size old new was buf bytes is small same room into costs looked =
     let goes : Reads {A = Unit {0}} sum t cache (offset, len) (λ u. buf) old new (Ok tt) = subst (λ (n : ℕ). Reads {A = Unit {0}} sum t cache (offset, n) (λ u. buf) old new (Ok tt)) room into.answers in
     let cost : ReadCosts {A = Unit {0}} sum t (offset, len) cache after old new (Ok tt) = subst (λ (n : ℕ). ReadCosts {A = Unit {0}} sum t (offset, n) cache after old new (Ok tt)) room costs in
@@ -187,9 +187,9 @@ no_bytes sum t cache range buf old new OutOfMemory reads = reads
 no_bytes sum t cache range buf old new IdsExhausted reads = reads
 
 pub read_fails : (sum : List ℕ → ℕ) (t : Tail) (cache after : CacheState) (offset len : ℕ) (old new : Life) (was buf : List ℕ) (e : Error) → length was ≡ len → ReadIntoGoes sum t cache offset was buf old new (Err e) → ReadCosts {A = Unit {0}} sum t (offset, length was) cache after old new (Err e) → Looked old new
-    → ReadsRange sum t cache after offset len old new (Fault e)
+    → RangeStepGoes sum t cache after offset len old new (Fault e)
 read_fails sum t cache after offset len old new was buf e room into costs looked =
-    subst (λ (n : ℕ). ReadsRange sum t cache after offset n old new (Fault e)) room
+    subst (λ (n : ℕ). RangeStepGoes sum t cache after offset n old new (Fault e)) room
     (record {
       reads = record {
         goes = record {
@@ -205,7 +205,7 @@ read_fails sum t cache after offset len old new was buf e room into costs looked
     })
 
 -- a read
-pub read_steps : (sum : List ℕ → ℕ) (was : SessionState) (w : WriterState) (cache after : CacheState) (offset len : ℕ) (old new : Life) (reply : Reply) → IsSound sum w old.present → ReadsRange sum (tail_of w) cache after offset len old new reply
+pub read_steps : (sum : List ℕ → ℕ) (was : SessionState) (w : WriterState) (cache after : CacheState) (offset len : ℕ) (old new : Life) (reply : Reply) → IsSound sum w old.present → RangeStepGoes sum (tail_of w) cache after offset len old new reply
     → AlwaysApart sum (Read offset len) reply (held was (Some w)) (held was (Some w)) old new
 unfolding Through
 read_steps sum was w cache after offset len old new reply sound says = λ P before stands.
@@ -213,8 +213,8 @@ read_steps sum was w cache after offset len old new reply sound says = λ P befo
     let both = taken reply P before stands size says.reads in
     looked_steps sum was P w (Read offset len) reply old new before refl refl (turned_here before.has_writer stands.fits.has_writer) sound says.looked says.looked.through says.looked.through.each stands both.0 both.1
   where
-    taken : (r : Reply) (P : ℕ) (before : Standing) → StandsApart sum P (held was (Some w)) before old.present → size_of w ≡ length before.content → ReadsBytes sum (tail_of w) cache after offset len old new r
-        → Takes sum P (Read offset len) r old.present new.present before before × Foretells P (Read offset len) r before
+    taken : (r : Reply) (P : ℕ) (before : RunState) → StandsApart sum P (held was (Some w)) before old.present → size_of w ≡ length before.content → ReadsBytes sum (tail_of w) cache after offset len old new r
+        → TakesStep sum P (Read offset len) r old.present new.present before before × FaultsComeFirst P (Read offset len) r before
     taken (Bytes bytes) P before stands size reads =
         let goes = reads.goes in
         let same : bytes.items ≡ take len (drop offset before.content) = goes.answers.1 ∙ ap (λ (l : List ℕ). take len (drop offset l)) (sym stands.fits.content) in

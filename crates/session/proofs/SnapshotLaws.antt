@@ -17,7 +17,7 @@ use Rattle.crash.proofs.DistinctLaws.{vouched_alike}
 use Rattle.crash.specs.Kept.{AllKeep, AllOnly, Through}
 use Rattle.crash.specs.Looks.{SameButLog}
 use Rattle.crash.specs.Moments.{each_then}
-use Rattle.crash.specs.Started.{WouldKeep, StartsStand}
+use Rattle.crash.specs.Started.{WouldKeep, StartsCanBeAwaited}
 use Rattle.writer_state.specs.WriterState.{WriterState}
 use Rattle.writer_state.specs.declared.sync_state.SyncState.{SyncState}
 use Rattle.writer_state.specs.declared.sync_state.SyncState.TheVariants.{Clean, Dirty, Pending}
@@ -26,10 +26,10 @@ use Rattle.crash.proofs.Disks.{image_alike}
 use Rattle.crash.proofs.Moments.{chance_free_alike, keeps_alike}
 use Rattle.writer_state.proofs.StartedLaws.{alike_would}
 use Rattle.cache.specs.CacheState.{CacheState}
-use Rattle.paged_read.specs.Tail.{Tail, told, HasFullPages, HasPages, CanRead, size_of as size_of_tail}
+use Rattle.paged_read.specs.Tail.{Tail, logical_bytes, HasFullPages, HasPages, CanRead, tail_size as size_of_tail}
 use Rattle.paged_read.specs.Ranges.{Reads}
 use Rattle.paged_read.specs.Replay.{LeavesAllReplays}
-use Rattle.paged_read.specs.Snapshots.{LeavesAllReads, LeavesAllTails, LeavesWriters, StandsOn}
+use Rattle.paged_read.specs.Snapshots.{LeavesAllReads, LeavesAllTails, LeavesAllWriters, SnapshotReads}
 use Rattle.paged_read.proofs.Leaving.{length-told}
 use Rattle.paged.specs.Caches.{tail_of}
 use Rattle.paged.specs.Calls.{CallCause, AsksAtMost, start_calls, wait_calls, unstarted_calls}
@@ -40,9 +40,9 @@ use Rattle.session.specs.declared.steps.Step.{Step}
 use Rattle.session.specs.declared.steps.Step.TheVariants.{Snapshot, TrySnapshot, Snap, Seal}
 use Rattle.session.specs.declared.steps.Reply.{Reply}
 use Rattle.session.specs.declared.steps.Reply.TheVariants.{Nothing, Bytes, Fault, Closed, NoSuch, Taken, Sealed, NotAppending}
-use Rattle.session.specs.Run.{Replayed, Standing, SessionState, begun, noted, flushed, left_by_seal, ended, sealed_by, snapshot_at, numbered, turned_away, faults, HasCause, Takes, Foretells, Answers, Touches, wait_touch, last, AllCover, pending_in, WriterStandsFor, HasSoundWriter, FitsWriter, CacheFits, IsReady, IsBelow, IsSnapshot, StandsFor}
+use Rattle.session.specs.Run.{RunReplay, RunState, SessionState, at_step, noted, flushed, left_by_seal, ended, sealed_by, snapshot_at, numbered, turned_away, faults, HasCause, TakesStep, FaultsComeFirst, AnswersStep, UsesDevice, use_of_wait, last, AllCover, pending_in, WriterRepresents, HasSoundWriter, FitsWriter, CacheFits, IsSoundSession, IsBelow, IsSnapshot, Represents}
 use Rattle.session.specs.Run.Touch.{Leaves, Looks, Changes}
-use Rattle.session.specs.Calls.{IfAppending, with_snapshot, TakesSnapshot, TriesSnapshot, sealed_with, SealsSession, DidSnapshot, DidTrySnapshot, DidSeal, DidSnap, ReadsBytes, ReadsRange, LeavesTaken, Steps}
+use Rattle.session.specs.Calls.{IfAppending, with_snapshot, TakesSnapshot, TakesTriedSnapshot, sealed_with, SealsSession, DidSnapshot, DidTrySnapshot, DidSeal, DidSnap, ReadsBytes, RangeStepGoes, LeavesTaken, Steps}
 use Rattle.session.proofs.Words.{SnapshotTold, SealTold}
 use Rattle.session.proofs.WordLaws.{seal_told, snapshot_told}
 use Rattle.session.proofs.Apart.{AlwaysApart, IsReadyApart, StandsApart, SteppedApart, StepsApart, stands_apart, ready_apart}
@@ -73,13 +73,13 @@ gone false b none = refl
 gone true b none = absurd (false≢true (sym none))
 
 -- a step that leaves the session
-pub same_takes : (sum : List ℕ → ℕ) (step : Step) (reply : Reply) (was now : SessionState) (cache after : CacheState) (old new : Life) → IsReady sum was old.present → CacheFits was cache old.present → FitsWriter now.writer after new.present
+pub same_takes : (sum : List ℕ → ℕ) (step : Step) (reply : Reply) (was now : SessionState) (cache after : CacheState) (old new : Life) → IsSoundSession sum was old.present → CacheFits was cache old.present → FitsWriter now.writer after new.present
     → LeavesTaken sum was.writer now.writer cache after old new → now ≡ was → StepsApart sum step reply was now old new → Steps sum step reply was now old new × CacheFits now after new.present
 same_takes sum step reply was now cache after old new ready fits writer stay is apart =
     framed_same sum step reply was now after old new (ap (λ (s : SessionState). s.snapshots) is) (ap (λ (s : SessionState). s.replays) is) (subst (λ (s : SessionState). s.recovering ≡ true → s.snapshots ≡ []) (sym is) ready.begun) writer (left_by sum was now.writer cache after old new ready fits stay.own) apart
 
 -- one of a writer that appends, by a session in recovery, or closed
-module _ (sum : List ℕ → ℕ) (step : Step) (was now : SessionState) (old new : Life) (ready : IsReady sum was old.present) (appends : (s : Standing) → turned_away step s ≡ (if s.has_writer then (if s.recovering then Some NotAppending else None) else Some Closed)) where
+module _ (sum : List ℕ → ℕ) (step : Step) (was now : SessionState) (old new : Life) (ready : IsSoundSession sum was old.present) (appends : (s : RunState) → turned_away step s ≡ (if s.has_writer then (if s.recovering then Some NotAppending else None) else Some Closed)) where
   closed_apart : (reply : Reply) → was.writer ≡ None → reply ≡ Closed → now ≡ was → new ≡ old → StepsApart sum step reply was now old new
   closed_apart reply none replied is same =
       closed_takes sum step was now old new reply (λ before without. appends before ∙ gone before.has_writer before.recovering without) none (ready_apart sum was old.present ready) replied is same
@@ -100,12 +100,12 @@ module _ (sum : List ℕ → ℕ) (step : Step) (was now : SessionState) (old ne
 -- ---- snapshots
 
 -- a full page is buffered, or none
-short_of : (w : WriterState) (P : ℕ) (s : Standing) → length w.tip ≡ s.buffered → w.page_size ≡ P → has_work w false ≡ false → nat_lt s.buffered P ≡ true
+short_of : (w : WriterState) (P : ℕ) (s : RunState) → length w.tip ≡ s.buffered → w.page_size ≡ P → has_work w false ≡ false → nat_lt s.buffered P ≡ true
 short_of w P s buffered size none =
     let below : nat_le w.page_size (length w.tip) ≡ false = sym (or-false (nat_le w.page_size (length w.tip))) ∙ none in
     grind (arith, nat_tests, below, buffered, size)
 
-full_of : (w : WriterState) (P : ℕ) (s : Standing) → length w.tip ≡ s.buffered → w.page_size ≡ P → has_work w false ≡ true → nat_lt s.buffered P ≡ false
+full_of : (w : WriterState) (P : ℕ) (s : RunState) → length w.tip ≡ s.buffered → w.page_size ≡ P → has_work w false ≡ true → nat_lt s.buffered P ≡ false
 full_of w P s buffered size some =
     let full : nat_le w.page_size (length w.tip) ≡ true = sym (or-false (nat_le w.page_size (length w.tip))) ∙ some in
     grind (arith, nat_tests, full, buffered, size)
@@ -117,12 +117,12 @@ full_unwritten w some =
     (sym (or-false (nat_le w.page_size (length w.tip))) ∙ some)
 
 -- with no full page the standing stays
-flushed_short : (P : ℕ) (s : Standing) → nat_lt s.buffered P ≡ true → flushed P s ≡ s
+flushed_short : (P : ℕ) (s : RunState) → nat_lt s.buffered P ≡ true → flushed P s ≡ s
 flushed_short P s short =
     subst (λ (b : Bool). record s { buffered = if b then s.buffered else s.buffered % P; awaited = if b then s.awaited else None } ≡ s) (sym short) refl
 
 -- with a snapshot more it stands for what it stood for
-noted_stands : (sum : List ℕ → ℕ) (P : ℕ) (was : SessionState) (w : WriterState) (t : Tail) (s : Standing) (d : Disk) → StandsApart sum P (held was (Some w)) s d → StandsApart sum P (with_snapshot was (Some w) t) (noted s) d
+noted_stands : (sum : List ℕ → ℕ) (P : ℕ) (was : SessionState) (w : WriterState) (t : Tail) (s : RunState) (d : Disk) → StandsApart sum P (held was (Some w)) s d → StandsApart sum P (with_snapshot was (Some w) t) (noted s) d
 noted_stands sum P was w t s d stands = record {
   fits = record {
     page_size = stands.fits.page_size;
@@ -145,16 +145,16 @@ noted_stands sum P was w t s d stands = record {
 }
 
 -- what stands of a session with this writer
-pub stands_held : (sum : List ℕ → ℕ) (P : ℕ) (was : SessionState) (w : WriterState) (s : Standing) (d : Disk) → was.writer ≡ Some w → StandsFor sum P was s d → StandsApart sum P (held was (Some w)) s d
+pub stands_held : (sum : List ℕ → ℕ) (P : ℕ) (was : SessionState) (w : WriterState) (s : RunState) (d : Disk) → was.writer ≡ Some w → Represents sum P was s d → StandsApart sum P (held was (Some w)) s d
 stands_held sum P was w s d at stands = subst (λ (x : SessionState). StandsApart sum P x s d) (held_same was (Some w) at) (stands_apart sum P was s d stands)
 
 -- a snapshot has the number of those before it
-number_is : (sum : List ℕ → ℕ) (P : ℕ) (was : SessionState) (s : Standing) (d : Disk) → StandsFor sum P was s d → length was.snapshots ≡ length s.snapshots
-number_is sum P was s d stands = sym (ap length stands.snapshots ∙ length-map was.snapshots (option_map (λ t. told t d.readable)))
+number_is : (sum : List ℕ → ℕ) (P : ℕ) (was : SessionState) (s : RunState) (d : Disk) → Represents sum P was s d → length was.snapshots ≡ length s.snapshots
+number_is sum P was s d stands = sym (ap length stands.snapshots ∙ length-map was.snapshots (option_map (λ t. logical_bytes t d.readable)))
 
 -- and tells the content
-one_more : (sum : List ℕ → ℕ) (step : Step) (P : ℕ) (reply : Reply) (now : SessionState) (old new : Life) (before : Standing) (t : Tail) → told t new.present.readable ≡ before.content
-    → SteppedApart sum P step reply now old new before (before.snapshots ++ Some before.content ∷ []) before.replays → SteppedApart sum P step reply now old new before (before.snapshots ++ map (option_map (λ u. told u new.present.readable)) (Some t ∷ [])) before.replays
+one_more : (sum : List ℕ → ℕ) (step : Step) (P : ℕ) (reply : Reply) (now : SessionState) (old new : Life) (before : RunState) (t : Tail) → logical_bytes t new.present.readable ≡ before.content
+    → SteppedApart sum P step reply now old new before (before.snapshots ++ Some before.content ∷ []) before.replays → SteppedApart sum P step reply now old new before (before.snapshots ++ map (option_map (λ u. logical_bytes u new.present.readable)) (Some t ∷ [])) before.replays
 one_more sum step P reply now old new before t tells stepped_on = subst (λ (l : List ℕ). SteppedApart sum P step reply now old new before (before.snapshots ++ Some l ∷ []) before.replays) (sym tells) stepped_on
 
 pub snapshot_few : (work : Bool) (state : SyncState) → (if work then wait_calls state + 1 else 0) ≤ 2
@@ -165,13 +165,13 @@ snapshot_few false state = lit≤ tt
 
 -- a snapshot that is made
 snapshot_steps : (sum : List ℕ → ℕ) (was : SessionState) (w v : WriterState) (t : Tail) (after : CacheState) (old new : Life) → was.writer ≡ Some w → was.recovering ≡ false → IsSound sum w old.present → SnapshotTold sum w old new (Ok (v, t))
-    → StandsOn sum t (content_of w old.present.readable) after new.present → AlwaysMakes sum Snapshot (Taken (length was.snapshots)) was (with_snapshot was (Some v) t) old new (Some t ∷ [])
+    → SnapshotReads sum t (content_of w old.present.readable) after new.present → AlwaysMakes sum Snapshot (Taken (length was.snapshots)) was (with_snapshot was (Some v) t) old new (Some t ∷ [])
 unfolding Through
 snapshot_steps sum was w v t after old new at phase sound says on = λ P before all.
     let stands = stands_held sum P was w before old.present at all in
     one_more sum Snapshot P (Taken (length was.snapshots)) (with_snapshot was (Some v) t) old new before t (on.tail.is ∙ sym stands.fits.content) (by_work P before all stands (has_work w false) refl)
   where
-    by_work : (P : ℕ) (before : Standing) → StandsFor sum P was before old.present → StandsApart sum P (held was (Some w)) before old.present → (work : Bool) → has_work w false ≡ work
+    by_work : (P : ℕ) (before : RunState) → Represents sum P was before old.present → StandsApart sum P (held was (Some w)) before old.present → (work : Bool) → has_work w false ≡ work
         → SteppedApart sum P Snapshot (Taken (length was.snapshots)) (with_snapshot was (Some v) t) old new before (before.snapshots ++ Some before.content ∷ []) before.replays
     by_work P before all stands false none =
         let fits = stands.fits in
@@ -196,7 +196,7 @@ snapshot_steps sum was w v t after old new at phase sound says on = λ P before 
         let number : length was.snapshots ≡ length before.snapshots = number_is sum P was before old.present all in
         let most : length new.present.log ≤ length old.present.log + 2 = omega (arith, says.calls, snapshot_few (has_work w false) w.sync) in
         stepped sum P Snapshot (Taken (length was.snapshots)) (with_snapshot was (Some v) t) old new before (noted (flushed P before)) through.moments fits.has_writer (here before.has_writer before.recovering fits.has_writer (sym stands.phase ∙ phase)) h
-        (subst (λ (b : Bool). Touches (if b then Leaves else Changes 2) old.present through.moments) (sym full) (few_calls old new through.moments 2 h.goes most))
+        (subst (λ (b : Bool). UsesDevice (if b then Leaves else Changes 2) old.present through.moments) (sym full) (few_calls old new through.moments 2 h.goes most))
         (number, refl) (λ none. absurd none, λ none. absurd none)
         (stands_now sum P (record was { snapshots = was.snapshots ++ Some t ∷ [] }) v old new (noted (flushed P before))
         (record {
@@ -214,7 +214,7 @@ snapshot_steps sum was w v t after old new at phase sound says on = λ P before 
         (each_end (AllCover sum P before.content before.covers) old new through.moments h.goes h.covered) h.stays)
 
 -- why one is refused
-snapshot_cause : (P : ℕ) (w : WriterState) (before : Standing) (old new : Life) (e : Error) → (nat_lt before.buffered P ≡ true → e ≡ SyncFailed → ⊥) → before.awaited ≡ pending_in w.sync → CallCause w.sync old new e
+snapshot_cause : (P : ℕ) (w : WriterState) (before : RunState) (old new : Life) (e : Error) → (nat_lt before.buffered P ≡ true → e ≡ SyncFailed → ⊥) → before.awaited ≡ pending_in w.sync → CallCause w.sync old new e
     → Contains (faults Snapshot) e × HasCause P Snapshot before old.present new.present e
 snapshot_cause P w before old new ReadFailed short awaited cause = absurd cause
 snapshot_cause P w before old new WriteFailed short awaited cause = ((0, lit< tt, refl), cause)
@@ -242,19 +242,19 @@ snapshot_refused_steps sum was w e old new phase says = λ P before stands.
     stepped sum P Snapshot (Fault e) (held was None) old new before (ended before.content before) through.moments fits.has_writer (here before.has_writer before.recovering fits.has_writer (sym stands.phase ∙ phase)) h
     (touched P before fits through.moments h.goes (has_work w false) refl) (cause.0, cause.1, inl refl) (λ none. absurd none, λ none. absurd none) (stands_ended sum P was w old new before before.content through.moments stands h)
   where
-    never : (P : ℕ) (before : Standing) → WriterStandsFor P w before old.present → nat_lt before.buffered P ≡ true → e ≡ SyncFailed → ⊥
+    never : (P : ℕ) (before : RunState) → WriterRepresents P w before old.present → nat_lt before.buffered P ≡ true → e ≡ SyncFailed → ⊥
     never P before fits short fault = by_work (has_work w false) refl
       where
         by_work : (work : Bool) → has_work w false ≡ work → ⊥
         by_work true some = false≢true (sym (full_of w P before fits.buffered fits.page_size some) ∙ short)
         by_work false none = subst (λ (x : Error). CopiesTail w (Err x)) fault (says.idle none).0
 
-    touched : (P : ℕ) (before : Standing) → WriterStandsFor P w before old.present → (moments : List Disk) → new ≡ life_after old moments → (work : Bool) → has_work w false ≡ work → Touches (if nat_lt before.buffered P then Leaves else Changes 2) old.present moments
+    touched : (P : ℕ) (before : RunState) → WriterRepresents P w before old.present → (moments : List Disk) → new ≡ life_after old moments → (work : Bool) → has_work w false ≡ work → UsesDevice (if nat_lt before.buffered P then Leaves else Changes 2) old.present moments
     touched P before fits moments goes false none =
-        subst (λ (b : Bool). Touches (if b then Leaves else Changes 2) old.present moments) (sym (short_of w P before fits.buffered fits.page_size none)) (no_moments old new moments goes (says.idle none).1)
+        subst (λ (b : Bool). UsesDevice (if b then Leaves else Changes 2) old.present moments) (sym (short_of w P before fits.buffered fits.page_size none)) (no_moments old new moments goes (says.idle none).1)
     touched P before fits moments goes true some =
         let most : length new.present.log ≤ length old.present.log + 2 = omega (arith, says.calls, snapshot_few (has_work w false) w.sync) in
-        subst (λ (b : Bool). Touches (if b then Leaves else Changes 2) old.present moments) (sym (full_of w P before fits.buffered fits.page_size some)) (few_calls old new moments 2 goes most)
+        subst (λ (b : Bool). UsesDevice (if b then Leaves else Changes 2) old.present moments) (sym (full_of w P before fits.buffered fits.page_size some)) (few_calls old new moments 2 goes most)
 
 -- there is no memory for a snapshot in the session's list
 no_room_for_one : (sum : List ℕ → ℕ) (was : SessionState) (w : WriterState) (life : Life) → was.recovering ≡ false → AlwaysApart sum Snapshot (Fault OutOfMemory) (held was (Some w)) (held was (Some w)) life life
@@ -263,7 +263,7 @@ no_room_for_one sum was w life phase = λ P before stands.
     (λ none. absurd none, λ none. absurd none) stands
 
 -- a snapshot by a session
-pub snapshot_takes : (sum : List ℕ → ℕ) (was now : SessionState) (cache after : CacheState) (old new : Life) (reply : Reply) → IsReady sum was old.present → CacheFits was cache old.present → FitsWriter now.writer after new.present
+pub snapshot_takes : (sum : List ℕ → ℕ) (was now : SessionState) (cache after : CacheState) (old new : Life) (reply : Reply) → IsSoundSession sum was old.present → CacheFits was cache old.present → FitsWriter now.writer after new.present
     → LeavesTaken sum was.writer now.writer cache after old new → DidSnapshot sum was now cache after old new reply → Steps sum Snapshot reply was now old new × CacheFits now after new.present
 snapshot_takes sum was now cache after old new reply ready fits writer stay did = by_state was.recovering was.writer refl refl did
   where
@@ -280,7 +280,7 @@ snapshot_takes sum was now cache after old new reply ready fits writer stay did 
         (subst (λ (s : SessionState). All (MadeSnapshot sum s.writer after new.present) (Some t ∷ [])) (sym is) (one_made (Some v) t below on))
         (subst (λ (s : SessionState). AlwaysMakes sum Snapshot (Taken (length was.snapshots)) was s old new (Some t ∷ [])) (sym is) (snapshot_steps sum was w v t after old new at phase sound says on)))
       where
-        one_made : (o : Option WriterState) (t : Tail) → IsBelow o t → StandsOn sum t (content_of w old.present.readable) after new.present → All (MadeSnapshot sum o after new.present) (Some t ∷ [])
+        one_made : (o : Option WriterState) (t : Tail) → IsBelow o t → SnapshotReads sum t (content_of w old.present.readable) after new.present → All (MadeSnapshot sum o after new.present) (Some t ∷ [])
         one_made o t below on zero d lt = record { snapshot = record { there = on.tail.there; full = on.tail.full; below = below }; can = on.can }
         one_made o t below on (suc k) d lt = absurd (omega (arith, lt))
     made w at phase (Fault e) goes = elim goes [
@@ -330,12 +330,12 @@ try_snapshot_steps sum was w life at phase short = λ P before all.
     (less, number_is sum P was before life.present all, refl) (λ none. absurd none, λ none. absurd none) (noted_stands sum P was w (tail_of w) before life.present stands))
 
 -- none was made
-no_snapshot_steps : (sum : List ℕ → ℕ) (was : SessionState) (w : WriterState) (reply : Reply) (life : Life) → was.recovering ≡ false → ((P : ℕ) (s : Standing) → WriterStandsFor P w s life.present → Takes sum P TrySnapshot reply life.present life.present s s)
+no_snapshot_steps : (sum : List ℕ → ℕ) (was : SessionState) (w : WriterState) (reply : Reply) (life : Life) → was.recovering ≡ false → ((P : ℕ) (s : RunState) → WriterRepresents P w s life.present → TakesStep sum P TrySnapshot reply life.present life.present s s)
     → AlwaysApart sum TrySnapshot reply (held was (Some w)) (held was (Some w)) life life
 no_snapshot_steps sum was w reply life phase takes = λ P before stands.
     unasked sum P was w TrySnapshot reply (held was (Some w)) life before before (here before.has_writer before.recovering stands.fits.has_writer (sym stands.phase ∙ phase)) stands (takes P before stands.fits) (λ none. absurd none, λ none. absurd none) stands
 
-pub try_snapshot_takes : (sum : List ℕ → ℕ) (was now : SessionState) (cache : CacheState) (life : Life) (reply : Reply) → IsReady sum was life.present → CacheFits was cache life.present → DidTrySnapshot was now reply
+pub try_snapshot_takes : (sum : List ℕ → ℕ) (was now : SessionState) (cache : CacheState) (life : Life) (reply : Reply) → IsSoundSession sum was life.present → CacheFits was cache life.present → DidTrySnapshot was now reply
     → Steps sum TrySnapshot reply was now life life × CacheFits now cache life.present
 try_snapshot_takes sum was now cache life reply ready fits did = by_state was.recovering was.writer refl refl did
   where
@@ -344,7 +344,7 @@ try_snapshot_takes sum was now cache life reply ready fits did = by_state was.re
         same_takes sum TrySnapshot r was now cache cache life life ready fits (subst (λ (s : SessionState). FitsWriter s.writer cache life.present) (sym is) fits.writer)
         (subst (λ (s : SessionState). LeavesTaken sum was.writer s.writer cache cache life life) (sym is) (leaves_here sum was.writer cache life)) is apart
 
-    same_apart : (r : Reply) (w : WriterState) → was.writer ≡ Some w → was.recovering ≡ false → now ≡ was → ((P : ℕ) (s : Standing) → WriterStandsFor P w s life.present → Takes sum P TrySnapshot r life.present life.present s s) → StepsApart sum TrySnapshot r was now life life
+    same_apart : (r : Reply) (w : WriterState) → was.writer ≡ Some w → was.recovering ≡ false → now ≡ was → ((P : ℕ) (s : RunState) → WriterRepresents P w s life.present → TakesStep sum P TrySnapshot r life.present life.present s s) → StepsApart sum TrySnapshot r was now life life
     same_apart r w at phase is takes =
         subst (λ (s : SessionState). StepsApart sum TrySnapshot r was s life life) (sym is)
         (record {
@@ -352,7 +352,7 @@ try_snapshot_takes sum was now cache life reply ready fits did = by_state was.re
           always = subst (λ (s : SessionState). AlwaysApart sum TrySnapshot r s s life life) (sym (held_same was (Some w) at)) (no_snapshot_steps sum was w r life phase takes);
         })
 
-    tries : (w : WriterState) → was.writer ≡ Some w → was.recovering ≡ false → (r : Reply) → TriesSnapshot w was now r → Steps sum TrySnapshot r was now life life × CacheFits now cache life.present
+    tries : (w : WriterState) → was.writer ≡ Some w → was.recovering ≡ false → (r : Reply) → TakesTriedSnapshot w was now r → Steps sum TrySnapshot r was now life life × CacheFits now cache life.present
     tries w at phase (Taken index) (short, number, is) =
         let sound = sound_in sum was.writer w life.present at ready.writer in
         let can = can_in was.writer w cache life.present at fits.writer in
@@ -364,10 +364,10 @@ try_snapshot_takes sum was now cache life reply ready fits did = by_state was.re
     tries w at phase Nothing (full, is) =
         same_session Nothing is (same_apart Nothing w at phase is (λ P s stands. let more : P ≤ s.buffered = omega (arith, full, stands.buffered, stands.page_size) in (more, refl)))
     tries w at phase (Fault e) (fault, is) =
-        same_session (Fault e) is (same_apart (Fault e) w at phase is (λ P s stands. subst (λ (x : Error). Takes sum P TrySnapshot (Fault x) life.present life.present s s) (sym fault) ((0, lit< tt, refl), tt, refl)))
+        same_session (Fault e) is (same_apart (Fault e) w at phase is (λ P s stands. subst (λ (x : Error). TakesStep sum P TrySnapshot (Fault x) life.present life.present s s) (sym fault) ((0, lit< tt, refl), tt, refl)))
     tries w at phase r goes = absurd goes
 
-    by_state : (phase : Bool) (o : Option WriterState) → was.recovering ≡ phase → was.writer ≡ o → IfAppending phase o reply (now ≡ was) (λ w. TriesSnapshot w was now reply) → Steps sum TrySnapshot reply was now life life × CacheFits now cache life.present
+    by_state : (phase : Bool) (o : Option WriterState) → was.recovering ≡ phase → was.writer ≡ o → IfAppending phase o reply (now ≡ was) (λ w. TakesTriedSnapshot w was now reply) → Steps sum TrySnapshot reply was now life life × CacheFits now cache life.present
     by_state true None phase at (replied, is) = same_session reply is (closed_apart sum TrySnapshot was now life life ready (λ s. refl) reply at replied is refl)
     by_state false None phase at (replied, is) = same_session reply is (closed_apart sum TrySnapshot was now life life ready (λ s. refl) reply at replied is refl)
     by_state true (Some w) phase at (replied, is) = same_session reply is (recovering_apart sum TrySnapshot was now life life ready (λ s. refl) reply w at phase (λ content. refl) replied is refl)
@@ -401,22 +401,22 @@ seal_written false Clean is = refl
 seal_written false Dirty is = absurd (false≢true (sym is))
 seal_written false (Pending name) is = refl
 
-seal_touch : (w : WriterState) (P : ℕ) (before : Standing) (old new : Life) (moments : List Disk) → WriterStandsFor P w before old.present → new ≡ life_after old moments → AsksAtMost (seal_calls w) old new → (seal_calls w ≡ 0 → new ≡ old)
-    → Touches (if before.written then wait_touch before.awaited else Changes 3) old.present moments
+seal_touch : (w : WriterState) (P : ℕ) (before : RunState) (old new : Life) (moments : List Disk) → WriterRepresents P w before old.present → new ≡ life_after old moments → AsksAtMost (seal_calls w) old new → (seal_calls w ≡ 0 → new ≡ old)
+    → UsesDevice (if before.written then use_of_wait before.awaited else Changes 3) old.present moments
 seal_touch w P before old new moments fits goes few idle = by_written before.written before.awaited fits.written fits.awaited
   where
-    by_written : (written : Bool) (awaited : Option ℕ) → written ≡ nat_eq (start_calls w) 0 → awaited ≡ pending_in w.sync → Touches (if written then wait_touch awaited else Changes 3) old.present moments
+    by_written : (written : Bool) (awaited : Option ℕ) → written ≡ nat_eq (start_calls w) 0 → awaited ≡ pending_in w.sync → UsesDevice (if written then use_of_wait awaited else Changes 3) old.present moments
     by_written true None is none = no_moments old new moments goes (idle (seal_written (has_work w true) w.sync is ∙ wait_none w.sync none))
     by_written true (Some name) is some = few_calls old new moments 1 goes (omega (arith, few, seal_written (has_work w true) w.sync is, wait_one w.sync))
     by_written false awaited is some = few_calls old new moments 3 goes (omega (arith, few, seal_few (has_work w true) w.sync))
 
 -- what a seal leaves but for the snapshot
-left_content : (P : ℕ) (sync : StartedSync) (s : Standing) → (left_by_seal P sync s).snapshots ≡ s.snapshots ++ Some s.content ∷ []
+left_content : (P : ℕ) (sync : StartedSync) (s : RunState) → (left_by_seal P sync s).snapshots ≡ s.snapshots ++ Some s.content ∷ []
 left_content P AllDone s = refl
 left_content P (Named name) s = refl
 
-sealed_stands : (sum : List ℕ → ℕ) (P : ℕ) (was : SessionState) (w : WriterState) (t : Tail) (sync : StartedSync) (old new : Life) (before : Standing) (moments : List Disk) → StandsApart sum P (held was (Some w)) before old.present
-    → Rattle.paged.specs.Calls.Starts sum w.page_size (content_of w old.present.readable) new sync → Halves sum P before.content before.content before.floor before.covers old new moments
+sealed_stands : (sum : List ℕ → ℕ) (P : ℕ) (was : SessionState) (w : WriterState) (t : Tail) (sync : StartedSync) (old new : Life) (before : RunState) (moments : List Disk) → StandsApart sum P (held was (Some w)) before old.present
+    → Rattle.paged.specs.Calls.StartedSyncKeeps sum w.page_size (content_of w old.present.readable) new sync → Halves sum P before.content before.content before.floor before.covers old new moments
     → StandsApart sum P (sealed_with was t sync) (left_by_seal P sync before) new.present
 sealed_stands sum P was w t AllDone old new before moments stands starts h = record {
   fits = refl;
@@ -447,7 +447,7 @@ sealed_stands sum P was w t (Named name) old new before moments stands starts h 
 
 -- a writer that is sealed
 seal_steps : (sum : List ℕ → ℕ) (was : SessionState) (w : WriterState) (t : Tail) (sync : StartedSync) (after : CacheState) (old new : Life) → was.writer ≡ Some w → was.recovering ≡ false → SealTold sum w old new (Ok (t, sync))
-    → StandsOn sum t (content_of w old.present.readable) after new.present → AlwaysMakes sum Seal (Sealed (length was.snapshots) sync) was (sealed_with was t sync) old new (Some t ∷ [])
+    → SnapshotReads sum t (content_of w old.present.readable) after new.present → AlwaysMakes sum Seal (Sealed (length was.snapshots) sync) was (sealed_with was t sync) old new (Some t ∷ [])
 unfolding Through
 seal_steps sum was w t sync after old new at phase says on = λ P before all.
     let stands = stands_held sum P was w before old.present at all in
@@ -460,13 +460,13 @@ seal_steps sum was w t sync after old new at phase says on = λ P before all.
     says.answers ∙ ap (λ (b : Bool). if b then AllDone else Named (length old.present.started)) (seal_waits (has_work w true) w.sync ∙ sym fits.written) in
     one_more sum Seal P (Sealed (length was.snapshots) sync) (sealed_with was t sync) old new before t (on.tail.is ∙ sym fits.content)
     (subst (λ (l : List (Option (List ℕ))). SteppedApart sum P Seal (Sealed (length was.snapshots) sync) (sealed_with was t sync) old new before l before.replays) (left_content P sync before)
-    (subst (λ (rs : List (Option Replayed)). SteppedApart sum P Seal (Sealed (length was.snapshots) sync) (sealed_with was t sync) old new before (left_by_seal P sync before).snapshots rs) (starting_keeps P sync before)
+    (subst (λ (rs : List (Option RunReplay)). SteppedApart sum P Seal (Sealed (length was.snapshots) sync) (sealed_with was t sync) old new before (left_by_seal P sync before).snapshots rs) (starting_keeps P sync before)
     (stepped sum P Seal (Sealed (length was.snapshots) sync) (sealed_with was t sync) old new before (left_by_seal P sync before) through.moments fits.has_writer (here before.has_writer before.recovering fits.has_writer (sym stands.phase ∙ phase)) h
     (seal_touch w P before old new through.moments fits h.goes says.calls (λ none. (says.idle none).1)) (number_is sum P was before old.present all, answer, refl) (λ none. absurd none, λ none. absurd none)
     (sealed_stands sum P was w t sync old new before through.moments stands starts.3 h))))
 
 -- why one isn't
-seal_cause : (P : ℕ) (w : WriterState) (before : Standing) (old new : Life) (e : Error) → before.awaited ≡ pending_in w.sync → CallCause w.sync old new e → Contains (faults Seal) e × HasCause P Seal before old.present new.present e
+seal_cause : (P : ℕ) (w : WriterState) (before : RunState) (old new : Life) (e : Error) → before.awaited ≡ pending_in w.sync → CallCause w.sync old new e → Contains (faults Seal) e × HasCause P Seal before old.present new.present e
 seal_cause P w before old new ReadFailed awaited cause = absurd cause
 seal_cause P w before old new WriteFailed awaited cause = ((0, lit< tt, refl), cause)
 seal_cause P w before old new ResizeFailed awaited cause = absurd cause
@@ -494,11 +494,11 @@ no_room_to_seal sum was w life phase = λ P before stands.
     unasked sum P was w Seal (Fault OutOfMemory) (held was (Some w)) life before before (here before.has_writer before.recovering stands.fits.has_writer (sym stands.phase ∙ phase)) stands ((2, lit< tt, refl), tt, inr (refl, refl, refl))
     (λ none. absurd none, λ none. absurd none) stands
 
-pub seal_takes : (sum : List ℕ → ℕ) (was now : SessionState) (cache after : CacheState) (old new : Life) (reply : Reply) → IsReady sum was old.present → CacheFits was cache old.present → FitsWriter now.writer after new.present
+pub seal_takes : (sum : List ℕ → ℕ) (was now : SessionState) (cache after : CacheState) (old new : Life) (reply : Reply) → IsSoundSession sum was old.present → CacheFits was cache old.present → FitsWriter now.writer after new.present
     → LeavesTaken sum was.writer now.writer cache after old new → DidSeal sum was now cache after old new reply → Steps sum Seal reply was now old new × CacheFits now after new.present
 seal_takes sum was now cache after old new reply ready fits writer stay did = by_state was.recovering was.writer refl refl did
   where
-    one_made : (t : Tail) (content : List ℕ) → StandsOn sum t content after new.present → All (MadeSnapshot sum None after new.present) (Some t ∷ [])
+    one_made : (t : Tail) (content : List ℕ) → SnapshotReads sum t content after new.present → All (MadeSnapshot sum None after new.present) (Some t ∷ [])
     one_made t content on zero d lt = record { snapshot = record { there = on.tail.there; full = on.tail.full; below = tt }; can = on.can }
     one_made t content on (suc k) d lt = absurd (omega (arith, lt))
 
@@ -545,7 +545,7 @@ seal_takes sum was now cache after old new reply ready fits writer stay did = by
 -- ---- reads of snapshots
 
 -- a session stands for the same where only the log changed
-pub looked_stands : (sum : List ℕ → ℕ) (P : ℕ) (was : SessionState) (s : Standing) (d e : Disk) → SameButLog d e → StandsApart sum P was s d → StandsApart sum P was s e
+pub looked_stands : (sum : List ℕ → ℕ) (P : ℕ) (was : SessionState) (s : RunState) (d e : Disk) → SameButLog d e → StandsApart sum P was s d → StandsApart sum P was s e
 looked_stands sum P was s d e alike stands =
     let base : e.base ≡ d.base = ap (λ (x : Disk). x.base) alike in
     let since : e.since ≡ d.since = ap (λ (x : Disk). x.since) alike in
@@ -561,7 +561,7 @@ looked_stands sum P was s d e alike stands =
     }
 
 -- why one is refused
-snap_cause : (sum : List ℕ → ℕ) (P : ℕ) (t : Tail) (cache : CacheState) (index offset len : ℕ) (before : Standing) (old new : Life) (e : Error) → size_of_tail t ≡ length (snapshot_at before index) → (e ≡ InvalidChecksum → ⊥)
+snap_cause : (sum : List ℕ → ℕ) (P : ℕ) (t : Tail) (cache : CacheState) (index offset len : ℕ) (before : RunState) (old new : Life) (e : Error) → size_of_tail t ≡ length (snapshot_at before index) → (e ≡ InvalidChecksum → ⊥)
     → Reads {A = Vec ℕ Global} sum t cache (offset, len) (λ b. b.items) old new (Err e) → Contains (faults (Snap index offset len)) e × HasCause P (Snap index offset len) before old.present new.present e
 snap_cause sum P t cache index offset len before old new ReadFailed size full goes = ((0, lit< tt, refl), goes)
 snap_cause sum P t cache index offset len before old new WriteFailed size full goes = absurd goes
@@ -573,8 +573,8 @@ snap_cause sum P t cache index offset len before old new OffsetOverflow size ful
 snap_cause sum P t cache index offset len before old new OutOfMemory size full goes = ((3, lit< tt, refl), tt)
 snap_cause sum P t cache index offset len before old new IdsExhausted size full goes = absurd goes
 
-snap_taken : (sum : List ℕ → ℕ) (P : ℕ) (t : Tail) (cache after : CacheState) (index offset len : ℕ) (before : Standing) (old new : Life) (reply : Reply) → told t old.present.readable ≡ snapshot_at before index → size_of_tail t ≡ length (snapshot_at before index)
-    → HasFullPages sum t old.present → ReadsBytes sum t cache after offset len old new reply → Takes sum P (Snap index offset len) reply old.present new.present before before × Foretells P (Snap index offset len) reply before
+snap_taken : (sum : List ℕ → ℕ) (P : ℕ) (t : Tail) (cache after : CacheState) (index offset len : ℕ) (before : RunState) (old new : Life) (reply : Reply) → logical_bytes t old.present.readable ≡ snapshot_at before index → size_of_tail t ≡ length (snapshot_at before index)
+    → HasFullPages sum t old.present → ReadsBytes sum t cache after offset len old new reply → TakesStep sum P (Snap index offset len) reply old.present new.present before before × FaultsComeFirst P (Snap index offset len) reply before
 snap_taken sum P t cache after index offset len before old new (Bytes bytes) tells size full reads =
     let goes = reads.goes in
     let same : bytes.items ≡ take len (drop offset (snapshot_at before index)) = goes.answers.1 ∙ ap (λ (l : List ℕ). take len (drop offset l)) tells in
@@ -586,18 +586,18 @@ snap_taken sum P t cache after index offset len before old new (Fault e) tells s
 snap_taken sum P t cache after index offset len before old new r tells size full reads = absurd reads
 
 -- the one of a number, as a standing has it
-found : (sum : List ℕ → ℕ) (P : ℕ) (was : SessionState) (index : ℕ) (before : Standing) (d : Disk) → StandsFor sum P was before d → numbered before.snapshots index ≡ option_map (λ u. told u d.readable) (numbered was.snapshots index)
-found sum P was index before d all = ap (λ (l : List (Option (List ℕ))). numbered l index) all.snapshots ∙ numbered-map (λ (u : Tail). told u d.readable) was.snapshots index
+found : (sum : List ℕ → ℕ) (P : ℕ) (was : SessionState) (index : ℕ) (before : RunState) (d : Disk) → Represents sum P was before d → numbered before.snapshots index ≡ option_map (λ u. logical_bytes u d.readable) (numbered was.snapshots index)
+found sum P was index before d all = ap (λ (l : List (Option (List ℕ))). numbered l index) all.snapshots ∙ numbered-map (λ (u : Tail). logical_bytes u d.readable) was.snapshots index
 
 -- one that there is
-snap_steps : (sum : List ℕ → ℕ) (was : SessionState) (t : Tail) (cache after : CacheState) (index offset len : ℕ) (old new : Life) (reply : Reply) → numbered was.snapshots index ≡ Some t → HasPages t old.present → HasFullPages sum t old.present → ReadsRange sum t cache after offset len old new reply
+snap_steps : (sum : List ℕ → ℕ) (was : SessionState) (t : Tail) (cache after : CacheState) (index offset len : ℕ) (old new : Life) (reply : Reply) → numbered was.snapshots index ≡ Some t → HasPages t old.present → HasFullPages sum t old.present → RangeStepGoes sum t cache after offset len old new reply
     → AlwaysMakes sum (Snap index offset len) reply was was old new []
 unfolding Through
 snap_steps sum was t cache after index offset len old new reply at there full says = λ P before all.
     let stands = stands_apart sum P was before old.present all in
-    let here : numbered before.snapshots index ≡ Some (told t old.present.readable) =
-    found sum P was index before old.present all ∙ ap (λ (o : Option Tail). option_map (λ u. told u old.present.readable) o) at in
-    let tells : told t old.present.readable ≡ snapshot_at before index = sym (ap (λ (o : Option (List ℕ)). elim o [ None ↦ [] | Some content ↦ content ]) here) in
+    let here : numbered before.snapshots index ≡ Some (logical_bytes t old.present.readable) =
+    found sum P was index before old.present all ∙ ap (λ (o : Option Tail). option_map (λ u. logical_bytes u old.present.readable) o) at in
+    let tells : logical_bytes t old.present.readable ≡ snapshot_at before index = sym (ap (λ (o : Option (List ℕ)). elim o [ None ↦ [] | Some content ↦ content ]) here) in
     let size : size_of_tail t ≡ length (snapshot_at before index) = sym (length-told t old.present.readable there) ∙ ap length tells in
     let known : turned_away (Snap index offset len) before ≡ None = ap (λ (o : Option (List ℕ)). if is_some o then None else Some NoSuch) here in
     let seen = says.looked.through in
@@ -611,7 +611,7 @@ snap_steps sum was t cache after index offset len old new reply at there full sa
       goes = seen.goes;
       after = before;
       did = record {
-        answer = subst (λ (to : Disk). Answers sum P (Snap index offset len) reply old.present to before before) end
+        answer = subst (λ (to : Disk). AnswersStep sum P (Snap index offset len) reply old.present to before before) end
             (answers_here sum P (Snap index offset len) reply old.present new.present before before known both.0 both.1);
         touches = seen.each;
         stopped = λ away. absurd (false≢true (sym (ap (λ (o : Option Reply). is_some o) known) ∙ away));
@@ -633,7 +633,7 @@ snap_steps sum was t cache after index offset len old new reply at there full sa
 no_snap_steps : (sum : List ℕ → ℕ) (was : SessionState) (index offset len : ℕ) (life : Life) → numbered was.snapshots index ≡ None → AlwaysMakes sum (Snap index offset len) NoSuch was was life life []
 no_snap_steps sum was index offset len life none = λ P before all.
     let stands = stands_apart sum P was before life.present all in
-    let gone : numbered before.snapshots index ≡ None = found sum P was index before life.present all ∙ ap (λ (o : Option Tail). option_map (λ u. told u life.present.readable) o) none in
+    let gone : numbered before.snapshots index ≡ None = found sum P was index before life.present all ∙ ap (λ (o : Option Tail). option_map (λ u. logical_bytes u life.present.readable) o) none in
     subst (λ (l : List (Option (List ℕ))). SteppedApart sum P (Snap index offset len) NoSuch was life life before l before.replays) (sym (append-nil before.snapshots))
     (record {
       moments = [];
@@ -654,7 +654,7 @@ no_snap_steps sum was index offset len life none = λ P before all.
     })
 
 -- the writer stays as it is
-pub sound_on : (sum : List ℕ → ℕ) (o : Option WriterState) (old new : Life) → LeavesWriters sum old new → HasSoundWriter sum o old.present → HasSoundWriter sum o new.present
+pub sound_on : (sum : List ℕ → ℕ) (o : Option WriterState) (old new : Life) → LeavesAllWriters sum old new → HasSoundWriter sum o old.present → HasSoundWriter sum o new.present
 sound_on sum None old new stay sound = tt
 sound_on sum (Some w) old new stay sound = (stay w sound).sound
 
@@ -662,26 +662,26 @@ pub fits_on : (o : Option WriterState) (cache after : CacheState) (old new : Lif
 fits_on None cache after old new stay fits = tt
 fits_on (Some w) cache after old new stay fits = stay (tail_of w) fits
 
-pub snap_takes : (sum : List ℕ → ℕ) (was : SessionState) (cache after : CacheState) (index offset len : ℕ) (old new : Life) (reply : Reply) → IsReady sum was old.present → CacheFits was cache old.present
-    → DidSnap sum (numbered was.snapshots index) cache after offset len old new reply → LeavesWriters sum old new → LeavesAllTails sum cache after old new → LeavesAllReplays old new → LeavesAllReads cache after old new
+pub snap_takes : (sum : List ℕ → ℕ) (was : SessionState) (cache after : CacheState) (index offset len : ℕ) (old new : Life) (reply : Reply) → IsSoundSession sum was old.present → CacheFits was cache old.present
+    → DidSnap sum (numbered was.snapshots index) cache after offset len old new reply → LeavesAllWriters sum old new → LeavesAllTails sum cache after old new → LeavesAllReplays old new → LeavesAllReads cache after old new
     → Steps sum (Snap index offset len) reply was was old new × CacheFits was after new.present
 snap_takes sum was cache after index offset len old new reply ready fits did writers tails replays reads = by_offset (numbered was.snapshots index) refl did
   where
     left : LeftAll sum was was.writer after old.present new.present
     left = left_by sum was was.writer cache after old new ready fits (leaves_all sum was.writer cache after old new tails replays)
 
-    whole_of : (r : Reply) → (was.names ≡ []) ⊎ StartsStand new.present → AlwaysMakes sum (Snap index offset len) r was was old new [] → Steps sum (Snap index offset len) r was was old new × CacheFits was after new.present
+    whole_of : (r : Reply) → (was.names ≡ []) ⊎ StartsCanBeAwaited new.present → AlwaysMakes sum (Snap index offset len) r was was old new [] → Steps sum (Snap index offset len) r was was old new × CacheFits was after new.present
     whole_of r starts always =
         framed sum (Snap index offset len) r was was after old new [] (sym (append-nil was.snapshots)) refl ready.begun (record { writer = sound_on sum was.writer old new writers ready.writer; starts = starts })
         (fits_on was.writer cache after old new reads fits.writer) left (λ k t lt. absurd (omega (arith, lt))) always
 
     by_offset : (o : Option Tail) → numbered was.snapshots index ≡ o → DidSnap sum o cache after offset len old new reply → Steps sum (Snap index offset len) reply was was old new × CacheFits was after new.present
     by_offset None none (replied, same, held) =
-        let starts : (was.names ≡ []) ⊎ StartsStand new.present = subst (λ (life : Life). (was.names ≡ []) ⊎ StartsStand life.present) (sym same) ready.starts in
+        let starts : (was.names ≡ []) ⊎ StartsCanBeAwaited new.present = subst (λ (life : Life). (was.names ≡ []) ⊎ StartsCanBeAwaited life.present) (sym same) ready.starts in
         whole_of reply starts
         (subst (λ (r : Reply). AlwaysMakes sum (Snap index offset len) r was was old new []) (sym replied)
         (subst (λ (life : Life). AlwaysMakes sum (Snap index offset len) NoSuch was was old life []) (sym same) (no_snap_steps sum was index offset len old none)))
     by_offset (Some t) at says =
         let one = of_each (λ o. IfSome o (λ u. IsSnapshot sum was.writer u old.present)) was.snapshots index (Some t) (numbered_there was.snapshots index t at) ready.snapshots in
-        let starts : (was.names ≡ []) ⊎ StartsStand new.present = elim ready.starts [ inl none ↦ inl none | inr stand ↦ inr (alike_stays_started old.present new.present says.looked.same stand) ] in
+        let starts : (was.names ≡ []) ⊎ StartsCanBeAwaited new.present = elim ready.starts [ inl none ↦ inl none | inr stand ↦ inr (alike_stays_started old.present new.present says.looked.same stand) ] in
         whole_of reply starts (snap_steps sum was t cache after index offset len old new reply at one.there one.full says)

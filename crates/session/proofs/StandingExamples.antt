@@ -14,9 +14,9 @@ use Rattle.paged_read.specs.Tail.{Tail}
 use Rattle.paged_read.specs.Replay.{new_replay}
 use Rattle.session.specs.declared.steps.Step.TheVariants.{Append, Sync, Size, Read, Seek, Truncate}
 use Rattle.session.specs.declared.steps.Reply.TheVariants.{Length, Fault, Closed, NotAppending}
-use Rattle.session.specs.Run.{Replayed, Standing, has_room, written_after, moved, forgetting, raised_floor, lowered, has_name, numbered, has_snapshot, has_replay, replay_size, in_order_from, unless_appending, ended}
-use Rattle.session.specs.Run.{is_complete, NamesFit, RiseBelow, PassesEnd, Foretells, Allocates, faults, Refuses, Takes, Answers}
-use Rattle.session.specs.Run.{Slices, SlicesUpTo, SlicesAll, NumbersSome, HasFetched, HasCompleted, Overflows, HadFailed, HadNoRoom, content_after, other_content, AllCover, pending_in, WriterFits, replayed}
+use Rattle.session.specs.Run.{RunReplay, RunState, fits_buffer, written_after, moved, forgetting, raised_floor, lowered, has_name, numbered, has_snapshot_at, has_replay_at, replay_size, in_order_from, unless_appending, ended}
+use Rattle.session.specs.Run.{is_complete, NamesFit, RiseBelow, PassesContent, FaultsComeFirst, Allocates, faults, RefusesStep, TakesStep, AnswersStep}
+use Rattle.session.specs.Run.{IsSlice, SlicesUpTo, SlicesAll, NumbersSome, HasFetched, HasCompleted, Overflows, AwaitedSyncFailed, HadNoRoom, content_after, other_content, AllCover, pending_in, WriterFits, replay_in_run}
 use Rattle.session.specs.Promise.{fresh}
 use Rattle.session.proofs.Examples.{six_stand, none_synced, six_started}
 use Rattle.session.proofs.ComesBackExamples.{ab, saved, ab_writer}
@@ -25,10 +25,10 @@ use Rattle.session.proofs.RefusedExamples.{started, complete}
 
 -- ---- the buffer
 
-pub six_bytes_more_fit : has_room six_stand 6 ≡ true
+pub six_bytes_more_fit : fits_buffer six_stand 6 ≡ true
 six_bytes_more_fit = refl
 
-pub seven_do_not : has_room six_stand 7 ≡ false
+pub seven_do_not : fits_buffer six_stand 7 ≡ false
 seven_do_not = refl
 
 pub no_byte_leaves_all_written : written_after [] true ≡ true
@@ -104,23 +104,23 @@ the_second_was_let_go = refl
 pub there_is_no_third : numbered (Some ab ∷ None ∷ []) 2 ≡ None
 there_is_no_third = refl
 
-pub it_has_a_snapshot : has_snapshot (record six_stand { snapshots = Some ab ∷ None ∷ [] }) 0 ≡ true
+pub it_has_a_snapshot : has_snapshot_at (record six_stand { snapshots = Some ab ∷ None ∷ [] }) 0 ≡ true
 it_has_a_snapshot = refl
 
-pub it_has_let_one_go : has_snapshot (record six_stand { snapshots = Some ab ∷ None ∷ [] }) 1 ≡ false
+pub it_has_let_one_go : has_snapshot_at (record six_stand { snapshots = Some ab ∷ None ∷ [] }) 1 ≡ false
 it_has_let_one_go = refl
 
 -- a replay of "abcdef" with two bytes at hand
-abbrev pub two_at_hand : Replayed
+abbrev pub two_at_hand : RunReplay
 two_at_hand = record { content = six; whole = 4; position = 0; hand = 2; batch = 4 }
 
-abbrev pub with_replays : Standing
+abbrev pub with_replays : RunState
 with_replays = record six_stand { replays = Some two_at_hand ∷ None ∷ [] }
 
-pub it_has_a_replay : has_replay with_replays 0 ≡ true
+pub it_has_a_replay : has_replay_at with_replays 0 ≡ true
 it_has_a_replay = refl
 
-pub it_has_forgotten_one : has_replay with_replays 1 ≡ false
+pub it_has_forgotten_one : has_replay_at with_replays 1 ≡ false
 it_has_forgotten_one = refl
 
 pub it_goes_over_six : replay_size with_replays 0 ≡ 6
@@ -146,13 +146,13 @@ pub none_past_the_end : HasFetched two_at_hand (record two_at_hand { hand = 7 })
 none_past_the_end has = omega (arith, has.within)
 
 pub it_does_not_move : HasFetched two_at_hand (record two_at_hand { position = 1; hand = 2 }) → ⊥
-it_does_not_move has = omega (arith, ap (λ (r : Replayed). r.position) has.stays)
+it_does_not_move has = omega (arith, ap (λ (r : RunReplay). r.position) has.stays)
 
 -- a replay of "abcdef" as a session has it, of four bytes in a full page and two in memory
 abbrev six_tail : Tail
 six_tail = record { page_size = 4; id = 0; full_pages = 1; bytes = 101 ∷ 102 ∷ [] }
 
-pub a_replay_is_told : replayed durable.readable (record (new_replay six_tail 64) { batch = 1 }) ≡ record two_at_hand { hand = 0 }
+pub a_replay_is_told : replay_in_run durable.readable (record (new_replay six_tail 64) { batch = 1 }) ≡ record two_at_hand { hand = 0 }
 a_replay_is_told = refl
 
 -- ---- phases
@@ -190,13 +190,13 @@ touching = refl
 pub one_begins_too_early : in_order_from 3 ((2, 2) ∷ []) ≡ false
 one_begins_too_early = refl
 
-pub three_of_six : Slices six 2 3 (99 ∷ 100 ∷ 101 ∷ [])
+pub three_of_six : IsSlice six 2 3 (99 ∷ 100 ∷ 101 ∷ [])
 three_of_six = (omega arith, refl)
 
-pub none_past_six : (bytes : List ℕ) → Slices six 5 2 bytes → ⊥
+pub none_past_six : (bytes : List ℕ) → IsSlice six 5 2 bytes → ⊥
 none_past_six bytes slices = omega (arith, slices.0)
 
-pub not_the_next_three : Slices six 2 3 (100 ∷ 101 ∷ 102 ∷ []) → ⊥
+pub not_the_next_three : IsSlice six 2 3 (100 ∷ 101 ∷ 102 ∷ []) → ⊥
 not_the_next_three slices = omega (arith, ap (λ (l : List ℕ). get_or l 0 0) slices.1)
 
 -- the last byte, where four are asked for; and none, wherever none is
@@ -248,17 +248,17 @@ pub within_the_numbers : Overflows 4 (Read 0 6) six_stand → ⊥
 within_the_numbers over = omega (arith, over)
 
 -- three bytes from the fifth on pass the end, and two end there
-pub three_pass_the_end : PassesEnd (Read 4 3) six_stand
+pub three_pass_the_end : PassesContent (Read 4 3) six_stand
 three_pass_the_end = (omega arith, omega arith)
 
-pub two_do_not : PassesEnd (Read 4 2) six_stand → ⊥
+pub two_do_not : PassesContent (Read 4 2) six_stand → ⊥
 two_do_not passes = omega (arith, passes.1)
 
 -- so the standing alone tells the fault, before any other
-pub the_end_is_foretold : Foretells 4 (Read 4 3) (Fault BlobInsufficientLength) six_stand
+pub the_end_is_foretold : FaultsComeFirst 4 (Read 4 3) (Fault BlobInsufficientLength) six_stand
 the_end_is_foretold = (λ over. absurd (omega (arith, over)), λ passes. refl)
 
-pub no_other_fault_is : Foretells 4 (Read 4 3) (Fault OutOfMemory) six_stand → ⊥
+pub no_other_fault_is : FaultsComeFirst 4 (Read 4 3) (Fault OutOfMemory) six_stand → ⊥
 no_other_fault_is foretold = let is : Fault OutOfMemory ≡ Fault BlobInsufficientLength = foretold.1 three_pass_the_end in absurd (cc is)
 
 -- a sync that has something to do may ask for memory
@@ -269,25 +269,25 @@ pub a_seek_has_one_fault : faults (Seek 0 7) ≡ BlobInsufficientLength ∷ []
 a_seek_has_one_fault = refl
 
 -- a refused read doesn't end the writer, and a refused sync does
-pub a_read_ends_nothing : Refuses (Read 4 3) BlobInsufficientLength durable durable six_stand (ended six six_stand) → ⊥
-a_read_ends_nothing is = absurd (false≢true (ap (λ (s : Standing). s.has_writer) is))
+pub a_read_ends_nothing : RefusesStep (Read 4 3) BlobInsufficientLength durable durable six_stand (ended six six_stand) → ⊥
+a_read_ends_nothing is = absurd (false≢true (ap (λ (s : RunState). s.has_writer) is))
 
-pub a_sync_ends_the_writer : Refuses Sync WriteFailed durable durable six_stand six_stand → ⊥
-a_sync_ends_the_writer is = absurd (false≢true (sym (ap (λ (s : Standing). s.has_writer) is)))
+pub a_sync_ends_the_writer : RefusesStep Sync WriteFailed durable durable six_stand six_stand → ⊥
+a_sync_ends_the_writer is = absurd (false≢true (sym (ap (λ (s : RunState). s.has_writer) is)))
 
 -- ---- replies
 
-pub a_size_is_taken : Takes add_sum 4 Size (Length 6) durable durable six_stand six_stand
+pub a_size_is_taken : TakesStep add_sum 4 Size (Length 6) durable durable six_stand six_stand
 a_size_is_taken = (refl, refl)
 
-pub and_answered : Answers add_sum 4 Size (Length 6) durable durable six_stand six_stand
+pub and_answered : AnswersStep add_sum 4 Size (Length 6) durable durable six_stand six_stand
 and_answered = ((refl, refl), (λ over. absurd over, λ passes. absurd passes))
 
 -- where there is no writer it is turned away
-pub or_turned_away : Answers add_sum 4 Size Closed durable durable (ended six six_stand) (ended six six_stand)
+pub or_turned_away : AnswersStep add_sum 4 Size Closed durable durable (ended six six_stand) (ended six six_stand)
 or_turned_away = (refl, refl)
 
-pub and_not_answered : Answers add_sum 4 Size (Length 6) durable durable (ended six six_stand) (ended six six_stand) → ⊥
+pub and_not_answered : AnswersStep add_sum 4 Size (Length 6) durable durable (ended six six_stand) (ended six six_stand) → ⊥
 and_not_answered answers = absurd (cc answers.0)
 
 -- ---- failures
@@ -296,13 +296,13 @@ and_not_answered answers = absurd (cc answers.0)
 abbrev pub failed_sync : Disk
 failed_sync = record started { started = failed_at 0 started.started }
 
-pub it_had_failed : HadFailed (Some 0) failed_sync
+pub it_had_failed : AwaitedSyncFailed (Some 0) failed_sync
 it_had_failed = refl
 
-pub it_had_not : HadFailed (Some 0) started → ⊥
+pub it_had_not : AwaitedSyncFailed (Some 0) started → ⊥
 it_had_not failed = absurd (false≢true failed)
 
-pub none_had_failed : HadFailed None failed_sync → ⊥
+pub none_had_failed : AwaitedSyncFailed None failed_sync → ⊥
 none_had_failed failed = failed
 
 pub no_room : HadNoRoom OutOfMemory durable durable six_stand six_stand
@@ -312,7 +312,7 @@ pub no_other_error : HadNoRoom WriteFailed durable durable six_stand six_stand �
 no_other_error had = absurd (cc had.0)
 
 pub nothing_else_is_done : HadNoRoom OutOfMemory durable durable six_stand none_synced → ⊥
-nothing_else_is_done had = omega (arith, ap (λ (s : Standing). s.buffered) had.2)
+nothing_else_is_done had = omega (arith, ap (λ (s : RunState). s.buffered) had.2)
 
 -- ---- the other content
 

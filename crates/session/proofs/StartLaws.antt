@@ -11,7 +11,7 @@ use Rattle.disk.specs.declared.error.Error.{Error}
 use Rattle.disk.specs.declared.error.Error.TheVariants.{ReadFailed, WriteFailed, ResizeFailed, SyncFailed, InvalidChecksum, BlobInsufficientLength, OffsetOverflow, OutOfMemory, IdsExhausted}
 use Rattle.cache.specs.CacheState.{CacheState}
 use Rattle.crash.specs.Kept.{AllKeep, AllOnly, Each, Through}
-use Rattle.crash.specs.Started.{WouldKeep, StartsStand}
+use Rattle.crash.specs.Started.{WouldKeep, StartsCanBeAwaited}
 use Rattle.writer_state.specs.WriterState.{WriterState, started_state}
 use Rattle.writer_state.specs.declared.sync_state.SyncState.{SyncState}
 use Rattle.writer_state.specs.declared.sync_state.SyncState.TheVariants.{Clean, Dirty, Pending}
@@ -23,13 +23,13 @@ use Rattle.paged.proofs.Waits.{wait_readable}
 use Rattle.writer_state.proofs.StartedLaws.{wait_leaves, covering_of}
 use Rattle.writer_state.proofs.StandLaws.{WaitKeeps, wait_keeps}
 use Rattle.paged.specs.Flush.{has_work}
-use Rattle.paged.specs.Calls.{CallCause, GoesOn, Refuses as CallRefuses, IsSettled, started_already, sync_calls, start_calls, wait_calls, unstarted_calls, waited_state, waited as waited_writer, SettlesBy}
+use Rattle.paged.specs.Calls.{CallCause, Succeeds, Fails as CallRefuses, IsSettled, started_already, sync_calls, start_calls, wait_calls, unstarted_calls, waited_state, waited_writer, SettlesBy}
 use Rattle.session.specs.declared.steps.Step.TheVariants.{StartSync, Wait, WaitSync, Needs, Begin}
 use Rattle.session.specs.declared.steps.Reply.{Reply}
 use Rattle.session.specs.declared.steps.Reply.TheVariants.{At, Nothing, Done, Started, Answer, Length, Bytes, Fault, Closed, NotRecovering, NoSuch, Served, Missed, BadRanges, Taken, Sealed, NotAppending, Replaying}
-use Rattle.session.specs.Run.{Replayed, Standing, SessionState, ended, starting, waited, started_by, is_complete, HasCompleted, turned_away, Answers, faults, HasCause, HadFailed, Takes, wait_touch, last, Touches, AllCover, pending_in, WriterStandsFor, WriterFits, NamesFit, HasSoundWriter}
+use Rattle.session.specs.Run.{RunReplay, RunState, SessionState, ended, starting, after_wait, answer_of_start, is_complete, HasCompleted, turned_away, AnswersStep, faults, HasCause, AwaitedSyncFailed, TakesStep, use_of_wait, last, UsesDevice, AllCover, pending_in, WriterRepresents, WriterFits, NamesFit, HasSoundWriter}
 use Rattle.session.specs.Run.Touch.{Leaves, Changes}
-use Rattle.session.specs.Calls.{KeepsRest, names_after, with_name, Starts, Waits, WaitsFor, is_given, NeedsSync as SaysNeeds, Begins, KeepsSnapshots}
+use Rattle.session.specs.Calls.{KeepsRest, names_after, with_name, DidStartSync, Waits, DidWaitFor, is_given, DidNeeds as SaysNeeds, DidBegin, KeepsSnapshots}
 use Rattle.session.proofs.Words.{StartTold, WaitTold}
 use Rattle.session.proofs.WordLaws.{start_told, wait_told}
 use Rattle.session.proofs.StepLaws.{held, held_same, last_is, no_moments, answers_away, answers_here, turned_here, turned_closed, leaves, few_calls, raised_within, only_there, Halves, each_end, stepped, unasked, stands_now, stands_ended}
@@ -42,13 +42,13 @@ use Rattle.session.proofs.Apart.{AlwaysApart, IsReadyApart, StandsApart, Stepped
 -- ---- what the calls owe
 
 -- what each moment of a call owes that leaves the content
-pub goes_through : (sum : List ℕ → ℕ) (P : ℕ) (was : SessionState) (w v : WriterState) (old new : Life) (before : Standing) → StandsApart sum P (held was (Some w)) before old.present → GoesOn sum w old [] v new → StaysThrough sum P before.content old new
+pub goes_through : (sum : List ℕ → ℕ) (P : ℕ) (was : SessionState) (w v : WriterState) (old new : Life) (before : RunState) → StandsApart sum P (held was (Some w)) before old.present → Succeeds sum w old [] v new → StaysThrough sum P before.content old new
 goes_through sum P was w v old new before stands goes =
     subst (λ (n : ℕ). StaysThrough sum n before.content old new) stands.fits.page_size
     (subst (λ (l : List ℕ). StaysThrough sum w.page_size l old new) (append-nil (content_of w old.present.readable) ∙ sym stands.fits.content) goes.stays)
 
 -- also where it is refused
-pub refused_through : (sum : List ℕ → ℕ) (P : ℕ) (was : SessionState) (w : WriterState) (old new : Life) (e : Error) (before : Standing) → StandsApart sum P (held was (Some w)) before old.present → CallRefuses sum w (content_of w old.present.readable) old new e
+pub refused_through : (sum : List ℕ → ℕ) (P : ℕ) (was : SessionState) (w : WriterState) (old new : Life) (e : Error) (before : RunState) → StandsApart sum P (held was (Some w)) before old.present → CallRefuses sum w (content_of w old.present.readable) old new e
     → StaysThrough sum P before.content old new
 refused_through sum P was w old new e before stands refuses =
     subst (λ (n : ℕ). StaysThrough sum n before.content old new) stands.fits.page_size
@@ -88,16 +88,16 @@ pub name_more : (names : List ℕ) (covers : List (ℕ × ℕ)) (name cover : �
 name_more names covers name cover fits = λ asked. given_with names name asked ∙ ap (λ (b : Bool). nat_eq name asked || b) (fits asked)
 
 -- the touch of starting a sync
-start_touch : (w : WriterState) (P : ℕ) (before : Standing) (old new : Life) (moments : List Disk) → WriterStandsFor P w before old.present → new ≡ life_after old moments → length new.present.log ≤ length old.present.log + start_calls w
-    → (start_calls w ≡ 0 → new ≡ old) → Touches (if before.written then Leaves else Changes 3) old.present moments
+start_touch : (w : WriterState) (P : ℕ) (before : RunState) (old new : Life) (moments : List Disk) → WriterRepresents P w before old.present → new ≡ life_after old moments → length new.present.log ≤ length old.present.log + start_calls w
+    → (start_calls w ≡ 0 → new ≡ old) → UsesDevice (if before.written then Leaves else Changes 3) old.present moments
 start_touch w P before old new moments fits goes few idle = by_written before.written fits.written
   where
-    by_written : (written : Bool) → written ≡ nat_eq (start_calls w) 0 → Touches (if written then Leaves else Changes 3) old.present moments
+    by_written : (written : Bool) → written ≡ nat_eq (start_calls w) 0 → UsesDevice (if written then Leaves else Changes 3) old.present moments
     by_written true is = no_moments old new moments goes (idle (no_start (start_calls w) is))
     by_written false is = few_calls old new moments 3 goes (omega (arith, few, starts_few (has_work w true) w.sync))
 
 -- the answer by the standing
-start_answer : (sum : List ℕ → ℕ) (w v : WriterState) (sync : StartedSync) (P : ℕ) (before : Standing) (old new : Life) → WriterStandsFor P w before old.present → StartTold sum w old new (Ok (v, sync)) → sync ≡ started_by before old.present
+start_answer : (sum : List ℕ → ℕ) (w v : WriterState) (sync : StartedSync) (P : ℕ) (before : RunState) (old new : Life) → WriterRepresents P w before old.present → StartTold sum w old new (Ok (v, sync)) → sync ≡ answer_of_start before old.present
 start_answer sum w v sync P before old new fits says = by_written before.written fits.written
   where
     second : (r : Result (WriterState × StartedSync) Error) → r ≡ Ok (w, started_already w.sync) → IfOk r (λ p. p.1 ≡ started_already w.sync)
@@ -113,7 +113,7 @@ all_more Q c cs one more zero d lt = one
 all_more Q c cs one more (suc k) d lt = more k d (omega (arith, lt))
 
 -- what a session stands for once a sync was started
-started_stands : (sum : List ℕ → ℕ) (P : ℕ) (was : SessionState) (w v : WriterState) (sync : StartedSync) (old new : Life) (before : Standing) (moments : List Disk) → IsSound sum w old.present → StandsApart sum P (held was (Some w)) before old.present
+started_stands : (sum : List ℕ → ℕ) (P : ℕ) (was : SessionState) (w v : WriterState) (sync : StartedSync) (old new : Life) (before : RunState) (moments : List Disk) → IsSound sum w old.present → StandsApart sum P (held was (Some w)) before old.present
     → StartTold sum w old new (Ok (v, sync)) → Halves sum P before.content before.content before.floor before.covers old new moments
     → StandsApart sum P (record was { writer = Some v; names = names_after sync was.names }) (starting P sync before) new.present
 started_stands sum P was w v AllDone old new before moments sound stands says h =
@@ -146,12 +146,12 @@ started_stands sum P was w v (Named name) old new before moments sound stands sa
     (all_more (λ (c : ℕ × ℕ). WouldKeep sum P before.content c.0 c.1 new.present) (name, length before.content) before.covers newest covered) h.stays
 
 -- starting a sync leaves the snapshots
-pub starting_same : (P : ℕ) (sync : StartedSync) (s : Standing) → (starting P sync s).snapshots ≡ s.snapshots
+pub starting_same : (P : ℕ) (sync : StartedSync) (s : RunState) → (starting P sync s).snapshots ≡ s.snapshots
 starting_same P AllDone s = refl
 starting_same P (Named name) s = refl
 
 -- and the replays
-pub starting_keeps : (P : ℕ) (sync : StartedSync) (s : Standing) → (starting P sync s).replays ≡ s.replays
+pub starting_keeps : (P : ℕ) (sync : StartedSync) (s : RunState) → (starting P sync s).replays ≡ s.replays
 starting_keeps P AllDone s = refl
 starting_keeps P (Named name) s = refl
 
@@ -164,14 +164,14 @@ start_steps sum was w v sync old new sound says = λ P before stands.
     let through = goes_through sum P was w v old new before stands says.starts_sync.0 in
     let h = same_halves sum was P w old new before stands through (owed_starts sum P was w old new before stands says.owes) in
     subst (λ (l : List (Option (List ℕ))). SteppedApart sum P StartSync (Started sync) (record was { writer = Some v; names = names_after sync was.names }) old new before l before.replays) (starting_same P sync before)
-    (subst (λ (rs : List (Option Replayed)). SteppedApart sum P StartSync (Started sync) (record was { writer = Some v; names = names_after sync was.names }) old new before (starting P sync before).snapshots rs) (starting_keeps P sync before)
+    (subst (λ (rs : List (Option RunReplay)). SteppedApart sum P StartSync (Started sync) (record was { writer = Some v; names = names_after sync was.names }) old new before (starting P sync before).snapshots rs) (starting_keeps P sync before)
     (stepped sum P StartSync (Started sync) (record was { writer = Some v; names = names_after sync was.names }) old new before (starting P sync before) through.moments fits.has_writer (turned_here before.has_writer fits.has_writer) h
     (start_touch w P before old new through.moments fits h.goes says.calls (λ none. (says.idle none).1))
     (start_answer sum w v sync P before old new fits says, refl) (λ none. absurd none, λ none. absurd none)
     (started_stands sum P was w v sync old new before through.moments sound stands says h)))
 
 -- why one isn't
-start_cause : (P : ℕ) (w : WriterState) (before : Standing) (old new : Life) (e : Error) → before.written ≡ false → before.awaited ≡ pending_in w.sync → CallCause w.sync old new e
+start_cause : (P : ℕ) (w : WriterState) (before : RunState) (old new : Life) (e : Error) → before.written ≡ false → before.awaited ≡ pending_in w.sync → CallCause w.sync old new e
     → Contains (faults StartSync) e × HasCause P StartSync before old.present new.present e
 start_cause P w before old new ReadFailed some awaited cause = absurd cause
 start_cause P w before old new WriteFailed some awaited cause = ((0, lit< tt, refl), cause)
@@ -180,7 +180,7 @@ start_cause P w before old new SyncFailed some awaited cause = (
   (1, lit< tt, refl),
   elim cause [
     | inl failed ↦ inl failed
-    | inr had ↦ inr (subst (λ (b : Bool). HadFailed (if b then None else before.awaited) old.present) (sym some) (had_failed_as w.sync before.awaited old.present awaited had))
+    | inr had ↦ inr (subst (λ (b : Bool). AwaitedSyncFailed (if b then None else before.awaited) old.present) (sym some) (had_failed_as w.sync before.awaited old.present awaited had))
   ],
 )
 start_cause P w before old new InvalidChecksum some awaited cause = absurd cause
@@ -262,11 +262,11 @@ waits_none Dirty = refl
 waits_none (Pending name) = refl
 
 -- the touch of a wait
-waits_touch : (w : WriterState) (P : ℕ) (before : Standing) (old new : Life) (moments : List Disk) → WriterStandsFor P w before old.present → new ≡ life_after old moments → length new.present.log ≤ length old.present.log + wait_calls w.sync
-    → (wait_calls w.sync ≡ 0 → new ≡ old) → Touches (wait_touch before.awaited) old.present moments
+waits_touch : (w : WriterState) (P : ℕ) (before : RunState) (old new : Life) (moments : List Disk) → WriterRepresents P w before old.present → new ≡ life_after old moments → length new.present.log ≤ length old.present.log + wait_calls w.sync
+    → (wait_calls w.sync ≡ 0 → new ≡ old) → UsesDevice (use_of_wait before.awaited) old.present moments
 waits_touch w P before old new moments fits goes few idle = by_awaited before.awaited fits.awaited
   where
-    by_awaited : (awaited : Option ℕ) → awaited ≡ pending_in w.sync → Touches (wait_touch awaited) old.present moments
+    by_awaited : (awaited : Option ℕ) → awaited ≡ pending_in w.sync → UsesDevice (use_of_wait awaited) old.present moments
     by_awaited None is = no_moments old new moments goes (idle (wait_none w.sync is))
     by_awaited (Some name) is = few_calls old new moments 1 goes (omega (arith, few, wait_one w.sync))
 
@@ -279,9 +279,9 @@ wait_steps sum was w v old new says = λ P before stands.
     let is : v ≡ waited_writer w = says.waits.1 in
     let through = goes_through sum P was w v old new before stands goes in
     let h = same_halves sum was P w old new before stands through (owed_starts sum P was w old new before stands says.owes) in
-    stepped sum P Wait Done (held was (Some v)) old new before (waited before) through.moments fits.has_writer (turned_here before.has_writer fits.has_writer) h
+    stepped sum P Wait Done (held was (Some v)) old new before (after_wait before) through.moments fits.has_writer (turned_here before.has_writer fits.has_writer) h
     (waits_touch w P before old new through.moments fits h.goes says.calls (λ none. (says.idle none).1)) (complete_by w.sync before.awaited old new fits.awaited says.settles, refl) (λ none. absurd none, λ none. absurd none)
-    (stands_now sum P was v old new (waited before)
+    (stands_now sum P was v old new (after_wait before)
     (record {
       page_size = goes.same.page_size ∙ fits.page_size;
       has_writer = fits.has_writer;
@@ -297,7 +297,7 @@ wait_steps sum was w v old new says = λ P before stands.
     (each_end (AllCover sum P before.content before.covers) old new through.moments h.goes h.covered) h.stays)
 
 -- why one is refused
-wait_cause : (P : ℕ) (w : WriterState) (before : Standing) (old new : Life) (e : Error) → is_some before.awaited ≡ true → before.awaited ≡ pending_in w.sync → CallCause w.sync old new e → (e ≡ WriteFailed → ⊥)
+wait_cause : (P : ℕ) (w : WriterState) (before : RunState) (old new : Life) (e : Error) → is_some before.awaited ≡ true → before.awaited ≡ pending_in w.sync → CallCause w.sync old new e → (e ≡ WriteFailed → ⊥)
     → Contains (faults Wait) e × HasCause P Wait before old.present new.present e
 wait_cause P w before old new ReadFailed some awaited cause wrote = absurd cause
 wait_cause P w before old new WriteFailed some awaited cause wrote = absurd (wrote refl)
@@ -380,7 +380,7 @@ one_wait name old new (Err OutOfMemory) is = record {
 one_wait name old new (Err e) goes = absurd goes
 
 -- the session stands for the same after it
-pub waited_fits : (P : ℕ) (o : Option WriterState) (s : Standing) (d e : Disk) → e.readable ≡ d.readable → WriterFits P o s d → WriterFits P o s e
+pub waited_fits : (P : ℕ) (o : Option WriterState) (s : RunState) (d e : Disk) → e.readable ≡ d.readable → WriterFits P o s d → WriterFits P o s e
 waited_fits P None s d e same fits = fits
 waited_fits P (Some w) s d e same fits = record {
   page_size = fits.page_size;
@@ -394,7 +394,7 @@ waited_fits P (Some w) s d e same fits = record {
   awaited = fits.awaited;
 }
 
-waited_stands : (sum : List ℕ → ℕ) (P : ℕ) (was : SessionState) (s : Standing) (d e : Disk) → e.readable ≡ d.readable → WaitKeeps sum P d e → StandsApart sum P was s d → StandsApart sum P was s e
+waited_stands : (sum : List ℕ → ℕ) (P : ℕ) (was : SessionState) (s : RunState) (d e : Disk) → e.readable ≡ d.readable → WaitKeeps sum P d e → StandsApart sum P was s d → StandsApart sum P was s e
 waited_stands sum P was s d e same keeps stands = record {
   fits = waited_fits P was.writer s d e same stands.fits;
   phase = stands.phase;
@@ -407,8 +407,8 @@ waited_stands sum P was s d e same keeps stands = record {
 }
 
 -- a step that waits for a name that the session was given
-named_steps : (sum : List ℕ → ℕ) (was : SessionState) (name : ℕ) (reply : Reply) (old new : Life) (answer : Result (Unit {0}) Error) → is_given was.names name ≡ true → StartsStand old.present → WaitGoes name old new answer
-    → ((P : ℕ) (s : Standing) → Takes sum P (WaitSync name) reply old.present new.present s s) → AlwaysApart sum (WaitSync name) reply was was old new
+named_steps : (sum : List ℕ → ℕ) (was : SessionState) (name : ℕ) (reply : Reply) (old new : Life) (answer : Result (Unit {0}) Error) → is_given was.names name ≡ true → StartsCanBeAwaited old.present → WaitGoes name old new answer
+    → ((P : ℕ) (s : RunState) → TakesStep sum P (WaitSync name) reply old.present new.present s s) → AlwaysApart sum (WaitSync name) reply was was old new
 named_steps sum was name reply old new answer given stand goes takes = λ P before stands.
     let keeps = wait_keeps sum P name old new answer stand goes in
     let one = one_wait name old new answer goes in
@@ -420,7 +420,7 @@ named_steps sum was name reply old new answer given stand goes takes = λ P befo
       goes = one.goes;
       after = before;
       did = record {
-        answer = subst (λ (to : Disk). Answers sum P (WaitSync name) reply old.present to before before) end (answers_here sum P (WaitSync name) reply old.present new.present before before here (takes P before) (λ none. absurd none, λ none. absurd none));
+        answer = subst (λ (to : Disk). AnswersStep sum P (WaitSync name) reply old.present to before before) end (answers_here sum P (WaitSync name) reply old.present new.present before before here (takes P before) (λ none. absurd none, λ none. absurd none));
         touches = few_calls old new one.moments 1 one.goes one.few;
         stopped = λ away. absurd (false≢true (sym (ap is_some here) ∙ away));
         kept = (stands.kept, each_wait (AllKeep sum P before.content before.floor) name old new one after_it.kept);
@@ -457,7 +457,7 @@ unnamed_steps sum was name life given = λ P before stands. record {
 }
 
 -- why one is refused
-named_cause : (P : ℕ) (name : ℕ) (s : Standing) (old new : Life) (e : Error) → WaitGoes name old new (Err e) → Contains (faults (WaitSync name)) e × HasCause P (WaitSync name) s old.present new.present e
+named_cause : (P : ℕ) (name : ℕ) (s : RunState) (old new : Life) (e : Error) → WaitGoes name old new (Err e) → Contains (faults (WaitSync name)) e × HasCause P (WaitSync name) s old.present new.present e
 named_cause P name s old new SyncFailed (failed, why, is) = (
   (0, lit< tt, refl),
   elim why [
@@ -493,14 +493,14 @@ both_are : (was now : SessionState) (o : Option WriterState) (names : List ℕ) 
 both_are was now o names rest writer same = rest ∙ ap (λ (x : Option WriterState). record was { writer = x; names = now.names }) writer ∙ ap (λ (l : List ℕ). record was { writer = o; names = l }) same
 
 -- a start of a sync by a session
-pub started_takes : (sum : List ℕ → ℕ) (was now : SessionState) (cache after : CacheState) (old new : Life) (reply : Reply) → IsReadyApart sum was old.present → KeepsSnapshots was now → Starts sum was.writer now.writer was.names now.names cache after old new reply
+pub started_takes : (sum : List ℕ → ℕ) (was now : SessionState) (cache after : CacheState) (old new : Life) (reply : Reply) → IsReadyApart sum was old.present → KeepsSnapshots was now → DidStartSync sum was.writer now.writer was.names now.names cache after old new reply
     → StepsApart sum StartSync reply was now old new
 started_takes sum was now cache after old new reply ready rest goes = by_writer was.writer refl reply goes
   where
     with_writer : (w : WriterState) → was.writer ≡ Some w → (r : Reply) (x : SessionState) (life : Life) → AlwaysApart sum StartSync r (held was (Some w)) x old life → AlwaysApart sum StartSync r was x old life
     with_writer w at r x life always = subst (λ (y : SessionState). AlwaysApart sum StartSync r y x old life) (sym (held_same was (Some w) at)) always
 
-    by_writer : (o : Option WriterState) → was.writer ≡ o → (reply : Reply) → Starts sum o now.writer was.names now.names cache after old new reply → StepsApart sum StartSync reply was now old new
+    by_writer : (o : Option WriterState) → was.writer ≡ o → (reply : Reply) → DidStartSync sum o now.writer was.names now.names cache after old new reply → StepsApart sum StartSync reply was now old new
     by_writer None at reply (closed, names, held) =
         closed_takes sum StartSync was now old new reply (λ before none. turned_closed before.has_writer none) at ready closed.replied (rest ∙ both_same was now.writer now.names (closed.writer ∙ sym at) names) closed.life
     by_writer (Some w) at (Started sync) (v, is, more, whole, call) =
@@ -574,22 +574,22 @@ waited_takes sum was now old new reply ready rest goes = by_writer was.writer re
     by_writer (Some w) at (Replaying number) goes = absurd goes
 
 -- a wait for a name, also where there is no writer
-pub named_takes : (sum : List ℕ → ℕ) (was : SessionState) (name : ℕ) (old new : Life) (reply : Reply) → IsSmall sum → IsReadyApart sum was old.present → WaitsFor (is_given was.names name) name old new reply → StepsApart sum (WaitSync name) reply was was old new
+pub named_takes : (sum : List ℕ → ℕ) (was : SessionState) (name : ℕ) (old new : Life) (reply : Reply) → IsSmall sum → IsReadyApart sum was old.present → DidWaitFor (is_given was.names name) name old new reply → StepsApart sum (WaitSync name) reply was was old new
 named_takes sum was name old new reply small ready goes = by_name (is_given was.names name) refl reply goes
   where
-    some_name : is_given was.names name ≡ true → StartsStand old.present
+    some_name : is_given was.names name ≡ true → StartsCanBeAwaited old.present
     some_name given = elim ready.starts [
       | inl none ↦ absurd (false≢true (sym (ap (λ (names : List ℕ). is_given names name) none) ∙ given))
       | inr stand ↦ stand
     ]
 
-    waits : (r : Reply) (answer : Result (Unit {0}) Error) → is_given was.names name ≡ true → WaitGoes name old new answer → ((P : ℕ) (s : Standing) → Takes sum P (WaitSync name) r old.present new.present s s) → StepsApart sum (WaitSync name) r was was old new
+    waits : (r : Reply) (answer : Result (Unit {0}) Error) → is_given was.names name ≡ true → WaitGoes name old new answer → ((P : ℕ) (s : RunState) → TakesStep sum P (WaitSync name) r old.present new.present s s) → StepsApart sum (WaitSync name) r was was old new
     waits r answer given goes takes = record {
       ready = record { writer = waited_sound sum was.writer name old new answer small ready.writer goes; starts = inr (wait_keeps sum 0 name old new answer (some_name given) goes).starts };
       always = named_steps sum was name r old new answer given (some_name given) goes takes;
     }
 
-    by_name : (given : Bool) → is_given was.names name ≡ given → (reply : Reply) → WaitsFor given name old new reply → StepsApart sum (WaitSync name) reply was was old new
+    by_name : (given : Bool) → is_given was.names name ≡ given → (reply : Reply) → DidWaitFor given name old new reply → StepsApart sum (WaitSync name) reply was was old new
     by_name false is reply (replied, same) =
         subst (λ (r : Reply). StepsApart sum (WaitSync name) r was was old new) (sym replied)
         (subst (λ (life : Life). StepsApart sum (WaitSync name) NoSuch was was old life) (sym same) (record { ready = ready; always = unnamed_steps sum was name old is }))
@@ -625,10 +625,10 @@ needed_takes sum was life reply ready goes = by_writer was.writer refl goes
         unasked sum P was w Needs (Answer (nat_lt 0 (sync_calls w))) (held was (Some w)) life before before (turned_here before.has_writer stands.fits.has_writer) stands (needs_is w P before life.present stands.fits, refl) (λ none. absurd none, λ none. absurd none) stands))
 
 -- the end of a recovery
-pub begun_takes : (sum : List ℕ → ℕ) (was now : SessionState) (life : Life) (reply : Reply) → IsReadyApart sum was life.present → Begins was.writer was now reply → StepsApart sum Begin reply was now life life
+pub begun_takes : (sum : List ℕ → ℕ) (was now : SessionState) (life : Life) (reply : Reply) → IsReadyApart sum was life.present → DidBegin was.writer was now reply → StepsApart sum Begin reply was now life life
 begun_takes sum was now life reply ready goes = by_writer was.writer refl goes
   where
-    by_writer : (o : Option WriterState) → was.writer ≡ o → Begins o was now reply → StepsApart sum Begin reply was now life life
+    by_writer : (o : Option WriterState) → was.writer ≡ o → DidBegin o was now reply → StepsApart sum Begin reply was now life life
     by_writer None at (replied, same_session) = closed_takes sum Begin was now life life reply (λ before none. turned_closed before.has_writer none) at ready replied same_session refl
     by_writer (Some w) at (replied, is) =
         subst (λ (r : Reply). StepsApart sum Begin r was now life life) (sym replied)

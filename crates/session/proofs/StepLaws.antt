@@ -16,7 +16,7 @@ use Rattle.session.specs.declared.steps.Step.{Step}
 use Rattle.session.specs.declared.steps.Step.TheVariants.{Append, Owned, TryAppend, Sync, StartSync, Wait, WaitSync, Needs, Size, Read, ReadUpTo, TryRead, ReadRanges, TryReadRanges, Begin, Truncate, Snapshot, TrySnapshot, Snap, Seal, Replay, Ensure, Take, Seek, DropSnapshot, DropReplay, Scan}
 use Rattle.session.specs.declared.steps.Reply.{Reply}
 use Rattle.session.specs.declared.steps.Reply.TheVariants.{Closed}
-use Rattle.session.specs.Run.{Standing, SessionState, ended, is_complete, raised_floor, raised, lowered, forgetting, begun, turned_away, content_after, Takes, Foretells, Answers, Touch, touch, last, Touches, AllCover, WriterStandsFor, WriterFits, NamesFit}
+use Rattle.session.specs.Run.{RunState, SessionState, ended, is_complete, raised_floor, raised, lowered, forgetting, at_step, turned_away, content_after, TakesStep, FaultsComeFirst, AnswersStep, DeviceUse, use_of_step, last, UsesDevice, AllCover, WriterRepresents, WriterFits, NamesFit}
 use Rattle.session.specs.Run.Touch.{Leaves, Looks, Changes}
 use Rattle.session.proofs.Apart.{AlwaysApart, StandsApart, SteppedApart}
 
@@ -77,22 +77,22 @@ through_each Q old new ds through goes = subst (λ (l : List Disk). Each Q l) (s
 -- ---- tables
 
 -- where there is a writer, a step that needs one isn't turned away
-pub answers_here : (sum : List ℕ → ℕ) (P : ℕ) (step : Step) (reply : Reply) (from to : Disk) (s after : Standing) → turned_away step s ≡ None → Takes sum P step reply from to s after → Foretells P step reply s → Answers sum P step reply from to s after
+pub answers_here : (sum : List ℕ → ℕ) (P : ℕ) (step : Step) (reply : Reply) (from to : Disk) (s after : RunState) → turned_away step s ≡ None → TakesStep sum P step reply from to s after → FaultsComeFirst P step reply s → AnswersStep sum P step reply from to s after
 answers_here sum P step reply from to s after here takes foretells =
     subst
     (λ (turn : Option Reply). elim turn as (λ (o : Option Reply). Type 0) [
       | Some other ↦ (reply ≡ other) × (after ≡ s)
-      | None ↦ Takes sum P step reply from to s after × Foretells P step reply s
+      | None ↦ TakesStep sum P step reply from to s after × FaultsComeFirst P step reply s
     ])
     (sym here) (takes, foretells)
 
 -- the others are
-pub answers_away : (sum : List ℕ → ℕ) (P : ℕ) (step : Step) (reply : Reply) (from to : Disk) (s : Standing) → turned_away step s ≡ Some reply → Answers sum P step reply from to s s
+pub answers_away : (sum : List ℕ → ℕ) (P : ℕ) (step : Step) (reply : Reply) (from to : Disk) (s : RunState) → turned_away step s ≡ Some reply → AnswersStep sum P step reply from to s s
 answers_away sum P step reply from to s away =
     subst
     (λ (turn : Option Reply). elim turn as (λ (o : Option Reply). Type 0) [
       | Some other ↦ (reply ≡ other) × (s ≡ s)
-      | None ↦ Takes sum P step reply from to s s × Foretells P step reply s
+      | None ↦ TakesStep sum P step reply from to s s × FaultsComeFirst P step reply s
     ])
     (sym away) (refl, refl)
 
@@ -105,19 +105,19 @@ pub turned_closed : (has_writer : Bool) → has_writer ≡ false → (if has_wri
 turned_closed true has = absurd (false≢true (sym has))
 turned_closed false has = refl
 
-pub not_turned_away : (step : Step) (s : Standing) (moments : List Disk) → turned_away step s ≡ None → is_some (turned_away step s) ≡ true → moments ≡ []
+pub not_turned_away : (step : Step) (s : RunState) (moments : List Disk) → turned_away step s ≡ None → is_some (turned_away step s) ≡ true → moments ≡ []
 not_turned_away step s moments here away =
     let stays : is_some (turned_away step s) ≡ false = ap (λ (o : Option Reply). is_some o) here in
     absurd (false≢true (sym stays ∙ away))
 
 -- a step may always leave the disk
-pub leaves : (t : Touch) (d : Disk) → Touches t d []
+pub leaves : (t : DeviceUse) (d : Disk) → UsesDevice t d []
 leaves Leaves d = refl
 leaves Looks d = tt
 leaves (Changes most) d = omega arith
 
 -- and make so many calls
-pub few_calls : (old new : Life) (moments : List Disk) (most : ℕ) → new ≡ life_after old moments → length new.present.log ≤ length old.present.log + most → Touches (Changes most) old.present moments
+pub few_calls : (old new : Life) (moments : List Disk) (most : ℕ) → new ≡ life_after old moments → length new.present.log ≤ length old.present.log + most → UsesDevice (Changes most) old.present moments
 few_calls old new moments most goes few = subst (λ (d : Disk). length d.log ≤ length old.present.log + most) (ap (λ (life : Life). life.present) goes ∙ last_is old moments) few
 
 -- a floor raised by what is within the content stays within it
@@ -150,15 +150,15 @@ all_lowered Q R n (c ∷ cs) turned all = both (all_lowered Q R n cs turned (λ 
     both more (suc k) x lt = more k x (omega (arith, lt))
 
 -- a step never begins with more
-lowered_keeps : (sum : List ℕ → ℕ) (P n : ℕ) (s : Standing) (d : Disk) → AllKeep sum P s.content s.floor d → AllKeep sum P s.content (lowered n s).floor d
+lowered_keeps : (sum : List ℕ → ℕ) (P n : ℕ) (s : RunState) (d : Disk) → AllKeep sum P s.content s.floor d → AllKeep sum P s.content (lowered n s).floor d
 lowered_keeps sum P n s d keeps = keeps_fewer sum P s.content (min n s.floor) s.floor d (omega arith) keeps
 
-lowered_covers : (sum : List ℕ → ℕ) (P n : ℕ) (s : Standing) (d : Disk) → AllCover sum P s.content s.covers d → AllCover sum P s.content (lowered n s).covers d
+lowered_covers : (sum : List ℕ → ℕ) (P n : ℕ) (s : RunState) (d : Disk) → AllCover sum P s.content s.covers d → AllCover sum P s.content (lowered n s).covers d
 lowered_covers sum P n s d covered =
     all_lowered (λ c. WouldKeep sum P s.content c.0 c.1 d) (λ c. WouldKeep sum P s.content c.0 c.1 d) n s.covers (λ c would. would_fewer sum P s.content c.0 (min n c.1) c.1 d (omega arith) would) covered
 
 -- what holds of the standing and of the lowered one holds of what stands as a step begins
-begun_either : (Q : Standing → Type 0) (step : Step) (s : Standing) → Q s → ((n : ℕ) → Q (forgetting (lowered n s))) → Q (begun step s)
+begun_either : (Q : RunState → Type 0) (step : Step) (s : RunState) → Q s → ((n : ℕ) → Q (forgetting (lowered n s))) → Q (at_step step s)
 begun_either Q (Truncate n) s same less = by_phase (s.has_writer && s.recovering)
   where
     by_phase : (cuts : Bool) → Q (if cuts then forgetting (lowered n s) else s)
@@ -191,13 +191,13 @@ begun_either Q (DropSnapshot index) s same less = same
 begun_either Q (DropReplay index) s same less = same
 begun_either Q (Scan proven most buffer_size) s same less = same
 
-pub begun_keeps : (sum : List ℕ → ℕ) (P : ℕ) (step : Step) (s : Standing) (d : Disk) → AllKeep sum P s.content s.floor d → AllKeep sum P s.content (begun step s).floor d
+pub begun_keeps : (sum : List ℕ → ℕ) (P : ℕ) (step : Step) (s : RunState) (d : Disk) → AllKeep sum P s.content s.floor d → AllKeep sum P s.content (at_step step s).floor d
 begun_keeps sum P step s d keeps = begun_either (λ x. AllKeep sum P s.content x.floor d) step s keeps (λ n. lowered_keeps sum P n s d keeps)
 
-pub begun_covers : (sum : List ℕ → ℕ) (P : ℕ) (step : Step) (s : Standing) (d : Disk) → AllCover sum P s.content s.covers d → AllCover sum P s.content (begun step s).covers d
+pub begun_covers : (sum : List ℕ → ℕ) (P : ℕ) (step : Step) (s : RunState) (d : Disk) → AllCover sum P s.content s.covers d → AllCover sum P s.content (at_step step s).covers d
 begun_covers sum P step s d covered = begun_either (λ x. AllCover sum P s.content x.covers d) step s covered (λ n. lowered_covers sum P n s d covered)
 
-pub begun_within : (step : Step) (s : Standing) (n : ℕ) → s.floor ≤ n → (begun step s).floor ≤ n
+pub begun_within : (step : Step) (s : RunState) (n : ℕ) → s.floor ≤ n → (at_step step s).floor ≤ n
 begun_within step s n within = begun_either (λ x. x.floor ≤ n) step s within (λ m. omega (arith, within))
 
 -- ---- both halves, and what started syncs cover
@@ -250,21 +250,21 @@ itself content = sym (take-length content)
 -- ---- steps
 
 -- the floor within the content once it is raised
-pub raised_within : (sum : List ℕ → ℕ) (P : ℕ) (now : SessionState) (old new : Life) (after : Standing) (moments : List Disk) → new ≡ life_after old moments → StandsApart sum P now after new.present
+pub raised_within : (sum : List ℕ → ℕ) (P : ℕ) (now : SessionState) (old new : Life) (after : RunState) (moments : List Disk) → new ≡ life_after old moments → StandsApart sum P now after new.present
     → (raised (last old.present moments) after).floor ≤ length after.content
 raised_within sum P now old new after moments goes stands = raise_within (last old.present moments) after.covers after.floor (length after.content) stands.floor stands.within
 
 -- a step by a session with a writer, from what each moment says and the answer
-pub stepped_by : (sum : List ℕ → ℕ) (P : ℕ) (step : Step) (reply : Reply) (now : SessionState) (old new : Life) (before after : Standing) (moments : List Disk) → before.has_writer ≡ true → turned_away step before ≡ None
-    → new ≡ life_after old moments → Each (AllKeep sum P before.content (begun step before).floor) (old.present ∷ moments) → Each (AllCover sum P before.content (begun step before).covers) (old.present ∷ moments)
-    → Each (AllOnly sum P before.content (content_after step before.content)) (old.present ∷ moments) → Touches (touch P step before) old.present moments → Takes sum P step reply old.present new.present before after → Foretells P step reply before
+pub stepped_by : (sum : List ℕ → ℕ) (P : ℕ) (step : Step) (reply : Reply) (now : SessionState) (old new : Life) (before after : RunState) (moments : List Disk) → before.has_writer ≡ true → turned_away step before ≡ None
+    → new ≡ life_after old moments → Each (AllKeep sum P before.content (at_step step before).floor) (old.present ∷ moments) → Each (AllCover sum P before.content (at_step step before).covers) (old.present ∷ moments)
+    → Each (AllOnly sum P before.content (content_after step before.content)) (old.present ∷ moments) → UsesDevice (use_of_step P step before) old.present moments → TakesStep sum P step reply old.present new.present before after → FaultsComeFirst P step reply before
     → StandsApart sum P now after new.present → SteppedApart sum P step reply now old new before after.snapshots after.replays
 stepped_by sum P step reply now old new before after moments has here goes kept covered only touches takes foretells stands = record {
   moments = moments;
   goes = goes;
   after = after;
   did = record {
-    answer = subst (λ (to : Disk). Answers sum P step reply old.present to before after) (ap (λ (life : Life). life.present) goes ∙ last_is old moments) (answers_here sum P step reply old.present new.present before after here takes foretells);
+    answer = subst (λ (to : Disk). AnswersStep sum P step reply old.present to before after) (ap (λ (life : Life). life.present) goes ∙ last_is old moments) (answers_here sum P step reply old.present new.present before after here takes foretells);
     touches = touches;
     stopped = not_turned_away step before moments here;
     kept = kept;
@@ -278,14 +278,14 @@ stepped_by sum P step reply now old new before after moments has here goes kept 
 }
 
 -- from both halves
-pub stepped : (sum : List ℕ → ℕ) (P : ℕ) (step : Step) (reply : Reply) (now : SessionState) (old new : Life) (before after : Standing) (moments : List Disk) → before.has_writer ≡ true → turned_away step before ≡ None
-    → Halves sum P before.content (content_after step before.content) (begun step before).floor (begun step before).covers old new moments → Touches (touch P step before) old.present moments → Takes sum P step reply old.present new.present before after
-    → Foretells P step reply before → StandsApart sum P now after new.present → SteppedApart sum P step reply now old new before after.snapshots after.replays
+pub stepped : (sum : List ℕ → ℕ) (P : ℕ) (step : Step) (reply : Reply) (now : SessionState) (old new : Life) (before after : RunState) (moments : List Disk) → before.has_writer ≡ true → turned_away step before ≡ None
+    → Halves sum P before.content (content_after step before.content) (at_step step before).floor (at_step step before).covers old new moments → UsesDevice (use_of_step P step before) old.present moments → TakesStep sum P step reply old.present new.present before after
+    → FaultsComeFirst P step reply before → StandsApart sum P now after new.present → SteppedApart sum P step reply now old new before after.snapshots after.replays
 stepped sum P step reply now old new before after moments has here h touches takes foretells stands =
     stepped_by sum P step reply now old new before after moments has here h.goes h.kept h.covered h.only touches takes foretells stands
 
 -- of either content the one that a step may leave, where that of its writer stays
-pub only_there : (sum : List ℕ → ℕ) (P : ℕ) (o : Option WriterState) (before : Standing) (d e : Disk) → WriterFits P o before d → AllOnly sum P before.content before.otherwise e
+pub only_there : (sum : List ℕ → ℕ) (P : ℕ) (o : Option WriterState) (before : RunState) (d e : Disk) → WriterFits P o before d → AllOnly sum P before.content before.otherwise e
     → AllOnly sum P before.content (if before.has_writer then before.content else before.otherwise) e
 only_there sum P None before d e fits only = subst (λ (b : Bool). AllOnly sum P before.content (if b then before.content else before.otherwise) e) (sym fits) only
 only_there sum P (Some w) before d e fits only =
@@ -293,7 +293,7 @@ only_there sum P (Some w) before d e fits only =
     (subst (λ (l : List ℕ). AllOnly sum P before.content l e) fits.otherwise only)
 
 -- a session that is closed stays so
-pub closed_steps : (sum : List ℕ → ℕ) (step : Step) (was now : SessionState) (old new : Life) (reply : Reply) → was.writer ≡ None → ((before : Standing) → before.has_writer ≡ false → turned_away step before ≡ Some Closed) → reply ≡ Closed → now ≡ was
+pub closed_steps : (sum : List ℕ → ℕ) (step : Step) (was now : SessionState) (old new : Life) (reply : Reply) → was.writer ≡ None → ((before : RunState) → before.has_writer ≡ false → turned_away step before ≡ Some Closed) → reply ≡ Closed → now ≡ was
     → new ≡ old → AlwaysApart sum step reply was now old new
 closed_steps sum step was now old new reply none away replied same_session same = λ P before stands.
     let fits : WriterFits P None before old.present = subst (λ (o : Option WriterState). WriterFits P o before old.present) none stands.fits in
@@ -303,7 +303,7 @@ closed_steps sum step was now old new reply none away replied same_session same 
       after = before;
       did = record {
         answer = answers_away sum P step Closed old.present old.present before (away before fits);
-        touches = leaves (touch P step before) old.present;
+        touches = leaves (use_of_step P step before) old.present;
         stopped = λ gone. refl;
         kept = (begun_keeps sum P step before old.present stands.kept, tt);
         covered = (begun_covers sum P step before old.present stands.covered, tt);
@@ -319,8 +319,8 @@ closed_steps sum step was now old new reply none away replied same_session same 
     (subst (λ (life : Life). SteppedApart sum P step Closed was old life before before.snapshots before.replays) (sym same) is))
 
 -- a step by a session with a writer that asks the device nothing
-pub unasked : (sum : List ℕ → ℕ) (P : ℕ) (was : SessionState) (w : WriterState) (step : Step) (reply : Reply) (now : SessionState) (life : Life) (before after : Standing) → turned_away step before ≡ None → StandsApart sum P (held was (Some w)) before life.present
-    → Takes sum P step reply life.present life.present before after → Foretells P step reply before → StandsApart sum P now after life.present → SteppedApart sum P step reply now life life before after.snapshots after.replays
+pub unasked : (sum : List ℕ → ℕ) (P : ℕ) (was : SessionState) (w : WriterState) (step : Step) (reply : Reply) (now : SessionState) (life : Life) (before after : RunState) → turned_away step before ≡ None → StandsApart sum P (held was (Some w)) before life.present
+    → TakesStep sum P step reply life.present life.present before after → FaultsComeFirst P step reply before → StandsApart sum P now after life.present → SteppedApart sum P step reply now life life before after.snapshots after.replays
 unasked sum P was w step reply now life before after here stands takes foretells stands_after =
     let has = stands.fits.has_writer in
     let only : AllOnly sum P before.content (content_after step before.content) life.present = record {
@@ -336,7 +336,7 @@ unasked sum P was w step reply now life before after here stands takes foretells
       after = after;
       did = record {
         answer = answers_here sum P step reply life.present life.present before after here takes foretells;
-        touches = leaves (touch P step before) life.present;
+        touches = leaves (use_of_step P step before) life.present;
         stopped = λ away. refl;
         kept = (begun_keeps sum P step before life.present stands.kept, tt);
         covered = (begun_covers sum P step before life.present stands.covered, tt);
@@ -349,13 +349,13 @@ unasked sum P was w step reply now life before after here stands takes foretells
     }
 
 -- the same, over a blob that stayed
-pub unasked_over : (sum : List ℕ → ℕ) (P : ℕ) (was : SessionState) (w : WriterState) (step : Step) (reply : Reply) (now : SessionState) (old new : Life) (before after : Standing) → new ≡ old → turned_away step before ≡ None
-    → StandsApart sum P (held was (Some w)) before old.present → Takes sum P step reply old.present old.present before after → Foretells P step reply before → StandsApart sum P now after old.present → SteppedApart sum P step reply now old new before after.snapshots after.replays
+pub unasked_over : (sum : List ℕ → ℕ) (P : ℕ) (was : SessionState) (w : WriterState) (step : Step) (reply : Reply) (now : SessionState) (old new : Life) (before after : RunState) → new ≡ old → turned_away step before ≡ None
+    → StandsApart sum P (held was (Some w)) before old.present → TakesStep sum P step reply old.present old.present before after → FaultsComeFirst P step reply before → StandsApart sum P now after old.present → SteppedApart sum P step reply now old new before after.snapshots after.replays
 unasked_over sum P was w step reply now old new before after same here stands takes foretells stands_after =
     subst (λ (life : Life). SteppedApart sum P step reply now old life before after.snapshots after.replays) (sym same) (unasked sum P was w step reply now old before after here stands takes foretells stands_after)
 
 -- what a session with this writer stands for, once its call was done, or had not taken it
-pub stands_now : (sum : List ℕ → ℕ) (P : ℕ) (was : SessionState) (v : WriterState) (old new : Life) (after : Standing) → WriterStandsFor P v after new.present → was.recovering ≡ after.recovering → NamesFit was.names after.covers
+pub stands_now : (sum : List ℕ → ℕ) (P : ℕ) (was : SessionState) (v : WriterState) (old new : Life) (after : RunState) → WriterRepresents P v after new.present → was.recovering ≡ after.recovering → NamesFit was.names after.covers
     → after.floor ≤ length after.content → All (λ c. c.1 ≤ length after.content) after.covers → AllKeep sum P after.content after.floor new.present → AllCover sum P after.content after.covers new.present
     → Stays sum P after.content old.present new.present → StandsApart sum P (held was (Some v)) after new.present
 stands_now sum P was v old new after fits phase names enough within kept covered stays = record {
@@ -370,7 +370,7 @@ stands_now sum P was v old new after fits phase names enough within kept covered
 }
 
 -- and without one, once it was refused
-pub stands_ended : (sum : List ℕ → ℕ) (P : ℕ) (was : SessionState) (w : WriterState) (old new : Life) (before : Standing) (longer : List ℕ) (moments : List Disk) → StandsApart sum P (held was (Some w)) before old.present
+pub stands_ended : (sum : List ℕ → ℕ) (P : ℕ) (was : SessionState) (w : WriterState) (old new : Life) (before : RunState) (longer : List ℕ) (moments : List Disk) → StandsApart sum P (held was (Some w)) before old.present
     → Halves sum P before.content longer before.floor before.covers old new moments → StandsApart sum P (held was None) (ended longer before) new.present
 stands_ended sum P was w old new before longer moments stands h = record {
   fits = refl;

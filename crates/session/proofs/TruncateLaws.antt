@@ -27,9 +27,9 @@ use Rattle.paged.proofs.Flushes.{size_is_length}
 use Rattle.session.specs.declared.steps.Step.TheVariants.{Truncate}
 use Rattle.session.specs.declared.steps.Reply.{Reply}
 use Rattle.session.specs.declared.steps.Reply.TheVariants.{At, Nothing, Done, Started, Answer, Length, Bytes, Fault, Closed, NotRecovering, NoSuch, Served, Missed, BadRanges, Taken, Sealed, NotAppending, Replaying}
-use Rattle.session.specs.Run.{Standing, SessionState, truncated, lowered, forgetting, begun, ended, turned_away, faults, HasCause, Takes, pending_in, AllCover, NamesFit}
+use Rattle.session.specs.Run.{RunState, SessionState, truncated, lowered, forgetting, at_step, ended, turned_away, faults, HasCause, TakesStep, pending_in, AllCover, NamesFit}
 use Rattle.session.specs.Run.Touch.{Changes}
-use Rattle.session.specs.Calls.{IsClosed, KeepsRest, TruncateSays, Cuts, Truncated}
+use Rattle.session.specs.Calls.{IsClosed, KeepsRest, TruncateSays, TruncatesWriter, DidTruncate}
 use Rattle.session.proofs.StepLaws.{held, held_same, keeps_fewer, would_longer, cover_stays, all_lowered, begun_keeps, begun_covers, through_each, each_end, few_calls, raised_within, leaves, answers_away, stepped_by}
 use Rattle.session.proofs.AppendLaws.{had_failed_as, calls_few, settled_started, settled_awaits}
 use Rattle.session.proofs.SessionLaws.{closed_takes, held_by, held_takes, sound_of}
@@ -55,11 +55,11 @@ would_first sum P n content name cover d within would = record {
 }
 
 -- the lowered covers, within them
-lowered_within : (n : ℕ) (s : Standing) → All (λ c. c.1 ≤ length s.content) s.covers → All (λ c. c.1 ≤ length (take n s.content)) (lowered n s).covers
+lowered_within : (n : ℕ) (s : RunState) → All (λ c. c.1 ≤ length s.content) s.covers → All (λ c. c.1 ≤ length (take n s.content)) (lowered n s).covers
 lowered_within n s within = all_lowered (λ c. c.1 ≤ length s.content) (λ c. c.1 ≤ length (take n s.content)) n s.covers (λ c few. omega (arith, few, length-take n s.content)) within
 
 -- cover what they covered
-lowered_first : (sum : List ℕ → ℕ) (P n : ℕ) (s : Standing) (d : Disk) → All (λ c. c.1 ≤ length s.content) s.covers → AllCover sum P s.content s.covers d → AllCover sum P (take n s.content) (lowered n s).covers d
+lowered_first : (sum : List ℕ → ℕ) (P n : ℕ) (s : RunState) (d : Disk) → All (λ c. c.1 ≤ length s.content) s.covers → AllCover sum P s.content s.covers d → AllCover sum P (take n s.content) (lowered n s).covers d
 lowered_first sum P n s d within covered =
     all_lowered (λ c. (c.1 ≤ length s.content) × WouldKeep sum P s.content c.0 c.1 d) (λ c. WouldKeep sum P (take n s.content) c.0 c.1 d) n s.covers (λ c both. would_first sum P n s.content c.0 c.1 d both.0 both.1)
     (λ k x lt. (within k x lt, covered k x lt))
@@ -69,20 +69,20 @@ lowered_any : (n asked : ℕ) (covers : List (ℕ × ℕ)) → list_any (λ (c :
 lowered_any n asked [] = refl
 lowered_any n asked (c ∷ cs) = rw (lowered_any n asked cs) refl
 
-lowered_names : (n : ℕ) (names : List ℕ) (s : Standing) → NamesFit names s.covers → NamesFit names (lowered n s).covers
+lowered_names : (n : ℕ) (names : List ℕ) (s : RunState) → NamesFit names s.covers → NamesFit names (lowered n s).covers
 lowered_names n names s fits = λ asked. fits asked ∙ sym (lowered_any n asked s.covers)
 
 -- ---- each moment
 
 -- what each moment of a truncate says, by the content and what stands lowered
-record CutHalves (sum : List ℕ → ℕ) (P n : ℕ) (s : Standing) (old new : Life) (moments : List Disk) : Type 0 where
+record CutHalves (sum : List ℕ → ℕ) (P n : ℕ) (s : RunState) (old new : Life) (moments : List Disk) : Type 0 where
   goes : new ≡ life_after old moments
   kept : Each (AllKeep sum P s.content (lowered n s).floor) (old.present ∷ moments)
   covered : Each (AllCover sum P s.content (lowered n s).covers) (old.present ∷ moments)
   first : Each (AllCover sum P (take n s.content) (lowered n s).covers) (old.present ∷ moments)
   only : Each (AllOnly sum P s.content (take n s.content)) (old.present ∷ moments)
 
-cut_halves : (sum : List ℕ → ℕ) (P n : ℕ) (s : Standing) (old new : Life) → s.floor ≤ length s.content → All (λ c. c.1 ≤ length s.content) s.covers → AllKeep sum P s.content s.floor old.present → AllCover sum P s.content s.covers old.present
+cut_halves : (sum : List ℕ → ℕ) (P n : ℕ) (s : RunState) (old new : Life) → s.floor ≤ length s.content → All (λ c. c.1 ≤ length s.content) s.covers → AllKeep sum P s.content s.floor old.present → AllCover sum P s.content s.covers old.present
     → Through (AllKeep sum P (take n s.content) (min n s.floor)) old new → CoversThrough sum P (take n s.content) old new → (through : Moments (AllOnly sum P s.content (take n s.content)) old new) → CutHalves sum P n s old new through.moments
 cut_halves sum P n s old new enough within keeps covered floors covering through =
     let few : min n s.floor ≤ length (take n s.content) = omega (arith, enough, length-take n s.content) in
@@ -107,19 +107,19 @@ cut_halves sum P n s old new enough within keeps covered floors covering through
     }
 
 -- from what the call says, in the words of the standing
-says_only : (sum : List ℕ → ℕ) (P : ℕ) (was : SessionState) (w : WriterState) (n : ℕ) (old new : Life) (s : Standing) → StandsApart sum P (held was (Some w)) s old.present
+says_only : (sum : List ℕ → ℕ) (P : ℕ) (was : SessionState) (w : WriterState) (n : ℕ) (old new : Life) (s : RunState) → StandsApart sum P (held was (Some w)) s old.present
     → LeavesOnly sum w.page_size (content_of w old.present.readable) (take n (content_of w old.present.readable)) old new → LeavesOnly sum P s.content (take n s.content) old new
 says_only sum P was w n old new s stands only =
     subst (λ (p : ℕ). LeavesOnly sum p s.content (take n s.content) old new) stands.fits.page_size
     (subst (λ (l : List ℕ). LeavesOnly sum w.page_size l (take n l) old new) (sym stands.fits.content) only)
 
-says_covers : (sum : List ℕ → ℕ) (P : ℕ) (was : SessionState) (w : WriterState) (n : ℕ) (old new : Life) (s : Standing) → StandsApart sum P (held was (Some w)) s old.present
+says_covers : (sum : List ℕ → ℕ) (P : ℕ) (was : SessionState) (w : WriterState) (n : ℕ) (old new : Life) (s : RunState) → StandsApart sum P (held was (Some w)) s old.present
     → CoversThrough sum w.page_size (take n (content_of w old.present.readable)) old new → CoversThrough sum P (take n s.content) old new
 says_covers sum P was w n old new s stands covers =
     subst (λ (p : ℕ). CoversThrough sum p (take n s.content) old new) stands.fits.page_size
     (subst (λ (l : List ℕ). CoversThrough sum w.page_size (take n l) old new) (sym stands.fits.content) covers)
 
-says_floors : (sum : List ℕ → ℕ) (P : ℕ) (was : SessionState) (w : WriterState) (n : ℕ) (old new : Life) (s : Standing) → StandsApart sum P (held was (Some w)) s old.present
+says_floors : (sum : List ℕ → ℕ) (P : ℕ) (was : SessionState) (w : WriterState) (n : ℕ) (old new : Life) (s : RunState) → StandsApart sum P (held was (Some w)) s old.present
     → ((content : List ℕ) (floor : ℕ) → floor ≤ length (take n content) → AllKeep sum w.page_size (take n content) floor old.present → Through (AllKeep sum w.page_size (take n content) floor) old new)
     → Through (AllKeep sum P (take n s.content) (min n s.floor)) old new
 says_floors sum P was w n old new s stands floors =
@@ -154,7 +154,7 @@ truncate_few w n size is = by_test (nat_lt n size) (nat_lt n (size_of w)) (ap (�
 -- ---- one step
 
 -- the standing as it begins
-lowers : (n : ℕ) (s : Standing) → s.has_writer ≡ true → s.recovering ≡ true → begun (Truncate n) s ≡ forgetting (lowered n s)
+lowers : (n : ℕ) (s : RunState) → s.has_writer ≡ true → s.recovering ≡ true → at_step (Truncate n) s ≡ forgetting (lowered n s)
 lowers n s has phase = by_phase s.has_writer s.recovering has phase
   where
     by_phase : (a b : Bool) → a ≡ true → b ≡ true → (if a && b then forgetting (lowered n s) else s) ≡ forgetting (lowered n s)
@@ -162,7 +162,7 @@ lowers n s has phase = by_phase s.has_writer s.recovering has phase
     by_phase false b one two = absurd (false≢true one)
     by_phase true false one two = absurd (false≢true two)
 
-not_turned : (n : ℕ) (s : Standing) → s.has_writer ≡ true → s.recovering ≡ true → turned_away (Truncate n) s ≡ None
+not_turned : (n : ℕ) (s : RunState) → s.has_writer ≡ true → s.recovering ≡ true → turned_away (Truncate n) s ≡ None
 not_turned n s has phase = by_phase s.has_writer s.recovering has phase
   where
     by_phase : (a b : Bool) → a ≡ true → b ≡ true → (if a then (if b then None else Some NotRecovering) else Some Closed) ≡ None
@@ -171,9 +171,9 @@ not_turned n s has phase = by_phase s.has_writer s.recovering has phase
     by_phase true false one two = absurd (false≢true two)
 
 -- by what each moment says
-cut_steps : (sum : List ℕ → ℕ) (P n : ℕ) (was : SessionState) (w : WriterState) (reply : Reply) (now : SessionState) (old new : Life) (before after : Standing) (moments : List Disk) → was.recovering ≡ true → IsSound sum w old.present
+cut_steps : (sum : List ℕ → ℕ) (P n : ℕ) (was : SessionState) (w : WriterState) (reply : Reply) (now : SessionState) (old new : Life) (before after : RunState) (moments : List Disk) → was.recovering ≡ true → IsSound sum w old.present
     → StandsApart sum P (held was (Some w)) before old.present → CutHalves sum P n before old new moments → length new.present.log ≤ length old.present.log + truncate_calls w n
-    → ((s : Standing) → s ≡ forgetting (lowered n before) → begun (Truncate n) before ≡ s → Takes sum P (Truncate n) reply old.present new.present before after)
+    → ((s : RunState) → s ≡ forgetting (lowered n before) → at_step (Truncate n) before ≡ s → TakesStep sum P (Truncate n) reply old.present new.present before after)
     → StandsApart sum P now after new.present → SteppedApart sum P (Truncate n) reply now old new before after.snapshots after.replays
 cut_steps sum P n was w reply now old new before after moments recovering sound stands h few takes after_it =
     let has = stands.fits.has_writer in
@@ -181,8 +181,8 @@ cut_steps sum P n was w reply now old new before after moments recovering sound 
     let lower = lowers n before has phase in
     let size : length before.content ≡ size_of w = ap length stands.fits.content ∙ sym (size_is_length sum w old sound) in
     let most = truncate_few w n (length before.content) size in
-    stepped_by sum P (Truncate n) reply now old new before after moments has (not_turned n before has phase) h.goes (subst (λ (s : Standing). Each (AllKeep sum P before.content s.floor) (old.present ∷ moments)) (sym lower) h.kept)
-    (subst (λ (s : Standing). Each (AllCover sum P before.content s.covers) (old.present ∷ moments)) (sym lower) h.covered) h.only
+    stepped_by sum P (Truncate n) reply now old new before after moments has (not_turned n before has phase) h.goes (subst (λ (s : RunState). Each (AllKeep sum P before.content s.floor) (old.present ∷ moments)) (sym lower) h.kept)
+    (subst (λ (s : RunState). Each (AllCover sum P before.content s.covers) (old.present ∷ moments)) (sym lower) h.covered) h.only
     (few_calls old new moments (if nat_lt n (length before.content) then 8 else 2) h.goes (omega (arith, few, most))) (takes (forgetting (lowered n before)) refl lower) (λ none. absurd none, λ none. absurd none) after_it
 
 -- a truncate that is done
@@ -223,10 +223,10 @@ truncate_steps sum was w v n cache after old new recovering sound says = λ P be
           (subst (λ (l : List ℕ). AllOnly sum v.page_size l l new.present) holds (sound_leaves sum v new.present (says.goes.sound sound)));
     } in
     cut_steps sum P n was w (Length (size_of v)) (held was (Some v)) old new before (truncated P n (forgetting (lowered n before))) through.moments recovering sound stands h says.costs.calls
-    (λ s lower begins. subst (λ (x : Standing). (size_of v ≡ min n (length x.content)) × (truncated P n (forgetting (lowered n before)) ≡ truncated P n x)) (sym (begins ∙ lower)) (is.size ∙ ap (λ (k : ℕ). min n k) size, refl)) after_it
+    (λ s lower begins. subst (λ (x : RunState). (size_of v ≡ min n (length x.content)) × (truncated P n (forgetting (lowered n before)) ≡ truncated P n x)) (sym (begins ∙ lower)) (is.size ∙ ap (λ (k : ℕ). min n k) size, refl)) after_it
 
 -- why one is refused
-truncate_cause : (sum : List ℕ → ℕ) (P n : ℕ) (w : WriterState) (before : Standing) (old new : Life) (e : Error) → IsSound sum w old.present → before.awaited ≡ pending_in w.sync → TruncateCause sum n w old new e
+truncate_cause : (sum : List ℕ → ℕ) (P n : ℕ) (w : WriterState) (before : RunState) (old new : Life) (e : Error) → IsSound sum w old.present → before.awaited ≡ pending_in w.sync → TruncateCause sum n w old new e
     → Contains (faults (Truncate n)) e × HasCause P (Truncate n) before old.present new.present e
 truncate_cause sum P n w before old new ReadFailed sound awaited cause = ((0, lit< tt, refl), cause)
 truncate_cause sum P n w before old new WriteFailed sound awaited cause = ((1, lit< tt, refl), cause)
@@ -256,7 +256,7 @@ truncate_refused_steps sum was w n e cache after old new recovering sound says =
       only = each_end (AllOnly sum P before.content (take n before.content)) old new through.moments h.goes h.only;
     } in
     cut_steps sum P n was w (Fault e) (held was None) old new before (ended (take n before.content) (forgetting (lowered n before))) through.moments recovering sound stands h says.costs.calls
-    (λ s lower begins. (cause.0, cause.1, subst (λ (x : Standing). ended (take n before.content) (forgetting (lowered n before)) ≡ ended (take n x.content) x) (sym (begins ∙ lower)) refl)) after_it
+    (λ s lower begins. (cause.0, cause.1, subst (λ (x : RunState). ended (take n before.content) (forgetting (lowered n before)) ≡ ended (take n x.content) x) (sym (begins ∙ lower)) refl)) after_it
 
 -- where the recovery has ended it is turned away
 turned_steps : (sum : List ℕ → ℕ) (was : SessionState) (w : WriterState) (n : ℕ) (life : Life) → was.recovering ≡ false → AlwaysApart sum (Truncate n) NotRecovering (held was (Some w)) (held was (Some w)) life life
@@ -294,7 +294,7 @@ turned_steps sum was w n life ends = λ P before stands.
 
 -- ---- a step of a session
 
-closed_turned : (n : ℕ) (s : Standing) → s.has_writer ≡ false → turned_away (Truncate n) s ≡ Some Closed
+closed_turned : (n : ℕ) (s : RunState) → s.has_writer ≡ false → turned_away (Truncate n) s ≡ Some Closed
 closed_turned n s none = by_writer s.has_writer none
   where
     by_writer : (a : Bool) → a ≡ false → (if a then (if s.recovering then None else Some NotRecovering) else Some Closed) ≡ Some Closed
@@ -302,7 +302,7 @@ closed_turned n s none = by_writer s.has_writer none
     by_writer true is = absurd (false≢true (sym is))
 
 -- a truncate by a session with a writer in recovery
-cuts_takes : (sum : List ℕ → ℕ) (was now : SessionState) (w : WriterState) (n : ℕ) (cache after : CacheState) (old new : Life) (reply : Reply) → was.writer ≡ Some w → was.recovering ≡ true → IsSound sum w old.present → KeepsRest was now → Cuts sum w now.writer n cache after old new reply
+cuts_takes : (sum : List ℕ → ℕ) (was now : SessionState) (w : WriterState) (n : ℕ) (cache after : CacheState) (old new : Life) (reply : Reply) → was.writer ≡ Some w → was.recovering ≡ true → IsSound sum w old.present → KeepsRest was now → TruncatesWriter sum w now.writer n cache after old new reply
     → StepsBy true sum (Truncate n) reply was now old new
 cuts_takes sum was now w n cache after old new (Length m) at recovering sound rest (v, is, size, says) =
     subst (λ (k : ℕ). StepsBy true sum (Truncate n) (Length k) was now old new) (sym size)
@@ -327,10 +327,10 @@ cuts_takes sum was now w n cache after old new NoSuch at recovering sound rest c
 cuts_takes sum was now w n cache after old new (Replaying index) at recovering sound rest cuts = absurd cuts
 
 -- what a call of the writer did, by the session's state
-pub cuts_here : (sum : List ℕ → ℕ) (recovering : Bool) (o : Option WriterState) (w : WriterState) (now : Option WriterState) (n : ℕ) (cache after : CacheState) (old new : Life) (reply : Reply) → recovering ≡ true → o ≡ Some w → Cuts sum w now n cache after old new reply
-    → Truncated sum recovering o now n cache after old new reply
+pub cuts_here : (sum : List ℕ → ℕ) (recovering : Bool) (o : Option WriterState) (w : WriterState) (now : Option WriterState) (n : ℕ) (cache after : CacheState) (old new : Life) (reply : Reply) → recovering ≡ true → o ≡ Some w → TruncatesWriter sum w now n cache after old new reply
+    → DidTruncate sum recovering o now n cache after old new reply
 cuts_here sum recovering o w now n cache after old new reply phase at cuts =
-    subst (λ (b : Bool). Truncated sum b o now n cache after old new reply) (sym phase) (subst (λ (x : Option WriterState). Truncated sum true x now n cache after old new reply) (sym at) cuts)
+    subst (λ (b : Bool). DidTruncate sum b o now n cache after old new reply) (sym phase) (subst (λ (x : Option WriterState). DidTruncate sum true x now n cache after old new reply) (sym at) cuts)
 
 -- a truncate by a session that is closed
 pub truncated_closed : (sum : List ℕ → ℕ) (was now : SessionState) (n : ℕ) (old new : Life) (reply : Reply) → IsReadyApart sum was old.present → was.writer ≡ None → KeepsRest was now → IsClosed now.writer old new reply
@@ -340,12 +340,12 @@ truncated_closed sum was now n old new reply ready at rest closed =
     (rest ∙ ap (λ (o : Option WriterState). held was o) (closed.writer ∙ sym at) ∙ sym (held_same was was.writer refl)) closed.life
 
 -- by one in recovery
-pub truncated_cut : (sum : List ℕ → ℕ) (was now : SessionState) (w : WriterState) (n : ℕ) (cache after : CacheState) (old new : Life) (reply : Reply) → IsReadyApart sum was old.present → was.recovering ≡ true → was.writer ≡ Some w → KeepsRest was now → Cuts sum w now.writer n cache after old new reply
+pub truncated_cut : (sum : List ℕ → ℕ) (was now : SessionState) (w : WriterState) (n : ℕ) (cache after : CacheState) (old new : Life) (reply : Reply) → IsReadyApart sum was old.present → was.recovering ≡ true → was.writer ≡ Some w → KeepsRest was now → TruncatesWriter sum w now.writer n cache after old new reply
     → StepsBy true sum (Truncate n) reply was now old new
 truncated_cut sum was now w n cache after old new reply ready phase at rest cuts = cuts_takes sum was now w n cache after old new reply at phase (sound_of sum was w old.present at ready) rest cuts
 
 -- and by one whose recovery has ended
-pub truncated_turned : (sum : List ℕ → ℕ) (was now : SessionState) (w : WriterState) (n : ℕ) (cache after : CacheState) (old new : Life) (reply : Reply) → IsReadyApart sum was old.present → was.recovering ≡ false → was.writer ≡ Some w → KeepsRest was now → Truncated sum false (Some w) now.writer n cache after old new reply
+pub truncated_turned : (sum : List ℕ → ℕ) (was now : SessionState) (w : WriterState) (n : ℕ) (cache after : CacheState) (old new : Life) (reply : Reply) → IsReadyApart sum was old.present → was.recovering ≡ false → was.writer ≡ Some w → KeepsRest was now → DidTruncate sum false (Some w) now.writer n cache after old new reply
     → StepsApart sum (Truncate n) reply was now old new
 truncated_turned sum was now w n cache after old new reply ready phase at rest (replied, is, same, held) =
     subst (λ (r : Reply). StepsApart sum (Truncate n) r was now old new) (sym replied)

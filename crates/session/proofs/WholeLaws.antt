@@ -13,8 +13,8 @@ use Rattle.paged.specs.Caches.{tail_of}
 use Rattle.session.specs.declared.steps.Step.{Step}
 use Rattle.session.specs.declared.steps.Step.TheVariants.{Append, Owned, TryAppend, Sync, StartSync, Wait, WaitSync, Needs, Size, Read, ReadUpTo, TryRead, ReadRanges, TryReadRanges, Begin, Truncate, Snapshot, TrySnapshot, Snap, Seal, Replay, Ensure, Take, Seek, DropSnapshot, DropReplay, Scan}
 use Rattle.session.specs.declared.steps.Reply.{Reply}
-use Rattle.session.specs.Run.{SessionState, CacheFits, FitsWriter, IsReady}
-use Rattle.session.specs.Calls.{Begins, DidCall, is_given, IsClosed, KeepsRest, KeepsSnapshots, KeepsUncut, LeavesTaken, LeavesWriterState, Steps, TakenBy, Truncated, WaitsFor}
+use Rattle.session.specs.Run.{SessionState, CacheFits, FitsWriter, IsSoundSession}
+use Rattle.session.specs.Calls.{DidBegin, DidCall, DidTruncate, DidWaitFor, is_given, IsClosed, KeepsRest, KeepsSnapshots, KeepsUncut, LeavesTaken, LeavesWriterState, Steps, TakenBy}
 use Rattle.session.proofs.Apart.{IsReadyApart, ready_apart, StepsApart, StepsBy, steps_with}
 use Rattle.session.proofs.Below.{framed_cut, framed_same, leaves_all, LeftAll, LeftSnapshot, left_by, left_same, replays_same}
 use Rattle.session.proofs.SessionLaws.{appended_takes, owned_steps, tried_takes, synced_takes, sized_takes, read_takes}
@@ -106,7 +106,7 @@ taken_call sum (DropSnapshot index) was now cache after old new reply taken rest
 taken_call sum (DropReplay index) was now cache after old new reply taken rest = absurd taken
 
 -- such a step, with the session's snapshots
-pub writer_takes : (sum : List ℕ → ℕ) (step : Step) (was now : SessionState) (cache after : CacheState) (old new : Life) (reply : Reply) → IsReady sum was old.present → CacheFits was cache old.present
+pub writer_takes : (sum : List ℕ → ℕ) (step : Step) (was now : SessionState) (cache after : CacheState) (old new : Life) (reply : Reply) → IsSoundSession sum was old.present → CacheFits was cache old.present
     → TakenBy sum step was.writer now.writer was.names now.names cache after old new reply → KeepsSnapshots was now → FitsWriter now.writer after new.present → LeavesTaken sum was.writer now.writer cache after old new
     → Steps sum step reply was now old new × CacheFits now after new.present
 writer_takes sum step was now cache after old new reply ready fits taken rest writer stay =
@@ -122,7 +122,7 @@ waits_fit : (o : Option WriterState) (cache : CacheState) (old new : Life) → (
 waits_fit None cache old new can fits = tt
 waits_fit (Some w) cache old new can fits = can (tail_of w) cache fits
 
-pub name_takes : (sum : List ℕ → ℕ) (was : SessionState) (cache : CacheState) (name : ℕ) (old new : Life) (reply : Reply) → IsSmall sum → IsReady sum was old.present → CacheFits was cache old.present → WaitsFor (is_given was.names name) name old new reply
+pub name_takes : (sum : List ℕ → ℕ) (was : SessionState) (cache : CacheState) (name : ℕ) (old new : Life) (reply : Reply) → IsSmall sum → IsSoundSession sum was old.present → CacheFits was cache old.present → DidWaitFor (is_given was.names name) name old new reply
     → ((t : Tail) (cache : CacheState) → CanRead t cache old.present → CanRead t cache new.present) → ((cache : CacheState) → LeavesAllTails sum cache cache old new) → LeavesAllReplays old new → Steps sum (WaitSync name) reply was was old new × CacheFits was cache new.present
 name_takes sum was cache name old new reply small ready fits goes can tails replays =
     framed_same sum (WaitSync name) reply was was cache old new refl refl ready.begun (waits_fit was.writer cache old new can fits.writer)
@@ -130,21 +130,21 @@ name_takes sum was cache name old new reply small ready fits goes can tails repl
     (named_takes sum was name old new reply small (ready_apart sum was old.present ready) goes)
 
 -- the end of a recovery
-pub begin_takes : (sum : List ℕ → ℕ) (was now : SessionState) (cache : CacheState) (life : Life) (reply : Reply) → IsReady sum was life.present → CacheFits was cache life.present → Begins was.writer was now reply
+pub begin_takes : (sum : List ℕ → ℕ) (was now : SessionState) (cache : CacheState) (life : Life) (reply : Reply) → IsSoundSession sum was life.present → CacheFits was cache life.present → DidBegin was.writer was now reply
     → Steps sum Begin reply was now life life × CacheFits now cache life.present
 begin_takes sum was now cache life reply ready fits goes =
     let same = begun_same was.writer refl goes in
     framed_same sum Begin reply was now cache life life same.1.0 same.2 same.1.1 (subst (λ (o : Option WriterState). FitsWriter o cache life.present) (sym same.0) fits.writer) (left_same sum was now.writer cache cache life life ready fits same.0 refl refl)
     (begun_takes sum was now life reply (ready_apart sum was life.present ready) goes)
   where
-    begun_same : (o : Option WriterState) → was.writer ≡ o → Begins o was now reply → (now.writer ≡ was.writer) × ((now.snapshots ≡ was.snapshots) × (now.recovering ≡ true → now.snapshots ≡ [])) × (now.replays ≡ was.replays)
+    begun_same : (o : Option WriterState) → was.writer ≡ o → DidBegin o was now reply → (now.writer ≡ was.writer) × ((now.snapshots ≡ was.snapshots) × (now.recovering ≡ true → now.snapshots ≡ [])) × (now.replays ≡ was.replays)
     begun_same None at (replied, is) = (ap (λ (s : SessionState). s.writer) is, (ap (λ (s : SessionState). s.snapshots) is, subst (λ (s : SessionState). s.recovering ≡ true → s.snapshots ≡ []) (sym is) ready.begun), ap (λ (s : SessionState). s.replays) is)
     begun_same (Some w) at (replied, is) =
         (ap (λ (s : SessionState). s.writer) is, (ap (λ (s : SessionState). s.snapshots) is, λ other. absurd (false≢true (sym (ap (λ (s : SessionState). s.recovering) is) ∙ other))), ap (λ (s : SessionState). s.replays) is)
 
 -- a truncate, by a session in recovery, which has no snapshot, and no replay from then on; or turned
 -- away
-pub cut_takes : (sum : List ℕ → ℕ) (was now : SessionState) (cache after : CacheState) (n : ℕ) (old new : Life) (reply : Reply) → IsReady sum was old.present → CacheFits was cache old.present → Truncated sum was.recovering was.writer now.writer n cache after old new reply
+pub cut_takes : (sum : List ℕ → ℕ) (was now : SessionState) (cache after : CacheState) (n : ℕ) (old new : Life) (reply : Reply) → IsSoundSession sum was old.present → CacheFits was cache old.present → DidTruncate sum was.recovering was.writer now.writer n cache after old new reply
     → KeepsUncut was now → FitsWriter now.writer after new.present → (was.recovering ≡ false → after ≡ cache) → Steps sum (Truncate n) reply was now old new × CacheFits now after new.present
 cut_takes sum was now cache after n old new reply ready fits goes rest writer turned = by_state was.recovering was.writer refl refl goes
   where
@@ -172,7 +172,7 @@ cut_takes sum was now cache after n old new reply ready fits goes rest writer tu
       replays = replays_same sum was now.writer old new ready (closed.writer ∙ sym at) closed.life;
     }
 
-    by_state : (phase : Bool) (o : Option WriterState) → was.recovering ≡ phase → was.writer ≡ o → Truncated sum phase o now.writer n cache after old new reply → Steps sum (Truncate n) reply was now old new × CacheFits now after new.present
+    by_state : (phase : Bool) (o : Option WriterState) → was.recovering ≡ phase → was.writer ≡ o → DidTruncate sum phase o now.writer n cache after old new reply → Steps sum (Truncate n) reply was now old new × CacheFits now after new.present
     by_state phase None in_phase at closed =
         let by_phase : (b : Bool) → (b && false) ≡ false = λ b. elim b as (λ x. (x && false) ≡ false) [ true ↦ refl | false ↦ refl ] in
         let none : (was.recovering && is_some was.writer) ≡ false = ap (λ (o : Option WriterState). was.recovering && is_some o) at ∙ by_phase was.recovering in

@@ -14,7 +14,7 @@ use Rattle.paged_read.specs.Tail.{CanRead, Tail}
 use Rattle.cache.specs.Pages.{IsTrueFor}
 use Rattle.paged.specs.Caches.{tail_of}
 use Rattle.paged.proofs.There.{consistent_has_pages}
-use Rattle.paged.specs.Calls.{Appends, GoesOn, HoldsWithin, Refuses, Syncs, WaitsForSync}
+use Rattle.paged.specs.Calls.{Appends, Fails, HoldsWithin, Succeeds, Syncs, WaitsForSync}
 use Rattle.paged.specs.Owes.{Owes, owed_covers}
 use Rattle.session.specs.Calls.{AppendSays, ReplaySays, SealSays, SnapshotSays, StartSays, SyncSays, WaitSays}
 use Rattle.paged.specs.Ready.{IsReady as IsWriterReady}
@@ -29,7 +29,7 @@ use Rattle.session.proofs.AppendLaws.{wait_one}
 
 -- a writer that goes on
 goes_on : (sum : List ℕ → ℕ) (w now : WriterState) (more : List ℕ) (old new : Life) → Holds sum w old more now new → IsSound sum now new.present → StaysThrough sum w.page_size (content w old.present.readable ++ more) old new
-    → GoesOn sum w old more now new
+    → Succeeds sum w old more now new
 goes_on sum w now more old new holds sound stays = record {
   sound = sound;
   stays = stays;
@@ -42,7 +42,7 @@ goes_on sum w now more old new holds sound stays = record {
 }
 
 -- or was refused
-refuses : (sum : List ℕ → ℕ) (w : WriterState) (content : List ℕ) (old new : Life) (e : Error) → IsRefused w old new e → StaysThrough sum w.page_size content old new → Refuses sum w content old new e
+refuses : (sum : List ℕ → ℕ) (w : WriterState) (content : List ℕ) (old new : Life) (e : Error) → IsRefused w old new e → StaysThrough sum w.page_size content old new → Fails sum w content old new e
 refuses sum w content old new e refused stays = record { cause = refused.cause; stays = stays; log = refused.log }
 
 module _ (sum : List ℕ → ℕ) (w : WriterState) (old new : Life) where
@@ -50,7 +50,7 @@ module _ (sum : List ℕ → ℕ) (w : WriterState) (old new : Life) where
   held = content w old.present.readable
 
   -- the same, of one that appended nothing
-  goes_same : (now : WriterState) → Holds sum w old [] now new → IsSound sum now new.present → StaysThrough sum w.page_size held old new → GoesOn sum w old [] now new
+  goes_same : (now : WriterState) → Holds sum w old [] now new → IsSound sum now new.present → StaysThrough sum w.page_size held old new → Succeeds sum w old [] now new
   goes_same now holds sound stays = goes_on sum w now [] old new holds sound (stays_nil sum w.page_size held old new stays)
 
   -- a wait, which has no cache

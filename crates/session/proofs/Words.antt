@@ -9,12 +9,12 @@ use Rattle.disk.specs.declared.error.Error.TheVariants.{OffsetOverflow}
 use Rattle.writer_state.specs.WriterState.{WriterState}
 use Rattle.writer_state.specs.declared.sync_state.SyncState.TheVariants.{Dirty}
 use Rattle.writer_state.specs.Sound.{content as content_of}
-use Rattle.crash.specs.Started.{CoversThrough, StartsStand}
+use Rattle.crash.specs.Started.{CoversThrough, StartsCanBeAwaited}
 use Rattle.paged.specs.Writer.{physical_blob_size}
 use Rattle.paged.specs.Calls.{Appends, BuffersAll, Syncs, HoldsWithin}
 use Rattle.paged.specs.Calls.{AsksAtMost, sync_calls, start_calls, wait_calls, StartsSync}
 use Rattle.paged.specs.Calls.{started_already, WaitsForSync, SettlesBy}
-use Rattle.paged.specs.Flush.{outcome, has_work}
+use Rattle.paged.specs.Flush.{without_value, has_work}
 use Rattle.paged.specs.Snapshots.{MakesSnapshot, CopiesTail, SealsWriter, snapshot_calls}
 use Rattle.paged.specs.Snapshots.{answer_of_seal, seal_calls}
 use Rattle.paged.specs.Replays.{BeginsReplay, BeginsAtOnce, replay_calls}
@@ -25,7 +25,7 @@ use Rattle.paged.specs.Caches.{tail_of}
 -- what each call of a writer owes to the started syncs, whatever it answers
 pub record OwesStarts (sum : List ℕ → ℕ) (w : WriterState) (old new : Life) : Type 0 where
   pub covers : CoversThrough sum w.page_size (content_of w old.present.readable) old new
-  pub starts : StartsStand new.present
+  pub starts : StartsCanBeAwaited new.present
 
 -- what an append says of its answer
 pub record AppendTold (sum : List ℕ → ℕ) (w : WriterState) (bytes : List ℕ) (old new : Life)
@@ -65,7 +65,7 @@ pub record WaitTold (sum : List ℕ → ℕ) (w : WriterState) (old new : Life)
     (result : Result WriterState Error) : Type 0 where
   pub waits : WaitsForSync sum w old new result
   pub calls : AsksAtMost (wait_calls w.sync) old new
-  pub settles : wait_calls w.sync ≡ 1 → SettlesBy w.sync old new (outcome result)
+  pub settles : wait_calls w.sync ≡ 1 → SettlesBy w.sync old new (without_value result)
   pub idle : wait_calls w.sync ≡ 0 → (result ≡ Ok w) × (new ≡ old)
   pub owes : OwesStarts sum w old new
 

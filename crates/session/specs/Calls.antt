@@ -20,7 +20,7 @@ use Rattle.writer_state.specs.WriterState.{WriterState}
 use Rattle.writer_state.specs.declared.sync_state.SyncState.TheVariants.{Dirty}
 use Rattle.crash.specs.Looks.{Looked}
 use Rattle.writer_state.specs.Sound.{IsSound, content as content_of}
-use Rattle.paged.specs.Calls.{TryAppends, BuffersOver, sync_calls}
+use Rattle.paged.specs.Calls.{TryAppendGoes, BuffersOver, sync_calls}
 use Rattle.paged.specs.Goes.{AppendGoes, ReplayGoes, SealGoes, SnapshotGoes, StartSyncGoes}
 use Rattle.paged.specs.Goes.{SyncAllGoes, WaitForSyncGoes}
 use Rattle.paged.specs.Costs.{AppendCosts, ReplayCosts, SealCosts, SnapshotCosts, StartSyncCosts}
@@ -32,10 +32,10 @@ use Rattle.paged.specs.Scans.{ScanFirstCosts, ScanFirstGoes}
 use Rattle.cache.specs.CacheState.{CacheState}
 use Rattle.paged_read.specs.Tail.{Tail}
 use Rattle.paged_read.specs.Reads.{ReadCosts, ReadGoes, ReadManyCosts, ReadUpToGoes}
-use Rattle.paged_read.specs.Snapshots.{StandsOn}
+use Rattle.paged_read.specs.Snapshots.{SnapshotReads}
 use Rattle.paged_read.specs.Replay.{ReplayState, IsReplayOf, CanReplay, Ensures, Seeks, advanced}
 use Rattle.paged_read.specs.Replay.{IsHad, ReplaysOn, ReplaysThrough}
-use Rattle.paged_read.specs.Ranges.{TriesRead, is_served, range_up_to}
+use Rattle.paged_read.specs.Ranges.{TryReadGoes, is_served, range_up_to}
 use Rattle.paged_read.specs.Ranges.{ReadsMany, Misses}
 use Rattle.paged.specs.Caches.{tail_of}
 use Rattle.paged.specs.Reads.{size_of}
@@ -54,7 +54,7 @@ use Rattle.session.specs.declared.steps.Step.TheVariants.{DropReplay, DropSnapsh
 use Rattle.session.specs.declared.steps.Reply.TheVariants.{Served, Missed, BadRanges}
 use Rattle.session.specs.declared.steps.Reply.TheVariants.{Taken, Sealed, NotAppending}
 use Rattle.session.specs.declared.steps.Reply.TheVariants.{Replaying}
-use Rattle.session.specs.Run.{Standing, SessionState, Did, StandsFor, IsReady, IsBelow}
+use Rattle.session.specs.Run.{RunState, SessionState, Did, Represents, IsSoundSession, IsBelow}
 use Rattle.session.specs.Run.{IsSessionReady, RunsAlways, fit_together, numbered}
 use Rattle.session.specs.Others.{WriterLeavesOthers}
 
@@ -95,16 +95,16 @@ AppendSays sum w bytes cache after old new result =
     (AppendCosts w bytes cache after old new result)
 
 -- by a session with this writer, or none
-abbrev pub Appended : (List ℕ → ℕ) → Option WriterState → Option WriterState → List ℕ
+abbrev pub DidAppend : (List ℕ → ℕ) → Option WriterState → Option WriterState → List ℕ
     → (cache after : CacheState) → Life → Life → Reply → Type 0
-Appended sum None now bytes cache after old new reply =
+DidAppend sum None now bytes cache after old new reply =
     IsClosed now old new reply × (after ≡ cache)
-Appended sum (Some w) now bytes cache after old new (At n) =
+DidAppend sum (Some w) now bytes cache after old new (At n) =
     (v : WriterState) × (now ≡ Some v) × IsWriterReady sum v after new
     × AppendSays sum w bytes cache after old new (Ok (v, n))
-Appended sum (Some w) now bytes cache after old new (Fault e) =
+DidAppend sum (Some w) now bytes cache after old new (Fault e) =
     (now ≡ None) × AppendSays sum w bytes cache after old new (Err e)
-Appended sum (Some w) now bytes cache after old new _ = ⊥
+DidAppend sum (Some w) now bytes cache after old new _ = ⊥
 
 -- an append within the capacity, which keeps the writer: it has buffered the bytes, which is an
 -- append, or is as it was
@@ -112,12 +112,12 @@ abbrev pub TriedAppend : (List ℕ → ℕ) → Option WriterState → Option Wr
     → Type 0
 TriedAppend sum None now bytes reply = (reply ≡ Closed) × (now ≡ None)
 TriedAppend sum (Some w) now bytes (At n) =
-    (v : WriterState) × (now ≡ Some v) × TryAppends w bytes v (Ok (Some n))
+    (v : WriterState) × (now ≡ Some v) × TryAppendGoes w bytes v (Ok (Some n))
     × BuffersOver sum w bytes v (Ok (Some n))
 TriedAppend sum (Some w) now bytes Nothing =
-    (v : WriterState) × (now ≡ Some v) × TryAppends w bytes v (Ok None)
+    (v : WriterState) × (now ≡ Some v) × TryAppendGoes w bytes v (Ok None)
 TriedAppend sum (Some w) now bytes (Fault e) =
-    (v : WriterState) × (now ≡ Some v) × TryAppends w bytes v (Err e)
+    (v : WriterState) × (now ≡ Some v) × TryAppendGoes w bytes v (Err e)
 TriedAppend sum (Some w) now bytes _ = ⊥
 
 -- a sync
@@ -128,15 +128,15 @@ SyncSays sum w cache after old new result =
     Says (SyncAllGoes sum w old new result) (Owes sum w all cache after old new)
     (SyncCosts w cache after old new result)
 
-abbrev pub Synced : (List ℕ → ℕ) → Option WriterState → Option WriterState
+abbrev pub DidSync : (List ℕ → ℕ) → Option WriterState → Option WriterState
     → (cache after : CacheState) → Life → Life → Reply → Type 0
-Synced sum None now cache after old new reply = IsClosed now old new reply × (after ≡ cache)
-Synced sum (Some w) now cache after old new Done =
+DidSync sum None now cache after old new reply = IsClosed now old new reply × (after ≡ cache)
+DidSync sum (Some w) now cache after old new Done =
     (v : WriterState) × (now ≡ Some v) × IsWriterReady sum v after new
     × SyncSays sum w cache after old new (Ok v)
-Synced sum (Some w) now cache after old new (Fault e) =
+DidSync sum (Some w) now cache after old new (Fault e) =
     (now ≡ None) × SyncSays sum w cache after old new (Err e)
-Synced sum (Some w) now cache after old new _ = ⊥
+DidSync sum (Some w) now cache after old new _ = ⊥
 
 -- these names, which are in order, with one more in its place, once
 abbrev pub with_name : (name : ℕ) → List ℕ → List ℕ
@@ -175,17 +175,17 @@ StartSays sum w cache after old new result =
     (StartSyncCosts w cache after old new result)
 
 -- by a session with this writer and these names
-abbrev pub Starts : (List ℕ → ℕ) → (was now : Option WriterState) → (names more : List ℕ)
+abbrev pub DidStartSync : (List ℕ → ℕ) → (was now : Option WriterState) → (names more : List ℕ)
     → (cache after : CacheState) → Life → Life → Reply → Type 0
-Starts sum None now names more cache after old new reply =
+DidStartSync sum None now names more cache after old new reply =
     IsClosed now old new reply × (more ≡ names) × (after ≡ cache)
-Starts sum (Some w) now names more cache after old new (Started sync) =
+DidStartSync sum (Some w) now names more cache after old new (Started sync) =
     (v : WriterState) × (now ≡ Some v) × (more ≡ names_after sync names)
     × IsWriterReady sum v after new × StartSays sum w cache after old new (Ok (v, sync))
-Starts sum (Some w) now names more cache after old new (Fault e) =
+DidStartSync sum (Some w) now names more cache after old new (Fault e) =
     ((now ≡ None) × (more ≡ names) × StartSays sum w cache after old new (Err e))
     ⊎ NamesHadNoRoom e w now names more cache after old new
-Starts sum (Some w) now names more cache after old new _ = ⊥
+DidStartSync sum (Some w) now names more cache after old new _ = ⊥
 
 -- a wait, which has no cache
 abbrev pub WaitSays : (List ℕ → ℕ) → WriterState → Life → Life → Result WriterState Error → Type 0
@@ -202,25 +202,25 @@ Waits sum (Some w) now old new (Fault e) = (now ≡ None) × WaitSays sum w old 
 Waits sum (Some w) now old new _ = ⊥
 
 -- a wait for a name, by whether the session was given it
-abbrev pub WaitsFor : (given : Bool) → (name : ℕ) → Life → Life → Reply → Type 0
-WaitsFor true name old new Done = WaitGoes name old new (Ok tt)
-WaitsFor true name old new (Fault e) = WaitGoes name old new (Err e)
-WaitsFor true name old new _ = ⊥
-WaitsFor false name old new reply = (reply ≡ NoSuch) × (new ≡ old)
+abbrev pub DidWaitFor : (given : Bool) → (name : ℕ) → Life → Life → Reply → Type 0
+DidWaitFor true name old new Done = WaitGoes name old new (Ok tt)
+DidWaitFor true name old new (Fault e) = WaitGoes name old new (Err e)
+DidWaitFor true name old new _ = ⊥
+DidWaitFor false name old new reply = (reply ≡ NoSuch) × (new ≡ old)
 
 -- whether it was
 abbrev pub is_given : List ℕ → (name : ℕ) → Bool
 is_given names name = list_any (λ n. nat_eq n name) names
 
 -- whether a sync has something to do
-abbrev pub NeedsSync : Option WriterState → Reply → Type 0
-NeedsSync None reply = reply ≡ Closed
-NeedsSync (Some w) reply = reply ≡ Answer (nat_lt 0 (sync_calls w))
+abbrev pub DidNeeds : Option WriterState → Reply → Type 0
+DidNeeds None reply = reply ≡ Closed
+DidNeeds (Some w) reply = reply ≡ Answer (nat_lt 0 (sync_calls w))
 
 -- the end of the recovery
-abbrev pub Begins : Option WriterState → SessionState → SessionState → Reply → Type 0
-Begins None was now reply = (reply ≡ Closed) × (now ≡ was)
-Begins (Some w) was now reply = (reply ≡ Done) × (now ≡ record was { recovering = false })
+abbrev pub DidBegin : Option WriterState → SessionState → SessionState → Reply → Type 0
+DidBegin None was now reply = (reply ≡ Closed) × (now ≡ was)
+DidBegin (Some w) was now reply = (reply ≡ Done) × (now ≡ record was { recovering = false })
 
 -- a truncate to n bytes
 abbrev pub TruncateSays : (List ℕ → ℕ) → WriterState → (n : ℕ) → (cache after : CacheState) → Life
@@ -230,23 +230,23 @@ TruncateSays sum w n cache after old new result =
     (OwesCutting sum n w cache after old new) (TruncateCosts n w cache after old new result)
 
 -- by a session with a writer in recovery
-abbrev pub Cuts : (List ℕ → ℕ) → WriterState → Option WriterState → (n : ℕ)
+abbrev pub TruncatesWriter : (List ℕ → ℕ) → WriterState → Option WriterState → (n : ℕ)
     → (cache after : CacheState) → Life → Life → Reply → Type 0
-Cuts sum w now n cache after old new (Length m) =
+TruncatesWriter sum w now n cache after old new (Length m) =
     (v : WriterState) × (now ≡ Some v) × (m ≡ size_of v)
     × TruncateSays sum w n cache after old new (Ok v)
-Cuts sum w now n cache after old new (Fault e) =
+TruncatesWriter sum w now n cache after old new (Fault e) =
     (now ≡ None) × TruncateSays sum w n cache after old new (Err e)
-Cuts sum w now n cache after old new _ = ⊥
+TruncatesWriter sum w now n cache after old new _ = ⊥
 
 -- a truncate, by whether the session is in recovery, and its writer
-abbrev pub Truncated : (List ℕ → ℕ) → (recovering : Bool) → Option WriterState → Option WriterState
-    → (n : ℕ) → (cache after : CacheState) → Life → Life → Reply → Type 0
-Truncated sum recovering None now n cache after old new reply =
+abbrev pub DidTruncate : (List ℕ → ℕ) → (recovering : Bool) → Option WriterState
+    → Option WriterState → (n : ℕ) → (cache after : CacheState) → Life → Life → Reply → Type 0
+DidTruncate sum recovering None now n cache after old new reply =
     IsClosed now old new reply × (after ≡ cache)
-Truncated sum true (Some w) now n cache after old new reply =
-    Cuts sum w now n cache after old new reply
-Truncated sum false (Some w) now n cache after old new reply =
+DidTruncate sum true (Some w) now n cache after old new reply =
+    TruncatesWriter sum w now n cache after old new reply
+DidTruncate sum false (Some w) now n cache after old new reply =
     (reply ≡ NotRecovering) × (now ≡ Some w) × (new ≡ old) × (after ≡ cache)
 
 -- the size
@@ -271,7 +271,7 @@ ReadsBytes sum t cache after offset len old new (Fault e) =
 ReadsBytes sum t cache after offset len old new _ = ⊥
 
 -- a read of a writer's blob, or of a snapshot: the blob is only looked at
-pub record ReadsRange (sum : List ℕ → ℕ) (t : Tail) (cache after : CacheState) (offset len : ℕ)
+pub record RangeStepGoes (sum : List ℕ → ℕ) (t : Tail) (cache after : CacheState) (offset len : ℕ)
     (old new : Life) (reply : Reply) : Type 0 where
   pub reads : ReadsBytes sum t cache after offset len old new reply
   pub looked : Looked old new
@@ -282,7 +282,7 @@ abbrev pub DidRead : (List ℕ → ℕ) → Option WriterState → (cache after 
 DidRead sum None cache after offset len old new reply =
     (reply ≡ Closed) × (new ≡ old) × (after ≡ cache)
 DidRead sum (Some w) cache after offset len old new reply =
-    ReadsRange sum (tail_of w) cache after offset len old new reply
+    RangeStepGoes sum (tail_of w) cache after offset len old new reply
 
 -- what a read of at most so many bytes says of its answer
 pub record ReadUpToSays (sum : List ℕ → ℕ) (t : Tail) (cache after : CacheState) (offset len : ℕ)
@@ -316,7 +316,7 @@ DidReadUpTo sum (Some w) cache after offset len old new reply =
 -- there is no memory for bytes within the size; or they can't be had without the device
 abbrev pub TriedBytes : WriterState → CacheState → (offset len : ℕ) → Reply → Type 0
 TriedBytes w cache offset len (Bytes bytes) =
-    TriesRead (tail_of w) (offset, len) cache bytes.items true
+    TryReadGoes (tail_of w) (offset, len) cache bytes.items true
 TriedBytes w cache offset len Nothing =
     false ≡ (nat_le (offset + len) (size_of w) && is_served cache (tail_of w) (offset, len))
 TriedBytes w cache offset len (Fault e) = (e ≡ OutOfMemory) × (offset + len ≤ size_of w)
@@ -388,17 +388,17 @@ pub record ScanSays (sum : List ℕ → ℕ) (w : WriterState) (proven most buff
   pub goes : ScanFirstGoes sum w proven most old new result
   pub costs : ScanFirstCosts sum w proven most buffer_size old new
 
-abbrev pub Counts : (List ℕ → ℕ) → WriterState → (proven most buffer_size : ℕ) → Life → Life
+abbrev pub ScanCounts : (List ℕ → ℕ) → WriterState → (proven most buffer_size : ℕ) → Life → Life
     → Reply → Type 0
-Counts sum w proven most buffer_size old new (Length n) =
+ScanCounts sum w proven most buffer_size old new (Length n) =
     ScanSays sum w proven most buffer_size old new (Ok n)
-Counts sum w proven most buffer_size old new (Fault e) =
+ScanCounts sum w proven most buffer_size old new (Fault e) =
     ScanSays sum w proven most buffer_size old new (Err e)
-Counts sum w proven most buffer_size old new _ = ⊥
+ScanCounts sum w proven most buffer_size old new _ = ⊥
 
 pub record ScansBlob (sum : List ℕ → ℕ) (w : WriterState) (proven most buffer_size : ℕ)
     (old new : Life) (reply : Reply) : Type 0 where
-  pub counts : Counts sum w proven most buffer_size old new reply
+  pub counts : ScanCounts sum w proven most buffer_size old new reply
   pub looked : Looked old new
 
 -- a scan
@@ -452,13 +452,13 @@ TakesSnapshot sum w was now cache after old new (Fault e) =
 TakesSnapshot sum w was now cache after old new _ = ⊥
 
 -- one for which nothing is written
-abbrev pub TriesSnapshot : WriterState → (was now : SessionState) → Reply → Type 0
-TriesSnapshot w was now (Taken index) =
+abbrev pub TakesTriedSnapshot : WriterState → (was now : SessionState) → Reply → Type 0
+TakesTriedSnapshot w was now (Taken index) =
     (length w.tip < w.page_size) × (index ≡ length was.snapshots)
     × (now ≡ with_snapshot was (Some w) (tail_of w))
-TriesSnapshot w was now Nothing = (w.page_size ≤ length w.tip) × (now ≡ was)
-TriesSnapshot w was now (Fault e) = (e ≡ OutOfMemory) × (now ≡ was)
-TriesSnapshot w was now _ = ⊥
+TakesTriedSnapshot w was now Nothing = (w.page_size ≤ length w.tip) × (now ≡ was)
+TakesTriedSnapshot w was now (Fault e) = (e ≡ OutOfMemory) × (now ≡ was)
+TakesTriedSnapshot w was now _ = ⊥
 
 -- the end of a writer
 abbrev pub SealSays : (List ℕ → ℕ) → WriterState → (cache after : CacheState) → Life → Life
@@ -511,7 +511,7 @@ DidSnapshot sum was now cache after old new reply =
 abbrev pub DidTrySnapshot : (was now : SessionState) → Reply → Type 0
 DidTrySnapshot was now reply =
     IfAppending was.recovering was.writer reply (now ≡ was) (λ w.
-    TriesSnapshot w was now reply)
+    TakesTriedSnapshot w was now reply)
 
 abbrev pub DidSeal : (List ℕ → ℕ) → (was now : SessionState) → (cache after : CacheState) → Life
     → Life → Reply → Type 0
@@ -526,7 +526,7 @@ abbrev pub DidSnap : (List ℕ → ℕ) → Option Tail → (cache after : Cache
 DidSnap sum None cache after offset len old new reply =
     (reply ≡ NoSuch) × (new ≡ old) × (after ≡ cache)
 DidSnap sum (Some t) cache after offset len old new reply =
-    ReadsRange sum t cache after offset len old new reply
+    RangeStepGoes sum t cache after offset len old new reply
 
 -- ---- steps of replays
 
@@ -590,9 +590,9 @@ SeeksOf r q offset (Fault e) = Seeks r offset q (Err e)
 SeeksOf r q offset _ = ⊥
 
 -- a replay that stands can go on
-abbrev pub CanGoOn : Option ReplayState → Disk → Type 0
-CanGoOn None d = Unit {0}
-CanGoOn (Some r) d = CanReplay r d
+abbrev pub ReplayCanGoOn : Option ReplayState → Disk → Type 0
+ReplayCanGoOn None d = Unit {0}
+ReplayCanGoOn (Some r) d = CanReplay r d
 
 -- a step of one replay, which goes on so, or of one that was let go, or forgotten
 abbrev pub OfReplay : (was now : Option ReplayState) → Reply → (same : Type 0)
@@ -626,11 +626,11 @@ KeepsAllButReplays was now = now ≡ record was { replays = now.replays }
 
 -- what a call of a session's writer leaves of its own blob: each snapshot and each replay of its
 -- full pages stands as it stood, and is of them still
-pub record LeavesStanding (sum : List ℕ → ℕ) (was now : Option WriterState)
+pub record LeavesRunState (sum : List ℕ → ℕ) (was now : Option WriterState)
     (cache after : CacheState) (old new : Life) : Type 0 where
   pub snapshots : (t : Tail) (content : List ℕ) → IsBelow was t
-      → StandsOn sum t content cache old.present
-      → StandsOn sum t content after new.present × IsBelow now t
+      → SnapshotReads sum t content cache old.present
+      → SnapshotReads sum t content after new.present × IsBelow now t
   pub replays : (r : ReplayState) (content : List ℕ) → IsBelow was r.tail
       → IsReplayOf sum r content old.present
       → IsReplayOf sum r content new.present × IsBelow now r.tail
@@ -638,7 +638,7 @@ pub record LeavesStanding (sum : List ℕ → ℕ) (was now : Option WriterState
 -- what a call of a session's writer leaves of its own blob, and of other blobs on the cache
 pub record LeavesTaken (sum : List ℕ → ℕ) (was now : Option WriterState) (cache after : CacheState)
     (old new : Life) : Type 0 where
-  pub own : LeavesStanding sum was now cache after old new
+  pub own : LeavesRunState sum was now cache after old new
   pub others : WriterLeavesOthers was now cache after
 
 -- a step that a writer takes in recovery, and when it appends
@@ -667,19 +667,19 @@ pub record LeavesWriterState (was now : Option WriterState) (names more : List �
 abbrev pub TakenBy : (List ℕ → ℕ) → Step → (was now : Option WriterState) → (names more : List ℕ)
     → (cache after : CacheState) → Life → Life → Reply → Type 0
 TakenBy sum (Append bytes) was now names more cache after old new reply =
-    Appended sum was now bytes.items cache after old new reply × (more ≡ names)
+    DidAppend sum was now bytes.items cache after old new reply × (more ≡ names)
 TakenBy sum (Owned bytes) was now names more cache after old new reply =
-    Appended sum was now bytes.items cache after old new reply × (more ≡ names)
+    DidAppend sum was now bytes.items cache after old new reply × (more ≡ names)
 TakenBy sum (TryAppend bytes) was now names more cache after old new reply =
     TriedAppend sum was now bytes.items reply × (more ≡ names) × (new ≡ old) × (after ≡ cache)
 TakenBy sum Sync was now names more cache after old new reply =
-    Synced sum was now cache after old new reply × (more ≡ names)
+    DidSync sum was now cache after old new reply × (more ≡ names)
 TakenBy sum StartSync was now names more cache after old new reply =
-    Starts sum was now names more cache after old new reply
+    DidStartSync sum was now names more cache after old new reply
 TakenBy sum Wait was now names more cache after old new reply =
     Waits sum was now old new reply × (more ≡ names) × (after ≡ cache)
 TakenBy sum Needs was now names more cache after old new reply =
-    NeedsSync was reply × LeavesWriterState was now names more × (new ≡ old) × (after ≡ cache)
+    DidNeeds was reply × LeavesWriterState was now names more × (new ≡ old) × (after ≡ cache)
 TakenBy sum Size was now names more cache after old new reply =
     Sized was reply × LeavesWriterState was now names more × (new ≡ old) × (after ≡ cache)
 TakenBy sum (Read offset len) was now names more cache after old new reply =
@@ -707,24 +707,24 @@ KeepsSnapshots was now = now ≡ record was { writer = now.writer; names = now.n
 
 -- one step by a session that stood for this
 pub record Stepped (sum : List ℕ → ℕ) (P : ℕ) (step : Step) (reply : Reply)
-    (session : SessionState) (old new : Life) (before : Standing) : Type 0 where
+    (session : SessionState) (old new : Life) (before : RunState) : Type 0 where
   pub moments : List Disk
   pub goes : new ≡ life_after old moments
-  pub after : Standing
+  pub after : RunState
   pub did : Did sum P step reply old.present moments before after
-  pub stands : StandsFor sum P session after new.present
+  pub stands : Represents sum P session after new.present
 
 -- one step, whatever the session stood for
 abbrev pub StepsAlways : (List ℕ → ℕ) → Step → Reply → SessionState → SessionState → Life → Life
     → Type 0
 StepsAlways sum step reply was now old new =
-    (P : ℕ) (before : Standing) → StandsFor sum P was before old.present
+    (P : ℕ) (before : RunState) → Represents sum P was before old.present
     → Stepped sum P step reply now old new before
 
 -- one step, whatever the session stood for; it may take another then
 pub record Steps (sum : List ℕ → ℕ) (step : Step) (reply : Reply) (was now : SessionState)
     (old new : Life) : Type 0 where
-  pub ready : IsReady sum now new.present
+  pub ready : IsSoundSession sum now new.present
   pub always : StepsAlways sum step reply was now old new
 
 -- ---- what each step of a run says
@@ -733,11 +733,11 @@ pub record Steps (sum : List ℕ → ℕ) (step : Step) (reply : Reply) (was now
 abbrev pub DidCall : (List ℕ → ℕ) → Step → Reply → (was now : SessionState)
     → (cache after : CacheState) → Life → Life → Type 0
 DidCall sum (WaitSync name) reply was now cache after old new =
-    WaitsFor (is_given was.names name) name old new reply × (now ≡ was) × (after ≡ cache)
+    DidWaitFor (is_given was.names name) name old new reply × (now ≡ was) × (after ≡ cache)
 DidCall sum Begin reply was now cache after old new =
-    Begins was.writer was now reply × (new ≡ old) × (after ≡ cache)
+    DidBegin was.writer was now reply × (new ≡ old) × (after ≡ cache)
 DidCall sum (Truncate n) reply was now cache after old new =
-    Truncated sum was.recovering was.writer now.writer n cache after old new reply
+    DidTruncate sum was.recovering was.writer now.writer n cache after old new reply
     × KeepsUncut was now
 DidCall sum Snapshot reply was now cache after old new =
     DidSnapshot sum was now cache after old new reply

@@ -23,8 +23,8 @@ use Rattle.paged.specs.Recovers.{Recovers}
 use Rattle.paged_read.specs.Snapshots.{LeavesReads}
 use Rattle.session.specs.declared.steps.Step.{Step}
 use Rattle.session.specs.declared.steps.Reply.{Reply}
-use Rattle.session.specs.Run.{Standing, begun, other_content, last, Answers, raised, SessionState}
-use Rattle.session.specs.Run.{IsReady, pending_in, StandsFor}
+use Rattle.session.specs.Run.{RunState, at_step, other_content, last, AnswersStep, raised}
+use Rattle.session.specs.Run.{SessionState, IsSoundSession, pending_in, Represents}
 use Rattle.session.specs.Others.{IsNewTo}
 
 -- ---- the way back
@@ -90,8 +90,8 @@ LeadsTo sum P fair d m =
     (given : List ℕ) → ComesBack sum P fair m given → ComesBack sum P fair d given
 
 -- the content is one's beginning
-abbrev pub Begins : List ℕ → List ℕ → Type 0
-Begins given content = given ≡ take (length given) content
+abbrev pub IsPrefixOf : List ℕ → List ℕ → Type 0
+IsPrefixOf given content = given ≡ take (length given) content
 
 -- whatever comes back begins with the content's first floor bytes; and where each crash left what
 -- is distinct, and each recovery began with all durable, as after a crash, it is a prefix of the
@@ -101,7 +101,7 @@ pub record Survives (sum : List ℕ → ℕ) (P : ℕ) (content other : List ℕ
   pub kept : (fair : Bool) (given : List ℕ) → ComesBack sum P fair d given
       → take floor given ≡ take floor content
   pub only : (given : List ℕ) → ComesBack sum P true d given
-      → Begins given content ⊎ Begins given other
+      → IsPrefixOf given content ⊎ IsPrefixOf given other
 
 -- ---- a run
 
@@ -110,37 +110,38 @@ pub record Survives (sum : List ℕ → ℕ) (P : ℕ) (content other : List ℕ
 -- contents are the fold of the accepted steps. The floor is what the last sync or truncate that
 -- answered Ok made durable, or a started sync that has completed, except for what a truncate was
 -- asked to cut since
-abbrev pub Tells : (List ℕ → ℕ) → (P : ℕ) → List Step → List Reply → Disk → List Disk → Standing
-    → Standing → Type 0
-Tells sum P [] [] from moments s after =
+abbrev pub EachStepIsExact : (List ℕ → ℕ) → (P : ℕ) → List Step → List Reply → Disk → List Disk
+    → RunState → RunState → Type 0
+EachStepIsExact sum P [] [] from moments s after =
     (moments ≡ []) × (after ≡ s) × Survives sum P s.content s.otherwise s.floor from
-Tells sum P (step ∷ steps) (reply ∷ replies) from moments s after =
+EachStepIsExact sum P (step ∷ steps) (reply ∷ replies) from moments s after =
     Survives sum P s.content s.otherwise s.floor from
-    × (first : List Disk) × (rest : List Disk) × (moments ≡ first ++ rest) × (mid : Standing)
-    × Answers sum P step reply from (last from first) s mid
-    × Each (Survives sum P s.content (other_content step s) (begun step s).floor) (from ∷ first)
-    × Tells sum P steps replies (last from first) rest (raised (last from first) mid) after
-Tells sum P [] (reply ∷ replies) from moments s after = ⊥
-Tells sum P (step ∷ steps) [] from moments s after = ⊥
+    × (first : List Disk) × (rest : List Disk) × (moments ≡ first ++ rest) × (mid : RunState)
+    × AnswersStep sum P step reply from (last from first) s mid
+    × Each (Survives sum P s.content (other_content step s) (at_step step s).floor) (from ∷ first)
+    × EachStepIsExact sum P steps replies (last from first) rest (raised (last from first) mid)
+    after
+EachStepIsExact sum P [] (reply ∷ replies) from moments s after = ⊥
+EachStepIsExact sum P (step ∷ steps) [] from moments s after = ⊥
 
 -- a run, told moment by moment; the session stands at its end for what the replies say, so another
 -- run may follow
-pub record Told (sum : List ℕ → ℕ) (P : ℕ) (steps : List Step) (now : SessionState)
-    (old new : Life) (earlier replies : List Reply) (before : Standing) : Type 0 where
+pub record RunIsExact (sum : List ℕ → ℕ) (P : ℕ) (steps : List Step) (now : SessionState)
+    (old new : Life) (earlier replies : List Reply) (before : RunState) : Type 0 where
   pub added : List Reply
   pub adds : replies ≡ earlier ++ added
   pub moments : List Disk
   pub goes : new ≡ life_after old moments
-  pub after : Standing
-  pub tells : Tells sum P steps added old.present moments before after
-  pub stands : StandsFor sum P now after new.present
+  pub after : RunState
+  pub tells : EachStepIsExact sum P steps added old.present moments before after
+  pub stands : Represents sum P now after new.present
 
 -- the promise of a run: so it is told whatever the session stood for when it began
 abbrev pub Promises : (List ℕ → ℕ) → List Step → SessionState → SessionState → Life → Life
     → List Reply → List Reply → Type 0
 Promises sum steps was now old new earlier replies =
-    (P : ℕ) (before : Standing) → StandsFor sum P was before old.present
-    → Told sum P steps now old new earlier replies before
+    (P : ℕ) (before : RunState) → Represents sum P was before old.present
+    → RunIsExact sum P steps now old new earlier replies before
 
 -- ---- how a session begins
 
@@ -155,7 +156,7 @@ session_of w =
 
 -- what a session stands for that has begun with this content, all of it durable, and a buffer of so
 -- many bytes
-abbrev pub fresh : (P capacity : ℕ) → List ℕ → Standing
+abbrev pub fresh : (P capacity : ℕ) → List ℕ → RunState
 fresh P capacity content = record {
   has_writer = true;
   recovering = true;
@@ -180,7 +181,7 @@ pub record IsBegun (sum : List ℕ → ℕ) (cache : CacheState) (capacity : ℕ
   pub recovers : Recovers sum cache capacity old new (Ok writer)
   pub stands : let P = cache.page_size in
       let given = text sum P old.present.readable in
-      StandsFor sum P now (fresh P (adjusted capacity P) given) new.present
+      Represents sum P now (fresh P (adjusted capacity P) given) new.present
 
 -- a recovery that begins a session, by its answer
 abbrev pub BeginsBy : (List ℕ → ℕ) → CacheState → (capacity : ℕ) → Life → Life
@@ -189,9 +190,9 @@ BeginsBy sum cache capacity old new (Ok now) = IsBegun sum cache capacity old ne
 BeginsBy sum cache capacity old new (Err e) = Recovers sum cache capacity old new (Err e)
 
 -- the cache once a session has begun; where none has, an id may have been given or not
-abbrev pub GivesId : Result SessionState Error → CacheState → CacheState → Type 0
-GivesId (Ok now) old new = new ≡ record old { ids_given = old.ids_given + 1 }
-GivesId (Err e) old new = (new ≡ old) ⊎ (new ≡ record old { ids_given = old.ids_given + 1 })
+abbrev pub GivesSessionId : Result SessionState Error → CacheState → CacheState → Type 0
+GivesSessionId (Ok now) old new = new ≡ record old { ids_given = old.ids_given + 1 }
+GivesSessionId (Err e) old new = (new ≡ old) ⊎ (new ≡ record old { ids_given = old.ids_given + 1 })
 
 -- whatever a recovery answers, each moment of it is one that it came to
 abbrev pub AttemptsThrough : (List ℕ → ℕ) → (P : ℕ) → Life → Life → Type 0
@@ -206,27 +207,27 @@ RecoversFrom sum P d =
     → HasRecovered sum P fair d (text sum P d.readable)
 
 -- whatever was stood for over this disk, this content keeps its floor
-abbrev pub KeepsFloor : (List ℕ → ℕ) → (P : ℕ) → Disk → List ℕ → Type 0
-KeepsFloor sum P d given =
-    (was : SessionState) (s : Standing) → StandsFor sum P was s d
+abbrev pub BeginsWithFloor : (List ℕ → ℕ) → (P : ℕ) → Disk → List ℕ → Type 0
+BeginsWithFloor sum P d given =
+    (was : SessionState) (s : RunState) → Represents sum P was s d
     → take s.floor given ≡ take s.floor s.content
 
 -- whatever a session stood for over this disk, this content is a prefix of one of its two contents
-abbrev pub LeavesContent : (List ℕ → ℕ) → (P : ℕ) → Disk → List ℕ → Type 0
-LeavesContent sum P d given =
-    (was : SessionState) (s : Standing) → StandsFor sum P was s d
-    → Begins given s.content ⊎ Begins given s.otherwise
+abbrev pub IsPrefixOfEither : (List ℕ → ℕ) → (P : ℕ) → Disk → List ℕ → Type 0
+IsPrefixOfEither sum P d given =
+    (was : SessionState) (s : RunState) → Represents sum P was s d
+    → IsPrefixOf given s.content ⊎ IsPrefixOf given s.otherwise
 
 -- what a recovery gave back, by what stood over d as it began
 pub record GivesBack (sum : List ℕ → ℕ) (P : ℕ) (d : Disk) : Type 0 where
   pub recovered : RecoversFrom sum P d
-  pub floor : KeepsFloor sum P d (text sum P d.readable)
-  pub content : IsDurable d → LeavesContent sum P d (text sum P d.readable)
+  pub floor : BeginsWithFloor sum P d (text sum P d.readable)
+  pub content : IsDurable d → IsPrefixOfEither sum P d (text sum P d.readable)
 
 -- what a recovery gave back of what a crash left, by what stood over d as that came
 pub record GivesBackLeft (sum : List ℕ → ℕ) (P : ℕ) (d : Disk) (left : List ℕ) : Type 0 where
-  pub floor : KeepsFloor sum P d (text sum P left)
-  pub content : IsDistinct sum P d left → LeavesContent sum P d (text sum P left)
+  pub floor : BeginsWithFloor sum P d (text sum P left)
+  pub content : IsDistinct sum P d left → IsPrefixOfEither sum P d (text sum P left)
 
 -- what comes back later from a recovery of what a crash left came through that crash
 abbrev pub LeadsOn : (List ℕ → ℕ) → (P : ℕ) → (d : Disk) → (left : List ℕ) → Disk → Type 0
@@ -234,7 +235,7 @@ LeadsOn sum P d left m =
     (fair : Bool) → (fair ≡ true → IsDistinct sum P d left) → LeadsTo sum P fair d m
 
 -- what a session stands for with this writer, where every image keeps so much of its content
-abbrev pub opened : WriterState → (floor : ℕ) → List ℕ → Standing
+abbrev pub opened : WriterState → (floor : ℕ) → List ℕ → RunState
 opened w floor readable = record {
   has_writer = true;
   recovering = true;
@@ -251,12 +252,12 @@ opened w floor readable = record {
 }
 
 -- over each blob on which the writer is sound
-abbrev pub StandsWhereSound : (List ℕ → ℕ) → WriterState → Type 0
-StandsWhereSound sum w =
+abbrev pub RepresentsWhereSound : (List ℕ → ℕ) → WriterState → Type 0
+RepresentsWhereSound sum w =
     (d : Disk) (floor : ℕ) → IsSound sum w d → HoldsWithin w
     → floor ≤ length (content_of w d.readable)
     → AllKeep sum w.page_size (content_of w d.readable) floor d
-    → StandsFor sum w.page_size (session_of w) (opened w floor d.readable) d
+    → Represents sum w.page_size (session_of w) (opened w floor d.readable) d
 
 -- ---- how a session begins, in a record each
 
@@ -273,8 +274,8 @@ pub record BeginGoes (sum : List ℕ → ℕ) (cache after : CacheState) (capaci
     (result : Result SessionState Error) : Type 0 where
   pub begins : BeginsBy sum cache capacity old new result
   pub overflow : 2 ^ 64 ≤ adjusted capacity cache.page_size → result ≡ Err OffsetOverflow
-  pub ids : GivesId result cache after
-  pub steps : IfOk result (λ session. IsReady sum session new.present)
+  pub ids : GivesSessionId result cache after
+  pub steps : IfOk result (λ session. IsSoundSession sum session new.present)
   pub apart : IfOk result (IsNewTo cache)
   pub gives : OnOk result (GivesBack sum cache.page_size old.present)
 
@@ -293,8 +294,8 @@ pub record CrashGoes (sum : List ℕ → ℕ) (was now : SessionState) (cache af
     : Type 0 where
   pub stands : let P = cache.page_size in
       let s = fresh P (adjusted capacity P) (text sum P left) in
-      OnOk result (StandsFor sum P now s (life_of new).present)
-  pub steps : OnOk result (IsReady sum now (life_of new).present)
+      OnOk result (Represents sum P now s (life_of new).present)
+  pub steps : OnOk result (IsSoundSession sum now (life_of new).present)
   -- it begins with the floor that stood as the crash came, and chance aside it is a prefix of what
   -- stood
   pub gives : OnOk result (GivesBackLeft sum cache.page_size (life_of old).present left)

@@ -17,14 +17,14 @@ use Rattle.page.specs.Geometry.{EndWithin, RangesGo}
 use Rattle.page.specs.Page.{text}
 use Rattle.crash.specs.Kept.{AllKeep, AllOnly, Each}
 use Rattle.crash.specs.Looks.{SameButLog}
-use Rattle.crash.specs.Started.{WouldKeep, StartsStand}
+use Rattle.crash.specs.Started.{WouldKeep, StartsCanBeAwaited}
 use Rattle.writer_state.specs.WriterState.{WriterState}
 use Rattle.writer_state.specs.declared.sync_state.SyncState.{SyncState}
 use Rattle.writer_state.specs.declared.sync_state.SyncState.TheVariants.{Clean, Dirty, Pending}
 use Rattle.writer_state.specs.Sound.{IsSound, content as content_of}
 use Rattle.cache.specs.CacheState.{CacheState}
 use Rattle.cache.specs.Pages.{IsFresh}
-use Rattle.paged_read.specs.Tail.{Tail, told, HasPages, HasFullPages, CanRead}
+use Rattle.paged_read.specs.Tail.{Tail, logical_bytes, HasPages, HasFullPages, CanRead}
 use Rattle.paged_read.specs.ReadAhead.{batch_of}
 use Rattle.paged_read.specs.Replay.{ReplayState, IsReplayOf}
 use Rattle.paged.specs.Caches.{tail_of}
@@ -50,14 +50,14 @@ use Rattle.session.specs.declared.steps.Reply.TheVariants.{Replaying}
 
 -- a replay: the bytes that it goes over, how many of them are in full pages, where it stands, how
 -- many from there on are at hand, and how many are read at once
-pub record Replayed : Type 0 where
+pub record RunReplay : Type 0 where
   pub content : List ℕ
   pub whole : ℕ
   pub position : ℕ
   pub hand : ℕ
   pub batch : ℕ
 
-pub record Standing : Type 0 where
+pub record RunState : Type 0 where
   pub has_writer : Bool
   -- the recovery hasn't ended
   pub recovering : Bool
@@ -79,15 +79,15 @@ pub record Standing : Type 0 where
   -- what each snapshot tells, the oldest first; none in the place of one that was let go
   pub snapshots : List (Option (List ℕ))
   -- the replays, the oldest first; none in the place of one that was let go, or forgotten
-  pub replays : List (Option Replayed)
+  pub replays : List (Option RunReplay)
 
 -- so many bytes more fit the buffer
-abbrev pub has_room : Standing → ℕ → Bool
-has_room s more = nat_le (s.buffered + more) s.capacity
+abbrev pub fits_buffer : RunState → ℕ → Bool
+fits_buffer s more = nat_le (s.buffered + more) s.capacity
 
 -- how many are buffered then: where they don't fit, whole pages of P bytes are written
-abbrev pub buffered_after : (P : ℕ) → Standing → ℕ → ℕ
-buffered_after P s more = if has_room s more then s.buffered + more else (s.buffered + more) % P
+abbrev pub buffered_after : (P : ℕ) → RunState → ℕ → ℕ
+buffered_after P s more = if fits_buffer s more then s.buffered + more else (s.buffered + more) % P
 
 -- whether all is written then
 abbrev pub written_after : List ℕ → Bool → Bool
@@ -95,11 +95,11 @@ written_after [] written = written
 written_after (byte ∷ bytes) written = false
 
 -- the started sync that is awaited then: where they don't fit it was waited for
-abbrev pub awaited_after : Standing → ℕ → Option ℕ
-awaited_after s more = if has_room s more then s.awaited else None
+abbrev pub awaited_after : RunState → ℕ → Option ℕ
+awaited_after s more = if fits_buffer s more then s.awaited else None
 
 -- the standing with these bytes after the content
-abbrev pub appended : (P : ℕ) → List ℕ → Standing → Standing
+abbrev pub appended : (P : ℕ) → List ℕ → RunState → RunState
 appended P bytes s = record s {
   content = s.content ++ bytes;
   otherwise = s.content ++ bytes;
@@ -109,8 +109,8 @@ appended P bytes s = record s {
 }
 
 -- the standing with all of the content durable
-abbrev pub synced : (P : ℕ) → Standing → Standing
-synced P s = record s {
+abbrev pub after_sync : (P : ℕ) → RunState → RunState
+after_sync P s = record s {
   floor = length s.content;
   buffered = s.buffered % P;
   written = true;
@@ -119,8 +119,8 @@ synced P s = record s {
 
 -- the standing with a started sync: all of the content is durable, or is once the sync of this name
 -- has completed
-abbrev pub starting : (P : ℕ) → StartedSync → Standing → Standing
-starting P AllDone s = synced P s
+abbrev pub starting : (P : ℕ) → StartedSync → RunState → RunState
+starting P AllDone s = after_sync P s
 starting P (Named name) s = record s {
   buffered = s.buffered % P;
   written = true;
@@ -129,7 +129,7 @@ starting P (Named name) s = record s {
 }
 
 -- the standing with only the first n bytes of the content, all of them durable
-abbrev pub truncated : (P n : ℕ) → Standing → Standing
+abbrev pub truncated : (P n : ℕ) → RunState → RunState
 truncated P n s =
     let content = take n s.content in
     record s {
@@ -142,24 +142,24 @@ truncated P n s =
     }
 
 -- the standing with one snapshot more, of all of the content
-abbrev pub noted : Standing → Standing
+abbrev pub noted : RunState → RunState
 noted s = record s { snapshots = s.snapshots ++ Some s.content ∷ [] }
 
 -- the standing with its full pages written, in pages of P bytes; if there was one, a started sync
 -- was waited for
-abbrev pub flushed : (P : ℕ) → Standing → Standing
+abbrev pub flushed : (P : ℕ) → RunState → RunState
 flushed P s = record s {
   buffered = if nat_lt s.buffered P then s.buffered else s.buffered % P;
   awaited = if nat_lt s.buffered P then s.awaited else None;
 }
 
 -- the standing without its writer, which left a snapshot and a started sync
-abbrev pub left_by_seal : (P : ℕ) → StartedSync → Standing → Standing
+abbrev pub left_by_seal : (P : ℕ) → StartedSync → RunState → RunState
 left_by_seal P sync s = record (noted (starting P sync s)) { has_writer = false }
 
 -- the standing with all of the content written, in pages of P bytes, without a sync; if something
 -- wasn't written, a started sync was waited for
-abbrev pub rewritten : (P : ℕ) → Standing → Standing
+abbrev pub rewritten : (P : ℕ) → RunState → RunState
 rewritten P s = record s {
   buffered = s.buffered % P;
   awaited = if s.written then s.awaited else None;
@@ -167,7 +167,7 @@ rewritten P s = record s {
 
 -- the standing with one replay more, of all of the content, in batches of the pages that a buffer
 -- of this size asks for
-abbrev pub replaying : (P buffer_size : ℕ) → Standing → Standing
+abbrev pub replaying : (P buffer_size : ℕ) → RunState → RunState
 replaying P buffer_size s = record s {
   replays = s.replays ++ Some (record {
     content = s.content;
@@ -179,27 +179,27 @@ replaying P buffer_size s = record s {
 }
 
 -- the standing with this replay in the place of the one of this number
-abbrev pub moved : (index : ℕ) → Replayed → Standing → Standing
+abbrev pub moved : (index : ℕ) → RunReplay → RunState → RunState
 moved index r s = record s { replays = slice_set s.replays index (Some r) }
 
 -- the standing with nothing in the place of the snapshot of this number, which isn't given again
-abbrev pub without_snapshot : (index : ℕ) → Standing → Standing
+abbrev pub without_snapshot : (index : ℕ) → RunState → RunState
 without_snapshot index s = record s { snapshots = slice_set s.snapshots index None }
 
 -- the standing with nothing in the place of the replay of this number, which isn't given again
-abbrev pub without_replay : (index : ℕ) → Standing → Standing
+abbrev pub without_replay : (index : ℕ) → RunState → RunState
 without_replay index s = record s { replays = slice_set s.replays index None }
 
 -- the standing without its replays, whose numbers aren't given again
-abbrev pub forgetting : Standing → Standing
+abbrev pub forgetting : RunState → RunState
 forgetting s = record s { replays = map (λ r. None) s.replays }
 
 -- the standing with no started sync to wait for
-abbrev pub waited : Standing → Standing
-waited s = record s { awaited = None }
+abbrev pub after_wait : RunState → RunState
+after_wait s = record s { awaited = None }
 
 -- whether a sync has something to do
-abbrev pub needs_sync : Standing → Bool
+abbrev pub needs_sync : RunState → Bool
 needs_sync s = not s.written || is_some s.awaited
 
 -- a started sync has completed once the operations that it covers are durable
@@ -213,15 +213,15 @@ raised_floor d [] floor = floor
 raised_floor d (c ∷ covers) floor =
     raised_floor d covers (if is_complete d c.0 then max c.1 floor else floor)
 
-abbrev pub raised : Disk → Standing → Standing
+abbrev pub raised : Disk → RunState → RunState
 raised d s = record s { floor = raised_floor d s.covers s.floor }
 
 -- the standing without its writer, whose last step would have left this content
-abbrev pub ended : List ℕ → Standing → Standing
+abbrev pub ended : List ℕ → RunState → RunState
 ended otherwise s = record s { has_writer = false; otherwise = otherwise }
 
 -- of the content no more than its first n bytes is kept, nor will be by a started sync
-abbrev pub lowered : (n : ℕ) → Standing → Standing
+abbrev pub lowered : (n : ℕ) → RunState → RunState
 lowered n s = record s {
   floor = min n s.floor;
   covers = map (λ c. (c.0, min n c.1)) s.covers;
@@ -229,14 +229,14 @@ lowered n s = record s {
 
 -- the standing as a step begins: where bytes are asked to be cut, they aren't kept from then on,
 -- and the replays are forgotten
-abbrev pub begun : Step → Standing → Standing
-begun (Truncate n) s = if s.has_writer && s.recovering then forgetting (lowered n s) else s
-begun step s = s
+abbrev pub at_step : Step → RunState → RunState
+at_step (Truncate n) s = if s.has_writer && s.recovering then forgetting (lowered n s) else s
+at_step step s = s
 
 -- ---- steps that are turned away
 
 -- the session was given this name
-abbrev pub has_name : Standing → ℕ → Bool
+abbrev pub has_name : RunState → ℕ → Bool
 has_name s name = list_any (λ c. nat_eq c.0 name) s.covers
 
 -- the one of this number: none where there is none, or it was let go, or forgotten
@@ -244,19 +244,19 @@ abbrev pub numbered : {A : Type 0} → List (Option A) → (index : ℕ) → Opt
 numbered all index = elim (slice_get all index) [ None ↦ None | Some one ↦ one ]
 
 -- there is a snapshot of this number
-abbrev pub has_snapshot : Standing → ℕ → Bool
-has_snapshot s index = is_some (numbered s.snapshots index)
+abbrev pub has_snapshot_at : RunState → ℕ → Bool
+has_snapshot_at s index = is_some (numbered s.snapshots index)
 
 -- what it tells
-abbrev pub snapshot_at : Standing → ℕ → List ℕ
+abbrev pub snapshot_at : RunState → ℕ → List ℕ
 snapshot_at s index = elim (numbered s.snapshots index) [ None ↦ [] | Some content ↦ content ]
 
 -- there is a replay of this number
-abbrev pub has_replay : Standing → ℕ → Bool
-has_replay s index = is_some (numbered s.replays index)
+abbrev pub has_replay_at : RunState → ℕ → Bool
+has_replay_at s index = is_some (numbered s.replays index)
 
 -- how many bytes it goes over
-abbrev pub replay_size : Standing → ℕ → ℕ
+abbrev pub replay_size : RunState → ℕ → ℕ
 replay_size s index =
     elim (numbered s.replays index) [ None ↦ 0 | Some r ↦ length r.content ]
 
@@ -273,14 +273,14 @@ abbrev pub fit_together : List (ℕ × ℕ) → Bool
 fit_together ranges = in_order_from 0 ranges && nat_lt (sum_by (λ range. range.1) ranges) (2 ^ 64)
 
 -- the reply to a step of a writer that appends, where there is none
-abbrev pub unless_appending : Standing → Option Reply
+abbrev pub unless_appending : RunState → Option Reply
 unless_appending s =
     if s.has_writer then (if s.recovering then Some NotAppending else None) else Some Closed
 
 -- the reply, where the session has not what the step needs: a writer, one in recovery, one whose
 -- recovery has ended, a name that it was given, a snapshot, or a replay; or where one call can't
 -- take the ranges
-abbrev pub turned_away : Step → Standing → Option Reply
+abbrev pub turned_away : Step → RunState → Option Reply
 turned_away (WaitSync name) s = if has_name s name then None else Some NoSuch
 turned_away (Truncate n) s =
     if s.has_writer then (if s.recovering then None else Some NotRecovering) else Some Closed
@@ -295,19 +295,19 @@ turned_away (TryReadRanges ranges) s =
 turned_away Snapshot s = unless_appending s
 turned_away TrySnapshot s = unless_appending s
 turned_away Seal s = unless_appending s
-turned_away (Snap index offset len) s = if has_snapshot s index then None else Some NoSuch
-turned_away (Ensure index count) s = if has_replay s index then None else Some NoSuch
-turned_away (Take index count) s = if has_replay s index then None else Some NoSuch
-turned_away (Seek index offset) s = if has_replay s index then None else Some NoSuch
-turned_away (DropSnapshot index) s = if has_snapshot s index then None else Some NoSuch
-turned_away (DropReplay index) s = if has_replay s index then None else Some NoSuch
+turned_away (Snap index offset len) s = if has_snapshot_at s index then None else Some NoSuch
+turned_away (Ensure index count) s = if has_replay_at s index then None else Some NoSuch
+turned_away (Take index count) s = if has_replay_at s index then None else Some NoSuch
+turned_away (Seek index offset) s = if has_replay_at s index then None else Some NoSuch
+turned_away (DropSnapshot index) s = if has_snapshot_at s index then None else Some NoSuch
+turned_away (DropReplay index) s = if has_replay_at s index then None else Some NoSuch
 turned_away step s = if s.has_writer then None else Some Closed
 
 -- ---- steps that are accepted
 
 -- the bytes of a range of the content, all within it
-abbrev pub Slices : List ℕ → (offset len : ℕ) → List ℕ → Type 0
-Slices content offset len bytes =
+abbrev pub IsSlice : List ℕ → (offset len : ℕ) → List ℕ → Type 0
+IsSlice content offset len bytes =
     (offset + len ≤ length content) × (bytes ≡ take len (drop offset content))
 
 -- the bytes of a content from an offset on, as many as there are and at most so many. No byte may
@@ -334,14 +334,14 @@ NumbersSome content ranges numbers =
     × (EndWithin (length content) ranges ⊎ (numbers ≡ range_with_len 0 (length ranges)))
 
 -- a replay stands where it stood, with no fewer bytes at hand
-pub record HasFetched (was now : Replayed) : Type 0 where
+pub record HasFetched (was now : RunReplay) : Type 0 where
   pub stays : now ≡ record was { hand = now.hand }
   pub more : was.hand ≤ now.hand
   pub within : now.hand ≤ length now.content - now.position
 
 -- whether so many bytes are at hand: if not, all are that are left. Not more are fetched than are
 -- asked for, except for the rest of a batch
-pub record HasEnsured (was : Replayed) (count : ℕ) (answer : Bool) (now : Replayed) :
+pub record HasEnsured (was : RunReplay) (count : ℕ) (answer : Bool) (now : RunReplay) :
     Type 0 where
   pub fetched : HasFetched was now
   pub exact : answer ≡ nat_le (was.position + count) (length was.content)
@@ -350,7 +350,7 @@ pub record HasEnsured (was : Replayed) (count : ℕ) (answer : Bool) (now : Repl
   pub most : now.hand ≤ max was.hand (count + was.batch)
 
 -- a replay without the first so many of the bytes at hand, or without all
-abbrev pub passed : (count : ℕ) → Replayed → Replayed
+abbrev pub passed : (count : ℕ) → RunReplay → RunReplay
 passed count r = record r {
   position = r.position + min count r.hand;
   hand = r.hand - count;
@@ -358,14 +358,14 @@ passed count r = record r {
 
 -- what starting a sync answers: where all is written, the sync that is awaited, if one is, and else
 -- a new one, whose name is its number
-abbrev pub started_by : Standing → Disk → StartedSync
-started_by s from =
+abbrev pub answer_of_start : RunState → Disk → StartedSync
+answer_of_start s from =
     if s.written
     then elim s.awaited [ None ↦ AllDone | Some name ↦ Named name ]
     else Named (length from.started)
 
 -- what sealing answers: where all is written, that all is durable, and else a new one
-abbrev pub sealed_by : Standing → Disk → StartedSync
+abbrev pub sealed_by : RunState → Disk → StartedSync
 sealed_by s from = if s.written then AllDone else Named (length from.started)
 
 -- this started sync has completed, if it is one
@@ -375,31 +375,31 @@ HasCompleted (Some name) d = is_complete d name ≡ true
 
 -- the reply to an accepted step, and the standing that it leaves, in pages of P bytes. A scan
 -- answers how many bytes the text of the blob has, as far as it was to look.
-abbrev pub Accepts : (List ℕ → ℕ) → (P : ℕ) → Step → Reply → (from to : Disk) → Standing
-    → Standing → Type 0
+abbrev pub Accepts : (List ℕ → ℕ) → (P : ℕ) → Step → Reply → (from to : Disk) → RunState
+    → RunState → Type 0
 Accepts sum P (Append bytes) (At n) from to s after =
     (n ≡ length s.content) × (after ≡ appended P bytes.items s)
 Accepts sum P (Owned bytes) (At n) from to s after =
     (n ≡ length s.content) × (after ≡ appended P bytes.items s)
 Accepts sum P (TryAppend bytes) (At n) from to s after =
-    (has_room s (length bytes.items) ≡ true) × (n ≡ length s.content)
+    (fits_buffer s (length bytes.items) ≡ true) × (n ≡ length s.content)
     × (after ≡ appended P bytes.items s)
 Accepts sum P (TryAppend bytes) Nothing from to s after =
-    (has_room s (length bytes.items) ≡ false) × (after ≡ s)
-Accepts sum P Sync Done from to s after = after ≡ synced P s
+    (fits_buffer s (length bytes.items) ≡ false) × (after ≡ s)
+Accepts sum P Sync Done from to s after = after ≡ after_sync P s
 Accepts sum P StartSync (Started sync) from to s after =
-    (sync ≡ started_by s from) × (after ≡ starting P sync s)
-Accepts sum P Wait Done from to s after = HasCompleted s.awaited to × (after ≡ waited s)
+    (sync ≡ answer_of_start s from) × (after ≡ starting P sync s)
+Accepts sum P Wait Done from to s after = HasCompleted s.awaited to × (after ≡ after_wait s)
 Accepts sum P (WaitSync name) Done from to s after =
     HasCompleted (Some name) to × (after ≡ s)
 Accepts sum P Needs (Answer answer) from to s after = (answer ≡ needs_sync s) × (after ≡ s)
 Accepts sum P Size (Length n) from to s after = (n ≡ length s.content) × (after ≡ s)
 Accepts sum P (Read offset len) (Bytes bytes) from to s after =
-    Slices s.content offset len bytes.items × (after ≡ s)
+    IsSlice s.content offset len bytes.items × (after ≡ s)
 Accepts sum P (ReadUpTo offset len) (Bytes bytes) from to s after =
     SlicesUpTo s.content offset len bytes.items × (after ≡ s)
 Accepts sum P (TryRead offset len) (Bytes bytes) from to s after =
-    Slices s.content offset len bytes.items × (after ≡ s)
+    IsSlice s.content offset len bytes.items × (after ≡ s)
 Accepts sum P (TryRead offset len) Nothing from to s after = after ≡ s
 Accepts sum P (ReadRanges ranges) (Served count bytes) from to s after =
     SlicesAll s.content ranges.items bytes.items × (count ≤ length ranges.items) × (after ≡ s)
@@ -414,7 +414,7 @@ Accepts sum P TrySnapshot (Taken index) from to s after =
     (s.buffered < P) × (index ≡ length s.snapshots) × (after ≡ noted s)
 Accepts sum P TrySnapshot Nothing from to s after = (P ≤ s.buffered) × (after ≡ s)
 Accepts sum P (Snap index offset len) (Bytes bytes) from to s after =
-    Slices (snapshot_at s index) offset len bytes.items × (after ≡ s)
+    IsSlice (snapshot_at s index) offset len bytes.items × (after ≡ s)
 Accepts sum P Seal (Sealed index sync) from to s after =
     (index ≡ length s.snapshots) × (sync ≡ sealed_by s from) × (after ≡ left_by_seal P sync s)
 Accepts sum P (Scan proven most buffer_size) (Length n) from to s after =
@@ -423,14 +423,14 @@ Accepts sum P (Replay buffer_size) (Replaying index) from to s after =
     (index ≡ length s.replays)
     × (after ≡ replaying P (non_zero_usize_get buffer_size) (rewritten P s))
 Accepts sum P (Ensure index count) (Answer answer) from to s after =
-    (was : Replayed) × (now : Replayed) × (numbered s.replays index ≡ Some was)
+    (was : RunReplay) × (now : RunReplay) × (numbered s.replays index ≡ Some was)
     × HasEnsured was count answer now × (after ≡ moved index now s)
 Accepts sum P (Take index count) (Bytes bytes) from to s after =
-    (r : Replayed) × (numbered s.replays index ≡ Some r)
+    (r : RunReplay) × (numbered s.replays index ≡ Some r)
     × (bytes.items ≡ take (min count r.hand) (drop r.position r.content))
     × (after ≡ moved index (passed count r) s)
 Accepts sum P (Seek index offset) Done from to s after =
-    (r : Replayed) × (numbered s.replays index ≡ Some r) × (offset ≤ length r.content)
+    (r : RunReplay) × (numbered s.replays index ≡ Some r) × (offset ≤ length r.content)
     × (after ≡ moved index (record r { position = offset; hand = 0 }) s)
 Accepts sum P (DropSnapshot index) Done from to s after = after ≡ without_snapshot index s
 Accepts sum P (DropReplay index) Done from to s after = after ≡ without_replay index s
@@ -472,7 +472,7 @@ faults (DropReplay index) = []
 
 -- an offset, or the blob that the new size needs in pages of P bytes, passes the greatest number;
 -- of ranges the first that can't be read decides
-abbrev pub Overflows : (P : ℕ) → Step → Standing → Type 0
+abbrev pub Overflows : (P : ℕ) → Step → RunState → Type 0
 Overflows P (Append bytes) s =
     2 ^ 64 ≤ physical_blob_size P 0 (length s.content + length bytes.items)
 Overflows P (Owned bytes) s =
@@ -486,19 +486,19 @@ Overflows P step s = ⊥
 
 -- a range or an offset passes the end, and no greatest number; or some bytes are asked for where
 -- there is none
-abbrev pub PassesEnd : Step → Standing → Type 0
-PassesEnd (Read offset len) s = (offset + len < 2 ^ 64) × (length s.content < offset + len)
-PassesEnd (Snap index offset len) s =
+abbrev pub PassesContent : Step → RunState → Type 0
+PassesContent (Read offset len) s = (offset + len < 2 ^ 64) × (length s.content < offset + len)
+PassesContent (Snap index offset len) s =
     (offset + len < 2 ^ 64) × (length (snapshot_at s index) < offset + len)
-PassesEnd (ReadUpTo offset len) s = (len ≢ 0) × (length s.content ≤ offset)
-PassesEnd (ReadRanges ranges) s =
+PassesContent (ReadUpTo offset len) s = (len ≢ 0) × (length s.content ≤ offset)
+PassesContent (ReadRanges ranges) s =
     RangesGo (length s.content) ranges.items (Err BlobInsufficientLength)
-PassesEnd (Seek index offset) s = replay_size s index < offset
-PassesEnd step s = ⊥
+PassesContent (Seek index offset) s = replay_size s index < offset
+PassesContent step s = ⊥
 
 -- a step that may ask for memory
-abbrev pub Allocates : Step → Standing → Type 0
-Allocates (TryAppend bytes) s = has_room s (length bytes.items) ≡ true
+abbrev pub Allocates : Step → RunState → Type 0
+Allocates (TryAppend bytes) s = fits_buffer s (length bytes.items) ≡ true
 Allocates (TryRead offset len) s = offset + len ≤ length s.content
 Allocates Sync s = needs_sync s ≡ true
 Allocates (Scan proven most buffer_size) s = most ≢ 0
@@ -506,9 +506,9 @@ Allocates Wait s = is_some s.awaited ≡ true
 Allocates step s = Unit {0}
 
 -- the started sync that a step waits for, in pages of P bytes
-abbrev pub awaited_name : (P : ℕ) → Step → Standing → Option ℕ
-awaited_name P (Append bytes) s = if has_room s (length bytes.items) then None else s.awaited
-awaited_name P (Owned bytes) s = if has_room s (length bytes.items) then None else s.awaited
+abbrev pub awaited_name : (P : ℕ) → Step → RunState → Option ℕ
+awaited_name P (Append bytes) s = if fits_buffer s (length bytes.items) then None else s.awaited
+awaited_name P (Owned bytes) s = if fits_buffer s (length bytes.items) then None else s.awaited
 awaited_name P Sync s = s.awaited
 awaited_name P StartSync s = if s.written then None else s.awaited
 awaited_name P Wait s = s.awaited
@@ -520,19 +520,19 @@ awaited_name P (Replay buffer_size) s = if s.written then None else s.awaited
 awaited_name P step s = None
 
 -- the started sync of this name, if there is a name, had failed
-abbrev pub HadFailed : Option ℕ → Disk → Type 0
-HadFailed None d = ⊥
-HadFailed (Some name) d = had_failed d.started name ≡ true
+abbrev pub AwaitedSyncFailed : Option ℕ → Disk → Type 0
+AwaitedSyncFailed None d = ⊥
+AwaitedSyncFailed (Some name) d = had_failed d.started name ≡ true
 
 -- why a step may answer this error
-abbrev pub HasCause : (P : ℕ) → Step → Standing → Disk → Disk → Error → Type 0
+abbrev pub HasCause : (P : ℕ) → Step → RunState → Disk → Disk → Error → Type 0
 HasCause P step s from to ReadFailed = HasFailed ReadFailed from to
 HasCause P step s from to WriteFailed = HasFailed WriteFailed from to
 HasCause P step s from to ResizeFailed = HasFailed ResizeFailed from to
 HasCause P step s from to SyncFailed =
-    HasFailed SyncFailed from to ⊎ HadFailed (awaited_name P step s) from
+    HasFailed SyncFailed from to ⊎ AwaitedSyncFailed (awaited_name P step s) from
 HasCause P step s from to OffsetOverflow = Overflows P step s
-HasCause P step s from to BlobInsufficientLength = PassesEnd step s
+HasCause P step s from to BlobInsufficientLength = PassesContent step s
 HasCause P step s from to OutOfMemory = Allocates step s
 HasCause P step s from to e = ⊥
 
@@ -546,111 +546,111 @@ content_after step content = content
 
 -- there was no memory for a name, a snapshot or a replay that the session would have been given:
 -- nothing was done
-abbrev pub HadNoRoom : Error → Disk → Disk → Standing → Standing → Type 0
+abbrev pub HadNoRoom : Error → Disk → Disk → RunState → RunState → Type 0
 HadNoRoom e from to s after = (e ≡ OutOfMemory) × (to ≡ from) × (after ≡ s)
 
 -- the standing after a refused step: a call that takes the writer ends it
-abbrev pub Refuses : Step → Error → Disk → Disk → Standing → Standing → Type 0
-Refuses (Append bytes) e from to s after = after ≡ ended (s.content ++ bytes.items) s
-Refuses (Owned bytes) e from to s after = after ≡ ended (s.content ++ bytes.items) s
-Refuses Sync e from to s after = after ≡ ended s.content s
-Refuses StartSync e from to s after =
+abbrev pub RefusesStep : Step → Error → Disk → Disk → RunState → RunState → Type 0
+RefusesStep (Append bytes) e from to s after = after ≡ ended (s.content ++ bytes.items) s
+RefusesStep (Owned bytes) e from to s after = after ≡ ended (s.content ++ bytes.items) s
+RefusesStep Sync e from to s after = after ≡ ended s.content s
+RefusesStep StartSync e from to s after =
     ((s.written ≡ false) × (after ≡ ended s.content s)) ⊎ HadNoRoom e from to s after
-Refuses Wait e from to s after = after ≡ ended s.content s
-Refuses Snapshot e from to s after =
+RefusesStep Wait e from to s after = after ≡ ended s.content s
+RefusesStep Snapshot e from to s after =
     (after ≡ ended s.content s) ⊎ HadNoRoom e from to s after
-Refuses Seal e from to s after = (after ≡ ended s.content s) ⊎ HadNoRoom e from to s after
-Refuses (Replay buffer_size) e from to s after =
+RefusesStep Seal e from to s after = (after ≡ ended s.content s) ⊎ HadNoRoom e from to s after
+RefusesStep (Replay buffer_size) e from to s after =
     (after ≡ ended s.content s) ⊎ HadNoRoom e from to s after
-Refuses (Ensure index count) e from to s after =
-    (was : Replayed) × (now : Replayed) × (numbered s.replays index ≡ Some was)
+RefusesStep (Ensure index count) e from to s after =
+    (was : RunReplay) × (now : RunReplay) × (numbered s.replays index ≡ Some was)
     × HasFetched was now × (after ≡ moved index now s)
-Refuses (Truncate n) e from to s after = after ≡ ended (take n s.content) s
-Refuses step e from to s after = after ≡ s
+RefusesStep (Truncate n) e from to s after = after ≡ ended (take n s.content) s
+RefusesStep step e from to s after = after ≡ s
 
 -- ---- one step
 
 -- a step that isn't turned away: it is refused for a cause, or accepted
-abbrev pub Takes : (List ℕ → ℕ) → (P : ℕ) → Step → Reply → Disk → Disk → Standing → Standing
+abbrev pub TakesStep : (List ℕ → ℕ) → (P : ℕ) → Step → Reply → Disk → Disk → RunState → RunState
     → Type 0
-Takes sum P step (Fault e) from to s after =
+TakesStep sum P step (Fault e) from to s after =
     Contains (faults step) e × HasCause P step s from to e
-    × Refuses step e from to (begun step s) after
-Takes sum P step reply from to s after = Accepts sum P step reply from to (begun step s) after
+    × RefusesStep step e from to (at_step step s) after
+TakesStep sum P step reply from to s after = Accepts sum P step reply from to (at_step step s) after
 
 -- a fault that the standing alone tells comes before any other reply
-abbrev pub Foretells : (P : ℕ) → Step → Reply → Standing → Type 0
-Foretells P step reply s =
+abbrev pub FaultsComeFirst : (P : ℕ) → Step → Reply → RunState → Type 0
+FaultsComeFirst P step reply s =
     (Overflows P step s → reply ≡ Fault OffsetOverflow)
-    × (PassesEnd step s → reply ≡ Fault BlobInsufficientLength)
+    × (PassesContent step s → reply ≡ Fault BlobInsufficientLength)
 
 -- a step's reply, and the standing after it
-abbrev pub Answers : (List ℕ → ℕ) → (P : ℕ) → Step → Reply → Disk → Disk → Standing → Standing
+abbrev pub AnswersStep : (List ℕ → ℕ) → (P : ℕ) → Step → Reply → Disk → Disk → RunState → RunState
     → Type 0
-Answers sum P step reply from to s after = elim (turned_away step s) [
+AnswersStep sum P step reply from to s after = elim (turned_away step s) [
   | Some other ↦ (reply ≡ other) × (after ≡ s)
-  | None ↦ Takes sum P step reply from to s after × Foretells P step reply s
+  | None ↦ TakesStep sum P step reply from to s after × FaultsComeFirst P step reply s
 ]
 
 -- what a step does to the disk: nothing, or it only reads, or it makes at most so many calls
-pub data Touch : Type 0 where
-  Leaves : Touch
-  Looks : Touch
-  Changes : (most : ℕ) → Touch
+pub data DeviceUse : Type 0 where
+  Leaves : DeviceUse
+  Looks : DeviceUse
+  Changes : (most : ℕ) → DeviceUse
 
 -- no device is needed for so many bytes of a replay: they are at hand, or all that is left is after
 -- the full pages, or there is no replay
-abbrev pub is_had : Option Replayed → (count : ℕ) → Bool
-is_had None count = true
-is_had (Some r) count = nat_le count r.hand || nat_le r.whole (r.position + r.hand)
+abbrev pub needs_no_device : Option RunReplay → (count : ℕ) → Bool
+needs_no_device None count = true
+needs_no_device (Some r) count = nat_le count r.hand || nat_le r.whole (r.position + r.hand)
 
 -- a wait for a started sync, if one is awaited
-abbrev pub wait_touch : Option ℕ → Touch
-wait_touch None = Leaves
-wait_touch (Some name) = Changes 1
+abbrev pub use_of_wait : Option ℕ → DeviceUse
+use_of_wait None = Leaves
+use_of_wait (Some name) = Changes 1
 
-abbrev pub touch : (P : ℕ) → Step → Standing → Touch
-touch P (Append bytes) s = if has_room s (length bytes.items) then Leaves else Changes 3
-touch P (Owned bytes) s = if has_room s (length bytes.items) then Leaves else Changes 3
-touch P (TryAppend bytes) s = Leaves
-touch P Sync s = if s.written then wait_touch s.awaited else Changes 2
-touch P StartSync s = if s.written then Leaves else Changes 3
-touch P Wait s = wait_touch s.awaited
-touch P (WaitSync name) s = Changes 1
-touch P Needs s = Leaves
-touch P Size s = Leaves
-touch P (Read offset len) s = Looks
-touch P (ReadUpTo offset len) s = Looks
-touch P (TryRead offset len) s = Leaves
-touch P (ReadRanges ranges) s = Looks
-touch P (TryReadRanges ranges) s = Leaves
-touch P Begin s = Leaves
-touch P (Truncate n) s = Changes (if nat_lt n (length s.content) then 8 else 2)
-touch P Snapshot s = if nat_lt s.buffered P then Leaves else Changes 2
-touch P TrySnapshot s = Leaves
-touch P (Snap index offset len) s = Looks
-touch P (Scan proven most buffer_size) s = if nat_eq most 0 then Leaves else Looks
-touch P (Replay buffer_size) s = if s.written then Leaves else Changes 2
-touch P (Ensure index count) s =
-    if is_had (numbered s.replays index) count then Leaves else Looks
-touch P (Take index count) s = Leaves
-touch P (Seek index offset) s = Leaves
-touch P (DropSnapshot index) s = Leaves
-touch P (DropReplay index) s = Leaves
-touch P Seal s = if s.written then wait_touch s.awaited else Changes 3
+abbrev pub use_of_step : (P : ℕ) → Step → RunState → DeviceUse
+use_of_step P (Append bytes) s = if fits_buffer s (length bytes.items) then Leaves else Changes 3
+use_of_step P (Owned bytes) s = if fits_buffer s (length bytes.items) then Leaves else Changes 3
+use_of_step P (TryAppend bytes) s = Leaves
+use_of_step P Sync s = if s.written then use_of_wait s.awaited else Changes 2
+use_of_step P StartSync s = if s.written then Leaves else Changes 3
+use_of_step P Wait s = use_of_wait s.awaited
+use_of_step P (WaitSync name) s = Changes 1
+use_of_step P Needs s = Leaves
+use_of_step P Size s = Leaves
+use_of_step P (Read offset len) s = Looks
+use_of_step P (ReadUpTo offset len) s = Looks
+use_of_step P (TryRead offset len) s = Leaves
+use_of_step P (ReadRanges ranges) s = Looks
+use_of_step P (TryReadRanges ranges) s = Leaves
+use_of_step P Begin s = Leaves
+use_of_step P (Truncate n) s = Changes (if nat_lt n (length s.content) then 8 else 2)
+use_of_step P Snapshot s = if nat_lt s.buffered P then Leaves else Changes 2
+use_of_step P TrySnapshot s = Leaves
+use_of_step P (Snap index offset len) s = Looks
+use_of_step P (Scan proven most buffer_size) s = if nat_eq most 0 then Leaves else Looks
+use_of_step P (Replay buffer_size) s = if s.written then Leaves else Changes 2
+use_of_step P (Ensure index count) s =
+    if needs_no_device (numbered s.replays index) count then Leaves else Looks
+use_of_step P (Take index count) s = Leaves
+use_of_step P (Seek index offset) s = Leaves
+use_of_step P (DropSnapshot index) s = Leaves
+use_of_step P (DropReplay index) s = Leaves
+use_of_step P Seal s = if s.written then use_of_wait s.awaited else Changes 3
 
 -- the last of some moments
 abbrev pub last : Disk → List Disk → Disk
 last d [] = d
 last d (e ∷ es) = last e es
 
-abbrev pub Touches : Touch → Disk → List Disk → Type 0
-Touches Leaves from moments = moments ≡ []
-Touches Looks from moments = Each (SameButLog from) moments
-Touches (Changes most) from moments = length (last from moments).log ≤ length from.log + most
+abbrev pub UsesDevice : DeviceUse → Disk → List Disk → Type 0
+UsesDevice Leaves from moments = moments ≡ []
+UsesDevice Looks from moments = Each (SameButLog from) moments
+UsesDevice (Changes most) from moments = length (last from moments).log ≤ length from.log + most
 
 -- the other content that a step may leave
-abbrev pub other_content : Step → Standing → List ℕ
+abbrev pub other_content : Step → RunState → List ℕ
 other_content step s = if s.has_writer then content_after step s.content else s.otherwise
 
 -- each started sync would keep what it covers, once it completed
@@ -660,26 +660,26 @@ AllCover sum P content covers d = All (λ c. WouldKeep sum P content c.0 c.1 d) 
 -- one step: its reply, what it did to the disk, and what a crash leaves at each of its moments, and
 -- would leave once a started sync completed, by what stands as it begins
 pub record Did (sum : List ℕ → ℕ) (P : ℕ) (step : Step) (reply : Reply) (from : Disk)
-    (moments : List Disk) (before after : Standing) : Type 0 where
-  pub answer : Answers sum P step reply from (last from moments) before after
-  pub touches : Touches (touch P step before) from moments
+    (moments : List Disk) (before after : RunState) : Type 0 where
+  pub answer : AnswersStep sum P step reply from (last from moments) before after
+  pub touches : UsesDevice (use_of_step P step before) from moments
   pub stopped : is_some (turned_away step before) ≡ true → moments ≡ []
-  pub kept : Each (AllKeep sum P before.content (begun step before).floor) (from ∷ moments)
-  pub covered : Each (AllCover sum P before.content (begun step before).covers) (from ∷ moments)
+  pub kept : Each (AllKeep sum P before.content (at_step step before).floor) (from ∷ moments)
+  pub covered : Each (AllCover sum P before.content (at_step step before).covers) (from ∷ moments)
   pub only : Each (AllOnly sum P before.content (other_content step before)) (from ∷ moments)
   pub within : (raised (last from moments) after).floor ≤ length after.content
 
 -- a list of steps, through the moments of the run, from one standing to another: after each, what a
 -- completed sync covers is a floor; and what stands between two steps, or where none is left, is
 -- kept
-abbrev pub Ran : (List ℕ → ℕ) → (P : ℕ) → List Step → List Reply → Disk → List Disk → Standing
-    → Standing → Type 0
+abbrev pub Ran : (List ℕ → ℕ) → (P : ℕ) → List Step → List Reply → Disk → List Disk → RunState
+    → RunState → Type 0
 Ran sum P [] [] from moments s after =
     (moments ≡ []) × (after ≡ s) × AllKeep sum P s.content s.floor from
     × AllOnly sum P s.content s.otherwise from
 Ran sum P (step ∷ steps) (reply ∷ replies) from moments s after =
     AllKeep sum P s.content s.floor from × AllOnly sum P s.content s.otherwise from
-    × (first : List Disk) × (rest : List Disk) × (moments ≡ first ++ rest) × (mid : Standing)
+    × (first : List Disk) × (rest : List Disk) × (moments ≡ first ++ rest) × (mid : RunState)
     × Did sum P step reply from first s mid
     × Ran sum P steps replies (last from first) rest (raised (last from first) mid) after
 Ran sum P [] (reply ∷ replies) from moments s after = ⊥
@@ -709,7 +709,7 @@ pending_in Dirty = None
 pending_in (Pending name) = Some name
 
 -- a writer stands for a content, and for what is buffered of it
-pub record WriterStandsFor (P : ℕ) (w : WriterState) (s : Standing) (d : Disk) : Type 0 where
+pub record WriterRepresents (P : ℕ) (w : WriterState) (s : RunState) (d : Disk) : Type 0 where
   pub page_size : w.page_size ≡ P
   pub has_writer : s.has_writer ≡ true
   pub content : s.content ≡ content_of w d.readable
@@ -721,9 +721,9 @@ pub record WriterStandsFor (P : ℕ) (w : WriterState) (s : Standing) (d : Disk)
   pub awaited : s.awaited ≡ pending_in w.sync
 
 -- the standing has the content and the buffer of this writer, or has no writer if there is none
-abbrev pub WriterFits : (P : ℕ) → Option WriterState → Standing → Disk → Type 0
+abbrev pub WriterFits : (P : ℕ) → Option WriterState → RunState → Disk → Type 0
 WriterFits P None s d = s.has_writer ≡ false
-WriterFits P (Some w) s d = WriterStandsFor P w s d
+WriterFits P (Some w) s d = WriterRepresents P w s d
 
 -- the session has the names that the standing tells
 abbrev pub NamesFit : List ℕ → (covers : List (ℕ × ℕ)) → Type 0
@@ -731,9 +731,9 @@ NamesFit names covers =
     (name : ℕ) → list_any (λ n. nat_eq n name) names ≡ list_any (λ c. nat_eq c.0 name) covers
 
 -- a replay as a standing tells it, over a disk of which this is readable
-abbrev pub replayed : (readable : List ℕ) → ReplayState → Replayed
-replayed readable r = record {
-  content = told r.tail readable;
+abbrev pub replay_in_run : (readable : List ℕ) → ReplayState → RunReplay
+replay_in_run readable r = record {
+  content = logical_bytes r.tail readable;
   whole = r.tail.full_pages * r.tail.page_size;
   position = r.position;
   hand = length r.hand;
@@ -743,7 +743,7 @@ replayed readable r = record {
 -- what a session stands for over this disk, in pages of P bytes: every image keeps the floor, and
 -- would keep what a started sync covers once that completed; and chance aside it has as its text a
 -- prefix of one of the two contents. Each snapshot and each replay tells what it told.
-pub record StandsFor (sum : List ℕ → ℕ) (P : ℕ) (session : SessionState) (s : Standing)
+pub record Represents (sum : List ℕ → ℕ) (P : ℕ) (session : SessionState) (s : RunState)
     (d : Disk) : Type 0 where
   pub fits : WriterFits P session.writer s d
   pub phase : session.recovering ≡ s.recovering
@@ -753,8 +753,8 @@ pub record StandsFor (sum : List ℕ → ℕ) (P : ℕ) (session : SessionState)
   pub kept : AllKeep sum P s.content s.floor d
   pub covered : AllCover sum P s.content s.covers d
   pub only : AllOnly sum P s.content s.otherwise d
-  pub snapshots : s.snapshots ≡ map (option_map (λ t. told t d.readable)) session.snapshots
-  pub replays : s.replays ≡ map (option_map (replayed d.readable)) session.replays
+  pub snapshots : s.snapshots ≡ map (option_map (λ t. logical_bytes t d.readable)) session.snapshots
+  pub replays : s.replays ≡ map (option_map (replay_in_run d.readable)) session.replays
 
 -- the writer, if there is one, is sound over its blob
 abbrev pub HasSoundWriter : (List ℕ → ℕ) → Option WriterState → Disk → Type 0
@@ -777,14 +777,14 @@ pub record IsSnapshot (sum : List ℕ → ℕ) (writer : Option WriterState) (t 
 abbrev pub IsReplayIn : (List ℕ → ℕ) → Option WriterState → Disk → Option ReplayState → Type 0
 IsReplayIn sum writer d None = Unit {0}
 IsReplayIn sum writer d (Some r) =
-    IsReplayOf sum r (told r.tail d.readable) d × IsBelow writer r.tail
+    IsReplayOf sum r (logical_bytes r.tail d.readable) d × IsBelow writer r.tail
 
 -- a session may take steps. The syncs that it was given may be waited for, its snapshots can be
 -- read and its replays go on, even if the writer is gone. A writer in recovery, which may cut its
 -- blob, has no snapshot
-pub record IsReady (sum : List ℕ → ℕ) (session : SessionState) (d : Disk) : Type 0 where
+pub record IsSoundSession (sum : List ℕ → ℕ) (session : SessionState) (d : Disk) : Type 0 where
   pub writer : HasSoundWriter sum session.writer d
-  pub starts : (session.names ≡ []) ⊎ StartsStand d
+  pub starts : (session.names ≡ []) ⊎ StartsCanBeAwaited d
   pub snapshots : All (λ o. IfSome o (λ t. IsSnapshot sum session.writer t d)) session.snapshots
   pub begun : session.recovering ≡ true → session.snapshots ≡ []
   pub replays : All (IsReplayIn sum session.writer d) session.replays
@@ -804,7 +804,7 @@ pub record CacheFits (session : SessionState) (cache : CacheState) (d : Disk) : 
 -- still to come
 pub record IsSessionReady (sum : List ℕ → ℕ) (session : SessionState) (cache : CacheState)
     (d : Disk) : Type 0 where
-  pub steps : IsReady sum session d
+  pub steps : IsSoundSession sum session d
   pub cached : CacheFits session cache d
   pub fresh : IsFresh cache
 
@@ -823,12 +823,12 @@ FitsOn was now from to =
 -- a run of steps by a session: the moments that it took, and the standing at its end, for which the
 -- session stands
 pub record Runs (sum : List ℕ → ℕ) (P : ℕ) (steps : List Step) (replies : List Reply)
-    (session : SessionState) (old new : Life) (before : Standing) : Type 0 where
+    (session : SessionState) (old new : Life) (before : RunState) : Type 0 where
   pub moments : List Disk
   pub goes : new ≡ life_after old moments
-  pub after : Standing
+  pub after : RunState
   pub ran : Ran sum P steps replies old.present moments before after
-  pub stands : StandsFor sum P session after new.present
+  pub stands : Represents sum P session after new.present
 
 -- a run, whatever the session stood for when it began: one reply a step, after those that were
 -- there
@@ -837,7 +837,7 @@ pub record RunsAlways (sum : List ℕ → ℕ) (steps : List Step) (was now : Se
   pub added : List Reply
   pub adds : replies ≡ earlier ++ added
   pub count : length added ≡ length steps
-  pub runs : (P : ℕ) (before : Standing) → StandsFor sum P was before old.present
+  pub runs : (P : ℕ) (before : RunState) → Represents sum P was before old.present
       → Runs sum P steps added now old new before
 
 -- there was no memory for the replies: no step was taken

@@ -6,9 +6,9 @@ use Rattle.crash.specs.Looks.{Looked}
 use Rattle.paged.specs.declared.within.Refusal.{Refusal}
 use Rattle.paged.specs.declared.within.Refusal.TheVariants.{WouldCut, Failed}
 use Rattle.paged.specs.Within.{PutsAtStake, MayGo}
-use Rattle.session.specs.Run.{IsReady, SessionState}
+use Rattle.session.specs.Run.{IsSoundSession, SessionState}
 use Rattle.session.specs.Others.{IsNewTo}
-use Rattle.session.specs.Promise.{BeginsBy, GivesBack, GivesId}
+use Rattle.session.specs.Promise.{BeginsBy, GivesBack, GivesSessionId}
 use Rattle.disk.specs.declared.error.Error.TheVariants.{OffsetOverflow}
 use Rattle.page.specs.Geometry.{adjusted}
 
@@ -27,17 +27,17 @@ BeginsWithin sum cache capacity allowed old new (Err (Failed e)) =
     × BeginsBy sum cache capacity old new (Err e)
 
 -- the cache after it: where more would go than is allowed, it gave no id
-abbrev pub GivesIdWithin : Result SessionState Refusal → CacheState → CacheState → Type 0
-GivesIdWithin (Ok now) old new = GivesId (Ok now) old new
-GivesIdWithin (Err (WouldCut cut)) old new = new ≡ old
-GivesIdWithin (Err (Failed e)) old new = GivesId (Err e) old new
+abbrev pub GivesSessionIdWithin : Result SessionState Refusal → CacheState → CacheState → Type 0
+GivesSessionIdWithin (Ok now) old new = GivesSessionId (Ok now) old new
+GivesSessionIdWithin (Err (WouldCut cut)) old new = new ≡ old
+GivesSessionIdWithin (Err (Failed e)) old new = GivesSessionId (Err e) old new
 
 -- all that a recovery within a limit answers, as `BeginGoes` has it of one without
 pub record BeginWithinGoes (sum : List ℕ → ℕ) (cache after : CacheState) (capacity allowed : ℕ)
     (old new : Life) (result : Result SessionState Refusal) : Type 0 where
   pub begins : BeginsWithin sum cache capacity allowed old new result
   pub overflow : 2 ^ 64 ≤ adjusted capacity cache.page_size → result ≡ Err (Failed OffsetOverflow)
-  pub ids : GivesIdWithin result cache after
-  pub steps : IfOk result (λ session. IsReady sum session new.present)
+  pub ids : GivesSessionIdWithin result cache after
+  pub steps : IfOk result (λ session. IsSoundSession sum session new.present)
   pub apart : IfOk result (IsNewTo cache)
   pub gives : OnOk result (GivesBack sum cache.page_size old.present)

@@ -6,8 +6,8 @@ ghost use Rattle.paged_read.specs.Tail.{CanRead};
 ghost use Rattle.paged.specs.Caches.{tail_of};
 ghost use Rattle.paged.specs.Ready.{IsReady};
 ghost use Rattle.paged.specs.Reads.{size_of};
-ghost use Rattle.session.specs.Calls.{Appended, AppendSays, LeavesTaken, NeedsSync, Sized};
-ghost use Rattle.session.specs.Calls.{Starts, Synced, TriedAppend, Waits};
+ghost use Rattle.session.specs.Calls.{AppendSays, DidAppend, DidNeeds, LeavesTaken, Sized};
+ghost use Rattle.session.specs.Calls.{DidStartSync, DidSync, TriedAppend, Waits};
 ghost use Rattle.session.specs.Calls.{IsOfEither, TakenBy};
 ghost use Rattle.cache.specs.CacheState.{CacheState};
 ghost use Rattle.session.specs.Run.{FitsOn, FitsWriter, HasSoundWriter, KeepsCache};
@@ -64,7 +64,7 @@ impl<B, H, Phase> Held<B, H, Phase> {
     }
 
     fn needs_sync(&self) -> Reply
-        ensures { NeedsSync self.now result }
+        ensures { DidNeeds self.now result }
     {
         match &self.writer {
             Some(writer) => Reply::Answer(writer.needs_sync()),
@@ -119,7 +119,7 @@ impl<B: Blob, H: Sum, Phase> Held<B, H, Phase> {
         requires cached { FitsWriter self.old cache.old (B.life blob.old).present }
         requires fresh { IsFresh cache.old }
         ensures goes { let old = B.life blob.old in let new = B.life blob.new in
-            Appended H.sum_of self.old self.new bytes.now cache.old cache.new old new result }
+            DidAppend H.sum_of self.old self.new bytes.now cache.old cache.new old new result }
         ensures cached { FitsWriter self.new cache.new (B.life blob.new).present }
         ensures fresh_ids { IsFresh cache.old → IsFresh cache.new }
         ensures tails { let old = B.life blob.old in let new = B.life blob.new in
@@ -142,7 +142,7 @@ impl<B: Blob, H: Sum, Phase> Held<B, H, Phase> {
         requires cached { FitsWriter self.old cache.old (B.life blob.old).present }
         requires fresh { IsFresh cache.old }
         ensures goes { let old = B.life blob.old in let new = B.life blob.new in
-            Appended H.sum_of self.old self.new bytes.now cache.old cache.new old new result }
+            DidAppend H.sum_of self.old self.new bytes.now cache.old cache.new old new result }
         ensures cached { FitsWriter self.new cache.new (B.life blob.new).present }
         ensures fresh_ids { IsFresh cache.old → IsFresh cache.new }
         ensures tails { let old = B.life blob.old in let new = B.life blob.new in
@@ -179,7 +179,7 @@ impl<B: Blob, H: Sum, Phase> Held<B, H, Phase> {
         requires cached { FitsWriter self.old cache.old (B.life blob.old).present }
         requires fresh { IsFresh cache.old }
         ensures goes { let old = B.life blob.old in let new = B.life blob.new in
-            Synced H.sum_of self.old self.new cache.old cache.new old new result }
+            DidSync H.sum_of self.old self.new cache.old cache.new old new result }
         ensures cached { FitsWriter self.new cache.new (B.life blob.new).present }
         ensures fresh_ids { IsFresh cache.old → IsFresh cache.new }
         ensures tails { let old = B.life blob.old in let new = B.life blob.new in
@@ -203,7 +203,8 @@ impl<B: Blob, H: Sum, Phase> Held<B, H, Phase> {
         requires cached { FitsWriter self.old cache.old (B.life blob.old).present }
         requires fresh { IsFresh cache.old }
         ensures goes { let old = B.life blob.old in let new = B.life blob.new in
-            Starts H.sum_of self.old self.new names.old.items names.new.items cache.old cache.new
+            DidStartSync H.sum_of self.old self.new names.old.items names.new.items cache.old
+            cache.new
             old new result }
         ensures cached { FitsWriter self.new cache.new (B.life blob.new).present }
         ensures fresh_ids { IsFresh cache.old → IsFresh cache.new }

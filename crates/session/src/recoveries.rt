@@ -136,7 +136,7 @@ impl<H: Sum> Session<MemBlob, H> {
         ensures ready { let new = (life_of blob.new).present in IsFresh cache.old
             → OnOk result (IsSessionReady H.sum_of self.new cache.new new) }
         ensures fresh { IsFresh cache.old → IsFresh cache.new }
-        ensures others { LeavesOthersAnew self.old self.new cache.old cache.new }
+        ensures others_anew { LeavesOthersAnew self.old self.new cache.old cache.new }
 
         // Whatever it answers, what comes back later came through that crash.
         ensures later { let old = (life_of blob.old).present in

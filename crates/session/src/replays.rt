@@ -4,7 +4,7 @@ ghost use Rattle.std.specs.Int.NonZero.{non_zero_usize_get};
 ghost use Rattle.cache.specs.Pages.{IsFresh};
 ghost use Rattle.crash.specs.Looks.{Looked};
 ghost use Rattle.paged_read.specs.Replay.{ReplaysOn};
-ghost use Rattle.session.specs.Calls.{AtReplay, CanGoOn, EnsureSays, KeepsAllButReplays};
+ghost use Rattle.session.specs.Calls.{AtReplay, EnsureSays, KeepsAllButReplays, ReplayCanGoOn};
 ghost use Rattle.session.specs.Calls.{KeepsButReplays, LeavesTaken, OfReplay, SeeksOf, TakesOf};
 ghost use Rattle.session.specs.Calls.{TakesReplay};
 ghost use Rattle.session.specs.Run.{FitsWriter, HasSoundWriter};
@@ -108,7 +108,7 @@ impl<B: Blob, H: Sum> Session<B, H> {
     // After the back of the writer, which may be gone.
     pub(crate) fn ensure(&mut self, blob: &mut B, index: usize, count: usize) -> Reply
         requires can { let old = (B.life blob.old).present in
-            All (λ o. CanGoOn o old) self.old.replays }
+            All (λ o. ReplayCanGoOn o old) self.old.replays }
         ensures goes { let old = B.life blob.old in let new = B.life blob.new in
             AtReplay index self.old.replays self.new.replays result (new ≡ old) (λ r q.
             EnsureSays H.sum_of r q count old new result) }
@@ -160,7 +160,7 @@ fn ensure_at<B: Blob, H: Sum>(
     count: usize,
 ) -> Reply
     requires can { let old = (B.life blob.old).present in
-        All (λ o. CanGoOn o old) replays.old.items }
+        All (λ o. ReplayCanGoOn o old) replays.old.items }
     ensures goes { let old = B.life blob.old in let new = B.life blob.new in
         AtReplay index replays.old.items replays.new.items result (new ≡ old) (λ r q.
         EnsureSays H.sum_of r q count old new result) }
@@ -207,7 +207,7 @@ fn ensure_of<B: Blob, H: Sum>(
     blob: &mut B,
     count: usize,
 ) -> Reply
-    requires can { CanGoOn replay.old (B.life blob.old).present }
+    requires can { ReplayCanGoOn replay.old (B.life blob.old).present }
     ensures goes { let old = B.life blob.old in let new = B.life blob.new in
         OfReplay replay.old replay.new result (new ≡ old) (λ r q.
         EnsureSays H.sum_of r q count old new result) }

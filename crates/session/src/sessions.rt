@@ -10,13 +10,13 @@ ghost use Rattle.disk.specs.Disk.{Disk};
 ghost use Rattle.paged.specs.Caches.{tail_of};
 ghost use Rattle.paged.specs.Reads.{size_of};
 ghost use Rattle.session.specs.Others.{LeavesOtherBlobs, WriterLeavesOthers};
-ghost use Rattle.session.specs.Run.{CacheFits, FitsWriter, HasSoundWriter, IsReady};
+ghost use Rattle.session.specs.Run.{CacheFits, FitsWriter, HasSoundWriter, IsSoundSession};
 ghost use Rattle.session.specs.Run.{IsSessionReady, TookNone};
-ghost use Rattle.session.specs.Promise.{Promises, StandsWhereSound, closed, session_of};
-ghost use Rattle.session.specs.Calls.{Begins, is_given, IsOfEither, KeepsRest, KeepsSnapshots};
+ghost use Rattle.session.specs.Promise.{Promises, RepresentsWhereSound, closed, session_of};
+ghost use Rattle.session.specs.Calls.{DidBegin, is_given, IsOfEither, KeepsRest, KeepsSnapshots};
 ghost use Rattle.session.specs.Calls.{KeepsUncut};
-ghost use Rattle.session.specs.Calls.{DidCall, LeavesTaken, RunGoes, Steps, TakenBy, Truncated};
-ghost use Rattle.session.specs.Calls.{WaitsFor};
+ghost use Rattle.session.specs.Calls.{DidCall, DidTruncate, LeavesTaken, RunGoes, Steps, TakenBy};
+ghost use Rattle.session.specs.Calls.{DidWaitFor};
 
 use crate::held::Held;
 use crate::names::Names;
@@ -84,8 +84,8 @@ impl<B: Blob, H: Sum> Session<B, H> {
     /// A session that begins with this writer, in recovery.
     pub fn new(alloc: Global, writer: Recovery<B, H>) -> Self
         ensures writer { result ≡ session_of writer }
-        ensures stands { StandsWhereSound H.sum_of writer }
-        ensures ready { (d : Disk) → IsSound H.sum_of writer d → IsReady H.sum_of result d }
+        ensures represents { RepresentsWhereSound H.sum_of writer }
+        ensures ready { (d : Disk) → IsSound H.sum_of writer d → IsSoundSession H.sum_of result d }
         ensures cached { (cache : CacheState) (d : Disk) → CanRead (tail_of writer) cache d
             → CacheFits result cache d }
     {
@@ -116,7 +116,7 @@ impl<B: Blob, H: Sum> Session<B, H> {
 
     /// Takes one step.
     fn step(&mut self, blob: &mut B, cache: &mut CacheRef, step: &Step) -> Reply
-        requires ready { IsReady H.sum_of self.old (B.life blob.old).present }
+        requires ready { IsSoundSession H.sum_of self.old (B.life blob.old).present }
         requires cached { CacheFits self.old cache.old (B.life blob.old).present }
         requires fresh { IsFresh cache.old }
         ensures goes { let old = B.life blob.old in let new = B.life blob.new in
@@ -170,7 +170,7 @@ impl<B: Blob, H: Sum> Session<B, H> {
     // After the back of the writer, which may be gone.
     fn wait_sync(&self, blob: &mut B, name: u64) -> Reply
         ensures goes { let given = is_given self.now.names name in
-            WaitsFor given name (B.life blob.old) (B.life blob.new) result }
+            DidWaitFor given name (B.life blob.old) (B.life blob.new) result }
         ensures can_read { (t : Tail) (cache : CacheState)
             → CanRead t cache (B.life blob.old).present
             → CanRead t cache (B.life blob.new).present }
@@ -188,7 +188,7 @@ impl<B: Blob, H: Sum> Session<B, H> {
     }
 
     fn begin(&mut self) -> Reply
-        ensures goes { Begins self.old.writer self.old self.new result }
+        ensures goes { DidBegin self.old.writer self.old self.new result }
     {
         if !self.recovering {
             return match self.appending.writer {
@@ -209,7 +209,7 @@ impl<B: Blob, H: Sum> Session<B, H> {
         requires sound { HasSoundWriter H.sum_of self.old.writer (B.life blob.old).present }
         requires cached { FitsWriter self.old.writer cache.old (B.life blob.old).present }
         ensures goes { let old = B.life blob.old in let new = B.life blob.new in
-            Truncated H.sum_of self.old.recovering self.old.writer self.new.writer size cache.old
+            DidTruncate H.sum_of self.old.recovering self.old.writer self.new.writer size cache.old
             cache.new old new result }
         ensures rest { KeepsUncut self.old self.new }
         ensures cached { FitsWriter self.new.writer cache.new (B.life blob.new).present }
@@ -227,7 +227,7 @@ impl<B: Blob, H: Sum> Session<B, H> {
         requires sound { HasSoundWriter H.sum_of self.old.writer (B.life blob.old).present }
         requires cached { FitsWriter self.old.writer cache.old (B.life blob.old).present }
         ensures goes { let old = B.life blob.old in let new = B.life blob.new in
-            Truncated H.sum_of self.old.recovering self.old.writer self.new.writer size cache.old
+            DidTruncate H.sum_of self.old.recovering self.old.writer self.new.writer size cache.old
             cache.new old new result }
         ensures rest { KeepsRest self.old self.new }
         ensures cached { FitsWriter self.new.writer cache.new (B.life blob.new).present }

@@ -2,7 +2,7 @@
 ghost use Rattle.std.specs.Prelude.{◌≡◌, All, IfSome, true};
 ghost use Rattle.cache.specs.Pages.{IsFresh};
 ghost use Rattle.paged_read.specs.Replay.{LeavesAllReplays};
-ghost use Rattle.paged_read.specs.Snapshots.{LeavesAllReads, LeavesAllTails, LeavesWriters};
+ghost use Rattle.paged_read.specs.Snapshots.{LeavesAllReads, LeavesAllTails, LeavesAllWriters};
 ghost use Rattle.paged_read.specs.Tail.{CanRead, HasFullPages};
 ghost use Rattle.session.specs.Calls.{DidSeal, DidSnap, DidSnapshot, DidTrySnapshot};
 ghost use Rattle.session.specs.Calls.{LeavesTaken, RefusesAppending};
@@ -138,7 +138,7 @@ impl<B: Blob, H: Sum> Session<B, H> {
             DidSnap H.sum_of (numbered self.now.snapshots index) cache.old cache.new offset len old
             new result }
         ensures fresh_ids { IsFresh cache.old → IsFresh cache.new }
-        ensures writers { LeavesWriters H.sum_of (B.life blob.old) (B.life blob.new) }
+        ensures writers { LeavesAllWriters H.sum_of (B.life blob.old) (B.life blob.new) }
         ensures tails { let old = B.life blob.old in let new = B.life blob.new in
             LeavesAllTails H.sum_of cache.old cache.new old new }
         ensures replays { LeavesAllReplays (B.life blob.old) (B.life blob.new) }

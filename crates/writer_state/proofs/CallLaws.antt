@@ -3,7 +3,7 @@ use Rattle.std.proofs.Common.{◌≡◌, ℕ, ◌+◌, ◌*◌, List, length, re
 use Rattle.std.specs.Prelude.{Bool, true, false, Result, Ok, Err}
 use Rattle.disk.specs.declared.error.Error.{Error}
 use Rattle.disk.specs.declared.error.Error.TheVariants.{WriteFailed, SyncFailed, OffsetOverflow, OutOfMemory}
-use Rattle.disk.specs.Disk.{Disk, Life, Operated, Request, next, settled_disk, logged, AskedOnce, WriteGoes, SyncGoes}
+use Rattle.disk.specs.Disk.{Disk, Life, HasOperated, Request, next, settled_disk, logged, AskedOnce, WriteGoes, SyncGoes}
 use Rattle.disk.specs.Disk.Operation.{Write}
 use Rattle.disk.specs.Disk.Request.{WriteAt, SyncAll}
 use Rattle.writer_state.specs.WriterState.{WriterState, after_write}
@@ -64,7 +64,7 @@ module _ (sum : List ℕ → ℕ) (w : WriterState) (old : Life) (sound : Consis
 module _ (sum : List ℕ → ℕ) (w : WriterState) (old new : Life) (k : ℕ) (rest : Bool) (bytes : List ℕ) (small : IsSmall sum) (sound : Consistency sum w old.present) (ready : MayFlush w.sync w.flushed w.durable)
     (can : CanWrite w.page_size w.tip k rest) (is : bytes ≡ built sum w.page_size w.durable (written_pages k rest) w.tip) where
   -- a flush that was done or failed
-  operated : (sync failed : Bool) (d : Disk) → new ≡ next old d → Operated (Write (w.full_pages * (w.page_size + 12)) bytes) (WriteAt (w.full_pages * (w.page_size + 12)) (length bytes) sync) failed old.present d
+  operated : (sync failed : Bool) (d : Disk) → new ≡ next old d → HasOperated (Write (w.full_pages * (w.page_size + 12)) bytes) (WriteAt (w.full_pages * (w.page_size + 12)) (length bytes) sync) failed old.present d
       → StaysThrough sum w.page_size (content w old.present.readable) old new
   operated sync failed d goes done =
       one_stays sum w old sound new d goes (operated_stays sum w old.present d k rest bytes small sound ready can is (WriteAt (w.full_pages * (w.page_size + 12)) (length bytes) sync) failed done)

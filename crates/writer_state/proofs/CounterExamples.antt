@@ -12,7 +12,7 @@ use Rattle.page.specs.declared.slot.Slot.TheVariants.{First, Second}
 use Rattle.page.specs.declared.slot.ActiveChecksum.{ActiveChecksum}
 use Rattle.page.proofs.Examples.{abcd_page, ef_page, efg_page}
 use Rattle.crash.specs.Built.{kept_len}
-use Rattle.crash.specs.Guard.{Fixed, Held, SlotGuard, TipGuard, Guards}
+use Rattle.crash.specs.Guard.{Fixed, IsPinned, SlotGuard, TipGuard, Guards}
 use Rattle.crash.specs.Distinct.{IsCutZero, IsGood, PageIsGood, IsGoodFrom, DurableTells}
 use Rattle.crash.specs.Kept.{AllKeep, AllOnly, Each, Moments, Through}
 use Rattle.crash.specs.Stays.{KeepsFloors, LeavesOnly}
@@ -20,7 +20,7 @@ use Rattle.crash.specs.Started.{AllSettled}
 use Rattle.crash.specs.Moments.{through_end}
 use Rattle.crash.proofs.Disks.{base_is_image, fixed_at_rest, whole_is_image}
 use Rattle.crash.proofs.Promise.{guarded_is_kept, whole_is_chance_free}
-use Rattle.writer_state.specs.Sound.{HasPage, TipPage, StateFits, StartsFit, Stands, IsRepeated, IsSafe, IsSound, LeavesItsContent}
+use Rattle.writer_state.specs.Sound.{HasTipPage, TipPage, StateFits, StartsFit, IsWrittenOut, IsRepeated, IsSafe, IsSound, LeavesItsContent}
 use Rattle.writer_state.specs.declared.sync_state.SyncState.TheVariants.{Clean, Dirty, Pending}
 use Rattle.writer_state.proofs.Examples.{at_rest, durable, rewritten, six, seven, ef_slot, with_g, before, after, all_keep, a_lost_floor, a_sound_writer, an_unsound_writer, it_stands, it_is_pending, new_slot_moves, cut_page, was_read, flush_started, ef_holds}
 use Rattle.writer_state.proofs.PartExamples.{torn_page}
@@ -111,7 +111,7 @@ ef_is_fixed = fixed_at_rest durable 16 (101 ∷ 102 ∷ []) refl (omega arith) r
 abbrev pub efg_slot : ActiveChecksum
 efg_slot = record { slot = Second; len = 3; crc = 306 }
 
-pub efg_is_not_held : Held add_sum 4 rewritten 1 Second (0 ∷ 3 ∷ 0 ∷ 0 ∷ 1 ∷ 50 ∷ []) (101 ∷ 102 ∷ 103 ∷ []) → ⊥
+pub efg_is_not_held : IsPinned add_sum 4 rewritten 1 Second (0 ∷ 3 ∷ 0 ∷ 0 ∷ 1 ∷ 50 ∷ []) (101 ∷ 102 ∷ 103 ∷ []) → ⊥
 efg_is_not_held held = new_slot_moves held.fixed_slot
 
 pub ef_guards : SlotGuard add_sum 4 six durable 1 ef_slot
@@ -177,7 +177,7 @@ one_is_not_settled all = omega (arith, all 0 (1, abcd_page ++ efg_page) refl)
 -- ---- writers
 
 -- the page of "ef" isn't that of a tip of "ex"
-pub no_page_of_ex : HasPage add_sum 4 1 (101 ∷ 120 ∷ []) (abcd_page ++ ef_page) ef_slot → ⊥
+pub no_page_of_ex : HasTipPage add_sum 4 1 (101 ∷ 120 ∷ []) (abcd_page ++ ef_page) ef_slot → ⊥
 no_page_of_ex has = omega (arith, ap (λ (l : List ℕ). get_or l 1 0) has.begins)
 
 pub ef_is_the_tips_page : TipPage add_sum 4 1 (101 ∷ 102 ∷ 103 ∷ []) (abcd_page ++ ef_page) (Some ef_slot)
@@ -209,7 +209,7 @@ pub it_does_not_repeat_efg : IsRepeated Dirty (Some efg_slot) (Some ef_slot) (So
 it_does_not_repeat_efg is = omega (arith, ap kept_len is)
 
 -- a writer with an empty tip over the page of "ef" doesn't stand, and isn't sound
-pub it_does_not_stand : Stands add_sum (record with_g { tip = []; flushed = None; durable = None }) durable → ⊥
+pub it_does_not_stand : IsWrittenOut add_sum (record with_g { tip = []; flushed = None; durable = None }) durable → ⊥
 it_does_not_stand stands = let size : 32 ≡ 16 = stands.tip_page in omega (arith, size)
 
 pub it_is_sound : IsSound add_sum with_g durable

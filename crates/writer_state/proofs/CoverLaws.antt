@@ -3,7 +3,7 @@ use Rattle.std.proofs.Common.{◌≡◌, ℕ, ◌+◌, ◌*◌, ◌≤◌, List,
 use Rattle.std.specs.Prelude.{Bool, true, false, Result, Ok, Err}
 use Rattle.disk.specs.declared.error.Error.{Error}
 use Rattle.disk.specs.declared.error.Error.TheVariants.{WriteFailed, SyncFailed, OffsetOverflow, OutOfMemory}
-use Rattle.disk.specs.Disk.{Disk, Life, Operated, Request, next, settled_disk, logged, coverings, WriteGoes, SyncGoes, disk_settled_to}
+use Rattle.disk.specs.Disk.{Disk, Life, HasOperated, Request, next, settled_disk, logged, coverings, WriteGoes, SyncGoes, disk_settled_to}
 use Rattle.disk.specs.Disk.Operation.{Write}
 use Rattle.disk.specs.Disk.Request.{WriteAt, SyncAll}
 use Rattle.writer_state.specs.WriterState.{WriterState}
@@ -64,13 +64,13 @@ module _ (sum : List ℕ → ℕ) (w : WriterState) (old new : Life) (k : ℕ) (
   settled : AllSettled old.present
   settled = flush_settled old.present w.sync w.flushed w.durable ready sound.stands.starts
 
-  operated : (request : Request) (failed : Bool) (d : Disk) → Operated (Write offset bytes) request failed old.present d → CoversStay sum w.page_size whole old.present d
+  operated : (request : Request) (failed : Bool) (d : Disk) → HasOperated (Write offset bytes) request failed old.present d → CoversStay sum w.page_size whole old.present d
   operated request failed d done =
       let covers : coverings d ≡ coverings old.present = ap (λ (x : Disk). coverings x) done.rest in
       write_covers sum w.page_size whole old.present d covers settled (all_settled_alike old.present d covers (ap (λ (x : Disk). x.settled) done.rest) settled)
       (operated_stays sum w old.present d k rest bytes small sound ready can is request failed done)
 
-  operated_settled : (request : Request) (d : Disk) → Operated (Write offset bytes) request false old.present d → CoversStay sum w.page_size whole old.present (settled_disk d)
+  operated_settled : (request : Request) (d : Disk) → HasOperated (Write offset bytes) request false old.present d → CoversStay sum w.page_size whole old.present (settled_disk d)
   operated_settled request d done =
       let covers : coverings d ≡ coverings old.present = ap (λ (x : Disk). coverings x) done.rest in
       let same : d.settled ≡ old.present.settled = ap (λ (x : Disk). x.settled) done.rest in

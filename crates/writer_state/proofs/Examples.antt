@@ -4,7 +4,7 @@ use Rattle.std.proofs.Common.{◌≡◌, ◌⊎◌, inl, inr, ℕ, zero, suc, �
 use Rattle.std.specs.Prelude.{Some, None, Ok, true, false, slice_get, get_or}
 use Rattle.std.proofs.lemmas.Option.{same_Some}
 use Rattle.disk.specs.Images.{only_image}
-use Rattle.disk.specs.Disk.{Disk, Operation, Operated, Request, Life, IsWhole, IsImage, LeavesNoMore, IsPartial, applied, failures, logged, next, life_after, settled_disk, disk_settled_to, starts}
+use Rattle.disk.specs.Disk.{Disk, Operation, HasOperated, Request, Life, IsWhole, IsImage, LeavesNoMore, IsPartial, applied, failures, logged, next, life_after, settled_disk, disk_settled_to, starts}
 use Rattle.disk.specs.Disk.Operation.{Write, Resize}
 use Rattle.disk.specs.Disk.Request.{ReadAt, WriteAt, SyncAll}
 use Rattle.disk.proofs.Lists.{joined_element, taken_element, slice_get-drop}
@@ -18,7 +18,7 @@ use Rattle.writer_state.specs.WriterState.{WriterState, after_write}
 use Rattle.writer_state.specs.declared.sync_state.SyncState.TheVariants.{Clean, Dirty, Pending}
 use Rattle.crash.specs.Full.{AreFull}
 use Rattle.crash.specs.Built.{built}
-use Rattle.crash.specs.Guard.{Fixed, Held, Guards, IsTruthful, IsChanceFree}
+use Rattle.crash.specs.Guard.{Fixed, IsPinned, Guards, IsTruthful, IsChanceFree}
 use Rattle.crash.specs.Distinct.{IsCutZero, IsDistinct, IsGood, PageIsGood, SlotIsDistinct}
 use Rattle.crash.specs.Kept.{ImageKeeps, AllKeep, AllOnly, Each, Through}
 use Rattle.crash.specs.Stays.{Stays, StaysThrough, KeepsFloors, KeepsAllFloors, LeavesOnly, KeepsAll}
@@ -30,8 +30,8 @@ use Rattle.writer_state.proofs.ShortenLaws.{holds_at_rest, holds_keeps, stage_ho
 use Rattle.crash.proofs.ShrinkLaws.{held_stays_cut}
 use Rattle.crash.proofs.Promise.{guards_less, keeps_at_rest, keeps_same, guards_at_rest, whole_is_chance_free}
 use Rattle.crash.specs.Contents.{latest, stored}
-use Rattle.writer_state.specs.Sound.{content, HasPage, Stands, guard_slot, Consistency, IsConsistent, IsIntact, IsSafe, Soundness, IsSound, LeavesItsContent, IsPending}
-use Rattle.crash.specs.Started.{WouldKeep, CoversStay, StartsStand}
+use Rattle.writer_state.specs.Sound.{content, HasTipPage, IsWrittenOut, guard_slot, Consistency, IsConsistent, IsIntact, IsSafe, Soundness, IsSound, LeavesItsContent, IsPending}
+use Rattle.crash.specs.Started.{WouldKeep, CoversStay, StartsCanBeAwaited}
 use Rattle.crash.specs.Below.{SamePages, PagesStay}
 use Rattle.crash.proofs.Disks.{whole_is_image, torn_is_image, base_is_image, partial_whole, fixed_at_rest}
 use Rattle.crash.proofs.Moments.{stays_itself, kept_through, only_through}
@@ -178,7 +178,7 @@ abbrev pub ef_slot : ActiveChecksum
 ef_slot = record { slot = First; len = 2; crc = 203 }
 
 -- page 1 of the durable blob is held by its first slot: "ef", its six bytes and the page's end are fixed
-pub ef_is_held : Held add_sum 4 durable 1 First (0 ∷ 2 ∷ 0 ∷ 0 ∷ 0 ∷ 203 ∷ []) (101 ∷ 102 ∷ [])
+pub ef_is_held : IsPinned add_sum 4 durable 1 First (0 ∷ 2 ∷ 0 ∷ 0 ∷ 0 ∷ 203 ∷ []) (101 ∷ 102 ∷ [])
 ef_is_held = record {
   some = omega arith;
   fits = omega arith;
@@ -215,7 +215,7 @@ pub the_flush : built add_sum 4 (Some ef_slot) 1 (101 ∷ 102 ∷ 103 ∷ []) �
 the_flush = refl
 
 -- the blob has its page
-has_ef : HasPage add_sum 4 1 (101 ∷ 102 ∷ 103 ∷ []) (abcd_page ++ ef_page) ef_slot
+has_ef : HasTipPage add_sum 4 1 (101 ∷ 102 ∷ 103 ∷ []) (abcd_page ++ ef_page) ef_slot
 has_ef = record { size = refl; some = omega arith; there = omega arith; part = omega arith; crc = refl; value = refl; begins = refl; slot = refl }
 
 -- neither slot of it is bad
@@ -231,7 +231,7 @@ pub a_sound_writer : Soundness add_sum with_g durable
 a_sound_writer = page_sound add_sum with_g durable refl refl (omega arith) (lit< tt) (refl, tt) refl (λ name c is. absurd (cc is)) small_add_sum ef_slot refl has_ef ef_is_good
 
 -- so it stands for what is readable
-pub it_stands : Stands add_sum with_g durable
+pub it_stands : IsWrittenOut add_sum with_g durable
 it_stands = a_sound_writer.stands
 
 -- its durable bytes are guarded
@@ -258,7 +258,7 @@ zero_page = 0 ∷ 0 ∷ 0 ∷ 0 ∷ 0 ∷ 0 ∷ 0 ∷ 0 ∷ 0 ∷ 0 ∷ 0 ∷ 0 
 abbrev pub damaged : Disk
 damaged = at_rest (zero_page ++ ef_page)
 
-has_ef_after_zeros : HasPage add_sum 4 1 (101 ∷ 102 ∷ 103 ∷ []) (zero_page ++ ef_page) ef_slot
+has_ef_after_zeros : HasTipPage add_sum 4 1 (101 ∷ 102 ∷ 103 ∷ []) (zero_page ++ ef_page) ef_slot
 has_ef_after_zeros = record { size = refl; some = omega arith; there = omega arith; part = omega arith; crc = refl; value = refl; begins = refl; slot = refl }
 
 ef_is_good_after_zeros : PageIsGood add_sum 4 1 (zero_page ++ ef_page)
@@ -294,7 +294,7 @@ an_empty_writer = empty_sound add_sum (record { page_size = 4; id = 0; capacity 
 -- ---- a flush that a crash tears
 
 -- the flush of that writer is a write that isn't durable
-flush_is_done : Operated (Write 16 efg_page) (WriteAt 16 16 false) false durable rewritten
+flush_is_done : HasOperated (Write 16 efg_page) (WriteAt 16 16 false) false durable rewritten
 flush_is_done = record { readable = partial_whole (Write 16 efg_page) (abcd_page ++ ef_page); done = λ fine. refl; rest = refl }
 
 -- the writer after it is sound
@@ -309,7 +309,7 @@ pub it_stays : Stays add_sum 4 seven durable rewritten
 it_stays = operated_stays add_sum with_g durable rewritten 0 true efg_page small_add_sum (consistent_of add_sum with_g durable a_sound_writer) refl (omega arith, omega arith) refl (WriteAt 16 16 false) false flush_is_done
 
 -- the old slot of "ef" is repeated, so page 1 is held by it in the midst of the flush
-pub ef_stays_held : Held add_sum 4 rewritten 1 First (0 ∷ 2 ∷ 0 ∷ 0 ∷ 0 ∷ 203 ∷ []) (101 ∷ 102 ∷ [])
+pub ef_stays_held : IsPinned add_sum 4 rewritten 1 First (0 ∷ 2 ∷ 0 ∷ 0 ∷ 0 ∷ 203 ∷ []) (101 ∷ 102 ∷ [])
 ef_stays_held = held_through_flush add_sum 4 1 durable rewritten ef_slot 1 (101 ∷ 102 ∷ 103 ∷ []) (101 ∷ 102 ∷ []) refl refl refl ef_is_held
 
 -- the new slot isn't fixed until a sync
@@ -670,11 +670,11 @@ pub covers_are_lost : CoversStay add_sum 4 seven flush_started rewritten → ⊥
 covers_are_lost stay = absurd (cc ((stay 0 7 (omega arith) all_is_covered).named))
 
 -- it stands so that a wait for it, also where the writer is gone, makes nothing durable that a crash might not have left
-pub it_stands_so : StartsStand flush_started
+pub it_stands_so : StartsCanBeAwaited flush_started
 it_stands_so = starts_stand flush_started (Pending 0) refl it_is_pending
 
 -- not where it has other bytes: a wait would make an empty blob of it
-pub it_stands_not_so : StartsStand (record rewritten { started = record { covers = 1; bytes = []; failed = false } ∷ [] }) → ⊥
+pub it_stands_not_so : StartsCanBeAwaited (record rewritten { started = record { covers = 1; bytes = []; failed = false } ∷ [] }) → ⊥
 it_stands_not_so stands = elim (stands 0 (1, []) refl) [
   | inl settled ↦ absurd (omega (arith, settled))
   | inr all ↦ absurd (omega (arith, ap length all.1))
@@ -717,7 +717,7 @@ ef_holds = record {
 -- the blob says nothing but "abcdef" in any slot
 six_are_truthful : IsTruthful add_sum 4 six durable
 six_are_truthful =
-    let page : HasPage add_sum 4 1 (101 ∷ 102 ∷ []) (abcd_page ++ ef_page) ef_slot = record { size = refl; some = omega arith; there = omega arith; part = omega arith; crc = refl; value = refl; begins = refl; slot = refl } in
+    let page : HasTipPage add_sum 4 1 (101 ∷ 102 ∷ []) (abcd_page ++ ef_page) ef_slot = record { size = refl; some = omega arith; there = omega arith; part = omega arith; crc = refl; value = refl; begins = refl; slot = refl } in
     (page_sound add_sum (record with_g { tip = 101 ∷ 102 ∷ [] }) durable refl refl (omega arith) (lit< tt) (refl, tt) refl (λ name c is. absurd (cc is)) small_add_sum ef_slot refl page ef_is_good).truthful
 
 -- so a moment at which that slot holds owes nothing to a cut to six bytes

@@ -7,7 +7,7 @@ use Rattle.std.proofs.lemmas.List.{take-take, take_all, append-nil, take-append-
 use Rattle.std.proofs.lemmas.Option.{same_Some}
 use Rattle.std.proofs.lemmas.Grind.{flat_map-append}
 use Rattle.std.proofs.Math.Nat.{mul-le-mul_left}
-use Rattle.disk.specs.Disk.{Disk, Operation, Operated, applied, Request, coverings, AreCovered}
+use Rattle.disk.specs.Disk.{Disk, Operation, HasOperated, applied, Request, coverings, AreCovered}
 use Rattle.disk.specs.Disk.Operation.{Write}
 use Rattle.page.specs.Slot.{other}
 use Rattle.page.specs.Page.{pages, slot_of, value_len, text, active}
@@ -19,7 +19,7 @@ use Rattle.crash.specs.Full.{AreFull}
 use Rattle.crash.specs.Distinct.{DurableTells}
 use Rattle.crash.specs.Built.{kept_slot, kept_len, page_of, built_pages, built, durable_after, rest_written, written_pages}
 use Rattle.crash.specs.Contents.{latest, stored}
-use Rattle.writer_state.specs.Sound.{content, HasPage, TipPage, StateFits, StartsFit, MayFlush, Stands, CanWrite, IsIntact}
+use Rattle.writer_state.specs.Sound.{content, HasTipPage, TipPage, StateFits, StartsFit, MayFlush, IsWrittenOut, CanWrite, IsIntact}
 use Rattle.crash.specs.Started.{AllSettled}
 use Rattle.crash.proofs.Disks.{latest-append}
 use Rattle.crash.proofs.Lists.{take_past, drop_past, within_append, slice_get-append_right}
@@ -187,7 +187,7 @@ tip_after sum w old k true small some small_page carries can begins ends =
       slot = ap (λ (l : List ℕ). slot_of P (other (kept_slot d)) l) page ∙ slot_new sum P d chunk within;
     }
 
-module _ (sum : List ℕ → ℕ) (w : WriterState) (d e : Disk) (k : ℕ) (rest : Bool) (bytes : List ℕ) (small : IsSmall sum) (stands : Stands sum w d) (can : CanWrite w.page_size w.tip k rest)
+module _ (sum : List ℕ → ℕ) (w : WriterState) (d e : Disk) (k : ℕ) (rest : Bool) (bytes : List ℕ) (small : IsSmall sum) (stands : IsWrittenOut sum w d) (can : CanWrite w.page_size w.tip k rest)
     (is : bytes ≡ built sum w.page_size w.durable (written_pages k rest) w.tip)
     (readable : e.readable ≡ applied (Write (w.full_pages * (w.page_size + 12)) bytes) d.readable) where
   known : e.readable ≡ applied (Write (w.full_pages * (w.page_size + 12)) (built sum w.page_size w.durable (written_pages k rest) w.tip)) d.readable
@@ -210,7 +210,7 @@ module _ (sum : List ℕ → ℕ) (w : WriterState) (d e : Disk) (k : ℕ) (rest
       ∙ ap (λ (l : List ℕ). stored P w.full_pages d.readable ++ l) (take-append-drop (k * P) w.tip)
 
   -- after a flush that is done the writer stands for what is readable then
-  pub flush_stands : e.base ≡ d.base → e.since ≡ d.since ++ Write (w.full_pages * (w.page_size + 12)) bytes ∷ [] → AllSettled e → Stands sum (after_write sum w k rest) e
+  pub flush_stands : e.base ≡ d.base → e.since ≡ d.since ++ Write (w.full_pages * (w.page_size + 12)) bytes ∷ [] → AllSettled e → IsWrittenOut sum (after_write sum w k rest) e
   flush_stands base since settled =
       let P = w.page_size in
       let q = w.full_pages in
@@ -241,7 +241,7 @@ module _ (sum : List ℕ → ℕ) (w : WriterState) (d e : Disk) (k : ℕ) (rest
       (AreFull-append sum P front (built_pages sum P w.durable k w.tip) full (built_full sum P w.durable k w.tip small stands.some stands.small stands.carries.0 one.2))
 
   -- so does a write that the device did
-  pub operated_stands : (request : Request) → MayFlush w.sync w.flushed w.durable → Operated (Write (w.full_pages * (w.page_size + 12)) bytes) request false d e → Stands sum (after_write sum w k rest) e
+  pub operated_stands : (request : Request) → MayFlush w.sync w.flushed w.durable → HasOperated (Write (w.full_pages * (w.page_size + 12)) bytes) request false d e → IsWrittenOut sum (after_write sum w k rest) e
   operated_stands request ready done =
       flush_stands (ap (λ (x : Disk). x.base) done.rest) (ap (λ (x : Disk). x.since) done.rest)
       (all_settled_alike d e (ap (λ (x : Disk). coverings x) done.rest) (ap (λ (x : Disk). x.settled) done.rest) (flush_settled d w.sync w.flushed w.durable ready stands.starts))
@@ -286,9 +286,9 @@ pub tells_longer : (sum : List ℕ → ℕ) (tip more : List ℕ) (durable : Opt
 tells_longer sum tip more None few tells = tt
 tells_longer sum tip more (Some f) few tells = tells ∙ ap sum (sym (take-append-le f.len tip more few))
 
-module _ (sum : List ℕ → ℕ) (w : WriterState) (d e : Disk) (stands : Stands sum w d) (same : e.readable ≡ d.readable) where
+module _ (sum : List ℕ → ℕ) (w : WriterState) (d e : Disk) (stands : IsWrittenOut sum w d) (same : e.readable ≡ d.readable) where
   -- what a writer stands for depends on the bytes, and on what of them is durable
-  pub state_stands : (s : SyncState) → e.readable ≡ latest e.base e.since → StateFits e s → StartsFit e s → Stands sum (record w { sync = s }) e
+  pub state_stands : (s : SyncState) → e.readable ≡ latest e.base e.since → StateFits e s → StartsFit e s → IsWrittenOut sum (record w { sync = s }) e
   state_stands s done fits starts = record {
     some = stands.some;
     small = stands.small;
@@ -300,7 +300,7 @@ module _ (sum : List ℕ → ℕ) (w : WriterState) (d e : Disk) (stands : Stand
   }
 
   -- after a sync that is done it is clean
-  pub settle_stands : (s : SyncState) → e.base ≡ d.readable → e.since ≡ [] → StartsFit e s → Stands sum (record w { sync = s }) e
+  pub settle_stands : (s : SyncState) → e.base ≡ d.readable → e.since ≡ [] → StartsFit e s → IsWrittenOut sum (record w { sync = s }) e
   settle_stands s base since starts = state_stands s (same ∙ sym base ∙ ap (λ (os : List Operation). latest e.base os) (sym since)) (settled_fits e s since (base ∙ sym same)) starts
 
   -- and holds the same content
@@ -309,9 +309,9 @@ module _ (sum : List ℕ → ℕ) (w : WriterState) (d e : Disk) (stands : Stand
 
 -- ---- a writer that knows more
 
-module _ (sum : List ℕ → ℕ) (w : WriterState) (d : Disk) (stands : Stands sum w d) where
+module _ (sum : List ℕ → ℕ) (w : WriterState) (d : Disk) (stands : IsWrittenOut sum w d) where
   -- the tip may grow
-  pub longer_stands : (more : List ℕ) → Stands sum (record w { tip = w.tip ++ more }) d
+  pub longer_stands : (more : List ℕ) → IsWrittenOut sum (record w { tip = w.tip ++ more }) d
   longer_stands more = record {
     some = stands.some;
     small = stands.small;
@@ -327,7 +327,7 @@ module _ (sum : List ℕ → ℕ) (w : WriterState) (d : Disk) (stands : Stands 
   longer_content more = sym (append_assoc (stored w.page_size w.full_pages d.readable) w.tip more)
 
   -- a flush may repeat the slot that was flushed last
-  pub carry_stands : Stands sum (record w { durable = w.flushed }) d
+  pub carry_stands : IsWrittenOut sum (record w { durable = w.flushed }) d
   carry_stands = record {
     some = stands.some;
     small = stands.small;
@@ -343,7 +343,7 @@ module _ (sum : List ℕ → ℕ) (w : WriterState) (d : Disk) (stands : Stands 
 module _ (sum : List ℕ → ℕ) (w : WriterState) (d : Disk) (since : d.since ≡ []) (base : d.base ≡ d.readable) (some : 0 < w.page_size) (small : w.page_size < 2 ^ 16)
     (carried : w.durable ≡ w.flushed) where
   -- with nothing unsynced a writer stands for a blob whose pages it knows
-  pub settled_stands : StartsFit d w.sync → TipPage sum w.page_size w.full_pages w.tip d.readable w.flushed → Stands sum w d
+  pub settled_stands : StartsFit d w.sync → TipPage sum w.page_size w.full_pages w.tip d.readable w.flushed → IsWrittenOut sum w d
   settled_stands starts tip_page = record {
     some = some;
     small = small;
@@ -355,7 +355,7 @@ module _ (sum : List ℕ → ℕ) (w : WriterState) (d : Disk) (since : d.since 
   }
 
   -- the blob ends with a full page, and the writer buffers nothing
-  pub exact_stands : StartsFit d w.sync → w.flushed ≡ None → length d.readable ≡ w.full_pages * (w.page_size + 12) → Stands sum w d
+  pub exact_stands : StartsFit d w.sync → w.flushed ≡ None → length d.readable ≡ w.full_pages * (w.page_size + 12) → IsWrittenOut sum w d
   exact_stands starts none size = settled_stands starts (subst (λ (f : Option ActiveChecksum). TipPage sum w.page_size w.full_pages w.tip d.readable f) (sym none) size)
 
 module _ (sum : List ℕ → ℕ) (w : WriterState) (d : Disk) (since : d.since ≡ []) (base : d.base ≡ d.readable) (some : 0 < w.page_size) (small : w.page_size < 2 ^ 16)
@@ -371,7 +371,7 @@ module _ (sum : List ℕ → ℕ) (w : WriterState) (d : Disk) (since : d.since 
 pub has_page : (sum : List ℕ → ℕ) (P full : ℕ) (tip readable : List ℕ) (a : ActiveChecksum) → length readable ≡ (full + 1) * (P + 12)
     → AreBytes (take (P + 12) (drop (full * (P + 12)) readable))
     → active sum P (take (P + 12) (drop (full * (P + 12)) readable)) ≡ Some a → a.len < P
-    → tip ≡ take a.len (drop (full * (P + 12)) readable) → HasPage sum P full tip readable a
+    → tip ≡ take a.len (drop (full * (P + 12)) readable) → HasTipPage sum P full tip readable a
 has_page sum P full tip readable a size are is part tip_is =
     let rest = drop (full * (P + 12)) readable in
     let page = take (P + 12) rest in

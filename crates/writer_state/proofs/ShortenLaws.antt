@@ -5,7 +5,7 @@ use Rattle.std.proofs.lemmas.Bool.{cases_lt, cases_order}
 use Rattle.std.proofs.lemmas.List.{drop-drop, take-take, take_all}
 use Rattle.std.proofs.Math.Seq.{take-add}
 use Rattle.std.proofs.lemmas.Option.{same_Some}
-use Rattle.disk.specs.Disk.{Disk, Life, Started, Operation, Operated, Request, ResizeTo, WriteAt, SyncAll, IsImage, IsWhole, OperationGoes, ResizeGoes, SyncGoes, WriteGoes, applied, coverings, next, logged, settled_disk}
+use Rattle.disk.specs.Disk.{Disk, Life, Started, Operation, HasOperated, Request, ResizeTo, WriteAt, SyncAll, IsImage, IsWhole, OperationGoes, ResizeGoes, SyncGoes, WriteGoes, applied, coverings, next, logged, settled_disk}
 use Rattle.disk.specs.Disk.Operation.{Write, Resize}
 use Rattle.disk.specs.declared.error.Error.{Error}
 use Rattle.disk.specs.declared.error.Error.TheVariants.{WriteFailed, ResizeFailed, SyncFailed, OffsetOverflow, OutOfMemory}
@@ -23,7 +23,7 @@ use Rattle.crash.specs.Kept.{AllKeep, AllOnly, Each, Through}
 use Rattle.crash.specs.Looks.{Looked, SameButLog}
 use Rattle.crash.specs.Moments.{through_end, through_joins, through_more, through_start, through_then}
 use Rattle.crash.specs.Shrink.{HeldBy, HoldsText, SaysText, StaysHeld, published, slot_write, staged}
-use Rattle.crash.specs.Started.{AllSettled, CoversStay, CoversThrough, StartsStand, WouldKeep}
+use Rattle.crash.specs.Started.{AllSettled, CoversStay, CoversThrough, StartsCanBeAwaited, WouldKeep}
 use Rattle.writer_state.specs.Sound.{IsSound, content}
 use Rattle.crash.specs.Contents.{latest}
 use Rattle.crash.specs.Stays.{KeepsFloors, LeavesOnly}
@@ -177,7 +177,7 @@ module _ (Q : Disk → Type 0) (old new : Life) (start : Q old.present) where
       subst (λ (life : Life). Through Q old life) (sym is) (through_more Q old (next old d) e (through_more Q old old d (through_start Q old start) first) second)
 
   -- an operation that isn't durable, whatever its answer
-  pub operation_through : (o : Operation) (request : Request) (fault : Error) (answer : Result (Unit {0}) Error) → ((failed : Bool) (d : Disk) → Operated o request failed old.present d → Q d)
+  pub operation_through : (o : Operation) (request : Request) (fault : Error) (answer : Result (Unit {0}) Error) → ((failed : Bool) (d : Disk) → HasOperated o request failed old.present d → Q d)
       → OperationGoes o request fault old new answer → Through Q old new
   operation_through o request fault (Ok u) later (d, goes, operated) = through_one d goes (later false d operated)
   operation_through o request fault (Err OffsetOverflow) later (same, passes) = through_none same
@@ -185,14 +185,14 @@ module _ (Q : Disk → Type 0) (old new : Life) (start : Q old.present) where
   operation_through o request fault (Err e) later (is, (d, goes, operated)) = through_one d goes (later true d operated)
 
   -- a resize
-  pub resize_through : (len : ℕ) (answer : Result (Unit {0}) Error) → ((failed : Bool) (d : Disk) → Operated (Resize len) (ResizeTo len) failed old.present d → Q d)
+  pub resize_through : (len : ℕ) (answer : Result (Unit {0}) Error) → ((failed : Bool) (d : Disk) → HasOperated (Resize len) (ResizeTo len) failed old.present d → Q d)
       → ResizeGoes len old new answer → Through Q old new
   resize_through len answer later goes = operation_through (Resize len) (ResizeTo len) ResizeFailed answer later goes
 
   -- a write, durable or not
   pub write_through : (offset : ℕ) (bytes : List ℕ) (sync : Bool) (answer : Result (Unit {0}) Error)
-      → ((failed : Bool) (d : Disk) → Operated (Write offset bytes) (WriteAt offset (length bytes) sync) failed old.present d → Q d)
-      → ((d : Disk) → sync ≡ true → Operated (Write offset bytes) (WriteAt offset (length bytes) true) false old.present d → Q (settled_disk d))
+      → ((failed : Bool) (d : Disk) → HasOperated (Write offset bytes) (WriteAt offset (length bytes) sync) failed old.present d → Q d)
+      → ((d : Disk) → sync ≡ true → HasOperated (Write offset bytes) (WriteAt offset (length bytes) true) false old.present d → Q (settled_disk d))
       → WriteGoes offset bytes sync old new answer → Through Q old new
   write_through offset bytes false answer later settles goes = operation_through (Write offset bytes) (WriteAt offset (length bytes) false) WriteFailed answer later goes
   write_through offset bytes true (Ok u) later settles (d, goes, operated) = through_two d (settled_disk d) goes (later false d operated) (settles d refl operated)
@@ -217,7 +217,7 @@ pub rest_latest : (d : Disk) → d.since ≡ [] → d.base ≡ d.readable → d.
 rest_latest d at_rest base = sym base ∙ sym (ap (λ (os : List Operation). latest d.base os) at_rest)
 
 -- an operation that was done leaves the last whole state readable
-pub operated_latest : (o : Operation) (request : Request) (d e : Disk) → d.readable ≡ latest d.base d.since → Operated o request false d e → e.readable ≡ latest e.base e.since
+pub operated_latest : (o : Operation) (request : Request) (d e : Disk) → d.readable ≡ latest d.base d.since → HasOperated o request false d e → e.readable ≡ latest e.base e.since
 operated_latest o request d e done operated =
     operated.done refl ∙ ap (λ (l : List ℕ). applied o l) done ∙ sym (latest-append d.base d.since (o ∷ []))
     ∙ sym (λ i. latest (operated_base o request false d e operated i) (operated_since o request false d e operated i))
@@ -341,7 +341,7 @@ module _ (sum : List ℕ → ℕ) (P : ℕ) (told : List ℕ) (F : ℕ) where
       let d = old.present in
       let at = page * (P + 12) + P + slot_offset s in
       let o = slot_write P page s written in
-      let later : (request : Request) (failed : Bool) (e : Disk) → Operated o request failed d e → HoldsText sum P told F e = λ request failed e operated.
+      let later : (request : Request) (failed : Bool) (e : Disk) → HasOperated o request failed d e → HoldsText sum P told F e = λ request failed e operated.
       let base = operated_base o request failed d e operated in
       let since = operated_since o request failed d e operated in
       record {
@@ -459,7 +459,7 @@ module _ (sum : List ℕ → ℕ) (P : ℕ) (told : List ℕ) (page : ℕ) (f : 
       let d = old.present in
       let at = page * (P + 12) + P + slot_offset (other f.slot) in
       let o = slot_write P page (other f.slot) written in
-      let later : (request : Request) (failed : Bool) (e : Disk) → Operated o request failed d e → HeldBy sum P told page f e = λ request failed e operated.
+      let later : (request : Request) (failed : Bool) (e : Disk) → HasOperated o request failed d e → HeldBy sum P told page f e = λ request failed e operated.
       other_slot_holds sum P told page f written d e few (operated_base o request failed d e operated) (operated_since o request failed d e operated) held in
       write_through (HeldBy sum P told page f) old new held at written sync answer (λ failed e operated. later (WriteAt at (length written) sync) failed e operated)
       (λ e is operated.
@@ -612,7 +612,7 @@ goes_on_settled d e all on name c is =
 goes_on_itself : (d : Disk) → StartsGoOn d d
 goes_on_itself d = (refl, omega arith)
 
-goes_on_operated : (o : Operation) (request : Request) (failed : Bool) (d e : Disk) → Operated o request failed d e → StartsGoOn d e
+goes_on_operated : (o : Operation) (request : Request) (failed : Bool) (d e : Disk) → HasOperated o request failed d e → StartsGoOn d e
 goes_on_operated o request failed d e operated = (ap (λ (x : Disk). x.started) operated.rest, omega (arith, ap (λ (x : Disk). x.settled) operated.rest))
 
 module _ (old new : Life) where
@@ -671,7 +671,7 @@ module _ (sum : List ℕ → ℕ) (P : ℕ) (content : List ℕ) (old new : Life
   }
 
   -- and each is settled after the call
-  pub shorten_stands : StartsStand new.present
+  pub shorten_stands : StartsCanBeAwaited new.present
   shorten_stands = all_settled_stand new.present (goes_on_settled old.present new.present all (through_end (StartsGoOn old.present) old new on))
 
 -- ---- what is readable stays the last whole state, where each call is done

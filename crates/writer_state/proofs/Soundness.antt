@@ -4,7 +4,7 @@ use Rattle.std.proofs.Common.{◌≡◌, inl, inr, ◌⊎◌, ℕ, zero, suc, �
 use Rattle.std.specs.Prelude.{Option, Some, None, Bool, false}
 use Rattle.std.proofs.lemmas.Bool.{cases_lt, cases_order}
 use Rattle.std.proofs.lemmas.List.{append-nil, take_all, take_at}
-use Rattle.disk.specs.Disk.{Disk, Operation, Operated, Request, Life, IsWhole, applied, coverings}
+use Rattle.disk.specs.Disk.{Disk, Operation, HasOperated, Request, Life, IsWhole, applied, coverings}
 use Rattle.disk.specs.Disk.Operation.{Write}
 use Rattle.page.specs.Slot.{slot_offset}
 use Rattle.page.specs.Page.{pages, slot_bytes, verified_len, value_len, text, text_of_pages}
@@ -16,13 +16,13 @@ use Rattle.writer_state.specs.declared.sync_state.SyncState.TheVariants.{Clean, 
 use Rattle.crash.specs.Full.{AreFull}
 use Rattle.crash.specs.Distinct.{IsVouched, IsGoodFrom, PageIsGood}
 use Rattle.crash.proofs.DistinctLaws.{flush_keeps_vouched, vouched_at_rest, vouched_alike, good_from_settles, good_from_alike, good_from_end}
-use Rattle.crash.specs.Guard.{Held, Guards, IsTruthful, TipGuard}
+use Rattle.crash.specs.Guard.{IsPinned, Guards, IsTruthful, TipGuard}
 use Rattle.crash.specs.Built.{kept_len, built, durable_after, written_pages}
 use Rattle.crash.specs.Kept.{AllKeep}
 use Rattle.crash.specs.Stays.{Stays}
 use Rattle.crash.specs.Looks.{SameButLog, Looked}
 use Rattle.crash.specs.Contents.{latest, stored}
-use Rattle.writer_state.specs.Sound.{content, HasPage, TipPage, StateFits, Stands, guard_slot, StartsFit, IsRepeated, MayFlush, IsSafe, Consistency, IsConsistent, IsIntact, IsSound, Soundness, LeavesItsContent, CanWrite}
+use Rattle.writer_state.specs.Sound.{content, HasTipPage, TipPage, StateFits, IsWrittenOut, guard_slot, StartsFit, IsRepeated, MayFlush, IsSafe, Consistency, IsConsistent, IsIntact, IsSound, Soundness, LeavesItsContent, CanWrite}
 use Rattle.crash.proofs.Lists.{take_past, take_same}
 use Rattle.crash.proofs.Pages.{length-stored, pages_at, page_fits, page_is, pages_fit, length-pages}
 use Rattle.crash.proofs.Texts.{text_exact, text_full, text_of_part, text_part, value_at, value_len_le, verified_le_value, verified_len_le}
@@ -113,7 +113,7 @@ says_written sum w readable tip_page p page is s =
     ]
 
 -- with nothing unsynced the slot that was flushed last is held
-held_at_rest : (sum : List ℕ → ℕ) (P full : ℕ) (tip : List ℕ) (f : ActiveChecksum) (d : Disk) → IsSmall sum → P < 2 ^ 16 → d.since ≡ [] → HasPage sum P full tip d.base f → Held sum P d full f.slot (slot_bytes f.len f.crc) (take f.len tip)
+held_at_rest : (sum : List ℕ → ℕ) (P full : ℕ) (tip : List ℕ) (f : ActiveChecksum) (d : Disk) → IsSmall sum → P < 2 ^ 16 → d.since ≡ [] → HasTipPage sum P full tip d.base f → IsPinned sum P d full f.slot (slot_bytes f.len f.crc) (take f.len tip)
 held_at_rest sum P full tip f d small small_page since is =
     let as_long : length (take f.len tip) ≡ f.len = length-take-le f.len tip is.there in
     let page = take (P + 12) (drop (full * (P + 12)) d.base) in
@@ -139,7 +139,7 @@ guard_at_rest : (sum : List ℕ → ℕ) (P full : ℕ) (tip content : List ℕ)
 guard_at_rest sum P full tip content None d small small_page since is after long = tt
 guard_at_rest sum P full tip content (Some f) d small small_page since is after long = record {
   there = omega (arith, is.there);
-  held = subst (λ (l : List ℕ). Held sum P d full f.slot (slot_bytes f.len f.crc) (take f.len l)) (sym after) (held_at_rest sum P full tip f d small small_page since is);
+  held = subst (λ (l : List ℕ). IsPinned sum P d full f.slot (slot_bytes f.len f.crc) (take f.len l)) (sym after) (held_at_rest sum P full tip f d small small_page since is);
 }
 
 -- where a text goes past so many full pages, these are full
@@ -252,7 +252,7 @@ guard_longer : (sum : List ℕ → ℕ) (P : ℕ) (content longer : List ℕ) (d
 guard_longer sum P content longer d full None begins guard = tt
 guard_longer sum P content longer d full (Some f) begins guard = record {
   there = omega (arith, guard.there, ap length begins, length-take (length content) longer);
-  held = subst (λ (l : List ℕ). Held sum P d full f.slot (slot_bytes f.len f.crc) l) (part_of_beginning f.len (full * P) content longer begins guard.there) guard.held;
+  held = subst (λ (l : List ℕ). IsPinned sum P d full f.slot (slot_bytes f.len f.crc) l) (part_of_beginning f.len (full * P) content longer begins guard.there) guard.held;
 }
 
 -- over to a disk with the same base and operations
@@ -391,7 +391,7 @@ module _ (sum : List ℕ → ℕ) (w : WriterState) (d e : Disk) (k : ℕ) (rest
       sound.good sound.vouched
 
   -- a flush that is done keeps soundness
-  pub operated_consistent : (request : Request) → Operated (Write (w.full_pages * (w.page_size + 12)) bytes) request false d e → Consistency sum (after_write sum w k rest) e
+  pub operated_consistent : (request : Request) → HasOperated (Write (w.full_pages * (w.page_size + 12)) bytes) request false d e → Consistency sum (after_write sum w k rest) e
   operated_consistent request done =
       let o : Operation = Write (w.full_pages * (w.page_size + 12)) bytes in
       let base = operated_base o request false d e done in
@@ -407,7 +407,7 @@ module _ (sum : List ℕ → ℕ) (w : WriterState) (d e : Disk) (k : ℕ) (rest
       }
 
   -- a flush owes nothing, done or failed
-  pub operated_stays : (request : Request) (failed : Bool) → Operated (Write (w.full_pages * (w.page_size + 12)) bytes) request failed d e → Stays sum w.page_size (content w d.readable) d e
+  pub operated_stays : (request : Request) (failed : Bool) → HasOperated (Write (w.full_pages * (w.page_size + 12)) bytes) request failed d e → Stays sum w.page_size (content w d.readable) d e
   operated_stays request failed operated =
       let o : Operation = Write (w.full_pages * (w.page_size + 12)) bytes in
       let base = operated_base o request failed d e operated in
@@ -415,7 +415,7 @@ module _ (sum : List ℕ → ℕ) (w : WriterState) (d e : Disk) (k : ℕ) (rest
       safe_stays sum (after_write sum w k rest) (content w d.readable) d e base (flush_safe base since) (flush_truthful base since) (flush_vouches base since).0
 
   -- nor does it where it is made durable
-  pub operated_settle_stays : (request : Request) (f : Disk) → Operated (Write (w.full_pages * (w.page_size + 12)) bytes) request false d e → f.base ≡ e.readable → f.since ≡ [] → Stays sum w.page_size (content w d.readable) d f
+  pub operated_settle_stays : (request : Request) (f : Disk) → HasOperated (Write (w.full_pages * (w.page_size + 12)) bytes) request false d e → f.base ≡ e.readable → f.since ≡ [] → Stays sum w.page_size (content w d.readable) d f
   operated_settle_stays request f done base since =
       stays_settled sum w.page_size (content w d.readable) d e f (base ∙ (operated_consistent request done).stands.done) since (operated_stays request false done)
 
@@ -512,7 +512,7 @@ repeated_again Dirty flushed durable tip is = is
 repeated_again (Pending name) flushed durable tip is = tt
 
 -- the durable slot brought up to date
-carried_stands : (sum : List ℕ → ℕ) (w : WriterState) (d : Disk) (s : SyncState) → Stands sum w d → Stands sum (record w { durable = guard_slot s w.flushed w.durable }) d
+carried_stands : (sum : List ℕ → ℕ) (w : WriterState) (d : Disk) (s : SyncState) → IsWrittenOut sum w d → IsWrittenOut sum (record w { durable = guard_slot s w.flushed w.durable }) d
 carried_stands sum w d Clean stands = carry_stands sum w d stands
 carried_stands sum w d Dirty stands = stands
 carried_stands sum w d (Pending name) stands = stands
@@ -612,7 +612,7 @@ module _ (sum : List ℕ → ℕ) (w : WriterState) (d : Disk) (since : d.since 
       }
 
   -- the blob ends with the tip's page
-  pub page_consistent : StartsFit d w.sync → IsSmall sum → (a : ActiveChecksum) → w.flushed ≡ Some a → HasPage sum w.page_size w.full_pages w.tip d.readable a → PageIsGood sum w.page_size w.full_pages d.readable → Consistency sum w d
+  pub page_consistent : StartsFit d w.sync → IsSmall sum → (a : ActiveChecksum) → w.flushed ≡ Some a → HasTipPage sum w.page_size w.full_pages w.tip d.readable a → PageIsGood sum w.page_size w.full_pages d.readable → Consistency sum w d
   page_consistent starts small_sum a is has good = settled_consistent starts small_sum (subst (λ (f : Option ActiveChecksum). TipPage sum w.page_size w.full_pages w.tip d.readable f) (sym is) has) good
 
 -- a writer over an empty blob is consistent
@@ -680,7 +680,7 @@ module _ (sum : List ℕ → ℕ) (w : WriterState) (d : Disk) (since : d.since 
   pub exact_sound : StartsFit d w.sync → w.flushed ≡ None → length d.readable ≡ w.full_pages * (w.page_size + 12) → Soundness sum w d
   exact_sound starts none size = sound_of sum w d (exact_consistent sum w d since base some small carried starts none size) full
 
-  pub page_sound : StartsFit d w.sync → IsSmall sum → (a : ActiveChecksum) → w.flushed ≡ Some a → HasPage sum w.page_size w.full_pages w.tip d.readable a → PageIsGood sum w.page_size w.full_pages d.readable → Soundness sum w d
+  pub page_sound : StartsFit d w.sync → IsSmall sum → (a : ActiveChecksum) → w.flushed ≡ Some a → HasTipPage sum w.page_size w.full_pages w.tip d.readable a → PageIsGood sum w.page_size w.full_pages d.readable → Soundness sum w d
   page_sound starts small_sum a is has good = sound_of sum w d (page_consistent sum w d since base some small carried starts small_sum a is has good) full
 
 -- a writer over an empty blob is

@@ -5,7 +5,7 @@ use Rattle.std.proofs.lemmas.Bool.{cases_lt}
 use Rattle.std.proofs.lemmas.Bool.Decides.{nat_tests}
 use Rattle.std.proofs.lemmas.Option.{same_Some}
 use Rattle.std.proofs.lemmas.List.{drop_all, nil_from_length}
-use Rattle.disk.specs.Disk.{Disk, Life, Operation, Operated, Request, WaitSync, logged, settled_disk, coverings, disk_settled_to, failed_at, WriteGoes, SyncGoes, WaitGoes}
+use Rattle.disk.specs.Disk.{Disk, Life, Operation, HasOperated, Request, WaitSync, logged, settled_disk, coverings, disk_settled_to, failed_at, WriteGoes, SyncGoes, WaitGoes}
 use Rattle.disk.specs.Disk.Operation.{Write}
 use Rattle.disk.specs.Disk.Request.{WriteAt, SyncAll}
 use Rattle.disk.specs.declared.error.Error.{Error}
@@ -14,7 +14,7 @@ use Rattle.writer_state.specs.WriterState.{WriterState}
 use Rattle.writer_state.specs.declared.sync_state.SyncState.{SyncState}
 use Rattle.writer_state.specs.declared.sync_state.SyncState.TheVariants.{Clean, Dirty, Pending}
 use Rattle.crash.specs.Kept.{AllKeep, AllOnly}
-use Rattle.crash.specs.Started.{WouldKeep, StartsStand, AllSettled}
+use Rattle.crash.specs.Started.{WouldKeep, StartsCanBeAwaited, AllSettled}
 use Rattle.crash.specs.Contents.{latest}
 use Rattle.writer_state.specs.Sound.{StartsFit, Consistency}
 use Rattle.writer_state.proofs.FlushLaws.{all_settled_alike, starts_within, settled_starts}
@@ -25,7 +25,7 @@ use Rattle.crash.proofs.Moments.{keeps_alike, keeps_covered, chance_free_alike, 
 use Rattle.writer_state.proofs.StartedLaws.{alike_would, settled_already, covers_failed, covering_of}
 
 -- it stands so where a writer is sound
-pub starts_stand : (d : Disk) (s : SyncState) → d.readable ≡ latest d.base d.since → StartsFit d s → StartsStand d
+pub starts_stand : (d : Disk) (s : SyncState) → d.readable ≡ latest d.base d.since → StartsFit d s → StartsCanBeAwaited d
 starts_stand d Clean done starts name c is = inl (starts name c is)
 starts_stand d Dirty done starts name c is = inl (starts name c is)
 starts_stand d (Pending pending) done starts name c is = elim (starts.others name c is) [
@@ -36,26 +36,26 @@ starts_stand d (Pending pending) done starts name c is = elim (starts.others nam
 ]
 
 -- and where each is settled, also after a write that failed
-pub all_settled_stand : (d : Disk) → AllSettled d → StartsStand d
+pub all_settled_stand : (d : Disk) → AllSettled d → StartsCanBeAwaited d
 all_settled_stand d all name c is = inl (all name c is)
 
-pub consistent_stands : (sum : List ℕ → ℕ) (w : WriterState) (d : Disk) → Consistency sum w d → StartsStand d
+pub consistent_stands : (sum : List ℕ → ℕ) (w : WriterState) (d : Disk) → Consistency sum w d → StartsCanBeAwaited d
 consistent_stands sum w d sound = starts_stand d w.sync sound.stands.done sound.stands.starts
 
 -- after a write, whatever the device answers
-pub write_stands : (offset : ℕ) (bytes : List ℕ) (sync : Bool) (old new : Life) (answer : Result (Unit {0}) Error) → AllSettled old.present → WriteGoes offset bytes sync old new answer → StartsStand new.present
+pub write_stands : (offset : ℕ) (bytes : List ℕ) (sync : Bool) (old new : Life) (answer : Result (Unit {0}) Error) → AllSettled old.present → WriteGoes offset bytes sync old new answer → StartsCanBeAwaited new.present
 write_stands offset bytes sync old new answer settled goes = by_answer sync answer goes
   where
-    done : (request : Request) (failed : Bool) (d : Disk) → Operated (Write offset bytes) request failed old.present d → AllSettled d
+    done : (request : Request) (failed : Bool) (d : Disk) → HasOperated (Write offset bytes) request failed old.present d → AllSettled d
     done request failed d operated = all_settled_alike old.present d (ap (λ (x : Disk). coverings x) operated.rest) (ap (λ (x : Disk). x.settled) operated.rest) settled
 
-    at : (d : Disk) → new.present ≡ d → AllSettled d → StartsStand new.present
-    at d is all = subst (λ (x : Disk). StartsStand x) (sym is) (all_settled_stand d all)
+    at : (d : Disk) → new.present ≡ d → AllSettled d → StartsCanBeAwaited new.present
+    at d is all = subst (λ (x : Disk). StartsCanBeAwaited x) (sym is) (all_settled_stand d all)
 
-    same : new ≡ old → StartsStand new.present
+    same : new ≡ old → StartsCanBeAwaited new.present
     same is = at old.present (ap (λ (l : Life). l.present) is) settled
 
-    by_answer : (sync : Bool) (answer : Result (Unit {0}) Error) → WriteGoes offset bytes sync old new answer → StartsStand new.present
+    by_answer : (sync : Bool) (answer : Result (Unit {0}) Error) → WriteGoes offset bytes sync old new answer → StartsCanBeAwaited new.present
     by_answer true (Ok u) (d, goes, operated) =
         let still : AllSettled d = done (WriteAt offset (length bytes) true) false d operated in
         at (settled_disk d) (ap (λ (l : Life). l.present) goes) (λ name c named. omega (arith, still name c named))
@@ -69,14 +69,14 @@ write_stands offset bytes sync old new answer settled goes = by_answer sync answ
     by_answer false (Err e) (fault, (d, goes, operated)) = at d (ap (λ (l : Life). l.present) goes) (done (WriteAt offset (length bytes) false) true d operated)
 
 -- after a sync
-pub sync_stands : (sum : List ℕ → ℕ) (w : WriterState) (old new : Life) (answer : Result (Unit {0}) Error) → Consistency sum w old.present → SyncGoes old new answer → StartsStand new.present
+pub sync_stands : (sum : List ℕ → ℕ) (w : WriterState) (old new : Life) (answer : Result (Unit {0}) Error) → Consistency sum w old.present → SyncGoes old new answer → StartsCanBeAwaited new.present
 sync_stands sum w old new (Ok u) sound is =
     let e = settled_disk (logged SyncAll false old.present) in
-    subst (λ (x : Disk). StartsStand x) (sym (ap (λ (l : Life). l.present) is)) (all_settled_stand e (settled_starts old.present e (starts_within old.present w.sync sound.stands.starts) refl refl))
+    subst (λ (x : Disk). StartsCanBeAwaited x) (sym (ap (λ (l : Life). l.present) is)) (all_settled_stand e (settled_starts old.present e (starts_within old.present w.sync sound.stands.starts) refl refl))
 sync_stands sum w old new (Err SyncFailed) sound is =
     let e = logged SyncAll true old.present in
-    subst (λ (x : Disk). StartsStand x) (sym (ap (λ (l : Life). l.present) is)) (consistent_stands sum w e (alike_consistent sum w old.present e sound refl refl refl refl refl))
-sync_stands sum w old new (Err OutOfMemory) sound is = subst (λ (l : Life). StartsStand l.present) (sym is) (consistent_stands sum w old.present sound)
+    subst (λ (x : Disk). StartsCanBeAwaited x) (sym (ap (λ (l : Life). l.present) is)) (consistent_stands sum w e (alike_consistent sum w old.present e sound refl refl refl refl refl))
+sync_stands sum w old new (Err OutOfMemory) sound is = subst (λ (l : Life). StartsCanBeAwaited l.present) (sym is) (consistent_stands sum w old.present sound)
 sync_stands sum w old new (Err e) sound goes = absurd goes
 
 -- what a wait leaves
@@ -84,10 +84,10 @@ pub record WaitKeeps (sum : List ℕ → ℕ) (P : ℕ) (d e : Disk) : Type 0 wh
   pub keeps : (content : List ℕ) (floor : ℕ) → AllKeep sum P content floor d → AllKeep sum P content floor e
   pub only : (before after : List ℕ) → AllOnly sum P before after d → AllOnly sum P before after e
   pub covers : (content : List ℕ) (name cover : ℕ) → WouldKeep sum P content name cover d → WouldKeep sum P content name cover e
-  pub starts : StartsStand e
+  pub starts : StartsCanBeAwaited e
 
 -- nothing but the log, or a mark
-alike_keeps : (sum : List ℕ → ℕ) (P : ℕ) (d e : Disk) → StartsStand d → e.base ≡ d.base → e.since ≡ d.since → e.settled ≡ d.settled → coverings e ≡ coverings d → WaitKeeps sum P d e
+alike_keeps : (sum : List ℕ → ℕ) (P : ℕ) (d e : Disk) → StartsCanBeAwaited d → e.base ≡ d.base → e.since ≡ d.since → e.settled ≡ d.settled → coverings e ≡ coverings d → WaitKeeps sum P d e
 alike_keeps sum P d e stand base since settled covers = record {
   keeps = λ content floor keeps. keeps_alike sum P content floor d e base since keeps;
   only = λ before after only. record { only = λ image is_image free. only.only image (image_alike d e image base since is_image) (chance_free_alike sum P d e image base since free); vouched = vouched_alike sum P d e base since only.vouched };
@@ -128,7 +128,7 @@ settles_latest c d all bytes = elim (cases_lt d.settled c.0) [
       }
 ]
 
-settled_keeps_all : (sum : List ℕ → ℕ) (P : ℕ) (d e : Disk) → StartsStand d → IsSettledTo d e → WaitKeeps sum P d e
+settled_keeps_all : (sum : List ℕ → ℕ) (P : ℕ) (d e : Disk) → StartsCanBeAwaited d → IsSettledTo d e → WaitKeeps sum P d e
 settled_keeps_all sum P d e stand to = record {
   keeps = keeps_floor;
   only = λ before after only. record {
@@ -156,7 +156,7 @@ settled_keeps_all sum P d e stand to = record {
 
 -- a wait for any started sync, whatever it answers, keeps each floor, each cover and each content
 pub wait_keeps : (sum : List ℕ → ℕ) (P : ℕ) (name : ℕ) (old new : Life) (answer : Result (Unit {0}) Error)
-    → StartsStand old.present → WaitGoes name old new answer → WaitKeeps sum P old.present new.present
+    → StartsCanBeAwaited old.present → WaitGoes name old new answer → WaitKeeps sum P old.present new.present
 wait_keeps sum P name old new (Ok u) stand (s, named, well, is) =
     let d = old.present in
     let c : ℕ × List ℕ = (s.covers, s.bytes) in

@@ -20,7 +20,7 @@ abbrev pub content : WriterState → List ℕ → List ℕ
 content w readable = stored w.page_size w.full_pages readable ++ w.tip
 
 -- the tip's page, of which something was written
-pub record HasPage (sum : List ℕ → ℕ) (P full : ℕ) (tip readable : List ℕ) (f : ActiveChecksum) :
+pub record HasTipPage (sum : List ℕ → ℕ) (P full : ℕ) (tip readable : List ℕ) (f : ActiveChecksum) :
     Type 0 where
   pub size : length readable ≡ (full + 1) * (P + 12)
   pub some : 0 < f.len
@@ -37,7 +37,7 @@ pub record HasPage (sum : List ℕ → ℕ) (P full : ℕ) (tip readable : List 
 abbrev pub TipPage : (List ℕ → ℕ) → (P full : ℕ) (tip readable : List ℕ) → Option ActiveChecksum →
     Type 0
 TipPage sum P full tip readable None = length readable ≡ full * (P + 12)
-TipPage sum P full tip readable (Some f) = HasPage sum P full tip readable f
+TipPage sum P full tip readable (Some f) = HasTipPage sum P full tip readable f
 
 -- the started sync of this name covers all that isn't durable, and what it covers may be durable
 -- already, where the caller waited for it; each other one is settled
@@ -62,7 +62,7 @@ StartsFit d Dirty = AllSettled d
 StartsFit d (Pending name) = IsPending name d
 
 -- the writer stands for what is readable
-pub record Stands (sum : List ℕ → ℕ) (w : WriterState) (d : Disk) : Type 0 where
+pub record IsWrittenOut (sum : List ℕ → ℕ) (w : WriterState) (d : Disk) : Type 0 where
   pub some : 0 < w.page_size
   pub small : w.page_size < 2 ^ 16
   -- each operation was done
@@ -113,7 +113,7 @@ pub record IsSafe (sum : List ℕ → ℕ) (w : WriterState) (content : List ℕ
 -- the writer of a blob, between two calls: it stands for what is readable, a crash keeps what was
 -- synced, and no whole state says anything but the content. A page below the tip may be damaged.
 pub record Consistency (sum : List ℕ → ℕ) (w : WriterState) (d : Disk) : Type 0 where
-  pub stands : Stands sum w d
+  pub stands : IsWrittenOut sum w d
   pub safe : IsSafe sum w (content w d.readable) d
   pub truthful : IsTruthful sum w.page_size (content w d.readable) d
   -- a slot that verifies over nothing yet can't come to verify by chance
@@ -126,7 +126,7 @@ IsIntact sum w d = AreFull sum w.page_size (take w.full_pages (pages w.page_size
 
 -- the writer is consistent with its blob, in which no page is damaged
 pub record Soundness (sum : List ℕ → ℕ) (w : WriterState) (d : Disk) : Type 0 where
-  pub stands : Stands sum w d
+  pub stands : IsWrittenOut sum w d
   pub safe : IsSafe sum w (content w d.readable) d
   pub truthful : IsTruthful sum w.page_size (content w d.readable) d
   pub vouched : IsVouched sum w.page_size d

@@ -10,7 +10,7 @@ loop-preserved g c =
     let life = g.B.Blob.life c.loop.blob in
     let end = g.B.Blob.life c.if-is_none.blob in
     let now = c.try_append.new.self in
-    let tried : IsReady sum now c.loop.cache life = ready_tried sum c.loop.writer now c.loop.cache life c.loop.invariant c.try_append.ensures.sound c.try_append.ensures.can_read in
+    let tried : IsReady sum now c.loop.cache life = ready_tried sum c.loop.writer now c.loop.cache life c.loop.invariant c.try_append.ensures.keeps_sound c.try_append.ensures.keeps_reads in
     elim c.if-is_none.branch [
       | then-is_none+in_ok-next w ↦
           let next = w.in_ok-next.next in
@@ -22,4 +22,4 @@ loop-preserved g c =
 
 pub append-requires : goal.append-requires
 append-requires g c =
-    record { ready = inl (ready_tried g.H.Sum.sum_of c.loop.writer c.try_append.new.self c.loop.cache (g.B.Blob.life c.loop.blob) c.loop.invariant c.try_append.ensures.sound c.try_append.ensures.can_read) }
+    record { ready = inl (ready_tried g.H.Sum.sum_of c.loop.writer c.try_append.new.self c.loop.cache (g.B.Blob.life c.loop.blob) c.loop.invariant c.try_append.ensures.keeps_sound c.try_append.ensures.keeps_reads) }

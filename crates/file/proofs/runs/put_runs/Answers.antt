@@ -3,7 +3,7 @@ use Rattle.std.specs.List.{concat}
 use Rattle.std.proofs.lemmas.List.{take_all}
 use Rattle.std.proofs.lemmas.Result.{err_from_is_err_and}
 use Rattle.disk.proofs.Bufs.{concat_more}
-use Rattle.file.specs.Runs.{PutsUpTo}
+use Rattle.file.specs.Runs.{WritesUpTo}
 use Rattle.file.proofs.Running.{puts_then, fails_then, puts_last, all_put, all_failed, concat_around}
 use Rattle.file.proofs.runs.put_runs.Goals as goal
 
@@ -44,7 +44,7 @@ returns-in_err-put_gathered g c =
     let all = take_all c.loop-buf.buf-index bufs c.loop-buf-test.false in
     rw error.1
     (all_failed g.S.Sink.goes c.args.offset (concat bufs) [] c.args.sink.now c.put_gathered.new.sink e error.0
-    (subst (λ (l : List (List ℕ)). PutsUpTo g.S.Sink.goes c.args.offset (concat l) [] c.args.sink.now c.put_gathered.new.sink (Err e)) all
+    (subst (λ (l : List (List ℕ)). WritesUpTo g.S.Sink.goes c.args.offset (concat l) [] c.args.sink.now c.put_gathered.new.sink (Err e)) all
     (puts_last g.S.Sink.goes c.args.offset c.loop-buf.next (concat (take c.loop-buf.buf-index bufs)) c.loop-buf.gathered.items [] c.args.sink.now c.loop-buf.sink c.put_gathered.new.sink (Err e) c.loop-buf.invariant c.in_err-put_gathered.ensures.puts)))
 
 pub returns : goal.returns
@@ -53,5 +53,5 @@ returns g c =
     let last = c.in_ok-put_gathered.field-0 in
     let all = take_all c.loop-buf.buf-index bufs c.loop-buf-test.false in
     all_put g.S.Sink.goes c.args.offset last (concat bufs) c.args.sink.now c.put_gathered.new.sink
-    (subst (λ (l : List (List ℕ)). PutsUpTo {E = ℕ} g.S.Sink.goes c.args.offset (concat l) [] c.args.sink.now c.put_gathered.new.sink (Ok last)) all
+    (subst (λ (l : List (List ℕ)). WritesUpTo {E = ℕ} g.S.Sink.goes c.args.offset (concat l) [] c.args.sink.now c.put_gathered.new.sink (Ok last)) all
     (puts_last {E = ℕ} g.S.Sink.goes c.args.offset c.loop-buf.next (concat (take c.loop-buf.buf-index bufs)) c.loop-buf.gathered.items [] c.args.sink.now c.loop-buf.sink c.put_gathered.new.sink (Ok last) c.loop-buf.invariant c.in_ok-put_gathered.ensures.puts))

@@ -6,7 +6,7 @@ use Rattle.disk.specs.Torn.{torn}
 use Rattle.crash.specs.Moments.{through_end}
 use Rattle.items.specs.Calls.{RecoversItems}
 use Rattle.items.specs.Items.{AreDurable}
-use Rattle.items.specs.Standing.{CrashLeaves, RecoveryLeaves}
+use Rattle.items.specs.Standing.{ItemsCrashLeaves, ItemsRecoveryLeaves}
 use Rattle.items.proofs.Laws.{durable_left}
 use Rattle.items.proofs.Recovery.{brought_back, brought_only, crash_recovers, crash_refused, nothing_crashed}
 use Rattle.items.proofs.crashes.crash_and_recover.Goals as goal
@@ -19,7 +19,7 @@ returns-in_err-crash-clause-goes g c =
 pub returns-in_err-crash-clause-leaves : goal.returns-in_err-crash-clause-leaves
 returns-in_err-crash-clause-leaves g c =
     let d = (life_of c.args.blob.now).present in
-    subst (λ (l : Life). CrashLeaves g.H.Sum.sum_of (non_zero_usize_get c.args.size) c.args.cache.now c.args.cache.now d l.present) (sym (ap life_of c.in_err-crash.ensures.same))
+    subst (λ (l : Life). ItemsCrashLeaves g.H.Sum.sum_of (non_zero_usize_get c.args.size) c.args.cache.now c.args.cache.now d l.present) (sym (ap life_of c.in_err-crash.ensures.same))
     (nothing_crashed g.H.Sum.sum_of (non_zero_usize_get c.args.size) c.args.cache.now d c.requires.fresh)
 
 pub returns-clause-goes : goal.returns-clause-goes
@@ -38,7 +38,7 @@ returns-clause-goes g c =
     let recovers = c.recover.ensures.goes.answers in
     record {
       answers = crash_recovers sum s cache after c.args.capacity c.args.keep.now old new c.recover.result
-          (subst (λ (l : Life). RecoversItems sum s cache after c.args.capacity l new c.recover.result) life recovers) (subst (λ (l : Life). RecoveryLeaves sum s cache after l new) life c.recover.ensures.leaves);
+          (subst (λ (l : Life). RecoversItems sum s cache after c.args.capacity l new c.recover.result) life recovers) (subst (λ (l : Life). ItemsRecoveryLeaves sum s cache after l new) life c.recover.ensures.leaves);
       back = brought_back sum s cache after c.args.capacity d image mid new c.recover.result c.args.size.ok c.crash.ensures.image left recovers;
       only = brought_only sum s cache after c.args.capacity d image mid new c.recover.result c.crash.ensures.image left recovers;
     }

@@ -1,7 +1,7 @@
 use Rattle.std.proofs.Common.{[]}
 use Rattle.std.proofs.lemmas.Result.{err_from_is_err_and}
 use Rattle.paged.specs.Reads.{size_of}
-use Rattle.items.specs.Standing.{bytes_of, items_of}
+use Rattle.items.specs.Standing.{items_content, items_of}
 use Rattle.items.proofs.Laws.{first_of_itself}
 use Rattle.items.proofs.Reading.{not_got, there_is}
 use Rattle.items.proofs.Standing.{nothing_leaves, stand}
@@ -12,7 +12,7 @@ returns-in_err-find-clause-gives g c =
     let s = c.args.items.now in
     let life = g.B.Blob.life c.args.blob.now in
     let error = err_from_is_err_and c.from_residual.result c.from_residual.ensures.1 in
-    rw (error.1, error.2) (not_got s.size (size_of s.writer) (bytes_of s life) c.args.i [] life c.in_err-find.field-0.0 (stand g.H.Sum.sum_of s c.args.cache.now life c.requires.items).size c.in_err-find.ensures)
+    rw (error.1, error.2) (not_got s.size (size_of s.writer) (items_content s life) c.args.i [] life c.in_err-find.field-0.0 (stand g.H.Sum.sum_of s c.args.cache.now life c.requires.items).size c.in_err-find.ensures)
 
 pub returns-in_err-find-clause-leaves : goal.returns-in_err-find-clause-leaves
 returns-in_err-find-clause-leaves g c =
@@ -25,7 +25,7 @@ returns-in_err-resize-clause-gives g c =
     let life = g.B.Blob.life c.args.blob.now in
     let error = err_from_is_err_and c.from_residual-in_err-resize.result c.from_residual-in_err-resize.ensures.1 in
     rw (error.1, error.2)
-    (there_is s.size (size_of s.writer) (bytes_of s life) c.args.i c.in_ok-find.field-0 (stand g.H.Sum.sum_of s c.args.cache.now life c.requires.items).size c.in_ok-find.ensures, tt)
+    (there_is s.size (size_of s.writer) (items_content s life) c.args.i c.in_ok-find.field-0 (stand g.H.Sum.sum_of s c.args.cache.now life c.requires.items).size c.in_ok-find.ensures, tt)
 
 pub returns-in_err-resize-clause-leaves : goal.returns-in_err-resize-clause-leaves
 returns-in_err-resize-clause-leaves g c =

@@ -1,7 +1,7 @@
 use Rattle.std.proofs.Common.{rules, ◌≡◌, ◌+◌, List, [], ◌∷◌, ◌++◌, take, ap, sym, ◌∙◌, subst, arith}
 use Rattle.std.proofs.lemmas.List.{take_more}
 use Rattle.items.specs.declared.run.ItemStep.{ItemStep}
-use Rattle.items.specs.Run.{Ran}
+use Rattle.items.specs.Run.{RanItems}
 use Rattle.items.proofs.Runs.{fresh_in, opened, ran_more, ran_none}
 use Rattle.items.proofs.run.run_items.Goals as goal
 
@@ -25,7 +25,7 @@ loop-step-preserved g c =
     record {
       room = omega (arith, c.loop-step.invariant.room, c.push_reserved.ensures.len, c.push_reserved.ensures.capacity, c.loop-step-test.true);
       stands = opened sum c.step-item.result c.loop-step.session c.step-reply.new.self c.loop-step.cache c.step-reply.new.cache between new c.step-reply.result c.step-reply.ensures.did;
-      ran = subst (λ (taken : List ItemStep). Ran sum taken c.args.session.now c.step-reply.new.self c.args.cache.now c.step-reply.new.cache old new c.try_reserve.new.self.items c.push_reserved.new.self.items) (sym one)
+      ran = subst (λ (taken : List ItemStep). RanItems sum taken c.args.session.now c.step-reply.new.self c.args.cache.now c.step-reply.new.cache old new c.try_reserve.new.self.items c.push_reserved.new.self.items) (sym one)
           (ran_more sum before c.step-item.result c.step-reply.result c.args.session.now c.loop-step.session c.step-reply.new.self c.args.cache.now c.loop-step.cache c.step-reply.new.cache old between new c.try_reserve.new.self.items c.loop-step.replies.items c.push_reserved.new.self.items
           c.loop-step.invariant.ran c.step-reply.ensures.did c.push_reserved.ensures.items);
     }

@@ -5,7 +5,7 @@ use Rattle.disk.specs.Torn.{torn}
 use Rattle.crash.specs.Moments.{through_end}
 use Rattle.std.specs.Int.NonZero.{non_zero_usize_get}
 use Rattle.paged_read.specs.Searches.{ReadsWithin, scan_bytes}
-use Rattle.journal.specs.Calls.{CrashLeaves}
+use Rattle.journal.specs.Calls.{JournalCrashLeaves}
 use Rattle.journal.specs.Journal.{Commits}
 use Rattle.journal.proofs.Journals.{brought_back, brought_only, commits_left}
 use Rattle.journal.proofs.Costs.{same_log, unread}
@@ -20,7 +20,7 @@ returns-in_err-crash-clause-goes g c =
 pub returns-in_err-crash-clause-leaves : goal.returns-in_err-crash-clause-leaves
 returns-in_err-crash-clause-leaves g c =
     let d = (life_of c.args.blob.now).present in
-    subst (λ (l : Life). CrashLeaves g.H.Sum.sum_of g.R.Sum.sum_of c.args.cache.now c.args.cache.now d l.present) (sym (ap life_of c.in_err-crash.ensures.same))
+    subst (λ (l : Life). JournalCrashLeaves g.H.Sum.sum_of g.R.Sum.sum_of c.args.cache.now c.args.cache.now d l.present) (sym (ap life_of c.in_err-crash.ensures.same))
     (nothing_crashed g.H.Sum.sum_of g.R.Sum.sum_of c.args.cache.now d c.requires.fresh)
 
 pub returns-clause-goes : goal.returns-clause-goes

@@ -1,5 +1,5 @@
 use Rattle.std.proofs.Common.{◌≡◌, ◌∙◌, [], ◌∷◌, List, ℕ, ap, length, take, drop, length-drop, length-take, arith, min, subst}
-use Rattle.paged_read.specs.Tail.{tail_at, told}
+use Rattle.paged_read.specs.Tail.{logical_bytes, tail_at}
 use Rattle.journal.specs.Costs.{RangeCosts}
 use Rattle.journal.proofs.Costs.{range_costs}
 use Rattle.journal.proofs.Journals.{frame_measured}
@@ -11,7 +11,7 @@ use Rattle.journal.proofs.lookup.frame_len_at.Goals.{After-read_into}
 pub returns-in-Ok-clause-measures : goal.returns-in-Ok-clause-measures
 returns-in-Ok-clause-measures g c =
     let t = tail_at c.args.view.page_size c.args.view.id c.args.view.tip.now in
-    let held = told t (g.B.Blob.life c.args.blob.now).present.readable in
+    let held = logical_bytes t (g.B.Blob.life c.args.blob.now).present.readable in
     let long : length (drop c.args.offset held) ≡ c.args.rest =
     omega (arith, c.requires.within, c.requires.opened.size, length-drop c.args.offset held) in
     let zeros : List ℕ = 0 ∷ 0 ∷ [] in

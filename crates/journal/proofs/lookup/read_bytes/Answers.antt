@@ -1,7 +1,7 @@
 use Rattle.std.proofs.Common.{◌≡◌, ◌∙◌, ℕ, length, arith, subst}
 use Rattle.paged_read.specs.Tail.{tail_at}
 use Rattle.journal.specs.Costs.{RangeCosts}
-use Rattle.journal.specs.Reader.{OnlyViews}
+use Rattle.journal.specs.Reader.{ViewLeaves}
 use Rattle.journal.proofs.Costs.{range_costs, range_unread}
 use Rattle.journal.proofs.Readers.{read_views, view_refused, views_start}
 use Rattle.journal.proofs.lookup.read_bytes.Given.{Over}
@@ -9,7 +9,7 @@ use Rattle.journal.proofs.lookup.read_bytes.Goals as goal
 use Rattle.journal.proofs.lookup.read_bytes.Goals.{After-read_into}
 
 -- the read
-views : (g : Over) (c : After-read_into g) → OnlyViews g.H.Sum.sum_of (tail_at c.args.view.page_size c.args.view.id c.args.view.tip.now) c.args.cache.now c.read_into.new.cache (g.B.Blob.life c.args.blob.now) (g.B.Blob.life c.read_into.new.blob)
+views : (g : Over) (c : After-read_into g) → ViewLeaves g.H.Sum.sum_of (tail_at c.args.view.page_size c.args.view.id c.args.view.tip.now) c.args.cache.now c.read_into.new.cache (g.B.Blob.life c.args.blob.now) (g.B.Blob.life c.read_into.new.blob)
 views g c =
     read_views g.H.Sum.sum_of (tail_at c.args.view.page_size c.args.view.id c.args.view.tip.now) c.args.cache.now c.read_into.new.cache (g.B.Blob.life c.args.blob.now) (g.B.Blob.life c.read_into.new.blob) c.requires.opened c.read_into.ensures.leaves
 

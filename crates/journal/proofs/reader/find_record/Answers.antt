@@ -1,9 +1,9 @@
 use Rattle.std.proofs.Common.{◌≤◌, ◌∙◌, List, ℕ, Ok, length, refl, sym, ap, arith, subst}
 use Rattle.std.specs.Prelude.{Option}
-use Rattle.paged_read.specs.Tail.{told}
+use Rattle.paged_read.specs.Tail.{logical_bytes}
 use Rattle.journal.specs.declared.frame.Found.{Found}
 use Rattle.journal.specs.Costs.{FrameCosts, NextCosts}
-use Rattle.journal.specs.Journal.{IsFound, ReadsRecord}
+use Rattle.journal.specs.Journal.{IsFound, ReadRecordGoes}
 use Rattle.journal.proofs.Costs.{next_costs, none_passed, passed_on}
 use Rattle.journal.specs.Reader.{OnlyLooks}
 use Rattle.journal.proofs.Readers.{looks_start, looks_join, next_later, next_none, next_refused, not_some}
@@ -15,7 +15,7 @@ pub frames-init : goal.frames-init
 frames-init g c = record {
   looks = looks_start g.H.Sum.sum_of c.args.snapshot.now c.args.cache.now (g.B.Blob.life c.args.blob.now) c.requires.opened;
   so_far = refl;
-  passed = none_passed g.R.Sum.sum_of c.args.snapshot.now (told c.args.snapshot.now (g.B.Blob.life c.args.blob.now).present.readable) c.args.from c.args.cache.now (g.B.Blob.life c.args.blob.now);
+  passed = none_passed g.R.Sum.sum_of c.args.snapshot.now (logical_bytes c.args.snapshot.now (g.B.Blob.life c.args.blob.now).present.readable) c.args.from c.args.cache.now (g.B.Blob.life c.args.blob.now);
 }
 
 -- the reads until now, and this one
@@ -25,13 +25,13 @@ looks g c =
     c.frames.invariant.looks c.find.ensures.leaves
 
 -- this frame, of the content that there was, and the frames until now
-frame_there : (g : Over) (c : After-find g) → FrameCosts c.args.snapshot.now (told c.args.snapshot.now (g.B.Blob.life c.args.blob.now).present.readable) c.frames.offset c.frames.cache c.find.new.cache (g.B.Blob.life c.frames.blob) (g.B.Blob.life c.find.new.blob)
+frame_there : (g : Over) (c : After-find g) → FrameCosts c.args.snapshot.now (logical_bytes c.args.snapshot.now (g.B.Blob.life c.args.blob.now).present.readable) c.frames.offset c.frames.cache c.find.new.cache (g.B.Blob.life c.frames.blob) (g.B.Blob.life c.find.new.blob)
 frame_there g c =
     subst (λ (l : List ℕ). FrameCosts c.args.snapshot.now l c.frames.offset c.frames.cache c.find.new.cache (g.B.Blob.life c.frames.blob) (g.B.Blob.life c.find.new.blob)) c.frames.invariant.looks.holds c.find.ensures.costs
 
-costs : (g : Over) (c : After-find g) → NextCosts g.R.Sum.sum_of c.args.snapshot.now (told c.args.snapshot.now (g.B.Blob.life c.args.blob.now).present.readable) c.args.from c.args.cache.now c.find.new.cache (g.B.Blob.life c.args.blob.now) (g.B.Blob.life c.find.new.blob)
+costs : (g : Over) (c : After-find g) → NextCosts g.R.Sum.sum_of c.args.snapshot.now (logical_bytes c.args.snapshot.now (g.B.Blob.life c.args.blob.now).present.readable) c.args.from c.args.cache.now c.find.new.cache (g.B.Blob.life c.args.blob.now) (g.B.Blob.life c.find.new.blob)
 costs g c =
-    next_costs g.R.Sum.sum_of c.args.snapshot.now (told c.args.snapshot.now (g.B.Blob.life c.args.blob.now).present.readable) c.args.from c.frames.offset c.args.cache.now c.frames.cache c.find.new.cache (g.B.Blob.life c.args.blob.now) (g.B.Blob.life c.frames.blob) (g.B.Blob.life c.find.new.blob)
+    next_costs g.R.Sum.sum_of c.args.snapshot.now (logical_bytes c.args.snapshot.now (g.B.Blob.life c.args.blob.now).present.readable) c.args.from c.frames.offset c.args.cache.now c.frames.cache c.find.new.cache (g.B.Blob.life c.args.blob.now) (g.B.Blob.life c.frames.blob) (g.B.Blob.life c.find.new.blob)
     c.frames.invariant.passed (frame_there g c)
 
 pub returns-in_err-found-clause-costs : goal.returns-in_err-found-clause-costs
@@ -45,7 +45,7 @@ returns-then-is_some-clause-costs g c = costs g (goal.at.returns-then-is_some-cl
 
 pub returns-in_err-found-clause-finds : goal.returns-in_err-found-clause-finds
 returns-in_err-found-clause-finds g c =
-    next_refused g.R.Sum.sum_of (told c.args.snapshot.now (g.B.Blob.life c.args.blob.now).present.readable) c.args.from (g.B.Blob.life c.args.blob.now) (g.B.Blob.life c.frames.blob) (g.B.Blob.life c.find.new.blob)
+    next_refused g.R.Sum.sum_of (logical_bytes c.args.snapshot.now (g.B.Blob.life c.args.blob.now).present.readable) c.args.from (g.B.Blob.life c.args.blob.now) (g.B.Blob.life c.frames.blob) (g.B.Blob.life c.find.new.blob)
     c.in_err-found.field-0.0 c.from_residual.result c.from_residual.ensures.1 c.frames.invariant.looks.looked c.in_err-found.ensures.reads
 
 pub returns-in_err-found-clause-leaves : goal.returns-in_err-found-clause-leaves
@@ -56,9 +56,9 @@ returns-in_default-clause-finds g c =
     let own = g.R.Sum.sum_of in
     let t = c.args.snapshot.now in
     let mid = g.B.Blob.life c.frames.blob in
-    let held = told t (g.B.Blob.life c.args.blob.now).present.readable in
-    let here : length (told t mid.present.readable) ≤ c.frames.offset =
-    subst (λ (o : Option Found). ReadsRecord own (told t mid.present.readable) c.frames.offset mid (g.B.Blob.life c.find.new.blob) (Ok o)) c.in_default.is c.in_ok-found.ensures.reads in
+    let held = logical_bytes t (g.B.Blob.life c.args.blob.now).present.readable in
+    let here : length (logical_bytes t mid.present.readable) ≤ c.frames.offset =
+    subst (λ (o : Option Found). ReadRecordGoes own (logical_bytes t mid.present.readable) c.frames.offset mid (g.B.Blob.life c.find.new.blob) (Ok o)) c.in_default.is c.in_ok-found.ensures.reads in
     let end : length held ≤ c.frames.offset = omega (arith, here, ap length c.frames.invariant.looks.holds) in
     next_none own held c.args.from c.frames.offset c.frames.invariant.so_far end
 
@@ -75,10 +75,10 @@ frames-preserved g c =
     let mid = g.B.Blob.life c.frames.blob in
     let f = c.in-Some.found in
     let offset = c.frames.offset in
-    let here = subst (λ (o : Option Found). ReadsRecord own (told t mid.present.readable) offset mid (g.B.Blob.life c.find.new.blob) (Ok o)) c.in-Some.is c.in_ok-found.ensures.reads in
+    let here = subst (λ (o : Option Found). ReadRecordGoes own (logical_bytes t mid.present.readable) offset mid (g.B.Blob.life c.find.new.blob) (Ok o)) c.in-Some.is c.in_ok-found.ensures.reads in
     let there = subst (λ (l : List ℕ). IsFound own l offset f.bytes f.end) c.frames.invariant.looks.holds here in
     let old = g.B.Blob.life c.args.blob.now in
-    let held = told t old.present.readable in
+    let held = logical_bytes t old.present.readable in
     let new = g.B.Blob.life c.find.new.blob in
     let so_far = next_later own held c.args.from offset f.bytes f.end c.frames.invariant.so_far there (not_some f.bytes (sym c.is_some.ensures ∙ c.if-is_some.false)) in
     record {

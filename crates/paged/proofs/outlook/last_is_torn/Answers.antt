@@ -10,7 +10,7 @@ use Rattle.page.specs.declared.slot.Slot.{Slot}
 use Rattle.paged_read.specs.Failures.{none_failed_start}
 use Rattle.paged_read.proofs.Failing.{none_failed_read}
 use Rattle.paged_read.proofs.Looking.{looked_on, look_fault}
-use Rattle.paged.specs.Outlook.{is_torn, last_page}
+use Rattle.paged.specs.Outlook.{has_torn_page, last_page}
 use Rattle.paged.proofs.Surveying.{kept_some, last_end, not_torn, torn_is}
 use Rattle.paged.proofs.outlook.last_is_torn.Given.{Over}
 use Rattle.paged.proofs.outlook.last_is_torn.Goals as goal
@@ -43,7 +43,7 @@ returns-in_err-page-clause-tells g c =
     let size = c.physical_page_size-size.result in
     let p = err_from_is_err_and c.from_residual.result c.from_residual.ensures.1 in
     rw (p.1, p.2)
-    (look_fault ((c.args.outlook.now.pages - 1) * size) size (length old.present.readable) (is_torn g.H.Sum.sum_of P old.present.readable c.args.outlook.now) old old (g.B.Blob.life c.read_at.new.self) c.in_err-page.field-0.0 (looked_start old) (none_failed_start old.present) (there g (goal.at.returns-in_err-page-clause-tells g c).After-read_at) c.in_err-page.ensures.goes)
+    (look_fault ((c.args.outlook.now.pages - 1) * size) size (length old.present.readable) (has_torn_page g.H.Sum.sum_of P old.present.readable c.args.outlook.now) old old (g.B.Blob.life c.read_at.new.self) c.in_err-page.field-0.0 (looked_start old) (none_failed_start old.present) (there g (goal.at.returns-in_err-page-clause-tells g c).After-read_at) c.in_err-page.ensures.goes)
 
 pub returns-clause-tells : goal.returns-clause-tells
 returns-clause-tells g c =

@@ -29,14 +29,14 @@ looks g c =
     let first = prefix_of sum P (pieces n (P + 12) readable) in
     let there = whole_there P c.args.size c.physical_page_size-physical_page_size.result (length readable) c.physical_page_size-physical_page_size.ensures c.requires.length in
     finds_only_looks first old (g.B.Blob.life c.scan_from.new.blob) c.scan_from.result
-    (look_finds (n * (P + 12)) (prefix_from sum P 0 n readable) first old (g.B.Blob.life c.scan_from.new.blob) c.scan_from.result there (sym (stands_first sum P n readable)) c.scan_from.ensures.finds)
+    (look_finds (n * (P + 12)) (prefix_from sum P 0 n readable) first old (g.B.Blob.life c.scan_from.new.blob) c.scan_from.result there (sym (stands_first sum P n readable)) c.scan_from.ensures.looks)
 
 -- by no read of more than was asked for
 within : (g : Over) (c : After-scan_from g) → ReadsWithin (scan_bytes (non_zero_u16_get c.args.page_size) (non_zero_usize_get c.args.buffer_size)) (g.B.Blob.life c.args.blob.now) (g.B.Blob.life c.scan_from.new.blob)
 within g c =
     let P = non_zero_u16_get c.args.page_size in
     forward_is_within (scan_bytes P (non_zero_usize_get c.args.buffer_size)) (0 * (P + 12)) (c.args.size / c.physical_page_size-physical_page_size.result * (P + 12)) (g.B.Blob.life c.args.blob.now) (g.B.Blob.life c.scan_from.new.blob)
-    c.scan_from.ensures.reads.forward
+    c.scan_from.ensures.costs.forward
 
 -- nor beyond the page in which the text ends
 stops : (g : Over) (c : After-scan_from g) → let P = non_zero_u16_get c.args.page_size in let old = g.B.Blob.life c.args.blob.now in
@@ -44,7 +44,7 @@ stops : (g : Over) (c : After-scan_from g) → let P = non_zero_u16_get c.args.p
 stops g c =
     let P = non_zero_u16_get c.args.page_size in
     let old = g.B.Blob.life c.args.blob.now in
-    subst (λ (n : ℕ). StopsAt P (prefix_from g.H.Sum.sum_of P 0 (c.args.size / n) old.present.readable).full_pages old (g.B.Blob.life c.scan_from.new.blob)) c.physical_page_size-physical_page_size.ensures c.scan_from.ensures.reads.stops
+    subst (λ (n : ℕ). StopsAt P (prefix_from g.H.Sum.sum_of P 0 (c.args.size / n) old.present.readable).full_pages old (g.B.Blob.life c.scan_from.new.blob)) c.physical_page_size-physical_page_size.ensures c.scan_from.ensures.costs.stops
 
 pub returns-in_err-prefix-clause-leaves : goal.returns-in_err-prefix-clause-leaves
 returns-in_err-prefix-clause-leaves g c =
@@ -56,7 +56,7 @@ returns-clause-leaves g c =
 
 pub pages_of-pages-requires : goal.pages_of-pages-requires
 pages_of-pages-requires g c =
-    found_few g.H.Sum.sum_of (non_zero_u16_get c.args.page_size) c.args.size c.physical_page_size-physical_page_size.result (g.B.Blob.life c.args.blob.now).present.readable c.in_ok-prefix.prefix c.physical_page_size-physical_page_size.ensures c.in_ok-prefix.ensures.finds.0
+    found_few g.H.Sum.sum_of (non_zero_u16_get c.args.page_size) c.args.size c.physical_page_size-physical_page_size.result (g.B.Blob.life c.args.blob.now).present.readable c.in_ok-prefix.prefix c.physical_page_size-physical_page_size.ensures c.in_ok-prefix.ensures.looks.0
     (omega (arith, c.ranges.size.fits))
 
 pub size_of-len-requires-clause-fits : goal.size_of-len-requires-clause-fits
@@ -64,12 +64,12 @@ size_of-len-requires-clause-fits g c =
     omega (
       arith,
       c.ranges.size.fits,
-      found_there g.H.Sum.sum_of (non_zero_u16_get c.args.page_size) c.args.size c.physical_page_size-physical_page_size.result (g.B.Blob.life c.args.blob.now).present.readable c.in_ok-prefix.prefix c.physical_page_size-physical_page_size.ensures c.in_ok-prefix.ensures.finds.0,
+      found_there g.H.Sum.sum_of (non_zero_u16_get c.args.page_size) c.args.size c.physical_page_size-physical_page_size.result (g.B.Blob.life c.args.blob.now).present.readable c.in_ok-prefix.prefix c.physical_page_size-physical_page_size.ensures c.in_ok-prefix.ensures.looks.0,
     )
 
 pub size_of-len-requires-clause-short : goal.size_of-len-requires-clause-short
 size_of-len-requires-clause-short g c =
-    scanned_short g.H.Sum.sum_of (non_zero_u16_get c.args.page_size) 0 (c.args.size / c.physical_page_size-physical_page_size.result) (g.B.Blob.life c.args.blob.now).present.readable c.in_ok-prefix.prefix c.in_ok-prefix.ensures.finds.0 c.args.page_size.ok
+    scanned_short g.H.Sum.sum_of (non_zero_u16_get c.args.page_size) 0 (c.args.size / c.physical_page_size-physical_page_size.result) (g.B.Blob.life c.args.blob.now).present.readable c.in_ok-prefix.prefix c.in_ok-prefix.ensures.looks.0 c.args.page_size.ok
 
 -- the bytes of the pages that are kept
 kept : (g : Over) (c : After-size_of-len g) → c.pages_of-pages.result * c.physical_page_size-physical_page_size.result ≤ c.args.size
@@ -81,7 +81,7 @@ kept g c =
       arith,
       ap (λ (n : ℕ). n * r) c.pages_of-pages.ensures,
       ap (λ (n : ℕ). prefix_pages p * n) c.physical_page_size-physical_page_size.ensures,
-      found_there g.H.Sum.sum_of P c.args.size r (g.B.Blob.life c.args.blob.now).present.readable p c.physical_page_size-physical_page_size.ensures c.in_ok-prefix.ensures.finds.0,
+      found_there g.H.Sum.sum_of P c.args.size r (g.B.Blob.life c.args.blob.now).present.readable p c.physical_page_size-physical_page_size.ensures c.in_ok-prefix.ensures.looks.0,
     )
 
 pub overflow_mul-cut : goal.overflow_mul-cut
@@ -109,7 +109,7 @@ told g c =
     let P = non_zero_u16_get c.args.page_size in
     let readable = (g.B.Blob.life c.args.blob.now).present.readable in
     let p = c.in_ok-prefix.prefix in
-    let first = found_first sum P c.args.size c.physical_page_size-physical_page_size.result readable p c.physical_page_size-physical_page_size.ensures c.in_ok-prefix.ensures.finds.0 c.requires.length in
+    let first = found_first sum P c.args.size c.physical_page_size-physical_page_size.result readable p c.physical_page_size-physical_page_size.ensures c.in_ok-prefix.ensures.looks.0 c.requires.length in
     told_is sum P readable p first (answer g c) c.args.page_size.ok c.pages_of-pages.ensures c.size_of-len.ensures (rest g c ∙ c.requires.length)
 
 pub returns-clause-goes : goal.returns-clause-goes
@@ -147,7 +147,7 @@ returns-clause-costs g c = record {
       let readable = (g.B.Blob.life c.args.blob.now).present.readable in
       let p = c.in_ok-prefix.prefix in
       let is = c.physical_page_size-physical_page_size.ensures in
-      let found = c.in_ok-prefix.ensures.finds.0 in
+      let found = c.in_ok-prefix.ensures.looks.0 in
       let k = (goal.at.returns-clause-costs g c).After-size_of-len in (
         ap (λ (o : Outlook). Ok o) (idle_is sum P c.args.size r readable p is found (answer g k) less c.pages_of-pages.ensures c.size_of-len.ensures (rest g k)),
         (c.in_ok-prefix.ensures.idle (sym (found_none sum P c.args.size r readable p is found less))).1,

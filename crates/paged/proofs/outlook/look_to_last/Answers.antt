@@ -9,7 +9,7 @@ use Rattle.paged_read.specs.Scans.{ReadsForward}
 use Rattle.paged_read.specs.Searches.{scan_bytes}
 use Rattle.paged_read.proofs.Forward.{forward_is_within}
 use Rattle.paged_read.proofs.Searching.{page_within}
-use Rattle.paged.specs.Outlook.{IsOutlook, ReadsLast, is_torn}
+use Rattle.paged.specs.Outlook.{IsOutlook, ReadsLast, has_torn_page}
 use Rattle.paged.proofs.Surveying.{kept_within, last_reading, last_unread, look_fault_later, only_looks, reads_once, within_both}
 use Rattle.paged.proofs.outlook.look_to_last.Given.{Over}
 use Rattle.paged.proofs.outlook.look_to_last.Goals as goal
@@ -35,7 +35,7 @@ looks : (g : Over) (c : After-last_is_torn g) → Looked (g.B.Blob.life c.args.b
 looks g c =
     let mid = g.B.Blob.life c.look.new.blob in
     looked_joins (g.B.Blob.life c.args.blob.now) mid (g.B.Blob.life c.last_is_torn.new.blob) c.look.ensures.looked
-    (only_looks (length mid.present.readable) (is_torn g.H.Sum.sum_of (non_zero_u16_get c.args.page_size) mid.present.readable c.in_ok-outlook.outlook) mid (g.B.Blob.life c.last_is_torn.new.blob) c.last_is_torn.result c.last_is_torn.ensures.tells)
+    (only_looks (length mid.present.readable) (has_torn_page g.H.Sum.sum_of (non_zero_u16_get c.args.page_size) mid.present.readable c.in_ok-outlook.outlook) mid (g.B.Blob.life c.last_is_torn.new.blob) c.last_is_torn.result c.last_is_torn.ensures.tells)
 
 pub last_is_torn-requires-clause-is : goal.last_is_torn-requires-clause-is
 last_is_torn-requires-clause-is g c =
@@ -71,7 +71,7 @@ returns-in_err-torn-clause-looks g c =
     let mid = g.B.Blob.life c.look.new.blob in
     let p = err_from_is_err_and c.from_residual-in_err-torn.result c.from_residual-in_err-torn.ensures.1 in
     rw (p.1, p.2)
-    (look_fault_later g.H.Sum.sum_of P (length mid.present.readable) (is_torn g.H.Sum.sum_of P mid.present.readable c.in_ok-outlook.outlook) (g.B.Blob.life c.args.blob.now) mid (g.B.Blob.life c.last_is_torn.new.blob) c.in_err-torn.field-0.0 (omega arith) c.look.ensures.looked c.in_err-torn.ensures.tells)
+    (look_fault_later g.H.Sum.sum_of P (length mid.present.readable) (has_torn_page g.H.Sum.sum_of P mid.present.readable c.in_ok-outlook.outlook) (g.B.Blob.life c.args.blob.now) mid (g.B.Blob.life c.last_is_torn.new.blob) c.in_err-torn.field-0.0 (omega arith) c.look.ensures.looked c.in_err-torn.ensures.tells)
 
 unread : (g : Over) (c : After-last_is_torn g) (e : Error) → ReadsLast (non_zero_u16_get c.args.page_size) c.in_ok-outlook.outlook (g.B.Blob.life c.look.new.blob) (g.B.Blob.life c.last_is_torn.new.blob) (Err e)
     → let P = non_zero_u16_get c.args.page_size in
@@ -109,7 +109,7 @@ returns-in_err-torn-clause-looked g c = looks g (goal.at.returns-in_err-torn-cla
 pub returns-clause-looks : goal.returns-clause-looks
 returns-clause-looks g c = (
   c.in_ok-outlook.ensures.goes,
-  c.in_ok-torn.ensures.tells.0 ∙ ap (λ (l : List ℕ). is_torn g.H.Sum.sum_of (non_zero_u16_get c.args.page_size) l c.in_ok-outlook.outlook) (looked_readable (g.B.Blob.life c.args.blob.now) (g.B.Blob.life c.look.new.blob) c.look.ensures.looked),
+  c.in_ok-torn.ensures.tells.0 ∙ ap (λ (l : List ℕ). has_torn_page g.H.Sum.sum_of (non_zero_u16_get c.args.page_size) l c.in_ok-outlook.outlook) (looked_readable (g.B.Blob.life c.args.blob.now) (g.B.Blob.life c.look.new.blob) c.look.ensures.looked),
 )
 
 pub returns-clause-reads : goal.returns-clause-reads

@@ -242,7 +242,7 @@ reads g c =
     let same = ap (λ (x : WriterState). x.page_size) c.recovery.view_is ∙ opened_page_size g.H.Sum.sum_of cache c.args.capacity old mid c.in_ok-recovery.recovery c.in_ok-recovery.ensures.opens in
     let Q = non_zero_u16_get c.recovery.inside.page_size in
     let scanned = subst (λ (n : ℕ). ReadsWithin (scan_bytes n buffer_size) mid new) same
-    (forward_is_within (scan_bytes Q buffer_size) (0 * (Q + 12)) (c.flushed_pages-pages.result * (Q + 12)) mid new c.scan.ensures.reads.forward) in
+    (forward_is_within (scan_bytes Q buffer_size) (0 * (Q + 12)) (c.flushed_pages-pages.result * (Q + 12)) mid new c.scan.ensures.costs.forward) in
     scans_within (P + 12) (scan_bytes P buffer_size) old mid new (page_within P buffer_size (P + 12) refl) c.in_ok-recovery.ensures.reads scanned
 
 pub returns-in_err-prefix-clause-reads : goal.returns-in_err-prefix-clause-reads

@@ -17,8 +17,8 @@ returns-clause-tails g c = λ cache.
     (waits_readable c.args.started (g.B.Blob.life c.args.blob.now)
     (g.B.Blob.life c.wait_sync.new.self) c.wait_sync.result c.wait_sync.ensures.goes)
 
-pub returns-clause-replays : goal.returns-clause-replays
-returns-clause-replays g c =
+pub returns-clause-all_replays : goal.returns-clause-all_replays
+returns-clause-all_replays g c =
     alike_replays (g.B.Blob.life c.args.blob.now) (g.B.Blob.life c.wait_sync.new.self)
     (waits_readable c.args.started (g.B.Blob.life c.args.blob.now)
     (g.B.Blob.life c.wait_sync.new.self) c.wait_sync.result c.wait_sync.ensures.goes)

@@ -1,7 +1,7 @@
 use Rattle.std.proofs.Common.{rules, ◌≡◌, ◌∙◌, sym, ap, subst, ℕ, ◌+◌, ◌<◌, List, length, arith, eqb-true, Ok, Err}
 use Rattle.std.specs.Prelude.{Result, Vec}
 use Rattle.std.specs.declared.alloc.Global.{Global}
-use Rattle.disk.specs.Disk.{ReadMany, ReadManyGoes}
+use Rattle.disk.specs.Disk.{DeviceReadManyGoes, ReadMany}
 use Rattle.disk.specs.declared.error.Error.{Error}
 use Rattle.disk.specs.declared.error.Error.TheVariants.{OutOfMemory}
 use Rattle.paged_read.specs.Batch.{DeliversPages}
@@ -39,7 +39,7 @@ returns-clause-reads g c =
     let new = g.B.Blob.life c.read_many.new.self in
     let size : c.from-size.result + 12 ≡ P + 12 = ap (λ (n : ℕ). n + 12) (c.from-size.ensures ∙ c.get.ensures.value) in
     let asked : c.deref.result.now ≡ page_ranges P c.args.pages.now = c.deref.ensures.value ∙ page_ranges_all P (c.from-size.result + 12) c.args.pages.now c.loop-page.page-index c.loop-page.ranges.items size c.loop-page-test.false c.loop-page.invariant in
-    let goes = subst (λ (rs : List (ℕ × ℕ)). ReadManyGoes rs old new c.read_many.new.out.items (Ok tt)) asked c.in_ok-read_many.ensures.goes in
+    let goes = subst (λ (rs : List (ℕ × ℕ)). DeviceReadManyGoes rs old new c.read_many.new.out.items (Ok tt)) asked c.in_ok-read_many.ensures.goes in
     (goes.1, none_failed_asked (ReadMany (page_ranges P c.args.pages.now)) old new goes.2)
 
 pub returns-then-is_empty-clause-looked : goal.returns-then-is_empty-clause-looked
@@ -58,7 +58,7 @@ returns-in_err-read_many-clause-reads g c =
     let new = g.B.Blob.life c.read_many.new.self in
     let size : c.from-size.result + 12 ≡ P + 12 = ap (λ (n : ℕ). n + 12) (c.from-size.ensures ∙ c.get.ensures.value) in
     let asked : c.deref.result.now ≡ page_ranges P c.args.pages.now = c.deref.ensures.value ∙ page_ranges_all P (c.from-size.result + 12) c.args.pages.now c.loop-page.page-index c.loop-page.ranges.items size c.loop-page-test.false c.loop-page.invariant in
-    let goes = subst (λ (rs : List (ℕ × ℕ)). ReadManyGoes rs old new c.read_many.new.out.items (Err c.in_err-read_many.field-0.0)) asked c.in_err-read_many.ensures.goes in
+    let goes = subst (λ (rs : List (ℕ × ℕ)). DeviceReadManyGoes rs old new c.read_many.new.out.items (Err c.in_err-read_many.field-0.0)) asked c.in_err-read_many.ensures.goes in
     let error = err_from_is_err_and c.from_residual-in_err-read_many.result c.from_residual-in_err-read_many.ensures.1 in
     rw (error.1, error.2) (many_fault P c.args.pages.now old new c.read_many.new.out.items c.in_err-read_many.field-0.0 c.requires.there goes)
 
@@ -69,7 +69,7 @@ returns-in_err-read_many-clause-asks g c =
     let new = g.B.Blob.life c.read_many.new.self in
     let size : c.from-size.result + 12 ≡ P + 12 = ap (λ (n : ℕ). n + 12) (c.from-size.ensures ∙ c.get.ensures.value) in
     let asked : c.deref.result.now ≡ page_ranges P c.args.pages.now = c.deref.ensures.value ∙ page_ranges_all P (c.from-size.result + 12) c.args.pages.now c.loop-page.page-index c.loop-page.ranges.items size c.loop-page-test.false c.loop-page.invariant in
-    let goes = subst (λ (rs : List (ℕ × ℕ)). ReadManyGoes rs old new c.read_many.new.out.items (Err c.in_err-read_many.field-0.0)) asked c.in_err-read_many.ensures.goes in
+    let goes = subst (λ (rs : List (ℕ × ℕ)). DeviceReadManyGoes rs old new c.read_many.new.out.items (Err c.in_err-read_many.field-0.0)) asked c.in_err-read_many.ensures.goes in
     let some : 0 < length c.args.pages.now = some_from_test c.args.pages.now (sym c.is_empty.ensures ∙ c.if-is_empty.false) in
     asks_many (page_ranges P c.args.pages.now) old new c.read_many.new.out.items (Err c.in_err-read_many.field-0.0) (omega (arith, some, length-page_ranges P c.args.pages.now)) goes
 

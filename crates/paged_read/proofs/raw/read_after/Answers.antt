@@ -7,7 +7,7 @@ use Rattle.crash.specs.Looks.{Looked, looked_joins}
 use Rattle.paged_read.specs.Failures.{NoneFailed, none_failed_joins}
 use Rattle.page.specs.Page.{value_len}
 use Rattle.paged_read.specs.Ranges.{page_at}
-use Rattle.paged_read.specs.RawReads.{after_told, range_told, ReadsBefore, ReadsPages, ReadsRising, ReadsTold, value_told}
+use Rattle.paged_read.specs.RawReads.{after_told, range_told, ReadsBefore, ReadsEachPage, ReadsRising, ReadsTold, value_told}
 use Rattle.paged_read.proofs.RawCosts.{before_read, pages_rise, rising_none}
 use Rattle.paged_read.proofs.RawReading.{after_given, after_refused, range_before, told_fault, told_memory}
 use Rattle.paged_read.proofs.raw.read_after.Given.{Over}
@@ -29,7 +29,7 @@ answered g c first second = none_failed_joins (g.B.Blob.life c.args.blob.now).pr
 
 -- which pages they read: the last one, and those before it
 reads : (g : Over) (c : After-read_range g) → let P = non_zero_u16_get c.args.page_size in let old = g.B.Blob.life c.args.blob.now in let value = value_len g.H.Sum.sum_of P (page_at P c.args.last old.present.readable) in
-    ReadsPages P c.args.last 1 old (g.B.Blob.life c.read_value.new.blob) → c.from-2.result ≡ value → ReadsBefore P c.args.last (c.args.last * P + value - c.args.len) old (g.B.Blob.life c.read_range.new.blob)
+    ReadsEachPage P c.args.last 1 old (g.B.Blob.life c.read_value.new.blob) → c.from-2.result ≡ value → ReadsBefore P c.args.last (c.args.last * P + value - c.args.len) old (g.B.Blob.life c.read_range.new.blob)
 reads g c first many =
     let P = non_zero_u16_get c.args.page_size in
     let old = g.B.Blob.life c.args.blob.now in

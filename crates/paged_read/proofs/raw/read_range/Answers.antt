@@ -6,7 +6,7 @@ use Rattle.disk.specs.declared.error.Error.{Error}
 use Rattle.disk.specs.declared.error.Error.TheVariants.{OffsetOverflow}
 use Rattle.crash.specs.Looks.{Looked, looked_start, looked_joins}
 use Rattle.paged_read.specs.Failures.{NoneFailed, none_failed_start, none_failed_joins}
-use Rattle.paged_read.specs.RawReads.{part_of, parts_told, range_end, range_told, ReadsPages, ReadsRising, ReadsTold, value_told}
+use Rattle.paged_read.specs.RawReads.{part_of, parts_told, range_end, range_told, ReadsEachPage, ReadsRising, ReadsTold, value_told}
 use Rattle.paged_read.proofs.Outliving.{look_leaves_writers}
 use Rattle.paged_read.proofs.RawCosts.{pages_join, pages_none, pages_rise, range_read, rising_joins, rising_none}
 use Rattle.paged_read.proofs.RawReading.{found_all, found_fault, found_first, found_next, range_empty, range_fault, range_found, range_passes, range_short, same_pages, told_before, told_fault, told_looks, told_memory, IsFound}
@@ -66,7 +66,7 @@ loop-page-init g c =
     let first : IsFound g.H.Sum.sum_of (non_zero_u16_get c.args.page_size) c.args.offset c.in_ok-end.end (c.args.offset / size) ((c.in_ok-end.end - 1) / size + 1) old.present.readable (c.args.offset / size) (concat c.new-bytes.result) =
     subst (λ (bufs : List (List ℕ)). IsFound g.H.Sum.sum_of (non_zero_u16_get c.args.page_size) c.args.offset c.in_ok-end.end (c.args.offset / size) ((c.in_ok-end.end - 1) / size + 1) old.present.readable (c.args.offset / size) (concat bufs)) (sym c.new-bytes.ensures)
     (found_first g.H.Sum.sum_of (non_zero_u16_get c.args.page_size) c.args.offset c.in_ok-end.end (c.args.offset / size) ((c.in_ok-end.end - 1) / size + 1) old.present.readable) in
-    record { found = first; looked = looked_start old; answered = none_failed_start old.present; from = omega arith; within = omega arith; reads = subst (λ (n : ℕ). ReadsPages (non_zero_u16_get c.args.page_size) (c.args.offset / size) n old old) (let e : 0 ≡ c.args.offset / size - c.args.offset / size = omega arith in e) (pages_none (non_zero_u16_get c.args.page_size) (c.args.offset / size) old) }
+    record { found = first; looked = looked_start old; answered = none_failed_start old.present; from = omega arith; within = omega arith; reads = subst (λ (n : ℕ). ReadsEachPage (non_zero_u16_get c.args.page_size) (c.args.offset / size) n old old) (let e : 0 ≡ c.args.offset / size - c.args.offset / size = omega arith in e) (pages_none (non_zero_u16_get c.args.page_size) (c.args.offset / size) old) }
 
 -- a part that was read, told of the blob as it was at the start
 part_read : (g : Over) (c : After-read_part g) → let old = g.B.Blob.life c.args.blob.now in let P = non_zero_u16_get c.args.page_size in
@@ -154,8 +154,8 @@ loop-page-preserved g c =
       within = omega (arith, c.loop-page-test.true);
       reads =
           let first = c.loop-page.invariant.from in
-          subst (λ (n : ℕ). ReadsPages P (offset / size) n old new) (let e : page - offset / size + 1 ≡ page + 1 - offset / size = omega (arith, first) in e)
-          (pages_join P (offset / size) (page - offset / size) 1 old mid new c.loop-page.invariant.reads (subst (λ (n : ℕ). ReadsPages P n 1 mid new) (let e : page ≡ offset / size + (page - offset / size) = omega (arith, first) in e) c.in_ok-part.ensures.reads));
+          subst (λ (n : ℕ). ReadsEachPage P (offset / size) n old new) (let e : page - offset / size + 1 ≡ page + 1 - offset / size = omega (arith, first) in e)
+          (pages_join P (offset / size) (page - offset / size) 1 old mid new c.loop-page.invariant.reads (subst (λ (n : ℕ). ReadsEachPage P n 1 mid new) (let e : page ≡ offset / size + (page - offset / size) = omega (arith, first) in e) c.in_ok-part.ensures.reads));
     }
 
 -- what was found after the last page

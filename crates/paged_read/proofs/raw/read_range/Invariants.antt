@@ -3,7 +3,7 @@ use Rattle.std.specs.Int.NonZero.{non_zero_u16_get}
 use Rattle.std.specs.List.{concat}
 use Rattle.crash.specs.Looks.{Looked}
 use Rattle.paged_read.specs.Failures.{NoneFailed}
-use Rattle.paged_read.specs.RawReads.{ReadsPages}
+use Rattle.paged_read.specs.RawReads.{ReadsEachPage}
 use Rattle.paged_read.proofs.RawReading.{IsFound}
 use Rattle.paged_read.proofs.raw.read_range.Given as goal
 
@@ -16,5 +16,5 @@ invariant-loop-page g l =
       answered : NoneFailed old.present (g.B.Blob.life l.blob).present;
       from : l.initial.page ≤ l.page;
       within : l.page ≤ max l.initial.page l.page-end;
-      reads : ReadsPages (non_zero_u16_get l.page_size) l.initial.page (l.page - l.initial.page) old (g.B.Blob.life l.blob);
+      reads : ReadsEachPage (non_zero_u16_get l.page_size) l.initial.page (l.page - l.initial.page) old (g.B.Blob.life l.blob);
     }

@@ -2,15 +2,15 @@ use Rattle.std.proofs.Common.{◌≡◌, ◌+◌, ◌*◌, Some, length, arith, 
 use Rattle.std.specs.Prelude.{Option}
 use Rattle.std.proofs.lemmas.Result.{on_ok_weaker}
 use Rattle.std.specs.Int.NonZero.{non_zero_u16_get}
-use Rattle.paged_read.specs.Hand.{HandState, HasRoom}
+use Rattle.paged_read.specs.Hand.{HandHasRoom, HandState}
 use Rattle.paged_read.proofs.Keeping.{end_within, value_end, values_added}
 use Rattle.paged_read.proofs.search.keep.Given.{Over}
 use Rattle.paged_read.proofs.search.keep.Goals as goal
 use Rattle.paged_read.proofs.search.keep.Goals.{After-physical_page_size, After-value_len}
 
 -- there is room for all
-room : (g : Over) (c : After-physical_page_size g) → HasRoom (non_zero_u16_get c.args.page_size) (length c.args.bytes.now) (Some c.in-Some.hand)
-room g c = subst (λ (k : Option HandState). HasRoom (non_zero_u16_get c.args.page_size) (length c.args.bytes.now) k) c.in-Some.is c.requires.room
+room : (g : Over) (c : After-physical_page_size g) → HandHasRoom (non_zero_u16_get c.args.page_size) (length c.args.bytes.now) (Some c.in-Some.hand)
+room g c = subst (λ (k : Option HandState). HandHasRoom (non_zero_u16_get c.args.page_size) (length c.args.bytes.now) k) c.in-Some.is c.requires.room
 
 -- where the values end
 ends : (g : Over) (c : After-value_len g) → c.args.prefix.now.full_pages * c.physical_page_size.result + c.value_len.result ≡ value_end g.H.Sum.sum_of (non_zero_u16_get c.args.page_size) c.args.prefix.now

@@ -16,8 +16,8 @@ use Rattle.paged_read.proofs.search.last_pages.Given.{Over}
 use Rattle.paged_read.proofs.search.last_pages.Goals as goal
 use Rattle.paged_read.proofs.search.last_pages.Goals.{After-read_at}
 
-pub returns-in_err-bytes-clause-finds : goal.returns-in_err-bytes-clause-finds
-returns-in_err-bytes-clause-finds g c =
+pub returns-in_err-bytes-clause-finds_last : goal.returns-in_err-bytes-clause-finds_last
+returns-in_err-bytes-clause-finds_last g c =
     let life = g.B.Blob.life in
     let old = life c.args.blob.now in
     let size = c.physical_page_size-size.result in
@@ -27,8 +27,8 @@ returns-in_err-bytes-clause-finds g c =
     let p = err_from_is_err_and c.from_residual.result c.from_residual.ensures.1 in
     rw (p.1, p.2) (finds_fault ((n - 1) * size) size (last_prefix g.H.Sum.sum_of P c.args.pages old.present.readable) old (life c.loop-pages.blob) (life c.read_at.new.self) c.in_err-bytes.field-0.0 c.loop-pages.invariant.looked c.loop-pages.invariant.answered fits c.in_err-bytes.ensures.goes)
 
-pub returns-then-is_full-clause-finds : goal.returns-then-is_full-clause-finds
-returns-then-is_full-clause-finds g c =
+pub returns-then-is_full-clause-finds_last : goal.returns-then-is_full-clause-finds_last
+returns-then-is_full-clause-finds_last g c =
     let life = g.B.Blob.life in
     let sum = g.H.Sum.sum_of in
     let old = life c.args.blob.now in
@@ -48,8 +48,8 @@ returns-then-is_full-clause-finds g c =
       none_failed_on ((n - 1) * size) size old (life c.loop-pages.blob) new c.in_ok-bytes.bytes c.loop-pages.invariant.answered c.in_ok-bytes.ensures.goes,
     )
 
-pub returns-in_err-partial-clause-finds : goal.returns-in_err-partial-clause-finds
-returns-in_err-partial-clause-finds g c =
+pub returns-in_err-partial-clause-finds_last : goal.returns-in_err-partial-clause-finds_last
+returns-in_err-partial-clause-finds_last g c =
     let life = g.B.Blob.life in
     let old = life c.args.blob.now in
     let size = c.physical_page_size-size.result in
@@ -60,8 +60,8 @@ returns-in_err-partial-clause-finds g c =
     let p = err_from_is_err_and c.from_residual-in_err-partial.result c.from_residual-in_err-partial.ensures.1 in
     rw (p.1, p.2) (finds_memory (last_prefix g.H.Sum.sum_of P c.args.pages old.present.readable) old (life c.read_at.new.self) c.in_err-partial.field-0.0 looked none c.in_err-partial.ensures.err)
 
-pub returns-then-is_some-clause-finds : goal.returns-then-is_some-clause-finds
-returns-then-is_some-clause-finds g c =
+pub returns-then-is_some-clause-finds_last : goal.returns-then-is_some-clause-finds_last
+returns-then-is_some-clause-finds_last g c =
     let life = g.B.Blob.life in
     let sum = g.H.Sum.sum_of in
     let old = life c.args.blob.now in
@@ -159,20 +159,20 @@ reads g c =
     down_lower (P + 12) ((n - 1) * (P + 12)) ((prefix_pages whole - 1) * (P + 12)) old new (few_left g.H.Sum.sum_of P n c.args.pages old.present.readable c.loop-pages.invariant.same)
     (down_page P c.physical_page_size-size.result n old (life c.loop-pages.blob) new c.read_at.result c.physical_page_size-size.ensures c.loop-pages-test.true c.loop-pages.invariant.reads c.read_at.ensures.goes)
 
-pub returns-in_err-bytes-clause-reads : goal.returns-in_err-bytes-clause-reads
-returns-in_err-bytes-clause-reads g c = reads g (goal.at.returns-in_err-bytes-clause-reads g c).After-read_at
+pub returns-in_err-bytes-clause-costs : goal.returns-in_err-bytes-clause-costs
+returns-in_err-bytes-clause-costs g c = reads g (goal.at.returns-in_err-bytes-clause-costs g c).After-read_at
 
-pub returns-then-is_full-clause-reads : goal.returns-then-is_full-clause-reads
-returns-then-is_full-clause-reads g c = reads g (goal.at.returns-then-is_full-clause-reads g c).After-read_at
+pub returns-then-is_full-clause-costs : goal.returns-then-is_full-clause-costs
+returns-then-is_full-clause-costs g c = reads g (goal.at.returns-then-is_full-clause-costs g c).After-read_at
 
-pub returns-in_err-partial-clause-reads : goal.returns-in_err-partial-clause-reads
-returns-in_err-partial-clause-reads g c = reads g (goal.at.returns-in_err-partial-clause-reads g c).After-read_at
+pub returns-in_err-partial-clause-costs : goal.returns-in_err-partial-clause-costs
+returns-in_err-partial-clause-costs g c = reads g (goal.at.returns-in_err-partial-clause-costs g c).After-read_at
 
-pub returns-then-is_some-clause-reads : goal.returns-then-is_some-clause-reads
-returns-then-is_some-clause-reads g c = reads g (goal.at.returns-then-is_some-clause-reads g c).After-read_at
+pub returns-then-is_some-clause-costs : goal.returns-then-is_some-clause-costs
+returns-then-is_some-clause-costs g c = reads g (goal.at.returns-then-is_some-clause-costs g c).After-read_at
 
-pub returns-clause-reads : goal.returns-clause-reads
-returns-clause-reads g c =
+pub returns-clause-costs : goal.returns-clause-costs
+returns-clause-costs g c =
     let P = non_zero_u16_get c.args.page_size in
     let n = c.loop-pages.pages in
     let old = g.B.Blob.life c.args.blob.now in

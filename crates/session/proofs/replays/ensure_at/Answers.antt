@@ -1,6 +1,6 @@
 use Rattle.std.proofs.Common.{refl}
 use Rattle.crash.specs.Looks.{looked_start}
-use Rattle.session.specs.Calls.{CanGoOn}
+use Rattle.session.specs.Calls.{ReplayCanGoOn}
 use Rattle.session.proofs.Below.{at_offset, of_each}
 use Rattle.std.proofs.lemmas.Option.{slice_get_past}
 use Rattle.session.proofs.Numbered.{at_none, at_some}
@@ -10,7 +10,7 @@ pub ensure_of-requires : goal.ensure_of-requires
 ensure_of-requires g c =
     let xs = c.args.replays.now.items in
     let d = (g.B.Blob.life c.args.blob.now).present in
-    record { can = of_each (λ o. CanGoOn o d) xs c.args.index c.in-Some.replay.now (at_offset xs xs c.args.index c.in-Some.replay.now refl c.in-Some.ensures.item.0 c.in-Some.ensures.value) c.requires.can }
+    record { can = of_each (λ o. ReplayCanGoOn o d) xs c.args.index c.in-Some.replay.now (at_offset xs xs c.args.index c.in-Some.replay.now refl c.in-Some.ensures.item.0 c.in-Some.ensures.value) c.requires.can }
 
 pub returns-in-Some-clause-goes : goal.returns-in-Some-clause-goes
 returns-in-Some-clause-goes g c =

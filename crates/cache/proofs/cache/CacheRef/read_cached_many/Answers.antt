@@ -36,8 +36,8 @@ loop-piece-preserved c =
           )
     ]
 
-pub returns-in_err-push-in-None-clause-reads : goal.returns-in_err-push-in-None-clause-reads
-returns-in_err-push-in-None-clause-reads c =
+pub returns-in_err-push-in-None-clause-copies : goal.returns-in_err-push-in-None-clause-copies
+returns-in_err-push-in-None-clause-copies c =
     let zero : Piece = record { page = 0; skip = 0; buf_offset = 0; len = 0 } in
     let i : ℕ = c.loop-piece.piece-index in
     let pieces : List Piece = c.args.pieces.now in

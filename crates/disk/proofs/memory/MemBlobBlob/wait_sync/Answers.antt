@@ -1,5 +1,5 @@
 use Rattle.std.proofs.Common.{false, sym, ◌∙◌, subst, inl, inr, Ok, Err}
-use Rattle.disk.specs.Disk.{WaitsFor, WaitGoes}
+use Rattle.disk.specs.Disk.{WaitStartedGoes, WaitGoes}
 use Rattle.disk.specs.declared.error.Error.TheVariants.{SyncFailed}
 use Rattle.disk.specs.declared.started_sync.StartedSync.{StartedSync}
 use Rattle.disk.specs.declared.action.Action.TheVariants as actions
@@ -19,11 +19,11 @@ returns-then-branch-clause-goes c =
       | then-branch-via-then-branch w ↦ wait_fails name c.in_ok-ask.field-0 (life_of now) (life_of c.ask.new.self) (inl w.if-branch.true) e
       | then-branch-via-else-branch+then-has_failed w ↦ wait_fails name c.in_ok-ask.field-0 (life_of now) (life_of c.ask.new.self) (inr (sym c.has_failed-has_failed.ensures ∙ w.if-has_failed.true)) e
     ] in
-    subst (λ (s : StartedSync). WaitsFor s (life_of now) (life_of c.ask.new.self) (Err SyncFailed)) (sym c.in-Named.is) goes
+    subst (λ (s : StartedSync). WaitStartedGoes s (life_of now) (life_of c.ask.new.self) (Err SyncFailed)) (sym c.in-Named.is) goes
 
 pub returns-clause-goes : goal.returns-clause-goes
 returns-clause-goes c =
     let now = c.args.self.now in
     let name = c.in-Named.name in
     let e = life_after (actions.WaitSync name) false now c.ask.new.self (sym c.if-branch.false ∙ c.in_ok-ask.ensures.failed) c.in_ok-ask.ensures.told in
-    subst (λ (s : StartedSync). WaitsFor s (life_of now) (life_of c.ask.new.self) (Ok tt)) (sym c.in-Named.is) (wait_goes name (life_of now) (life_of c.ask.new.self) (sym c.has_failed-has_failed.ensures ∙ c.if-has_failed.false) e)
+    subst (λ (s : StartedSync). WaitStartedGoes s (life_of now) (life_of c.ask.new.self) (Ok tt)) (sym c.in-Named.is) (wait_goes name (life_of now) (life_of c.ask.new.self) (sym c.has_failed-has_failed.ensures ∙ c.if-has_failed.false) e)

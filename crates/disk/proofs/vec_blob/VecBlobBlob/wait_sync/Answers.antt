@@ -1,6 +1,6 @@
 use Rattle.std.proofs.Common.{◌≡◌, ◌⊎◌, true, false, sym, ap, subst, inl, inr, arith, refl, Ok, Err}
 use Rattle.std.specs.Prelude.{vec_capacity}
-use Rattle.disk.specs.Disk.{Life, had_failed, WaitsFor}
+use Rattle.disk.specs.Disk.{Life, had_failed, WaitStartedGoes}
 use Rattle.disk.specs.declared.error.Error.TheVariants.{SyncFailed}
 use Rattle.disk.specs.declared.started_sync.StartedSync.{StartedSync}
 use Rattle.disk.specs.declared.action.Action.TheVariants as actions
@@ -33,7 +33,7 @@ returns-then-self-clause-goes c =
           inr (subst (λ (l : Life). had_failed l.present.started name ≡ true) same
           (none_at (life_of past).present.started name (omega (arith, w.if-name-self.true, c.self.invariant.names))))
     ] in
-    subst (λ (s : StartedSync). WaitsFor s old new (Err SyncFailed)) (sym c.in-Named.is) (wait_fails name stopped old new why life)
+    subst (λ (s : StartedSync). WaitStartedGoes s old new (Err SyncFailed)) (sym c.in-Named.is) (wait_fails name stopped old new why life)
 
 pub returns-clause-goes : goal.returns-clause-goes
 returns-clause-goes c =
@@ -45,4 +45,4 @@ returns-clause-goes c =
     let life : new ≡ life_after_action (actions.WaitSync name) false old = lives_on (actions.WaitSync name) c.self.inside.stopped false past (vec_capacity c.self.inside.bytes) c.args.self.now c.args.self.now.history c.wait_sync.result.value c.self.view_is refl c.if-self.false c.wait_sync.ensures in
     let well : had_failed old.present.started name ≡ false = subst (λ (l : Life). had_failed l.present.started name ≡ false) same
     (well_at (life_of past).present.started name (c.self.invariant.well c.if-self.false) (omega (arith, c.if-name-self.false, c.self.invariant.names))) in
-    subst (λ (s : StartedSync). WaitsFor s old new (Ok tt)) (sym c.in-Named.is) (wait_goes name old new well life)
+    subst (λ (s : StartedSync). WaitStartedGoes s old new (Ok tt)) (sym c.in-Named.is) (wait_goes name old new well life)

@@ -5,9 +5,9 @@ use Rattle.paged_read.specs.Tail.{CanRead}
 use Rattle.paged.specs.Caches.{tail_of}
 use Rattle.paged.specs.Reads.{size_of}
 use Rattle.items.specs.State.{ItemsState}
-use Rattle.items.specs.Standing.{AreItems, CallLeaves, bytes_of, count, items_of}
+use Rattle.items.specs.Standing.{AreItems, ItemsCallLeaves, items_content, count, items_of}
 use Rattle.paged_read.specs.Ranges.{AsksForMissing}
-use Rattle.items.specs.Calls.{FindsItem, GetsItem}
+use Rattle.items.specs.Calls.{GetGoes, ItemIsAt}
 use Rattle.items.proofs.Laws.{first_of_itself}
 use Rattle.items.proofs.Standing.{nothing_leaves, read_items, read_leaves, stand}
 use Rattle.items.proofs.Calls.{are_ready}
@@ -34,7 +34,7 @@ returns-in-Ok-clause-goes g c =
     let buf = c.read_into.new.buf in
     let goes = c.read_into.ensures in
     let i = c.args.i in
-    subst (λ (v : ItemsState). AreItems sum v cache old → FindsItem v.size (count v) i (Ok c.in-Ok.offset) → length was ≡ v.size → GetsItem v.size (bytes_of v old) i buf old new c.read_into.result) c.self.view_is
+    subst (λ (v : ItemsState). AreItems sum v cache old → ItemIsAt v.size (count v) i (Ok c.in-Ok.offset) → length was ≡ v.size → GetGoes v.size (items_content v old) i buf old new c.read_into.result) c.self.view_is
     (λ items finds long.
     let stood = stand sum s cache old items in
     got sum s.size (tail_of s.writer) cache i c.in-Ok.offset buf was old new c.read_into.result stood.size stood.whole finds long (goes.goes.never_if_sound s.writer stood.ready.sound refl (omega arith)) goes.goes.answers)
@@ -50,13 +50,13 @@ returns-in-Ok-clause-costs g c =
     let new = g.B.Blob.life c.read_into.new.blob in
     let was = c.args.buf.now in
     let i = c.args.i in
-    subst (λ (v : ItemsState). FindsItem v.size (count v) i (Ok c.in-Ok.offset) → length was ≡ v.size → AsksForMissing cache (tail_of v.writer) (i * v.size, v.size) old new) c.self.view_is
+    subst (λ (v : ItemsState). ItemIsAt v.size (count v) i (Ok c.in-Ok.offset) → length was ≡ v.size → AsksForMissing cache (tail_of v.writer) (i * v.size, v.size) old new) c.self.view_is
     (λ finds long. asks_item s.size (tail_of s.writer) cache i c.in-Ok.offset (length was) old new finds.0 long c.read_into.ensures.costs.asks) c.in-Ok.ensures c.requires.size
 
 -- what the read leaves
 left : (g : Over) (c : After-read_into g)
-    → (AreItems g.H.Sum.sum_of c.args.self.now c.read_into.new.cache (g.B.Blob.life c.read_into.new.blob) × (bytes_of c.args.self.now (g.B.Blob.life c.read_into.new.blob) ≡ bytes_of c.args.self.now (g.B.Blob.life c.args.blob.now)))
-    × CallLeaves g.H.Sum.sum_of c.args.self.now (items_of c.args.self.now (g.B.Blob.life c.args.blob.now)) c.args.cache.now c.read_into.new.cache (g.B.Blob.life c.args.blob.now) (g.B.Blob.life c.read_into.new.blob)
+    → (AreItems g.H.Sum.sum_of c.args.self.now c.read_into.new.cache (g.B.Blob.life c.read_into.new.blob) × (items_content c.args.self.now (g.B.Blob.life c.read_into.new.blob) ≡ items_content c.args.self.now (g.B.Blob.life c.args.blob.now)))
+    × ItemsCallLeaves g.H.Sum.sum_of c.args.self.now (items_of c.args.self.now (g.B.Blob.life c.args.blob.now)) c.args.cache.now c.read_into.new.cache (g.B.Blob.life c.args.blob.now) (g.B.Blob.life c.read_into.new.blob)
 left g c =
     let sum = g.H.Sum.sum_of in
     let s : ItemsState = record { writer = c.self.inside.writer; size = non_zero_usize_get c.self.inside.size } in
@@ -65,7 +65,7 @@ left g c =
     let old = g.B.Blob.life c.args.blob.now in
     let new = g.B.Blob.life c.read_into.new.blob in
     let goes = c.read_into.ensures in
-    subst (λ (v : ItemsState). AreItems sum v cache old → (AreItems sum v after new × (bytes_of v new ≡ bytes_of v old)) × CallLeaves sum v (items_of v old) cache after old new) c.self.view_is
+    subst (λ (v : ItemsState). AreItems sum v cache old → (AreItems sum v after new × (items_content v new ≡ items_content v old)) × ItemsCallLeaves sum v (items_of v old) cache after old new) c.self.view_is
     (λ items.
     let fresh = goes.leaves.fresh (stand sum s cache old items).ready.fresh in
     (read_items sum s cache after old new items goes.leaves.looked fresh (goes.leaves.can_read (tail_of s.writer) (stand sum s cache old items).ready.can), read_leaves sum s cache after old new items goes.leaves.looked fresh goes.leaves.others (λ t held below. goes.leaves.tails t held) goes.leaves.replays)) c.requires.items
@@ -86,8 +86,8 @@ returns-in-Err-clause-goes g c =
     let life = g.B.Blob.life c.args.blob.now in
     let e = c.in-Err.error in
     let i = c.args.i in
-    subst (λ (v : ItemsState). AreItems sum v cache life → FindsItem v.size (count v) i (Err e) → GetsItem v.size (bytes_of v life) i c.args.buf.now life life (Err e)) c.self.view_is
-    (λ items finds. not_got s.size (size_of s.writer) (bytes_of s life) i c.args.buf.now life e (stand sum s cache life items).size finds)
+    subst (λ (v : ItemsState). AreItems sum v cache life → ItemIsAt v.size (count v) i (Err e) → GetGoes v.size (items_content v life) i c.args.buf.now life life (Err e)) c.self.view_is
+    (λ items finds. not_got s.size (size_of s.writer) (items_content s life) i c.args.buf.now life e (stand sum s cache life items).size finds)
     c.requires.items c.in-Err.ensures
 
 pub returns-in-Err-clause-costs : goal.returns-in-Err-clause-costs

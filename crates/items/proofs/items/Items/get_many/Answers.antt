@@ -9,8 +9,8 @@ use Rattle.paged_read.specs.Tail.{CanRead}
 use Rattle.paged.specs.Caches.{tail_of}
 use Rattle.paged.specs.Reads.{size_of}
 use Rattle.items.specs.State.{ItemsState}
-use Rattle.items.specs.Standing.{AreItems, CallLeaves, bytes_of, count, items_of}
-use Rattle.items.specs.Calls.{FindsItems, GetsMany, item_ranges}
+use Rattle.items.specs.Standing.{AreItems, ItemsCallLeaves, items_content, count, items_of}
+use Rattle.items.specs.Calls.{GetManyGoes, item_ranges, ItemsAreAt}
 use Rattle.items.proofs.Laws.{first_of_itself}
 use Rattle.items.proofs.Standing.{nothing_leaves, read_items, read_leaves, stand}
 use Rattle.items.proofs.Calls.{are_ready}
@@ -42,10 +42,10 @@ returns-in-Ok-clause-goes g c =
     let buf = c.read_many_into.new.buf in
     let indices = c.args.indices.now in
     let goes = c.read_many_into.ensures in
-    subst (λ (v : ItemsState). AreItems sum v cache old → c.len.result ≡ count v → GetsMany v.size (tail_of v.writer) (bytes_of v old) indices cache buf old new c.read_many_into.result) c.self.view_is
+    subst (λ (v : ItemsState). AreItems sum v cache old → c.len.result ≡ count v → GetManyGoes v.size (tail_of v.writer) (items_content v old) indices cache buf old new c.read_many_into.result) c.self.view_is
     (λ items is.
     let stood = stand sum s cache old items in
-    let finds : FindsItems s.size (count s) indices (Ok c.in-Ok.offsets) = subst (λ (n : ℕ). FindsItems s.size n indices (Ok c.in-Ok.offsets)) is c.in-Ok.ensures in
+    let finds : ItemsAreAt s.size (count s) indices (Ok c.in-Ok.offsets) = subst (λ (n : ℕ). ItemsAreAt s.size n indices (Ok c.in-Ok.offsets)) is c.in-Ok.ensures in
     got_many sum s.size (tail_of s.writer) cache indices c.deref.result.now buf old new c.read_many_into.result stood.size stood.whole (c.deref.ensures.value ∙ finds.0) finds.1 (goes.goes.never_if_sound s.writer stood.ready.sound refl (omega arith)) goes.goes.answers)
     c.requires.items c.len.ensures.count
 
@@ -61,8 +61,8 @@ returns-in-Ok-clause-costs g c =
 
 -- what the read leaves
 left : (g : Over) (c : After-read_many_into g)
-    → (AreItems g.H.Sum.sum_of c.args.self.now c.read_many_into.new.cache (g.B.Blob.life c.read_many_into.new.blob) × (bytes_of c.args.self.now (g.B.Blob.life c.read_many_into.new.blob) ≡ bytes_of c.args.self.now (g.B.Blob.life c.args.blob.now)))
-    × CallLeaves g.H.Sum.sum_of c.args.self.now (items_of c.args.self.now (g.B.Blob.life c.args.blob.now)) c.args.cache.now c.read_many_into.new.cache (g.B.Blob.life c.args.blob.now) (g.B.Blob.life c.read_many_into.new.blob)
+    → (AreItems g.H.Sum.sum_of c.args.self.now c.read_many_into.new.cache (g.B.Blob.life c.read_many_into.new.blob) × (items_content c.args.self.now (g.B.Blob.life c.read_many_into.new.blob) ≡ items_content c.args.self.now (g.B.Blob.life c.args.blob.now)))
+    × ItemsCallLeaves g.H.Sum.sum_of c.args.self.now (items_of c.args.self.now (g.B.Blob.life c.args.blob.now)) c.args.cache.now c.read_many_into.new.cache (g.B.Blob.life c.args.blob.now) (g.B.Blob.life c.read_many_into.new.blob)
 left g c =
     let sum = g.H.Sum.sum_of in
     let s : ItemsState = record { writer = c.self.inside.writer; size = non_zero_usize_get c.self.inside.size } in
@@ -71,7 +71,7 @@ left g c =
     let old = g.B.Blob.life c.args.blob.now in
     let new = g.B.Blob.life c.read_many_into.new.blob in
     let goes = c.read_many_into.ensures in
-    subst (λ (v : ItemsState). AreItems sum v cache old → (AreItems sum v after new × (bytes_of v new ≡ bytes_of v old)) × CallLeaves sum v (items_of v old) cache after old new) c.self.view_is
+    subst (λ (v : ItemsState). AreItems sum v cache old → (AreItems sum v after new × (items_content v new ≡ items_content v old)) × ItemsCallLeaves sum v (items_of v old) cache after old new) c.self.view_is
     (λ items.
     let fresh = goes.leaves.fresh (stand sum s cache old items).ready.fresh in
     (read_items sum s cache after old new items goes.leaves.looked fresh (goes.leaves.can_read (tail_of s.writer) (stand sum s cache old items).ready.can), read_leaves sum s cache after old new items goes.leaves.looked fresh goes.leaves.others (λ t held below. goes.leaves.tails t held) goes.leaves.replays)) c.requires.items
@@ -92,8 +92,8 @@ returns-in-Err-clause-goes g c =
     let life = g.B.Blob.life c.args.blob.now in
     let e = c.in-Err.error in
     let indices = c.args.indices.now in
-    subst (λ (v : ItemsState). AreItems sum v cache life → c.len.result ≡ count v → GetsMany v.size (tail_of v.writer) (bytes_of v life) indices cache c.args.buf.now life life (Err e)) c.self.view_is
-    (λ items is. many_not_got s.size (size_of s.writer) (tail_of s.writer) (bytes_of s life) indices cache c.args.buf.now life e (stand sum s cache life items).size (subst (λ (n : ℕ). FindsItems s.size n indices (Err e)) is c.in-Err.ensures))
+    subst (λ (v : ItemsState). AreItems sum v cache life → c.len.result ≡ count v → GetManyGoes v.size (tail_of v.writer) (items_content v life) indices cache c.args.buf.now life life (Err e)) c.self.view_is
+    (λ items is. many_not_got s.size (size_of s.writer) (tail_of s.writer) (items_content s life) indices cache c.args.buf.now life e (stand sum s cache life items).size (subst (λ (n : ℕ). ItemsAreAt s.size n indices (Err e)) is c.in-Err.ensures))
     c.requires.items c.len.ensures.count
 
 pub returns-in-Err-clause-costs : goal.returns-in-Err-clause-costs

@@ -2,8 +2,8 @@ use Rattle.std.proofs.Common.{inl, Err, ◌≡◌, ◌∷◌, ◌++◌, [], leng
 use Rattle.std.specs.Int.NonZero.{non_zero_usize_get}
 use Rattle.paged.specs.Ready.{IsReady}
 use Rattle.items.specs.State.{ItemsState}
-use Rattle.items.specs.Standing.{AreItems, CallLeaves, bytes_of, count, items_of}
-use Rattle.items.specs.Calls.{IsPushed, Lasts, Pushes}
+use Rattle.items.specs.Standing.{AreItems, ItemsCallLeaves, items_content, count, items_of}
+use Rattle.items.specs.Calls.{DurabilityLasts, IsPushed, PushGoes}
 use Rattle.items.proofs.Standing.{stand}
 use Rattle.items.proofs.Calls.{lasts_through, not_pushed, push_leaves, pushed, ready}
 use Rattle.items.proofs.items.Items.push.Given.{Over}
@@ -41,12 +41,12 @@ returns-in-Ok-clause-ready g c =
     let new = g.B.Blob.life c.append.new.blob in
     let goes = c.in-Ok.ensures in
     let now = c.new.result in
-    let lasting : Lasts sum c.args.self now old new =
-    subst (λ (v : ItemsState). AreItems sum v cache old → Lasts sum v now old new) c.self.view_is (λ items. lasts_through sum s c.args.item.now (bytes_of s old ++ c.args.item.now) cache old new c.in-Ok.writer now items goes.goes.answers.holds c.new.ensures.writer c.new.ensures.size goes.owes.through) c.requires.items in
+    let lasting : DurabilityLasts sum c.args.self now old new =
+    subst (λ (v : ItemsState). AreItems sum v cache old → DurabilityLasts sum v now old new) c.self.view_is (λ items. lasts_through sum s c.args.item.now (items_content s old ++ c.args.item.now) cache old new c.in-Ok.writer now items goes.goes.answers.holds c.new.ensures.writer c.new.ensures.size goes.owes.through) c.requires.items in
     (ready g.H.Sum.sum_of c.args.self c.args.item.now c.append.new.cache (g.B.Blob.life c.args.blob.now) (g.B.Blob.life c.append.new.blob) c.new.result (returns-in-Ok-clause-goes g c).goes, lasting)
 
 left : (g : Over) (c : After-append g)
-    → CallLeaves g.H.Sum.sum_of c.args.self (items_of c.args.self (g.B.Blob.life c.args.blob.now) ++ c.args.item.now ∷ []) c.args.cache.now c.append.new.cache (g.B.Blob.life c.args.blob.now) (g.B.Blob.life c.append.new.blob)
+    → ItemsCallLeaves g.H.Sum.sum_of c.args.self (items_of c.args.self (g.B.Blob.life c.args.blob.now) ++ c.args.item.now ∷ []) c.args.cache.now c.append.new.cache (g.B.Blob.life c.args.blob.now) (g.B.Blob.life c.append.new.blob)
 left g c =
     let sum = g.H.Sum.sum_of in
     let s : ItemsState = record { writer = c.self.inside.writer; size = non_zero_usize_get c.self.inside.size } in
@@ -56,7 +56,7 @@ left g c =
     let new = g.B.Blob.life c.append.new.blob in
     let item = c.args.item.now in
     let goes = c.append.ensures in
-    subst (λ (v : ItemsState). AreItems sum v cache old → length item ≡ v.size → CallLeaves sum v (items_of v old ++ item ∷ []) cache after old new) c.self.view_is
+    subst (λ (v : ItemsState). AreItems sum v cache old → length item ≡ v.size → ItemsCallLeaves sum v (items_of v old ++ item ∷ []) cache after old new) c.self.view_is
     (λ items long. push_leaves sum s item cache after old new items long goes.owes)
     c.requires.items c.requires.size
 
@@ -71,7 +71,7 @@ returns-in-Err-clause-goes g c =
     let old = g.B.Blob.life c.args.blob.now in
     let new = g.B.Blob.life c.append.new.blob in
     let e = c.in-Err.error in
-    subst (λ (v : ItemsState). Pushes sum v c.args.item.now after old new (Err e)) c.self.view_is (not_pushed sum s c.args.item.now after old new e c.in-Err.ensures.goes.answers)
+    subst (λ (v : ItemsState). PushGoes sum v c.args.item.now after old new (Err e)) c.self.view_is (not_pushed sum s c.args.item.now after old new e c.in-Err.ensures.goes.answers)
 
 pub returns-in-Err-clause-leaves : goal.returns-in-Err-clause-leaves
 returns-in-Err-clause-leaves g c = left g (goal.at.returns-in-Err-clause-leaves g c).After-append

@@ -3,7 +3,7 @@ use Rattle.std.proofs.lemmas.Result.{err_from_is_err_and}
 use Rattle.std.specs.Int.NonZero.{non_zero_usize_get}
 use Rattle.cache.specs.Pages.{IsFresh}
 use Rattle.paged.specs.Reads.{size_of}
-use Rattle.items.specs.Standing.{RecoveryLeaves}
+use Rattle.items.specs.Standing.{ItemsRecoveryLeaves}
 use Rattle.items.proofs.Calls.{are_ready}
 use Rattle.items.proofs.Recovery.{refused_at_first, cut_leaves, cut_refused, recovered_items, recovers_not, recovers_so}
 use Rattle.items.proofs.items.Items.recover.Given.{Over}
@@ -30,7 +30,7 @@ fresh g c =
     let was = c.in_ok-recovery.ensures.ready c.requires.fresh in
     c.truncate.ensures.owes.fresh was.can.given was.fresh
 
-left : (g : Over) (c : After-truncate g) → RecoveryLeaves g.H.Sum.sum_of (non_zero_usize_get c.args.size) c.args.cache.now c.truncate.new.cache (g.B.Blob.life c.args.blob.now) (g.B.Blob.life c.truncate.new.blob)
+left : (g : Over) (c : After-truncate g) → ItemsRecoveryLeaves g.H.Sum.sum_of (non_zero_usize_get c.args.size) c.args.cache.now c.truncate.new.cache (g.B.Blob.life c.args.blob.now) (g.B.Blob.life c.truncate.new.blob)
 left g c =
     let was = c.in_ok-recovery.ensures in
     let owes = c.truncate.ensures.owes in

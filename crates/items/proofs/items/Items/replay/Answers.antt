@@ -2,10 +2,10 @@ use Rattle.std.proofs.Common.{inl, subst, sym, []}
 use Rattle.std.specs.Int.NonZero.{non_zero_usize_get}
 use Rattle.paged.specs.Ready.{IsReady}
 use Rattle.items.specs.State.{ItemsState}
-use Rattle.items.specs.Standing.{AreItems, CallLeaves, bytes_of, items_of}
+use Rattle.items.specs.Standing.{AreItems, ItemsCallLeaves, items_content, items_of}
 use Rattle.items.specs.State.{ItemsReplayState}
-use Rattle.items.specs.Calls.{Lasts}
-use Rattle.items.specs.Readers.{HasReplay}
+use Rattle.items.specs.Calls.{DurabilityLasts}
+use Rattle.items.specs.Readers.{HasItemsReplay}
 use Rattle.items.proofs.Standing.{owed_same, stand}
 use Rattle.items.proofs.Calls.{lasts_through, ready}
 use Rattle.items.proofs.Readers.{began}
@@ -29,8 +29,8 @@ returns-in-Ok-clause-goes g c =
     let new = g.B.Blob.life c.replay.new.blob in
     let goes = c.in-Ok.ensures in
     let now = c.new-items.result in
-    subst (λ (r : ItemsReplayState). HasReplay sum c.args.self after old new now r) (sym c.new.ensures)
-    (subst (λ (v : ItemsState). AreItems sum v cache old → HasReplay sum v after old new now (record { replay = c.in-Ok.replay; size = non_zero_usize_get c.self.inside.size })) c.self.view_is
+    subst (λ (r : ItemsReplayState). HasItemsReplay sum c.args.self after old new now r) (sym c.new.ensures)
+    (subst (λ (v : ItemsState). AreItems sum v cache old → HasItemsReplay sum v after old new now (record { replay = c.in-Ok.replay; size = non_zero_usize_get c.self.inside.size })) c.self.view_is
     (λ items. began sum s (non_zero_usize_get c.args.buffer_size) cache after old new c.in-Ok.writer c.in-Ok.replay now items goes.goes c.new-items.ensures.writer c.new-items.ensures.size (goes.ready.0 (stand sum s cache old items).ready)) c.requires.items)
 
 pub returns-in-Ok-clause-ready : goal.returns-in-Ok-clause-ready
@@ -43,11 +43,11 @@ returns-in-Ok-clause-ready g c =
     let new = g.B.Blob.life c.replay.new.blob in
     let goes = c.in-Ok.ensures in
     let now = c.new-items.result in
-    let lasting : Lasts sum c.args.self now old new =
-    subst (λ (v : ItemsState). AreItems sum v cache old → Lasts sum v now old new) c.self.view_is (λ items. lasts_through sum s [] (bytes_of s old) cache old new c.in-Ok.writer now items goes.goes.holds c.new-items.ensures.writer c.new-items.ensures.size goes.owes.through) c.requires.items in
+    let lasting : DurabilityLasts sum c.args.self now old new =
+    subst (λ (v : ItemsState). AreItems sum v cache old → DurabilityLasts sum v now old new) c.self.view_is (λ items. lasts_through sum s [] (items_content s old) cache old new c.in-Ok.writer now items goes.goes.holds c.new-items.ensures.writer c.new-items.ensures.size goes.owes.through) c.requires.items in
     ((ready sum c.args.self [] c.replay.new.cache old new now has.goes, lasting), has.replay, has.size, has.page_size, has.below)
 
-left : (g : Over) (c : After-replay g) → CallLeaves g.H.Sum.sum_of c.args.self (items_of c.args.self (g.B.Blob.life c.args.blob.now)) c.args.cache.now c.replay.new.cache (g.B.Blob.life c.args.blob.now) (g.B.Blob.life c.replay.new.blob)
+left : (g : Over) (c : After-replay g) → ItemsCallLeaves g.H.Sum.sum_of c.args.self (items_of c.args.self (g.B.Blob.life c.args.blob.now)) c.args.cache.now c.replay.new.cache (g.B.Blob.life c.args.blob.now) (g.B.Blob.life c.replay.new.blob)
 left g c =
     let sum = g.H.Sum.sum_of in
     let s : ItemsState = record { writer = c.self.inside.writer; size = non_zero_usize_get c.self.inside.size } in
@@ -56,7 +56,7 @@ left g c =
     let old = g.B.Blob.life c.args.blob.now in
     let new = g.B.Blob.life c.replay.new.blob in
     let goes = c.replay.ensures in
-    subst (λ (v : ItemsState). AreItems sum v cache old → CallLeaves sum v (items_of v old) cache after old new) c.self.view_is
+    subst (λ (v : ItemsState). AreItems sum v cache old → ItemsCallLeaves sum v (items_of v old) cache after old new) c.self.view_is
     (λ items. owed_same sum s cache after old new items goes.owes) c.requires.items
 
 pub returns-in-Ok-clause-leaves : goal.returns-in-Ok-clause-leaves

@@ -2,8 +2,8 @@ use Rattle.std.proofs.Common.{inl, subst, sym, []}
 use Rattle.std.specs.Int.NonZero.{non_zero_usize_get}
 use Rattle.paged.specs.Ready.{IsReady}
 use Rattle.items.specs.State.{ItemsState}
-use Rattle.items.specs.Standing.{AreItems, CallLeaves, bytes_of, items_of}
-use Rattle.items.specs.Calls.{AreStarted, Lasts}
+use Rattle.items.specs.Standing.{AreItems, ItemsCallLeaves, items_content, items_of}
+use Rattle.items.specs.Calls.{AreStarted, DurabilityLasts}
 use Rattle.items.proofs.Standing.{owed_same, stand}
 use Rattle.items.proofs.Calls.{begun, lasts_through, ready}
 use Rattle.items.proofs.items.Items.start_sync.Given.{Over}
@@ -38,11 +38,11 @@ returns-in-Ok-clause-ready g c =
     let new = g.B.Blob.life c.start_sync.new.blob in
     let goes = c.in-Ok.ensures in
     let now = c.new.result in
-    let lasting : Lasts sum c.args.self now old new =
-    subst (λ (v : ItemsState). AreItems sum v cache old → Lasts sum v now old new) c.self.view_is (λ items. lasts_through sum s [] (bytes_of s old) cache old new c.in-Ok.writer now items goes.goes.goes.holds c.new.ensures.writer c.new.ensures.size goes.owes.through) c.requires.items in
+    let lasting : DurabilityLasts sum c.args.self now old new =
+    subst (λ (v : ItemsState). AreItems sum v cache old → DurabilityLasts sum v now old new) c.self.view_is (λ items. lasts_through sum s [] (items_content s old) cache old new c.in-Ok.writer now items goes.goes.goes.holds c.new.ensures.writer c.new.ensures.size goes.owes.through) c.requires.items in
     (ready g.H.Sum.sum_of c.args.self [] c.start_sync.new.cache (g.B.Blob.life c.args.blob.now) (g.B.Blob.life c.start_sync.new.blob) c.new.result (returns-in-Ok-clause-goes g c).goes, lasting)
 
-left : (g : Over) (c : After-start_sync g) → CallLeaves g.H.Sum.sum_of c.args.self (items_of c.args.self (g.B.Blob.life c.args.blob.now)) c.args.cache.now c.start_sync.new.cache (g.B.Blob.life c.args.blob.now) (g.B.Blob.life c.start_sync.new.blob)
+left : (g : Over) (c : After-start_sync g) → ItemsCallLeaves g.H.Sum.sum_of c.args.self (items_of c.args.self (g.B.Blob.life c.args.blob.now)) c.args.cache.now c.start_sync.new.cache (g.B.Blob.life c.args.blob.now) (g.B.Blob.life c.start_sync.new.blob)
 left g c =
     let sum = g.H.Sum.sum_of in
     let s : ItemsState = record { writer = c.self.inside.writer; size = non_zero_usize_get c.self.inside.size } in
@@ -51,7 +51,7 @@ left g c =
     let old = g.B.Blob.life c.args.blob.now in
     let new = g.B.Blob.life c.start_sync.new.blob in
     let goes = c.start_sync.ensures in
-    subst (λ (v : ItemsState). AreItems sum v cache old → CallLeaves sum v (items_of v old) cache after old new) c.self.view_is
+    subst (λ (v : ItemsState). AreItems sum v cache old → ItemsCallLeaves sum v (items_of v old) cache after old new) c.self.view_is
     (λ items. owed_same sum s cache after old new items goes.owes) c.requires.items
 
 pub returns-in-Ok-clause-leaves : goal.returns-in-Ok-clause-leaves

@@ -3,8 +3,8 @@ use Rattle.std.specs.Int.NonZero.{non_zero_usize_get}
 use Rattle.cache.specs.CacheState.{CacheState}
 use Rattle.writer_state.specs.Sound.{IsSound}
 use Rattle.items.specs.State.{ItemsState}
-use Rattle.items.specs.Standing.{AreItems, CallLeaves, bytes_of, items_of}
-use Rattle.items.specs.Calls.{HaveWaited, Lasts}
+use Rattle.items.specs.Standing.{AreItems, ItemsCallLeaves, items_content, items_of}
+use Rattle.items.specs.Calls.{DurabilityLasts, HaveWaited}
 use Rattle.items.proofs.Standing.{owed_wait, stand}
 use Rattle.items.proofs.Calls.{lasts_through, ready, waited}
 use Rattle.items.proofs.items.Items.wait_for_sync.Given.{Over}
@@ -37,19 +37,19 @@ returns-in-Ok-clause-ready g c = λ cache items.
     let goes = c.in-Ok.ensures in
     let now = c.new.result in (
       ready sum c.args.self [] cache old new now (returns-in-Ok-clause-goes g c cache items).goes,
-      subst (λ (v : ItemsState). AreItems sum v cache old → Lasts sum v now old new) c.self.view_is
-          (λ inside. lasts_through sum s [] (bytes_of s old) cache old new c.in-Ok.writer now inside goes.goes.holds c.new.ensures.writer c.new.ensures.size goes.owes.through) items,
+      subst (λ (v : ItemsState). AreItems sum v cache old → DurabilityLasts sum v now old new) c.self.view_is
+          (λ inside. lasts_through sum s [] (items_content s old) cache old new c.in-Ok.writer now inside goes.goes.holds c.new.ensures.writer c.new.ensures.size goes.owes.through) items,
     )
 
 left : (g : Over) (c : After-wait_for_sync g) (cache : CacheState) → AreItems g.H.Sum.sum_of c.args.self cache (g.B.Blob.life c.args.blob.now)
-    → CallLeaves g.H.Sum.sum_of c.args.self (items_of c.args.self (g.B.Blob.life c.args.blob.now)) cache cache (g.B.Blob.life c.args.blob.now) (g.B.Blob.life c.wait_for_sync.new.blob)
+    → ItemsCallLeaves g.H.Sum.sum_of c.args.self (items_of c.args.self (g.B.Blob.life c.args.blob.now)) cache cache (g.B.Blob.life c.args.blob.now) (g.B.Blob.life c.wait_for_sync.new.blob)
 left g c cache =
     let sum = g.H.Sum.sum_of in
     let s : ItemsState = record { writer = c.self.inside.writer; size = non_zero_usize_get c.self.inside.size } in
     let old = g.B.Blob.life c.args.blob.now in
     let new = g.B.Blob.life c.wait_for_sync.new.blob in
     let goes = c.wait_for_sync.ensures in
-    subst (λ (v : ItemsState). AreItems sum v cache old → CallLeaves sum v (items_of v old) cache cache old new) c.self.view_is
+    subst (λ (v : ItemsState). AreItems sum v cache old → ItemsCallLeaves sum v (items_of v old) cache cache old new) c.self.view_is
     (λ items. owed_wait sum s cache old new items goes.owes)
 
 pub returns-in-Ok-clause-leaves : goal.returns-in-Ok-clause-leaves

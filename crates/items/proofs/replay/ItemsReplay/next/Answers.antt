@@ -4,10 +4,10 @@ use Rattle.std.proofs.lemmas.Bool.{leb-true}
 use Rattle.std.proofs.lemmas.Result.{err_from_is_err_and}
 use Rattle.std.proofs.Math.Nat.{min-eq_left}
 use Rattle.paged_read.specs.Replay.{IsReplayOf, ReplayState}
-use Rattle.paged_read.specs.Tail.{size_of}
+use Rattle.paged_read.specs.Tail.{tail_size}
 use Rattle.items.specs.State.{ItemsReplayState}
-use Rattle.items.specs.Standing.{IsItemsReplay, OnlyReadsOn, ReplaysItems, bytes_along, items_left}
-use Rattle.items.specs.Readers.{GivesNext, HoldsAlong}
+use Rattle.items.specs.Standing.{IsItemsReplay, ReplayReadLeaves, ReplaysItems, bytes_along, items_left}
+use Rattle.items.specs.Readers.{HoldsAlong, NextItemGoes}
 use Rattle.items.proofs.Standing.{along, only_reads_on}
 use Rattle.items.proofs.Readers.{copy_refused, fill_refused, holds_along, gave, had_none, not_there, stays_there}
 use Rattle.items.proofs.replay.ItemsReplay.next.Given.{Over}
@@ -32,7 +32,7 @@ ensure-requires g c =
     record { can = (along sum r old (subst (λ (v : ItemsReplayState). IsItemsReplay sum v old) (sym c.self.view_is) c.requires.replay)).gives.can }
 
 -- what the fill leaves
-left : (g : Over) (c : After-ensure g) → OnlyReadsOn g.H.Sum.sum_of (g.B.Blob.life c.args.blob.now) (g.B.Blob.life c.ensure.new.blob)
+left : (g : Over) (c : After-ensure g) → ReplayReadLeaves g.H.Sum.sum_of (g.B.Blob.life c.args.blob.now) (g.B.Blob.life c.ensure.new.blob)
 left g c =
     let goes = c.ensure.ensures in
     only_reads_on g.H.Sum.sum_of (g.B.Blob.life c.args.blob.now) (g.B.Blob.life c.ensure.new.blob) goes.leaves.looked goes.leaves.tails goes.leaves.replays
@@ -59,7 +59,7 @@ returns-in_err-ensure-clause-goes g c =
     let e = c.in_err-ensure.field-0.0 in
     let fetches = c.in_err-ensure.ensures.goes.answers in
     let error = err_from_is_err_and c.from_residual.result c.from_residual.ensures.1 in
-    rw (error.1, error.2) (subst (λ (v : ItemsReplayState). GivesNext v now old new (Err e)) c.self.view_is
+    rw (error.1, error.2) (subst (λ (v : ItemsReplayState). NextItemGoes v now old new (Err e)) c.self.view_is
     ((still g at fetches.0.tail fetches.0.position).1, fill_refused g.H.Sum.sum_of (inside g at) old new (was g at) e fetches.1))
 
 pub returns-in_err-ensure-clause-ready : goal.returns-in_err-ensure-clause-ready
@@ -82,9 +82,9 @@ returns-then-not-branch-clause-goes g c =
     let new = g.B.Blob.life c.ensure.new.blob in
     let now : ItemsReplayState = record { replay = c.ensure.new.self; size = non_zero_usize_get c.self.inside.size } in
     let fetches = c.in_ok-ensure.ensures.goes.answers in
-    let past = not_there c.self.inside.replay.position c.get-size.result (size_of c.self.inside.replay.tail) (sym c.if-not-branch.true ∙ fetches.1) in
+    let past = not_there c.self.inside.replay.position c.get-size.result (tail_size c.self.inside.replay.tail) (sym c.if-not-branch.true ∙ fetches.1) in
     let none = had_none g.H.Sum.sum_of (inside g at) old new (was g at) (omega (arith, past, c.get-size.ensures.value)) in
-    subst (λ (v : ItemsReplayState). GivesNext v now old new (Ok None)) c.self.view_is (none, (still g at fetches.0.tail fetches.0.position).1 ∙ none)
+    subst (λ (v : ItemsReplayState). NextItemGoes v now old new (Ok None)) c.self.view_is (none, (still g at fetches.0.tail fetches.0.position).1 ∙ none)
 
 pub returns-then-not-branch-clause-ready : goal.returns-then-not-branch-clause-ready
 returns-then-not-branch-clause-ready g c =
@@ -134,7 +134,7 @@ given g c =
     let least = min-eq_left (fetches.2 answered) in
     let at_item : c.ensure.new.self.position ≡ r.replay.position = fills.position in
     let after : now.replay.position ≡ r.replay.position + r.size = ap (λ (x : ReplayState). x.position) copied.goes.moves ∙ ap₂ (λ (p n : ℕ). p + n) at_item (least ∙ value) in
-    let there = leb-true (r.replay.position + c.get-size.result) (size_of r.replay.tail) (sym fetches.1 ∙ answered) in
+    let there = leb-true (r.replay.position + c.get-size.result) (tail_size r.replay.tail) (sym fetches.1 ∙ answered) in
     gave sum r old new (was g at) now c.in_ok-item.item refl
     (ap (λ (x : ReplayState). x.tail) copied.goes.moves ∙ fills.tail) after (copied.replays.1 sum held new.present (gives g at)) (omega (arith, there, value))
     (copied.goes.gives sum held new.present (gives g at) ∙ ap₂ (λ (n p : ℕ). take n (drop p held)) (copied.goes.size ∙ value) at_item)
@@ -142,7 +142,7 @@ given g c =
 pub returns-clause-goes : goal.returns-clause-goes
 returns-clause-goes g c =
     let now : ItemsReplayState = record { replay = c.copy_to_bytes.new.self; size = non_zero_usize_get c.self.inside.size } in
-    subst (λ (v : ItemsReplayState). GivesNext v now (g.B.Blob.life c.args.blob.now) (g.B.Blob.life c.ensure.new.blob) (Ok (Some c.in_ok-item.item))) c.self.view_is (given g c).1
+    subst (λ (v : ItemsReplayState). NextItemGoes v now (g.B.Blob.life c.args.blob.now) (g.B.Blob.life c.ensure.new.blob) (Ok (Some c.in_ok-item.item))) c.self.view_is (given g c).1
 
 pub returns-clause-ready : goal.returns-clause-ready
 returns-clause-ready g c = (

@@ -1,10 +1,10 @@
 use Rattle.std.proofs.Common.{◌≡◌, ◌*◌, ℕ, length, Ok, Err, refl, subst, sym}
 use Rattle.std.specs.Int.NonZero.{non_zero_usize_get}
-use Rattle.paged_read.specs.Tail.{CanRead, size_of}
+use Rattle.paged_read.specs.Tail.{CanRead, tail_size}
 use Rattle.items.specs.State.{ItemsSnapshotState}
-use Rattle.items.specs.Standing.{IsItemsSnapshot, OnlyReads, bytes_over, count_over}
+use Rattle.items.specs.Standing.{IsItemsSnapshot, SnapshotReadLeaves, bytes_over, count_over}
 use Rattle.paged_read.specs.Ranges.{AsksForMissing}
-use Rattle.items.specs.Calls.{FindsItem, GetsItem}
+use Rattle.items.specs.Calls.{GetGoes, ItemIsAt}
 use Rattle.items.proofs.Standing.{nothing_read, only_reads, over, still_over}
 use Rattle.items.proofs.Reading.{asks_item, asks_none, got, not_got}
 use Rattle.items.proofs.snapshot.ItemsSnapshot.get.Given.{Over}
@@ -29,10 +29,10 @@ returns-in-Ok-clause-goes g c =
     let buf = c.read_into.new.buf in
     let goes = c.read_into.ensures in
     let i = c.args.i in
-    subst (λ (v : ItemsSnapshotState). IsItemsSnapshot sum v cache old → c.len.result ≡ count_over v → length was ≡ v.size → GetsItem v.size (bytes_over v old) i buf old new c.read_into.result) c.self.view_is
+    subst (λ (v : ItemsSnapshotState). IsItemsSnapshot sum v cache old → c.len.result ≡ count_over v → length was ≡ v.size → GetGoes v.size (bytes_over v old) i buf old new c.read_into.result) c.self.view_is
     (λ snapshot is long.
     let stood = over sum r cache old snapshot in
-    got sum r.size r.tail cache i c.in-Ok.offset buf was old new c.read_into.result stood.size stood.whole (subst (λ (n : ℕ). FindsItem r.size n i (Ok c.in-Ok.offset)) is c.in-Ok.ensures) long (goes.goes.never stood.stands.tail.full) goes.goes.answers)
+    got sum r.size r.tail cache i c.in-Ok.offset buf was old new c.read_into.result stood.size stood.whole (subst (λ (n : ℕ). ItemIsAt r.size n i (Ok c.in-Ok.offset)) is c.in-Ok.ensures) long (goes.goes.never stood.stands.tail.full) goes.goes.answers)
     c.requires.snapshot c.len.ensures.count c.requires.size
 
 pub returns-in-Ok-clause-costs : goal.returns-in-Ok-clause-costs
@@ -48,10 +48,10 @@ returns-in-Ok-clause-costs g c =
     (λ long. asks_item r.size r.tail cache i c.in-Ok.offset (length was) old new c.in-Ok.ensures.0 long c.read_into.ensures.costs.asks) c.requires.size
 
 -- what the read leaves
-left : (g : Over) (c : After-read_into g) → OnlyReads g.H.Sum.sum_of c.args.self.now.tail.id c.args.cache.now c.read_into.new.cache (g.B.Blob.life c.args.blob.now) (g.B.Blob.life c.read_into.new.blob)
+left : (g : Over) (c : After-read_into g) → SnapshotReadLeaves g.H.Sum.sum_of c.args.self.now.tail.id c.args.cache.now c.read_into.new.cache (g.B.Blob.life c.args.blob.now) (g.B.Blob.life c.read_into.new.blob)
 left g c =
     let goes = c.read_into.ensures in
-    subst (λ (v : ItemsSnapshotState). OnlyReads g.H.Sum.sum_of v.tail.id c.args.cache.now c.read_into.new.cache (g.B.Blob.life c.args.blob.now) (g.B.Blob.life c.read_into.new.blob)) c.self.view_is
+    subst (λ (v : ItemsSnapshotState). SnapshotReadLeaves g.H.Sum.sum_of v.tail.id c.args.cache.now c.read_into.new.cache (g.B.Blob.life c.args.blob.now) (g.B.Blob.life c.read_into.new.blob)) c.self.view_is
     (only_reads g.H.Sum.sum_of c.self.inside.snapshot.id c.args.cache.now c.read_into.new.cache (g.B.Blob.life c.args.blob.now) (g.B.Blob.life c.read_into.new.blob) goes.leaves.looked goes.leaves.fresh goes.leaves.others goes.leaves.tails goes.leaves.replays)
 
 pub returns-in-Ok-clause-leaves : goal.returns-in-Ok-clause-leaves
@@ -87,8 +87,8 @@ returns-in-Err-clause-goes g c =
     let life = g.B.Blob.life c.args.blob.now in
     let e = c.in-Err.error in
     let i = c.args.i in
-    subst (λ (v : ItemsSnapshotState). IsItemsSnapshot sum v cache life → c.len.result ≡ count_over v → GetsItem v.size (bytes_over v life) i c.args.buf.now life life (Err e)) c.self.view_is
-    (λ snapshot is. not_got r.size (size_of r.tail) (bytes_over r life) i c.args.buf.now life e (over sum r cache life snapshot).size (subst (λ (n : ℕ). FindsItem r.size n i (Err e)) is c.in-Err.ensures))
+    subst (λ (v : ItemsSnapshotState). IsItemsSnapshot sum v cache life → c.len.result ≡ count_over v → GetGoes v.size (bytes_over v life) i c.args.buf.now life life (Err e)) c.self.view_is
+    (λ snapshot is. not_got r.size (tail_size r.tail) (bytes_over r life) i c.args.buf.now life e (over sum r cache life snapshot).size (subst (λ (n : ℕ). ItemIsAt r.size n i (Err e)) is c.in-Err.ensures))
     c.requires.snapshot c.len.ensures.count
 
 pub returns-in-Err-clause-costs : goal.returns-in-Err-clause-costs

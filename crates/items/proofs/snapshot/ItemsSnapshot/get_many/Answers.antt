@@ -1,13 +1,13 @@
 use Rattle.std.proofs.Common.{◌≡◌, ◌∙◌, ◌*◌, ℕ, List, map, length, ap, ap₂, Ok, Err, refl, subst, sym}
 use Rattle.std.specs.Int.NonZero.{non_zero_usize_get}
 use Rattle.std.proofs.lemmas.List.{length-map}
-use Rattle.paged_read.specs.Tail.{CanRead, size_of}
+use Rattle.paged_read.specs.Tail.{CanRead, tail_size}
 use Rattle.items.specs.State.{ItemsSnapshotState}
-use Rattle.items.specs.Standing.{IsItemsSnapshot, OnlyReads, bytes_over, count_over}
+use Rattle.items.specs.Standing.{IsItemsSnapshot, SnapshotReadLeaves, bytes_over, count_over}
 use Rattle.page.specs.Geometry.{AreInOrder}
 use Rattle.paged_read.specs.Batch.{ranges_of}
 use Rattle.paged_read.specs.Ranges.{AsksOnce}
-use Rattle.items.specs.Calls.{FindsItems, GetsMany, item_ranges}
+use Rattle.items.specs.Calls.{GetManyGoes, item_ranges, ItemsAreAt}
 use Rattle.items.proofs.Standing.{nothing_read, only_reads, over, still_over}
 use Rattle.items.proofs.Reading.{are_in_order, asks_items, asks_no_items, got_many, many_not_got}
 use Rattle.items.proofs.snapshot.ItemsSnapshot.get_many.Given.{Over}
@@ -37,10 +37,10 @@ returns-in-Ok-clause-goes g c =
     let buf = c.read_many_into.new.buf in
     let indices = c.args.indices.now in
     let goes = c.read_many_into.ensures in
-    subst (λ (v : ItemsSnapshotState). IsItemsSnapshot sum v cache old → c.len.result ≡ count_over v → GetsMany v.size v.tail (bytes_over v old) indices cache buf old new c.read_many_into.result) c.self.view_is
+    subst (λ (v : ItemsSnapshotState). IsItemsSnapshot sum v cache old → c.len.result ≡ count_over v → GetManyGoes v.size v.tail (bytes_over v old) indices cache buf old new c.read_many_into.result) c.self.view_is
     (λ snapshot is.
     let stood = over sum r cache old snapshot in
-    let finds : FindsItems r.size (count_over r) indices (Ok c.in-Ok.offsets) = subst (λ (n : ℕ). FindsItems r.size n indices (Ok c.in-Ok.offsets)) is c.in-Ok.ensures in
+    let finds : ItemsAreAt r.size (count_over r) indices (Ok c.in-Ok.offsets) = subst (λ (n : ℕ). ItemsAreAt r.size n indices (Ok c.in-Ok.offsets)) is c.in-Ok.ensures in
     got_many sum r.size r.tail cache indices c.deref.result.now buf old new c.read_many_into.result stood.size stood.whole (c.deref.ensures.value ∙ finds.0) finds.1 (goes.goes.never stood.stands.tail.full) goes.goes.answers)
     c.requires.snapshot c.len.ensures.count
 
@@ -55,10 +55,10 @@ returns-in-Ok-clause-costs g c =
     (asks_items r.size r.tail cache indices c.deref.result.now old new (c.deref.ensures.value ∙ c.in-Ok.ensures.0) c.read_many_into.ensures.costs.asks)
 
 -- what the read leaves
-left : (g : Over) (c : After-read_many_into g) → OnlyReads g.H.Sum.sum_of c.args.self.now.tail.id c.args.cache.now c.read_many_into.new.cache (g.B.Blob.life c.args.blob.now) (g.B.Blob.life c.read_many_into.new.blob)
+left : (g : Over) (c : After-read_many_into g) → SnapshotReadLeaves g.H.Sum.sum_of c.args.self.now.tail.id c.args.cache.now c.read_many_into.new.cache (g.B.Blob.life c.args.blob.now) (g.B.Blob.life c.read_many_into.new.blob)
 left g c =
     let goes = c.read_many_into.ensures in
-    subst (λ (v : ItemsSnapshotState). OnlyReads g.H.Sum.sum_of v.tail.id c.args.cache.now c.read_many_into.new.cache (g.B.Blob.life c.args.blob.now) (g.B.Blob.life c.read_many_into.new.blob)) c.self.view_is
+    subst (λ (v : ItemsSnapshotState). SnapshotReadLeaves g.H.Sum.sum_of v.tail.id c.args.cache.now c.read_many_into.new.cache (g.B.Blob.life c.args.blob.now) (g.B.Blob.life c.read_many_into.new.blob)) c.self.view_is
     (only_reads g.H.Sum.sum_of c.self.inside.snapshot.id c.args.cache.now c.read_many_into.new.cache (g.B.Blob.life c.args.blob.now) (g.B.Blob.life c.read_many_into.new.blob) goes.leaves.looked goes.leaves.fresh goes.leaves.others goes.leaves.tails goes.leaves.replays)
 
 pub returns-in-Ok-clause-leaves : goal.returns-in-Ok-clause-leaves
@@ -94,8 +94,8 @@ returns-in-Err-clause-goes g c =
     let life = g.B.Blob.life c.args.blob.now in
     let e = c.in-Err.error in
     let indices = c.args.indices.now in
-    subst (λ (v : ItemsSnapshotState). IsItemsSnapshot sum v cache life → c.len.result ≡ count_over v → GetsMany v.size v.tail (bytes_over v life) indices cache c.args.buf.now life life (Err e)) c.self.view_is
-    (λ snapshot is. many_not_got r.size (size_of r.tail) r.tail (bytes_over r life) indices cache c.args.buf.now life e (over sum r cache life snapshot).size (subst (λ (n : ℕ). FindsItems r.size n indices (Err e)) is c.in-Err.ensures))
+    subst (λ (v : ItemsSnapshotState). IsItemsSnapshot sum v cache life → c.len.result ≡ count_over v → GetManyGoes v.size v.tail (bytes_over v life) indices cache c.args.buf.now life life (Err e)) c.self.view_is
+    (λ snapshot is. many_not_got r.size (tail_size r.tail) r.tail (bytes_over r life) indices cache c.args.buf.now life e (over sum r cache life snapshot).size (subst (λ (n : ℕ). ItemsAreAt r.size n indices (Err e)) is c.in-Err.ensures))
     c.requires.snapshot c.len.ensures.count
 
 pub returns-in-Err-clause-costs : goal.returns-in-Err-clause-costs

@@ -4,9 +4,9 @@ use Rattle.page.specs.Page.{text}
 use Rattle.paged_read.specs.Searches.{ReadsWithin, scan_bytes}
 use Rattle.writer_state.specs.WriterState.{WriterState}
 use Rattle.paged.specs.Truncate.{KeepsFloorsWithin}
-use Rattle.journal.specs.Calls.{RecoveryLeaves}
+use Rattle.journal.specs.Calls.{JournalRecoveryLeaves}
 use Rattle.journal.specs.Frame.{whole_frames}
-use Rattle.journal.specs.Journal.{HasRecovered}
+use Rattle.journal.specs.Journal.{JournalHasRecovered}
 use Rattle.journal.proofs.Journals.{kept_held, recovery_goes, recovery_refused, recovery_unbegun}
 use Rattle.journal.proofs.Costs.{settled_idle, trim_within}
 use Rattle.journal.proofs.Readers.{owed_recovery, recovers_not, recovers_so, trim_leaves_all}
@@ -59,7 +59,7 @@ trim-keeps g c =
     (subst (λ (l : List ℕ). KeepsFloorsWithin (length (whole_frames l)) sum c.in_ok-recovery.recovery.page_size mid new) recovered.content c.trim.ensures.kept)
 
 -- what the trim leaves
-left : (g : Over) (c : After-trim g) → RecoveryLeaves g.H.Sum.sum_of g.R.Sum.sum_of c.args.cache.now c.trim.new.cache (g.B.Blob.life c.args.blob.now) (g.B.Blob.life c.trim.new.blob)
+left : (g : Over) (c : After-trim g) → JournalRecoveryLeaves g.H.Sum.sum_of g.R.Sum.sum_of c.args.cache.now c.trim.new.cache (g.B.Blob.life c.args.blob.now) (g.B.Blob.life c.trim.new.blob)
 left g c =
     let was = c.in_ok-recovery.ensures in
     let recovered = was.goes.goes.answers in
@@ -94,7 +94,7 @@ returns-clause-goes g c =
     let is : c.new.result ≡ now = c.new.ensures ∙ c.from.ensures in
     let recovered = c.in_ok-recovery.ensures.goes.goes in
     recovers_so sum own c.args.cache.now c.trim.new.cache c.args.capacity old new c.new.result c.in_ok-recovery-2.found (g.met.B.Blob.readable_is_image c.args.blob.now)
-    (subst (λ (w : WriterState). HasRecovered sum own c.args.cache.now c.trim.new.cache old new w found) (sym is)
+    (subst (λ (w : WriterState). JournalHasRecovered sum own c.args.cache.now c.trim.new.cache old new w found) (sym is)
     (recovery_goes sum own c.args.cache.now c.trim.new.cache c.args.capacity old mid new c.in_ok-recovery.recovery now found recovered.answers recovered.writer.id recovered.durable
     (trim-keeps g (goal.at.returns-clause-goes g c).After-trim) c.in_ok-recovery-2.ensures.trims))
 

@@ -1,7 +1,7 @@
 use Rattle.std.proofs.Common.{ap, subst, sym}
-use Rattle.paged_read.specs.Tail.{Tail, told}
+use Rattle.paged_read.specs.Tail.{logical_bytes, Tail}
 use Rattle.journal.specs.Costs.{NextCosts}
-use Rattle.journal.specs.Reader.{IsOpen, OnlyLooks, ReaderState}
+use Rattle.journal.specs.Reader.{IsOpenSnapshot, OnlyLooks, ReaderState}
 use Rattle.journal.proofs.Readers.{is_reader, looks_leave, opened_by}
 use Rattle.journal.proofs.reader.Reader.next.Given.{Over}
 use Rattle.journal.proofs.reader.Reader.next.Goals as goal
@@ -11,7 +11,7 @@ pub find_record-requires : goal.find_record-requires
 find_record-requires g c =
     let life = g.B.Blob.life c.args.blob.now in
     record {
-      opened = subst (λ (t : Tail). IsOpen g.H.Sum.sum_of t c.args.cache.now life) (sym (ap (λ (r : ReaderState). r.tail) c.self.view_is))
+      opened = subst (λ (t : Tail). IsOpenSnapshot g.H.Sum.sum_of t c.args.cache.now life) (sym (ap (λ (r : ReaderState). r.tail) c.self.view_is))
           (opened_by g.H.Sum.sum_of c.args.self.now c.args.cache.now life c.requires.reader);
     }
 
@@ -41,10 +41,10 @@ returns-clause-leaves g c =
 costs : (g : Over) (c : After-find_record g)
     → let old = g.B.Blob.life c.args.blob.now in
     let t = c.args.self.now.tail in
-    NextCosts g.R.Sum.sum_of t (told t old.present.readable) c.args.self.now.offset c.args.cache.now c.find_record.new.cache old (g.B.Blob.life c.find_record.new.blob)
+    NextCosts g.R.Sum.sum_of t (logical_bytes t old.present.readable) c.args.self.now.offset c.args.cache.now c.find_record.new.cache old (g.B.Blob.life c.find_record.new.blob)
 costs g c =
     let old = g.B.Blob.life c.args.blob.now in
-    subst (λ (r : ReaderState). NextCosts g.R.Sum.sum_of r.tail (told r.tail old.present.readable) r.offset c.args.cache.now c.find_record.new.cache old (g.B.Blob.life c.find_record.new.blob)) c.self.view_is c.find_record.ensures.costs
+    subst (λ (r : ReaderState). NextCosts g.R.Sum.sum_of r.tail (logical_bytes r.tail old.present.readable) r.offset c.args.cache.now c.find_record.new.cache old (g.B.Blob.life c.find_record.new.blob)) c.self.view_is c.find_record.ensures.costs
 
 pub returns-in_err-found-clause-costs : goal.returns-in_err-found-clause-costs
 returns-in_err-found-clause-costs g c = costs g (goal.at.returns-in_err-found-clause-costs g c).After-find_record

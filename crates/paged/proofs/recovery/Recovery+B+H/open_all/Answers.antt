@@ -24,7 +24,7 @@ pages_of-requires g c =
     let P = c.args.cache.now.page_size in
     let readable = (g.B.Blob.life c.args.blob.now).present.readable in
     let p = c.in_ok-last.last in
-    let reach = opened_reach g.H.Sum.sum_of P (non_zero_u16_get c.page_size-page_size.result) c.args.size c.physical_page_size-physical_page_size.result readable p c.page_size-page_size.ensures c.physical_page_size-physical_page_size.ensures c.requires.length c.in_ok-last.ensures.finds.0 in
+    let reach = opened_reach g.H.Sum.sum_of P (non_zero_u16_get c.page_size-page_size.result) c.args.size c.physical_page_size-physical_page_size.result readable p c.page_size-page_size.ensures c.physical_page_size-physical_page_size.ensures c.requires.length c.in_ok-last.ensures.finds_last.0 in
     pages_count P (length readable) _ p.full_pages (omega arith) reach (omega arith)
 
 pub overflow_mul-kept : goal.overflow_mul-kept
@@ -33,13 +33,13 @@ overflow_mul-kept g c =
     let P = c.args.cache.now.page_size in
     let readable = (g.B.Blob.life c.args.blob.now).present.readable in
     let physical = c.physical_page_size-physical_page_size.result in
-    let kept = opened_kept sum P (non_zero_u16_get c.page_size-page_size.result) c.args.size physical readable c.in_ok-last.last c.page_size-page_size.ensures c.physical_page_size-physical_page_size.ensures c.requires.length c.in_ok-last.ensures.finds.0 c.pages_of.result (c.pages_of.result * physical) c.pages_of.ensures refl in
+    let kept = opened_kept sum P (non_zero_u16_get c.page_size-page_size.result) c.args.size physical readable c.in_ok-last.last c.page_size-page_size.ensures c.physical_page_size-physical_page_size.ensures c.requires.length c.in_ok-last.ensures.finds_last.0 c.pages_of.result (c.pages_of.result * physical) c.pages_of.ensures refl in
     omega (arith, kept, opened_size_le sum P readable)
 
 pub keep_pages-requires-clause-fits : goal.keep_pages-requires-clause-fits
 keep_pages-requires-clause-fits g c =
     mend_fits g.H.Sum.sum_of c.args.cache.now.page_size (non_zero_u16_get c.page_size-page_size.result) c.args.size c.physical_page_size-physical_page_size.result (g.B.Blob.life c.args.blob.now).present.readable c.in_ok-last.last c.in_ok-last.bad
-    c.page_size-page_size.ensures c.physical_page_size-physical_page_size.ensures c.requires.length c.in_ok-last.ensures.finds.0 c.in_ok-last.ensures.finds.2 c.ranges.size.fits
+    c.page_size-page_size.ensures c.physical_page_size-physical_page_size.ensures c.requires.length c.in_ok-last.ensures.finds_last.0 c.in_ok-last.ensures.finds_last.2 c.ranges.size.fits
 
 pub returns-in_err-sync_state-clause-opens : goal.returns-in_err-sync_state-clause-opens
 returns-in_err-sync_state-clause-opens g c =
@@ -52,7 +52,7 @@ returns-in_err-sync_state-clause-opens g c =
     let new = life c.keep_pages.new.blob in
     let e = c.in_err-sync_state.field-0.0 in
     let cause = opened_cause sum P (non_zero_u16_get c.page_size-page_size.result) c.args.size physical old.present.readable c.in_ok-last.last c.in_ok-last.bad c.page_size-page_size.ensures c.physical_page_size-physical_page_size.ensures c.requires.length
-    c.in_ok-last.ensures.finds.0 c.in_ok-last.ensures.finds.2 old mid new c.in_ok-last.ensures.finds.1 refl c.pages_of.result (c.pages_of.result * physical) c.pages_of.ensures refl e c.ranges.size.fits c.in_err-sync_state.ensures.keeps in
+    c.in_ok-last.ensures.finds_last.0 c.in_ok-last.ensures.finds_last.2 old mid new c.in_ok-last.ensures.finds_last.1 refl c.pages_of.result (c.pages_of.result * physical) c.pages_of.ensures refl e c.ranges.size.fits c.in_err-sync_state.ensures.keeps in
     let q = err_from_is_err_and c.from_residual-in_err-sync_state.result c.from_residual-in_err-sync_state.ensures.1 in
     rw (q.1, q.2) (opens_cause sum c.args.cache.now c.args.capacity old new e cause)
 
@@ -64,8 +64,8 @@ at_prefix-requires g c =
     let physical = c.physical_page_size-physical_page_size.result in
     let readable = (g.B.Blob.life c.args.blob.now).present.readable in
     let p = c.in_ok-last.last in
-    let last = opened_last sum P Q c.args.size physical readable p c.page_size-page_size.ensures c.physical_page_size-physical_page_size.ensures c.requires.length c.in_ok-last.ensures.finds.0 in
-    let reach = opened_reach sum P Q c.args.size physical readable p c.page_size-page_size.ensures c.physical_page_size-physical_page_size.ensures c.requires.length c.in_ok-last.ensures.finds.0 in
+    let last = opened_last sum P Q c.args.size physical readable p c.page_size-page_size.ensures c.physical_page_size-physical_page_size.ensures c.requires.length c.in_ok-last.ensures.finds_last.0 in
+    let reach = opened_reach sum P Q c.args.size physical readable p c.page_size-page_size.ensures c.physical_page_size-physical_page_size.ensures c.requires.length c.in_ok-last.ensures.finds_last.0 in
     let size : c.from.result ≡ P = c.from.ensures ∙ c.get.ensures.value ∙ c.page_size-page_size.ensures in
     let some : 0 < P = omega (arith, c.get.ensures.nonzero, c.get.ensures.value, c.page_size-page_size.ensures) in
     let room : c.in_ok-capacity.capacity ≡ adjusted c.args.capacity P = c.in_ok-capacity.ensures.capacity.1 ∙ ap (λ (n : ℕ). adjusted c.args.capacity n) size in
@@ -97,7 +97,7 @@ owes-looked g c =
     let old = g.B.Blob.life c.args.blob.now in
     let new = g.B.Blob.life c.last_pages.new.blob in
     let Q = non_zero_u16_get c.page_size-page_size.result in
-    let looked = finds_looked (last_prefix g.H.Sum.sum_of Q (c.args.size / c.physical_page_size-physical_page_size.result) old.present.readable) old new c.in_err-last.field-0.0 c.in_err-last.ensures.finds in
+    let looked = finds_looked (last_prefix g.H.Sum.sum_of Q (c.args.size / c.physical_page_size-physical_page_size.result) old.present.readable) old new c.in_err-last.field-0.0 c.in_err-last.ensures.finds_last in
     looked_owe g.H.Sum.sum_of c.args.cache.now.page_size old new (omega (arith, c.page_size-page_size.result.ok, c.page_size-page_size.ensures)) (g.met.B.Blob.readable_is_image c.args.blob.now) looked
 
 pub returns-in_err-last-clause-floors : goal.returns-in_err-last-clause-floors
@@ -119,7 +119,7 @@ has g c =
     let p = c.in_ok-last.last in
     let bytes = subst (λ (n : ℕ). HasBytes n p.full_pages readable p.partial) c.page_size-page_size.ensures c.in_ok-last.ensures.bytes in
     subst (λ (x : Prefix). HasBytes P x.full_pages readable x.partial)
-    (opened_is sum P (non_zero_u16_get c.page_size-page_size.result) c.args.size c.physical_page_size-physical_page_size.result readable p c.page_size-page_size.ensures c.physical_page_size-physical_page_size.ensures c.requires.length c.in_ok-last.ensures.finds.0) bytes
+    (opened_is sum P (non_zero_u16_get c.page_size-page_size.result) c.args.size c.physical_page_size-physical_page_size.result readable p c.page_size-page_size.ensures c.physical_page_size-physical_page_size.ensures c.requires.length c.in_ok-last.ensures.finds_last.0) bytes
 
 -- and then cut and mended, whatever the answer
 owes : (g : Over) (c : After-keep_pages g) → Owes g.H.Sum.sum_of c.args.cache.now.page_size (g.B.Blob.life c.args.blob.now) (g.B.Blob.life c.keep_pages.new.blob)
@@ -133,7 +133,7 @@ owes g c =
     let new = life c.keep_pages.new.blob in
     opens_owe sum P old new (omega (arith, c.page_size-page_size.result.ok, c.page_size-page_size.ensures)) (g.met.B.Blob.readable_is_image c.args.blob.now) (has g c)
     (opened_trims sum P (non_zero_u16_get c.page_size-page_size.result) c.args.size physical old.present.readable c.in_ok-last.last c.in_ok-last.bad c.page_size-page_size.ensures c.physical_page_size-physical_page_size.ensures c.requires.length
-    c.in_ok-last.ensures.finds.0 c.in_ok-last.ensures.finds.2 old mid new c.in_ok-last.ensures.finds.1 refl c.pages_of.result (c.pages_of.result * physical) c.pages_of.ensures refl c.keep_pages.result c.keep_pages.ensures.keeps)
+    c.in_ok-last.ensures.finds_last.0 c.in_ok-last.ensures.finds_last.2 old mid new c.in_ok-last.ensures.finds_last.1 refl c.pages_of.result (c.pages_of.result * physical) c.pages_of.ensures refl c.keep_pages.result c.keep_pages.ensures.keeps)
 
 pub returns-in_err-sync_state-clause-floors : goal.returns-in_err-sync_state-clause-floors
 returns-in_err-sync_state-clause-floors g c = (owes g (goal.at.returns-in_err-sync_state-clause-floors g c).After-keep_pages).floors
@@ -159,14 +159,14 @@ reads g c =
     let life = g.B.Blob.life in
     let old = life c.args.blob.now in
     let mid = life c.last_pages.new.blob in
-    let back = subst (λ (n : ℕ). ReadsBack (n + 12) old mid) c.page_size-page_size.ensures (down_back _ _ old mid c.in_ok-last.ensures.reads) in
+    let back = subst (λ (n : ℕ). ReadsBack (n + 12) old mid) c.page_size-page_size.ensures (down_back _ _ old mid c.in_ok-last.ensures.costs) in
     opens_back (c.args.cache.now.page_size + 12) _ _ _ _ old mid (life c.keep_pages.new.blob) c.keep_pages.result back c.keep_pages.ensures.keeps
 
 pub returns-in_err-last-clause-reads : goal.returns-in_err-last-clause-reads
 returns-in_err-last-clause-reads g c =
     let old = g.B.Blob.life c.args.blob.now in
     let new = g.B.Blob.life c.last_pages.new.blob in
-    subst (λ (n : ℕ). ReadsBack (n + 12) old new) c.page_size-page_size.ensures (down_back _ _ old new c.last_pages.ensures.reads)
+    subst (λ (n : ℕ). ReadsBack (n + 12) old new) c.page_size-page_size.ensures (down_back _ _ old new c.last_pages.ensures.costs)
 
 pub returns-in_err-sync_state-clause-reads : goal.returns-in_err-sync_state-clause-reads
 returns-in_err-sync_state-clause-reads g c = reads g (goal.at.returns-in_err-sync_state-clause-reads g c).After-keep_pages
@@ -192,9 +192,9 @@ opens g c =
     let small : P < 2 ^ 16 = omega (arith, c.page_size-page_size.ensures) in
     let room : c.in_ok-capacity.capacity ≡ adjusted c.args.capacity P = c.in_ok-capacity.ensures.capacity.1 ∙ ap (λ (n : ℕ). adjusted c.args.capacity n) (c.from.ensures ∙ c.get.ensures.value ∙ c.page_size-page_size.ensures) in
     let bytes = subst (λ (n : ℕ). HasBytes n p.full_pages readable p.partial) c.page_size-page_size.ensures c.in_ok-last.ensures.bytes in
-    let is = opened_is sum P Q c.args.size physical readable p c.page_size-page_size.ensures c.physical_page_size-physical_page_size.ensures c.requires.length c.in_ok-last.ensures.finds.0 in
-    let back = opened_back sum P Q c.args.size physical readable p c.in_ok-last.bad c.page_size-page_size.ensures c.physical_page_size-physical_page_size.ensures c.requires.length c.in_ok-last.ensures.finds.0 c.in_ok-last.ensures.finds.2 old mid new
-    c.in_ok-last.ensures.finds.1 refl c.pages_of.result (c.pages_of.result * physical) c.pages_of.ensures refl s c.in_ok-sync_state.ensures.keeps in
+    let is = opened_is sum P Q c.args.size physical readable p c.page_size-page_size.ensures c.physical_page_size-physical_page_size.ensures c.requires.length c.in_ok-last.ensures.finds_last.0 in
+    let back = opened_back sum P Q c.args.size physical readable p c.in_ok-last.bad c.page_size-page_size.ensures c.physical_page_size-physical_page_size.ensures c.requires.length c.in_ok-last.ensures.finds_last.0 c.in_ok-last.ensures.finds_last.2 old mid new
+    c.in_ok-last.ensures.finds_last.1 refl c.pages_of.result (c.pages_of.result * physical) c.pages_of.ensures refl s c.in_ok-sync_state.ensures.keeps in
     opens_end sum c.args.cache.now c.args.capacity old new s c.in_ok-capacity.capacity p c.at_prefix.result (g.met.B.Blob.starts_are_covered c.keep_pages.new.blob) g.met.H.Sum.small some small room is bytes back
     c.at_prefix.ensures.stands
 

@@ -1,6 +1,6 @@
 use Rattle.paged.proofs.Caching.{puts_before, synced_pages, puts_nothing}
 use Rattle.std.proofs.Common.{sym, ◌∙◌}
-use Rattle.paged.specs.Flush.{answered}
+use Rattle.paged.specs.Flush.{with_value}
 use Rattle.paged.proofs.Flushes.{sync_settles}
 use Rattle.paged.proofs.Waits.{settled_owes, settled_pages}
 use Rattle.paged.proofs.Over.{sound_syncs}
@@ -16,7 +16,7 @@ sync_pages-requires-clause-holds g c =
 
 pub returns-then-has_flush_work-clause-syncs : goal.returns-then-has_flush_work-clause-syncs
 returns-then-has_flush_work-clause-syncs g c = λ sound.
-    sound_syncs g.H.Sum.sum_of c.args.self.now (g.B.Blob.life c.args.blob.now) (g.B.Blob.life c.sync_pages.new.blob) (answered c.sync_pages.new.self c.sync_pages.result) sound c.sync_pages.ensures.syncs
+    sound_syncs g.H.Sum.sum_of c.args.self.now (g.B.Blob.life c.args.blob.now) (g.B.Blob.life c.sync_pages.new.blob) (with_value c.sync_pages.new.self c.sync_pages.result) sound c.sync_pages.ensures.syncs
 
 pub returns-else-has_flush_work-clause-syncs : goal.returns-else-has_flush_work-clause-syncs
 returns-else-has_flush_work-clause-syncs g c = λ sound.
@@ -25,8 +25,8 @@ returns-else-has_flush_work-clause-syncs g c = λ sound.
     let old = g.B.Blob.life c.args.blob.now in
     let new = g.B.Blob.life c.settle_blob.new.blob in
     let holds = sound_holds_together sum w old.present sound in
-    sound_syncs sum w old new (answered c.settle_blob.new.self c.settle_blob.result) sound
-    (sync_settles sum w old new (answered c.settle_blob.new.self c.settle_blob.result) holds (sym c.has_flush_work.ensures.work ∙ c.if-has_flush_work.false)
+    sound_syncs sum w old new (with_value c.settle_blob.new.self c.settle_blob.result) sound
+    (sync_settles sum w old new (with_value c.settle_blob.new.self c.settle_blob.result) holds (sym c.has_flush_work.ensures.work ∙ c.if-has_flush_work.false)
     (settled_owes sum w c.settle_blob.new.self old new c.settle_blob.result g.met.H.Sum.small holds c.settle_blob.ensures.goes c.settle_blob.ensures.state).settles)
 
 pub returns-else-has_flush_work-clause-pages : goal.returns-else-has_flush_work-clause-pages

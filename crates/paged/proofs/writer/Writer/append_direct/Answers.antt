@@ -9,15 +9,15 @@ use Rattle.writer_state.specs.Sound.{IsConsistent}
 use Rattle.writer_state.specs.WriterState.{WriterState}
 use Rattle.crash.proofs.BelowLaws.{pages_join}
 use Rattle.paged.specs.Calls.{AppendsOver}
-use Rattle.paged.specs.Direct.{fill_of, is_too_big}
-use Rattle.paged.specs.Flush.{answered}
+use Rattle.paged.specs.Direct.{fill_of, goes_direct}
+use Rattle.paged.specs.Flush.{with_value}
 use Rattle.paged.specs.Reads.{size_of}
 use Rattle.paged.specs.Writer.{FitsBlob}
 use Rattle.paged.proofs.Bypass.{IsCut, is_cut, big_enough, direct_offsets}
 use Rattle.paged.proofs.Joins.{direct_after, appends_refused, appends_stopped, appends_join, covers_join}
 use Rattle.paged.proofs.writer.Writer.append_direct.Goals as goal
 
-cut : (w : WriterState) (fill P end n m : ℕ) (bytes one two whole : List ℕ) → 0 < w.page_size → fill ≡ fill_of w → P ≡ w.page_size → n ≡ length bytes → m ≡ length bytes → is_too_big w (length bytes) ≡ true
+cut : (w : WriterState) (fill P end n m : ℕ) (bytes one two whole : List ℕ) → 0 < w.page_size → fill ≡ fill_of w → P ≡ w.page_size → n ≡ length bytes → m ≡ length bytes → goes_direct w (length bytes) ≡ true
     → one ≡ bytes → two ≡ bytes → end ≡ n - (m - fill) % P → whole ≡ slice_range bytes fill end
     → IsCut w.page_size (fill_of w) bytes (take fill one) whole (take (length two - end) (drop end two))
 cut w fill P end n m bytes one two whole some fill_is P_is n_is m_is big one_is two_is end_is whole_is =
@@ -101,7 +101,7 @@ returns-clause-appends g c =
     let size : c.from-page_size.result ≡ w.page_size = c.from-page_size.ensures ∙ c.get.ensures.value ∙ ap (λ s. s.page_size) c.self.view_is in
     let is = cut w c.args.fill c.from-page_size.result end c.len.result c.len-2.result bytes one two whole c.requires.holds.stands.some c.requires.fill size c.len.ensures c.len-2.ensures c.requires.big c.as_ref.ensures c.as_ref-2.ensures refl c.in_ok-whole.ensures.ok in
     let direct = direct_after sum w m old mid bytes first whole rest c.requires.holds c.requires.fits goes c.in_ok-fill_tip.ensures.empty is in
-    subst (λ l. AppendsOver sum w l old new (answered (n, size_of w) result)) is.joined
+    subst (λ l. AppendsOver sum w l old new (with_value (n, size_of w) result)) is.joined
     (appends_join sum w m old mid new first (whole ++ rest) goes n result c.requires.holds (direct_offsets m whole rest direct) c.write_direct.ensures.appends)
 
 pub returns-clause-pages : goal.returns-clause-pages

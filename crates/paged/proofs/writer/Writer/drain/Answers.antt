@@ -2,7 +2,7 @@ use Rattle.std.proofs.Common.{◌<◌, ◌≤◌, length, ap, ◌∙◌, arith}
 use Rattle.std.specs.Prelude.{None}
 use Rattle.std.specs.Int.NonZero.{non_zero_u16_get}
 use Rattle.writer_state.specs.WriterState.{WriterState}
-use Rattle.paged.specs.Flush.{full_in, advanced}
+use Rattle.paged.specs.Flush.{full_in, after_flush}
 use Rattle.paged.proofs.Footers.{small_pages}
 use Rattle.paged.proofs.Drains.{is_writer_drained, full_some, slot_gone, drained_state}
 use Rattle.paged.proofs.writer.Writer.drain.Goals as goal
@@ -27,7 +27,7 @@ returns-clause-state g c =
     let more : 0 < full_in w = omega (arith, full_some P inside.tip.bytes some enough, ap full_in c.self.view_is) in
     drained_state P inside.id inside.tip c.drain_full_pages.new.self None inside.durable None inside.sync_state (record w { flushed = None }) some c.self.invariant c.in_ok-chunks.ensures.2
     (ap (λ (s : WriterState). record s { flushed = None }) c.self.view_is) (slot_gone inside.durable _ (full_some P inside.tip.bytes some enough))
-    ∙ ap (λ flushed. advanced w flushed w.sync) (slot_gone w.flushed (full_in w) more)
+    ∙ ap (λ flushed. after_flush w flushed w.sync) (slot_gone w.flushed (full_in w) more)
 
 pub returns-clause-small : goal.returns-clause-small
 returns-clause-small g c = small_pages c.from-page_size.result c.in_ok-pages.pages.items (omega arith) c.in_ok-pages.ensures.pages

@@ -8,7 +8,7 @@ use Rattle.writer_state.specs.WriterState.{WriterState}
 use Rattle.crash.proofs.BelowLaws.{pages_none}
 use Rattle.writer_state.proofs.CoverLaws.{covers_none}
 use Rattle.writer_state.proofs.StandLaws.{consistent_stands}
-use Rattle.paged.specs.Flush.{has_work, answered}
+use Rattle.paged.specs.Flush.{has_work, with_value}
 use Rattle.paged.specs.Calls.{WaitsForNone}
 use Rattle.paged.proofs.Flushes.{goes_on_same, idle_short_rest, idle_written}
 use Rattle.paged.proofs.Waits.{flushes_after, pages_after, covers_after, waits_for_none, on_ok_after}
@@ -87,7 +87,7 @@ returns-then-has_flush_work g c =
           (puts_alike m now m.tip w.tip c.args.cache.now c.flush_pages.new.cache result (ap (λ (v : WriterState). v.tip) is) c.flush_pages.ensures.puts);
       refused = puts_late c.args.cache.now c.flush_pages.new.cache result c.flush_pages.ensures.late;
       idle_cache = λ none. absurd (cc (work, none));
-      flushes = flushes_after sum w m old mid new first (answered now result) c.flush_pages.ensures.flushes;
+      flushes = flushes_after sum w m old mid new first (with_value now result) c.flush_pages.ensures.flushes;
       pages = pages_after sum w m old mid new first c.in_ok-wait.ensures.pages c.flush_pages.ensures.pages;
       covers = covers_after sum w m old mid new first c.in_ok-wait.ensures.covers c.flush_pages.ensures.covers;
       starts = c.flush_pages.ensures.starts;

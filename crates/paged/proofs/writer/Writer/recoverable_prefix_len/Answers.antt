@@ -2,7 +2,7 @@ use Rattle.std.proofs.Common.{◌≡◌, ◌*◌, ◌+◌, ℕ, length, subst}
 use Rattle.std.specs.Int.NonZero.{non_zero_usize_get}
 use Rattle.page.specs.Page.{text}
 use Rattle.crash.specs.Looks.{Looked}
-use Rattle.paged_read.specs.Scans.{ReadsUpToEnd, scan_start, scan_to, Scans, text_of_first}
+use Rattle.paged_read.specs.Scans.{ReadsUpToEnd, scan_start, scan_to, ScanAnswers, text_of_first}
 use Rattle.paged_read.specs.Searches.{scan_bytes}
 use Rattle.paged_read.proofs.ReadLaws.{look_leaves}
 use Rattle.paged_read.proofs.Scanning.{scan_counts_text}
@@ -15,11 +15,11 @@ use Rattle.paged.proofs.writer.Writer.recoverable_prefix_len.Goals.{After-scan_t
 
 -- it scans what was flushed
 scans : (g : Over) (c : After-scan_to g) → let w = c.args.self.now in let old = g.B.Blob.life c.args.blob.now in
-    Scans (flushed_pages w * (w.page_size + 12)) (scan_to g.H.Sum.sum_of w.page_size w.full_pages (flushed_pages w) c.args.proven old.present.readable) old (g.B.Blob.life c.scan_to.new.blob) c.scan_to.result
+    ScanAnswers (flushed_pages w * (w.page_size + 12)) (scan_to g.H.Sum.sum_of w.page_size w.full_pages (flushed_pages w) c.args.proven old.present.readable) old (g.B.Blob.life c.scan_to.new.blob) c.scan_to.result
 scans g c =
     let w = c.args.self.now in
     let old = g.B.Blob.life c.args.blob.now in
-    subst (λ (n : ℕ). Scans (n * (w.page_size + 12)) (scan_to g.H.Sum.sum_of w.page_size w.full_pages n c.args.proven old.present.readable) old (g.B.Blob.life c.scan_to.new.blob) c.scan_to.result)
+    subst (λ (n : ℕ). ScanAnswers (n * (w.page_size + 12)) (scan_to g.H.Sum.sum_of w.page_size w.full_pages n c.args.proven old.present.readable) old (g.B.Blob.life c.scan_to.new.blob) c.scan_to.result)
     c.flushed_pages.ensures c.scan_to.ensures.scans
 
 -- it only looks

@@ -3,7 +3,7 @@ use Rattle.std.proofs.lemmas.Result.{err_from_is_err_and}
 use Rattle.std.specs.Int.NonZero.{non_zero_u16_get, non_zero_usize_get}
 use Rattle.disk.specs.declared.error.Error.TheVariants.{OffsetOverflow}
 use Rattle.writer_state.specs.WriterState.{WriterState}
-use Rattle.paged_read.specs.Scans.{prefix_from, ReadsUpToEnd, Scans, scan_start, scan_to}
+use Rattle.paged_read.specs.Scans.{prefix_from, ReadsUpToEnd, ScanAnswers, scan_start, scan_to}
 use Rattle.paged_read.specs.Searches.{scan_bytes}
 use Rattle.paged.specs.Writer.{FitsBlob}
 use Rattle.paged.proofs.Scanned.{look_refused, scan_within, scanned_fits, scanned_short, scanned_size}
@@ -42,22 +42,22 @@ returns-in_err-prefix-clause-never g c = λ stands.
     let Q = non_zero_u16_get c.self.inside.page_size in
     let p = err_from_is_err_and c.from_residual.result c.from_residual.ensures.1 in
     let reach : c.args.end * (Q + 12) ≡ c.args.end * (P + 12) = ap (λ (x : WriterState). c.args.end * (x.page_size + 12)) c.self.view_is in
-    let refused = look_refused (c.args.end * (Q + 12)) 0 (prefix_from g.H.Sum.sum_of Q c.min-start.result c.args.end old.present.readable) old new e c.in_err-prefix.ensures.finds in
+    let refused = look_refused (c.args.end * (Q + 12)) 0 (prefix_from g.H.Sum.sum_of Q c.min-start.result c.args.end old.present.readable) old new e c.in_err-prefix.ensures.looks in
     rw (p.1, p.2) (scan_within g.H.Sum.sum_of w old.present c.args.end 0 old new (Err e) refl
     (subst (λ (x : WriterState). 0 < x.page_size) c.self.view_is c.self.inside.page_size.ok)
     (subst (λ (x : WriterState). FitsBlob x.page_size x.full_pages (length x.tip)) c.self.view_is c.self.invariant.fits)
     c.requires.flushed stands
-    (subst (λ (x : WriterState). Scans (c.args.end * (x.page_size + 12)) 0 old new (Err e)) c.self.view_is refused))
+    (subst (λ (x : WriterState). ScanAnswers (c.args.end * (x.page_size + 12)) 0 old new (Err e)) c.self.view_is refused))
 
 pub size_of-requires-clause-fits : goal.size_of-requires-clause-fits
 size_of-requires-clause-fits g c =
     let Q = non_zero_u16_get c.self.inside.page_size in
     let fits : c.args.end * (Q + 12) < 2 ^ 64 = search rules in
-    scanned_fits g.H.Sum.sum_of Q c.min-start.result c.args.end (g.B.Blob.life c.args.blob.now).present.readable c.in_ok-prefix.prefix c.in_ok-prefix.ensures.finds.0 (omega (arith, c.min-start.ensures)) fits
+    scanned_fits g.H.Sum.sum_of Q c.min-start.result c.args.end (g.B.Blob.life c.args.blob.now).present.readable c.in_ok-prefix.prefix c.in_ok-prefix.ensures.looks.0 (omega (arith, c.min-start.ensures)) fits
 
 pub size_of-requires-clause-short : goal.size_of-requires-clause-short
 size_of-requires-clause-short g c =
-    scanned_short g.H.Sum.sum_of (non_zero_u16_get c.self.inside.page_size) c.min-start.result c.args.end (g.B.Blob.life c.args.blob.now).present.readable c.in_ok-prefix.prefix c.in_ok-prefix.ensures.finds.0 c.self.inside.page_size.ok
+    scanned_short g.H.Sum.sum_of (non_zero_u16_get c.self.inside.page_size) c.min-start.result c.args.end (g.B.Blob.life c.args.blob.now).present.readable c.in_ok-prefix.prefix c.in_ok-prefix.ensures.looks.0 c.self.inside.page_size.ok
 
 pub returns-clause-scans : goal.returns-clause-scans
 returns-clause-scans g c =
@@ -65,10 +65,10 @@ returns-clause-scans g c =
     let Q = non_zero_u16_get c.self.inside.page_size in
     let full = c.args.self.now.full_pages in (
       scanned_size g.H.Sum.sum_of Q full c.args.end c.args.proven c.min-start.result c.size_of.result old.present.readable c.in_ok-prefix.prefix
-          (begins g (goal.at.returns-clause-scans g c).After-scan_from) c.in_ok-prefix.ensures.finds.0 c.size_of.ensures
+          (begins g (goal.at.returns-clause-scans g c).After-scan_from) c.in_ok-prefix.ensures.looks.0 c.size_of.ensures
           ∙ ap (λ (n : ℕ). scan_to g.H.Sum.sum_of n full c.args.end c.args.proven old.present.readable) (same_size g (goal.at.returns-clause-scans g c).After-scan_from),
-      c.in_ok-prefix.ensures.finds.1,
-      c.in_ok-prefix.ensures.finds.2,
+      c.in_ok-prefix.ensures.looks.1,
+      c.in_ok-prefix.ensures.looks.2,
     )
 
 -- what it reads, whatever the answer
@@ -81,7 +81,7 @@ reads g c =
     let full = c.args.self.now.full_pages in
     let Q = non_zero_u16_get c.self.inside.page_size in
     let there : ReadsUpToEnd g.H.Sum.sum_of Q (scan_bytes Q B) (scan_start Q full c.args.end c.args.proven) c.args.end old new =
-    subst (λ (n : ℕ). ReadsUpToEnd g.H.Sum.sum_of Q (scan_bytes Q B) n c.args.end old new) (begins g c) c.scan_from.ensures.reads in
+    subst (λ (n : ℕ). ReadsUpToEnd g.H.Sum.sum_of Q (scan_bytes Q B) n c.args.end old new) (begins g c) c.scan_from.ensures.costs in
     subst (λ (n : ℕ). ReadsUpToEnd g.H.Sum.sum_of n (scan_bytes n B) (scan_start n full c.args.end c.args.proven) c.args.end old new) (same_size g c) there
 
 pub returns-clause-reads : goal.returns-clause-reads

@@ -1,7 +1,7 @@
 use Rattle.paged.proofs.Refused.{puts_none}
 use Rattle.std.proofs.Common.{refl, sym, ◌∙◌, arith}
 use Rattle.paged.proofs.Caching.{settled_nothing}
-use Rattle.paged.specs.Flush.{answered}
+use Rattle.paged.specs.Flush.{with_value}
 use Rattle.paged.proofs.Flushes.{sync_settles, settle_none, sync_due}
 use Rattle.paged.proofs.writer.Writer.sync_all.Goals as goal
 
@@ -31,7 +31,7 @@ returns-else-has_flush_work g c =
       puts = settled_nothing g.H.Sum.sum_of c.args.self.now c.settle.new.self c.args.self.now.tip c.args.cache.now old new c.settle.result c.settle.ensures.settles;
       refused = λ _. puts_none c.args.cache.now c.settle.result;
       idle_cache = λ _. refl;
-      syncs = sync_settles g.H.Sum.sum_of c.args.self.now old new (answered c.settle.new.self c.settle.result) c.requires.holds none_due c.settle.ensures.settles;
+      syncs = sync_settles g.H.Sum.sum_of c.args.self.now old new (with_value c.settle.new.self c.settle.result) c.requires.holds none_due c.settle.ensures.settles;
       room = c.has_flush_work.ensures.room;
       pages = c.settle.ensures.pages;
       covers = c.settle.ensures.covers;

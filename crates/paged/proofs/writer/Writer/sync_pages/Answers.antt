@@ -4,7 +4,7 @@ use Rattle.std.proofs.Common.{ap, ◌∙◌, ◌≡◌, sym, subst, true}
 use Rattle.paged.proofs.Caching.{puts_nothing, puts_waited, puts_alike}
 use Rattle.std.proofs.lemmas.Result.{err_from_is_err_and}
 use Rattle.writer_state.specs.WriterState.{WriterState}
-use Rattle.paged.specs.Flush.{has_work, answered}
+use Rattle.paged.specs.Flush.{has_work, with_value}
 use Rattle.paged.specs.Calls.{WaitsForNone}
 use Rattle.paged.proofs.Waits.{syncs_after, pages_after, covers_after, waits_for_none, sync_asks_after, sync_asks_wait}
 use Rattle.paged.proofs.writer.Writer.sync_pages.Goals as goal
@@ -48,7 +48,7 @@ returns g c =
       puts = puts_waited w m now w.tip c.args.cache.now c.write_durably.new.cache result is
           (puts_alike m now m.tip w.tip c.args.cache.now c.write_durably.new.cache result (ap (λ (v : WriterState). v.tip) is) c.write_durably.ensures.puts);
       refused = λ one. puts_late c.args.cache.now c.write_durably.new.cache result (c.write_durably.ensures.late (waited_clean w m is one));
-      syncs = syncs_after sum w m old mid new first (answered now result) c.write_durably.ensures.syncs;
+      syncs = syncs_after sum w m old mid new first (with_value now result) c.write_durably.ensures.syncs;
       pages = pages_after sum w m old mid new first c.in_ok-wait.ensures.pages c.write_durably.ensures.pages;
       covers = covers_after sum w m old mid new first c.in_ok-wait.ensures.covers c.write_durably.ensures.covers;
       starts = c.write_durably.ensures.starts;

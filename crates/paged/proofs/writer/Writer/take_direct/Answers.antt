@@ -29,7 +29,7 @@ returns-in_err-pass-clause-puts g c =
     (ap (λ (n : ℕ). n / c.args.cache.now.page_size) c.offset.ensures
     ∙ ap (λ (P : ℕ). c.self.inside.tip.offset / P) (c.requires.cached ∙ sym (ap (λ (s : WriterState). s.page_size) c.self.view_is))
     ∙ ap (λ (s : WriterState). s.full_pages) c.self.view_is)
-    c.as_ref.ensures some c.requires.cached c.cache.ensures.puts in
+    c.as_ref.ensures some c.requires.cached c.cache.ensures.puts_all in
     refused_after _ w c.pass.new.self (c.args.whole ++ c.args.rest.now) c.args.cache.now c.cache.new.self to c.from_residual.result
     c.from_residual.ensures.1 puts
 
@@ -43,6 +43,6 @@ returns-clause-puts g c =
     (ap (λ (n : ℕ). n / c.args.cache.now.page_size) c.offset.ensures
     ∙ ap (λ (P : ℕ). c.self.inside.tip.offset / P) (c.requires.cached ∙ sym (ap (λ (s : WriterState). s.page_size) c.self.view_is))
     ∙ ap (λ (s : WriterState). s.full_pages) c.self.view_is)
-    c.as_ref.ensures some c.requires.cached c.cache.ensures.puts in
+    c.as_ref.ensures some c.requires.cached c.cache.ensures.puts_all in
     put_either w c.pass.new.self (c.args.whole ++ c.args.rest.now) c.args.cache.now c.cache.new.self to c.cut_pages.result
     (ap (λ (s : WriterState). s.full_pages) c.in_ok-pass.ensures.state) puts

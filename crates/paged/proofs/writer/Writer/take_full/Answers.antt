@@ -5,7 +5,7 @@ use Rattle.std.proofs.lemmas.Result.{IfOk-weaker}
 use Rattle.page.specs.declared.slot.ActiveChecksum.{ActiveChecksum}
 use Rattle.crash.specs.Built.{built, durable_after}
 use Rattle.writer_state.specs.WriterState.{WriterState}
-use Rattle.paged.specs.Flush.{TellsFirst, full_in, advanced}
+use Rattle.paged.specs.Flush.{TellsFirst, full_in, after_flush}
 use Rattle.paged.proofs.Caching.{puts_nothing, put_either, taken_put}
 use Rattle.paged.proofs.Flushing.{advanced-none, built-none, pages-drained}
 use Rattle.paged.proofs.Known.{pages_tell}
@@ -23,7 +23,7 @@ pub returns-then-len-from-clause-state : goal.returns-then-len-from-clause-state
 returns-then-len-from-clause-state g c =
     let w = c.args.self.now in
     let short : length w.tip < w.page_size = omega (arith, c.if-len-from.true, c.len.ensures, c.from.ensures, c.get.ensures.value, ap (λ (s : WriterState). s.page_size) c.self.view_is, ap (λ (s : WriterState). length s.tip) c.self.view_is) in
-    IfOk-weaker c.with_capacity.result (λ bufs. bufs ≡ []) (λ bufs. w ≡ advanced w (durable_after w.flushed (full_in w)) w.sync)
+    IfOk-weaker c.with_capacity.result (λ bufs. bufs ≡ []) (λ bufs. w ≡ after_flush w (durable_after w.flushed (full_in w)) w.sync)
     (λ bufs none. advanced-none w short) c.with_capacity.ensures.made
 
 pub returns-then-len-from-clause-puts : goal.returns-then-len-from-clause-puts

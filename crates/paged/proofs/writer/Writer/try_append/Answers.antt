@@ -13,8 +13,8 @@ returns-clause-appends g c =
     buffers_over g.H.Sum.sum_of c.args.self.now _ c.args.bytes.now c.try_append.result
     (tries P inside.id inside.flushed inside.durable inside.sync_state some inside.tip c.try_append.new.self c.args.bytes.now c.self.invariant c.args.self.now c.try_append.result c.self.view_is (c.fits.ensures.0 (search rules)) c.try_append.ensures)
 
-pub returns-clause-sound : goal.returns-clause-sound
-returns-clause-sound g c =
+pub returns-clause-keeps_sound : goal.returns-clause-keeps_sound
+returns-clause-keeps_sound g c =
     let inside = c.self.inside in
     let P = non_zero_u16_get inside.page_size in
     let some : 0 < P = inside.page_size.ok in
@@ -29,16 +29,16 @@ returns-clause-consistent g c =
     keeps_consistent g.H.Sum.sum_of c.args.self.now _ c.args.bytes.now c.try_append.result
     (tries P inside.id inside.flushed inside.durable inside.sync_state some inside.tip c.try_append.new.self c.args.bytes.now c.self.invariant c.args.self.now c.try_append.result c.self.view_is (c.fits.ensures.0 (search rules)) c.try_append.ensures)
 
-pub returns-clause-pages : goal.returns-clause-pages
-returns-clause-pages g c =
+pub returns-clause-keeps_pages : goal.returns-clause-keeps_pages
+returns-clause-keeps_pages g c =
     let inside = c.self.inside in
     let P = non_zero_u16_get inside.page_size in
     let some : 0 < P = inside.page_size.ok in
     keeps_pages c.args.self.now _ c.args.bytes.now c.try_append.result
     (tries P inside.id inside.flushed inside.durable inside.sync_state some inside.tip c.try_append.new.self c.args.bytes.now c.self.invariant c.args.self.now c.try_append.result c.self.view_is (c.fits.ensures.0 (search rules)) c.try_append.ensures)
 
-pub returns-clause-can_read : goal.returns-clause-can_read
-returns-clause-can_read g c =
+pub returns-clause-keeps_reads : goal.returns-clause-keeps_reads
+returns-clause-keeps_reads g c =
     let inside = c.self.inside in
     let P = non_zero_u16_get inside.page_size in
     let some : 0 < P = inside.page_size.ok in

@@ -16,8 +16,8 @@ returns-clause-appends g c =
     buffers_over g.H.Sum.sum_of c.args.self.now _ (g.T.EncodeSize.encoded c.args.value.now) c.try_append_value.result
     (tries P inside.id inside.flushed inside.durable inside.sync_state some inside.tip c.try_append_value.new.self (g.T.EncodeSize.encoded c.args.value.now) c.self.invariant c.args.self.now c.try_append_value.result c.self.view_is fits c.try_append_value.ensures)
 
-pub returns-clause-sound : goal.returns-clause-sound
-returns-clause-sound g c =
+pub returns-clause-keeps_sound : goal.returns-clause-keeps_sound
+returns-clause-keeps_sound g c =
     let inside = c.self.inside in
     let P = non_zero_u16_get inside.page_size in
     let some : 0 < P = inside.page_size.ok in
@@ -36,8 +36,8 @@ returns-clause-consistent g c =
     keeps_consistent g.H.Sum.sum_of c.args.self.now _ (g.T.EncodeSize.encoded c.args.value.now) c.try_append_value.result
     (tries P inside.id inside.flushed inside.durable inside.sync_state some inside.tip c.try_append_value.new.self (g.T.EncodeSize.encoded c.args.value.now) c.self.invariant c.args.self.now c.try_append_value.result c.self.view_is fits c.try_append_value.ensures)
 
-pub returns-clause-pages : goal.returns-clause-pages
-returns-clause-pages g c =
+pub returns-clause-keeps_pages : goal.returns-clause-keeps_pages
+returns-clause-keeps_pages g c =
     let inside = c.self.inside in
     let P = non_zero_u16_get inside.page_size in
     let some : 0 < P = inside.page_size.ok in
@@ -46,8 +46,8 @@ returns-clause-pages g c =
     keeps_pages c.args.self.now _ (g.T.EncodeSize.encoded c.args.value.now) c.try_append_value.result
     (tries P inside.id inside.flushed inside.durable inside.sync_state some inside.tip c.try_append_value.new.self (g.T.EncodeSize.encoded c.args.value.now) c.self.invariant c.args.self.now c.try_append_value.result c.self.view_is fits c.try_append_value.ensures)
 
-pub returns-clause-can_read : goal.returns-clause-can_read
-returns-clause-can_read g c =
+pub returns-clause-keeps_reads : goal.returns-clause-keeps_reads
+returns-clause-keeps_reads g c =
     let inside = c.self.inside in
     let P = non_zero_u16_get inside.page_size in
     let some : 0 < P = inside.page_size.ok in

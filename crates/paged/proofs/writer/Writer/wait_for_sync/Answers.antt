@@ -7,7 +7,7 @@ use Rattle.paged.proofs.Owing.{owes_waiting}
 use Rattle.paged.proofs.writer.Writer.wait_for_sync.Goals as goal
 
 pub wait-requires : goal.wait-requires
-wait-requires g c = record { holds = holds_of g.H.Sum.sum_of c.args.self (g.B.Blob.life c.args.blob.now).present c.requires.stands }
+wait-requires g c = record { holds = holds_of g.H.Sum.sum_of c.args.self (g.B.Blob.life c.args.blob.now).present c.requires.sound }
 
 pub returns-in_err-wait-clause-goes : goal.returns-in_err-wait-clause-goes
 returns-in_err-wait-clause-goes g c =
@@ -29,11 +29,11 @@ returns-in_err-wait-clause-owes g c =
     let is = c.in_err-wait.ensures in
     let old = g.B.Blob.life c.args.blob.now in
     let new = g.B.Blob.life c.wait.new.blob in
-    owes_waiting g.H.Sum.sum_of c.args.self old new (holds_of g.H.Sum.sum_of c.args.self (g.B.Blob.life c.args.blob.now).present c.requires.stands) (waits_stay g.H.Sum.sum_of c.args.self old new (Err c.in_err-wait.field-0.0) is.waits) is.pages is.covers is.starts
+    owes_waiting g.H.Sum.sum_of c.args.self old new (holds_of g.H.Sum.sum_of c.args.self (g.B.Blob.life c.args.blob.now).present c.requires.sound) (waits_stay g.H.Sum.sum_of c.args.self old new (Err c.in_err-wait.field-0.0) is.waits) is.pages is.covers is.starts
 
 pub returns-clause-owes : goal.returns-clause-owes
 returns-clause-owes g c =
     let is = c.in_ok-wait.ensures in
     let old = g.B.Blob.life c.args.blob.now in
     let new = g.B.Blob.life c.wait.new.blob in
-    owes_waiting g.H.Sum.sum_of c.args.self old new (holds_of g.H.Sum.sum_of c.args.self (g.B.Blob.life c.args.blob.now).present c.requires.stands) (waits_stay g.H.Sum.sum_of c.args.self old new (Ok c.wait.new.self) is.waits) is.pages is.covers is.starts
+    owes_waiting g.H.Sum.sum_of c.args.self old new (holds_of g.H.Sum.sum_of c.args.self (g.B.Blob.life c.args.blob.now).present c.requires.sound) (waits_stay g.H.Sum.sum_of c.args.self old new (Ok c.wait.new.self) is.waits) is.pages is.covers is.starts

@@ -3,7 +3,7 @@ use Rattle.std.specs.Int.NonZero.{non_zero_u16_get}
 use Rattle.disk.specs.Disk.{StartReadGoes}
 use Rattle.crash.specs.Looks.{looked_start, looked_joins}
 use Rattle.paged_read.specs.declared.ahead.Ahead.{Ahead}
-use Rattle.paged_read.specs.ReadAhead.{after, batch_range, page_after, Follow, IsBatch}
+use Rattle.paged_read.specs.ReadAhead.{after_batch, batch_range, page_after, BatchesFollow, IsBatch}
 use Rattle.paged_read.proofs.AheadCosts.{batches_join, batches_none, batches_start, page_after_le, start_calls}
 use Rattle.paged_read.proofs.ReadAheads.{are_next, batches_more, follow_more, looked_start_read, page_after_more}
 use Rattle.paged_read.proofs.ahead.Batches.top_up.Goals as goal
@@ -37,8 +37,8 @@ loop-self-preserved g c =
     let below : page_after batch full page queue < full = subst (λ n. n < full) so_far.next c.if-next-self.true in
     let more = c.loop-self-test.true in
     record {
-      follow = subst (λ (l : List Ahead). Follow batch full page l) (sym items) (follow_more batch full page queue a so_far.follow (c.start.ensures.page ∙ so_far.next) below);
-      next = c.after-next.ensures ∙ ap (λ n. after batch full n) so_far.next ∙ sym (page_after_more batch full page queue a) ∙ ap (λ (l : List Ahead). page_after batch full page l) (sym items);
+      follow = subst (λ (l : List Ahead). BatchesFollow batch full page l) (sym items) (follow_more batch full page queue a so_far.follow (c.start.ensures.page ∙ so_far.next) below);
+      next = c.after-next.ensures ∙ ap (λ n. after_batch batch full n) so_far.next ∙ sym (page_after_more batch full page queue a) ∙ ap (λ (l : List Ahead). page_after batch full page l) (sym items);
       few = omega (arith, more, c.len.ensures, ap (λ (l : List Ahead). length l) items, length-append queue (a ∷ []));
       room = c.push_reserved.ensures.capacity ∙ so_far.room;
       batches = subst (λ (l : List Ahead). All (IsBatch P batch full new.present) l) (sym items) (batches_more P batch full old new queue a goes so_far.batches);

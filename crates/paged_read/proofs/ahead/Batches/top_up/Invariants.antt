@@ -1,7 +1,7 @@
 use Rattle.std.proofs.Common.{◌≡◌, ◌≤◌, ◌+◌, ◌-◌, length, All, vec_capacity}
 use Rattle.std.specs.Int.NonZero.{non_zero_u16_get}
 use Rattle.crash.specs.Looks.{Looked}
-use Rattle.paged_read.specs.ReadAhead.{Follow, IsBatch, page_after, ReadsBatches}
+use Rattle.paged_read.specs.ReadAhead.{BatchesFollow, IsBatch, page_after, ReadsBatches}
 use Rattle.paged_read.proofs.ahead.Batches.top_up.Given as goal
 
 abbrev pub invariant-loop-self : goal.invariant-loop-self
@@ -10,7 +10,7 @@ invariant-loop-self g l =
     let batch = l.self.batch in
     let full = l.self.full_pages in
     record {
-      follow : Follow batch full l.page l.queue.items;
+      follow : BatchesFollow batch full l.page l.queue.items;
       next : l.next ≡ page_after batch full l.page l.queue.items;
       few : length l.queue.items ≤ 3;
       room : vec_capacity l.queue ≡ vec_capacity l.initial.queue;

@@ -2,7 +2,7 @@ use Rattle.std.proofs.Common.{rules, ◌≡◌, ◌<◌, ◌∙◌, ap, arith, l
 use Rattle.std.proofs.lemmas.Result.{err_from_is_err_and}
 use Rattle.crash.specs.Looks.{looked_joins}
 use Rattle.paged_read.specs.Replay.{end_of, Ensures, IsReplay, ReplayState}
-use Rattle.paged_read.specs.Tail.{size_of}
+use Rattle.paged_read.specs.Tail.{tail_size}
 use Rattle.paged_read.proofs.ReadLaws.{look_leaves}
 use Rattle.paged_read.proofs.Replays.{Reached, ensure_costs, ensure_fails, filled_replays, reach_ends, reach_fails, reach_idle, reach_more, reach_start}
 use Rattle.paged_read.proofs.replay.Replay.ensure.Goals as goal
@@ -89,12 +89,12 @@ reached g c =
     c.loop-self.invariant
 
 ends : (g : Over) (c : After-remaining-2 g) → length (left g c).hand < c.args.count
-    → end_of (left g c) ≡ size_of (left g c).tail
+    → end_of (left g c) ≡ tail_size (left g c).tail
 ends g c few = elim c.loop-self-test.branch [
   | then-loop-self-test+else-end-size w ↦
       let over = w.if-end-size.false in
       let end = w.end.ensures ∙ ap (λ (r : ReplayState). end_of r) (sym c.self-2.view_is) in
-      let size = w.size.ensures ∙ ap (λ (r : ReplayState). size_of r.tail)
+      let size = w.size.ensures ∙ ap (λ (r : ReplayState). tail_size r.tail)
       (c.self.view_is ∙ sym c.self-2.view_is) in
       omega (arith, over, end, size, c.self-2.invariant.0.within)
   | else-loop-self-test w ↦

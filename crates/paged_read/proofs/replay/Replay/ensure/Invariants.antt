@@ -1,6 +1,6 @@
 use Rattle.std.proofs.Common.{◌-◌}
 use Rattle.paged_read.specs.Replay.{end_of}
-use Rattle.paged_read.specs.Tail.{size_of}
+use Rattle.paged_read.specs.Tail.{tail_size}
 use Rattle.paged_read.proofs.Replays.{Reached}
 use Rattle.paged_read.proofs.replay.Replay.ensure.Given as goal
 
@@ -10,4 +10,4 @@ invariant-loop-self g l =
     (g.B.Blob.life l.blob)
 
 abbrev pub decreases-loop-self : goal.decreases-loop-self
-decreases-loop-self g l = size_of l.self.tail - end_of l.self
+decreases-loop-self g l = tail_size l.self.tail - end_of l.self

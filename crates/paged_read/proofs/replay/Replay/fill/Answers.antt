@@ -6,9 +6,9 @@ use Rattle.std.specs.Prelude.{OnErr, OnOk}
 use Rattle.disk.specs.declared.error.Error.{Error}
 use Rattle.crash.specs.Looks.{looked_start}
 use Rattle.paged_read.specs.Hand.{HandState, payloads}
-use Rattle.paged_read.specs.ReadAhead.{after, AreNext, IsBatch, ReadsBatches}
+use Rattle.paged_read.specs.ReadAhead.{after_batch, AreNext, IsBatch, ReadsBatches}
 use Rattle.paged_read.specs.Replay.{CanReplay, end_of, FillsOnce, IsReadAhead, ReplayState}
-use Rattle.paged_read.specs.Tail.{size_of}
+use Rattle.paged_read.specs.Tail.{tail_size}
 use Rattle.paged_read.proofs.AheadCosts.{batches_none, err_holds, ok_holds}
 use Rattle.paged_read.proofs.Failing.{none_failed_kept}
 use Rattle.paged_read.proofs.Replays.{Filled, filled_batch, filled_rest, grows, page_after, page_within}
@@ -67,8 +67,8 @@ ask_skip g c =
     both (λ x y. x % y) c.end-end.result (end_of (ask_was g c)) c.from-page_size.result
     (ask_was g c).tail.page_size (ask_end g c) (ask_size g c)
 
-ask_more : (g : Over) (c : After-from-page_size g) → end_of (ask_was g c) < size_of (ask_was g c).tail
-ask_more g c = subst (λ (r : ReplayState). end_of r < size_of r.tail) (sym c.self.view_is) c.requires.more
+ask_more : (g : Over) (c : After-from-page_size g) → end_of (ask_was g c) < tail_size (ask_was g c).tail
+ask_more g c = subst (λ (r : ReplayState). end_of r < tail_size r.tail) (sym c.self.view_is) c.requires.more
 
 ask_can : (g : Over) (c : After-from-page_size g)
     → CanReplay (ask_was g c) (g.B.Blob.life c.args.blob.now).present
@@ -140,8 +140,8 @@ batch_skip g c =
     both (λ x y. x % y) c.end-end.result (end_of (batch_was g c)) c.from-page_size.result
     (batch_was g c).tail.page_size (batch_end g c) (batch_size g c)
 
-batch_more : (g : Over) (c : After-add g) → end_of (batch_was g c) < size_of (batch_was g c).tail
-batch_more g c = subst (λ (r : ReplayState). end_of r < size_of r.tail) (sym c.self.view_is) c.requires.more
+batch_more : (g : Over) (c : After-add g) → end_of (batch_was g c) < tail_size (batch_was g c).tail
+batch_more g c = subst (λ (r : ReplayState). end_of r < tail_size r.tail) (sym c.self.view_is) c.requires.more
 
 batch_can : (g : Over) (c : After-add g)
     → CanReplay (batch_was g c) (g.B.Blob.life c.args.blob.now).present
@@ -215,8 +215,8 @@ rest_skip g c =
     both (λ x y. x % y) c.end-end.result (end_of (rest_was g c)) c.from-page_size.result
     (rest_was g c).tail.page_size (rest_end g c) (rest_size g c)
 
-rest_more : (g : Over) (c : After-push g) → end_of (rest_was g c) < size_of (rest_was g c).tail
-rest_more g c = subst (λ (r : ReplayState). end_of r < size_of r.tail) (sym c.self.view_is) c.requires.more
+rest_more : (g : Over) (c : After-push g) → end_of (rest_was g c) < tail_size (rest_was g c).tail
+rest_more g c = subst (λ (r : ReplayState). end_of r < tail_size r.tail) (sym c.self.view_is) c.requires.more
 
 rest_can : (g : Over) (c : After-push g)
     → CanReplay (rest_was g c) (g.B.Blob.life c.args.blob.now).present
@@ -289,7 +289,7 @@ returns-clause-failed g c = c.add.ensures.failed
 pub returns-clause-step : goal.returns-clause-step
 returns-clause-step g c =
     let now = record (batch_was g c) { hand = c.add.new.hand.bytes; queue = c.add.new.queue.items } in
-    subst (λ (r : ReplayState). OnOk c.add.result (end_of now / r.tail.page_size ≡ after r.batch r.tail.full_pages (end_of r / r.tail.page_size))) c.self.view_is (batch g c).step
+    subst (λ (r : ReplayState). OnOk c.add.result (end_of now / r.tail.page_size ≡ after_batch r.batch r.tail.full_pages (end_of r / r.tail.page_size))) c.self.view_is (batch g c).step
 
 pub returns-clause-served : goal.returns-clause-served
 returns-clause-served g c = λ has.
@@ -336,7 +336,7 @@ returns-in_err-rest-clause-reads g c =
 pub returns-then-page-self-clause-step : goal.returns-then-page-self-clause-step
 returns-then-page-self-clause-step g c =
     let now = record (rest_was g c) { hand = c.push.new.self.bytes } in
-    subst (λ (r : ReplayState). OnOk c.push.result (end_of now / r.tail.page_size ≡ after r.batch r.tail.full_pages (end_of r / r.tail.page_size))) c.self.view_is (rest g c).step
+    subst (λ (r : ReplayState). OnOk c.push.result (end_of now / r.tail.page_size ≡ after_batch r.batch r.tail.full_pages (end_of r / r.tail.page_size))) c.self.view_is (rest g c).step
 
 pub returns-then-page-self-clause-calls : goal.returns-then-page-self-clause-calls
 returns-then-page-self-clause-calls g c = ok_holds c.push.result _ (omega arith)

@@ -14,7 +14,7 @@ returns-then-try_read_sync_into-clause-gathered g c = λ ranges ends before.
     let len = c.args.len in
     let buf = c.args.buf.now in
     let part = c.try_read_sync_into.new.buf in
-    let tries = tried_part t c.args.offset len buf_offset c.args.cache.now buf part c.try_read_sync_into.result c.requires.room c.try_read_sync_into.ensures.tries in
+    let tries = tried_part t c.args.offset len buf_offset c.args.cache.now buf part c.try_read_sync_into.result c.requires.room c.try_read_sync_into.ensures.goes in
     let size : length part ≡ len = c.try_read_sync_into.ensures.size ∙ length_part buf_offset len buf c.requires.room in
     let served = tried_served t (c.args.offset, len) c.args.cache.now part c.try_read_sync_into.result tries c.if-try_read_sync_into.true in
     let front = take-put_mid buf_offset (buf_offset + len - buf_offset) buf part (buf_offset + len) (omega (arith, size)) (omega (arith, c.requires.room)) in
@@ -28,7 +28,7 @@ returns-clause-gathered g c = λ ranges ends before.
     let len = c.args.len in
     let buf = c.args.buf.now in
     let part = c.try_read_sync_into.new.buf in
-    let tries = tried_part t c.args.offset len buf_offset c.args.cache.now buf part c.try_read_sync_into.result c.requires.room c.try_read_sync_into.ensures.tries in
+    let tries = tried_part t c.args.offset len buf_offset c.args.cache.now buf part c.try_read_sync_into.result c.requires.room c.try_read_sync_into.ensures.goes in
     let size : length part ≡ len = c.try_read_sync_into.ensures.size ∙ length_part buf_offset len buf c.requires.room in
     let unserved = tried_unserved t (c.args.offset, len) c.args.cache.now part c.try_read_sync_into.result tries c.requires.ends c.if-try_read_sync_into.false in
     let front = take-put_mid buf_offset (buf_offset + len - buf_offset) buf part (buf_offset + len) (omega (arith, size)) (omega (arith, c.requires.room)) in
@@ -43,6 +43,6 @@ returns-clause-gathered g c = λ ranges ends before.
 pub returns-in_err-add-clause-refused : goal.returns-in_err-add-clause-refused
 returns-in_err-add-clause-refused g c =
     let t = tail_at c.args.self.page_size c.args.self.id c.args.self.tip.now in
-    let tries = tried_part t c.args.offset c.args.len c.args.buf_offset c.args.cache.now c.args.buf.now c.try_read_sync_into.new.buf c.try_read_sync_into.result c.requires.room c.try_read_sync_into.ensures.tries in
+    let tries = tried_part t c.args.offset c.args.len c.args.buf_offset c.args.cache.now c.args.buf.now c.try_read_sync_into.new.buf c.try_read_sync_into.result c.requires.room c.try_read_sync_into.ensures.goes in
     let p = err_from_is_err_and c.from_residual.result c.from_residual.ensures.1 in
     rw p.1 (tried_unserved t (c.args.offset, c.args.len) c.args.cache.now c.try_read_sync_into.new.buf c.try_read_sync_into.result tries c.requires.ends c.if-try_read_sync_into.false)

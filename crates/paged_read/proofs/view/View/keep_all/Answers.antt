@@ -2,8 +2,8 @@ use Rattle.std.proofs.Common.{◌≡◌, ◌∙◌, refl, sym, ap, subst, ℕ, �
 use Rattle.std.proofs.lemmas.List.{get_or_default}
 use Rattle.page.specs.Page.{value_len}
 use Rattle.std.proofs.lemmas.List.{take_all}
-use Rattle.paged_read.specs.Puts.{PutsPages, numbered}
-use Rattle.paged_read.specs.Tail.{tail_at, told}
+use Rattle.paged_read.specs.Puts.{PutsPages, delivered_pages}
+use Rattle.paged_read.specs.Tail.{logical_bytes, tail_at}
 use Rattle.cache.proofs.CacheLaws.{put_weakly}
 use Rattle.paged_read.proofs.BatchKeeps.{marked_more, full_more, puts_more, puts_refused, refused_not_put}
 use Rattle.paged_read.proofs.PutLaws.{puts_none}
@@ -43,7 +43,7 @@ pub returns-in_err-resize-clause-puts : goal.returns-in_err-resize-clause-puts
 returns-in_err-resize-clause-puts g c = λ life can delivered.
     let t = tail_at c.args.self.page_size c.args.self.id c.args.self.tip.now in
     let p = err_from_is_err_and c.from_residual.result c.from_residual.ensures.1 in
-    rw p.1 (puts_none g.H.Sum.sum_of t (numbered c.args.pages.now c.args.out.now) life.present.readable c.args.cache.now)
+    rw p.1 (puts_none g.H.Sum.sum_of t (delivered_pages c.args.pages.now c.args.out.now) life.present.readable c.args.cache.now)
 
 pub returns-in_err-keep_page-clause-puts : goal.returns-in_err-keep_page-clause-puts
 returns-in_err-keep_page-clause-puts g c = λ life can delivered.
@@ -57,5 +57,5 @@ returns-in_err-keep_page-clause-puts g c = λ life can delivered.
 pub returns-clause-puts : goal.returns-clause-puts
 returns-clause-puts g c = λ life can delivered.
     let t = tail_at c.args.self.page_size c.args.self.id c.args.self.tip.now in
-    subst (λ (l : List (ℕ × List ℕ)). PutsPages t.id (told t life.present.readable) (numbered c.args.pages.now l) c.args.cache.now c.loop-index.cache)
+    subst (λ (l : List (ℕ × List ℕ)). PutsPages t.id (logical_bytes t life.present.readable) (delivered_pages c.args.pages.now l) c.args.cache.now c.loop-index.cache)
     (take_all c.loop-index.index c.args.out.now c.loop-index-test.false) (c.loop-index.invariant.puts life can delivered)

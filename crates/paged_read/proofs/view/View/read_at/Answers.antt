@@ -2,7 +2,7 @@ use Rattle.std.proofs.Common.{rules, refl, Ok, Err, Result, ◌≡◌, ◌+◌, 
 use Rattle.std.specs.List.{concat}
 use Rattle.std.proofs.lemmas.List.{take_all}
 use Rattle.paged_read.specs.Failures.{NoneFailed, none_failed_start}
-use Rattle.paged_read.specs.Tail.{tail_at, told, size_of}
+use Rattle.paged_read.specs.Tail.{tail_at, logical_bytes, tail_size}
 use Rattle.paged_read.specs.Ranges.{slice, AreMissingFull, Reads}
 use Rattle.paged_read.proofs.WholeReads.{vec_written}
 use Rattle.std.proofs.lemmas.Result.{err_from_is_err_and}
@@ -130,14 +130,14 @@ returns-clause-goes g c =
     let bytes = c.read_into.new.buf in
     let size : length bytes ≡ len = c.read_into.ensures.goes.size ∙ many in
     let written : take c.resize.new.self.len (bytes ++ drop (length bytes) c.resize.new.self.items) ≡ bytes = vec_written c.resize.new.self.len bytes c.resize.new.self.items (size ∙ sym room) in
-    let read : (c.args.offset + length c.deref_mut.result.now ≤ size_of t) × (bytes ≡ slice (told t d.readable) (c.args.offset, length c.deref_mut.result.now)) × AreMissingFull g.H.Sum.sum_of c.args.cache.now t ((c.args.offset, length c.deref_mut.result.now) ∷ []) d.readable × NoneFailed d (g.B.Blob.life c.read_into.new.blob).present = c.in_ok-read_into.ensures.goes.answers in
+    let read : (c.args.offset + length c.deref_mut.result.now ≤ tail_size t) × (bytes ≡ slice (logical_bytes t d.readable) (c.args.offset, length c.deref_mut.result.now)) × AreMissingFull g.H.Sum.sum_of c.args.cache.now t ((c.args.offset, length c.deref_mut.result.now) ∷ []) d.readable × NoneFailed d (g.B.Blob.life c.read_into.new.blob).present = c.in_ok-read_into.ensures.goes.answers in
     let old = g.B.Blob.life c.args.blob.now in
     let new = g.B.Blob.life c.read_into.new.blob in
     let ends : c.in-Some.end ≡ c.args.offset + len = grind arith in
     read_goes g.H.Sum.sum_of t c.args.cache.now old new c.requires.can (c.args.offset, len) concat (Ok c.append_front.new.self) (
       omega (arith, read.0, many),
       c.in_ok-append_front.ensures.bytes ∙ ap (λ (l : List (List ℕ)). concat l ++ take len (take c.resize.new.self.len (bytes ++ drop (length bytes) c.resize.new.self.items))) c.new-bufs.ensures
-          ∙ ap (λ (l : List ℕ). take len l) written ∙ take_all len bytes (omega (arith, size)) ∙ read.1 ∙ ap (λ n. slice (told t d.readable) (c.args.offset, n)) many,
+          ∙ ap (λ (l : List ℕ). take len l) written ∙ take_all len bytes (omega (arith, size)) ∙ read.1 ∙ ap (λ n. slice (logical_bytes t d.readable) (c.args.offset, n)) many,
       subst (λ n. AreMissingFull g.H.Sum.sum_of c.args.cache.now t ((c.args.offset, n) ∷ []) d.readable) many read.2,
       read.3,
     )

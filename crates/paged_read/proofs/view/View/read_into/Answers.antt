@@ -4,7 +4,7 @@ use borrow.Rule.Slice.PartMut.{post_of}
 use Rattle.std.proofs.Common.{rules, refl, ℕ, List, Ok, Err, length-append, length-drop, ◌≡◌, ◌+◌, ◌-◌, ◌*◌, ◌≤◌, ◌∙◌, ◌++◌, [], ◌∷◌, length, take, drop, ap, subst, arith, sym, true}
 use Rattle.std.proofs.lemmas.List.{length-take-le}
 use Rattle.std.proofs.lemmas.Result.{err_from_is_err_and}
-use Rattle.paged_read.specs.Tail.{tail_at, told, size_of}
+use Rattle.paged_read.specs.Tail.{tail_at, logical_bytes, tail_size}
 use Rattle.paged_read.specs.Ranges.{slice, is_served, AreMissingFull, ReadFault, Reads, missing}
 use Rattle.paged_read.proofs.ReadLaws.{read_into_goes, read_leaves, leaves_nothing, costs_nothing, costs_part, costs_part_refused}
 use Rattle.paged_read.proofs.WholeReads.{part_missing, part_fault, part_full, parts_join, two_parts, second_len}
@@ -93,8 +93,8 @@ returns-clause-goes g c =
     let d = old.present in
     let within : below ≤ len = omega (arith, c.len_below-below.ensures) in
     let ends : c.in_ok-end.end ≡ c.args.offset + len = grind arith in
-    let inside : c.args.offset + len ≤ size_of t = omega (arith, ends, c.size.ensures, c.if-end-size.false) in
-    let front : c.read_below.new.buf ≡ slice (told t d.readable) (c.args.offset, below) = c.in_ok-read_below.ensures.reads.0 ∙ ap (λ n. slice (told t d.readable) (c.args.offset, n)) many in
+    let inside : c.args.offset + len ≤ tail_size t = omega (arith, ends, c.size.ensures, c.if-end-size.false) in
+    let front : c.read_below.new.buf ≡ slice (logical_bytes t d.readable) (c.args.offset, below) = c.in_ok-read_below.ensures.reads.0 ∙ ap (λ n. slice (logical_bytes t d.readable) (c.args.offset, n)) many in
     let back : c.copy_tip.new.buf ≡ take (len - below) (drop (c.args.offset + below - t.full_pages * t.page_size) t.bytes) =
     c.copy_tip.ensures ∙ ap (λ n. take n (drop (c.args.offset + below - t.full_pages * t.page_size) t.bytes)) (second_len below c.args.buf.now c.read_below.new.buf within c.read_below.ensures.size) in
     let mid = c.read_below.new.buf ++ drop below c.args.buf.now in

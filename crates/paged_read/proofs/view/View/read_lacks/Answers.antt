@@ -4,14 +4,14 @@ use Rattle.std.proofs.lemmas.Result.{err_from_is_err_and}
 use Rattle.crash.specs.Looks.{looked_start}
 use Rattle.page.specs.Page.{value_len}
 use Rattle.paged_read.specs.Failures.{none_failed_start}
-use Rattle.paged_read.specs.Tail.{tail_at, told}
+use Rattle.paged_read.specs.Tail.{logical_bytes, tail_at}
 use Rattle.paged_read.specs.Batch.{KeepsFault, pieces_in}
 use Rattle.paged_read.specs.Parts.{with_told, ArePagesFull}
 use Rattle.paged_read.specs.declared.lack.Lack.{Lack}
 use Rattle.paged_read.proofs.BatchKeeps.{no_lacks, delivers_same, whole_same, ready_same, told_same, marked_same, delivered_whole, lacks_ready, lacks_told, pages_full, keeps_fault}
 use Rattle.paged_read.proofs.PutLaws.{puts_empty, puts_none, numbered_each}
 use Rattle.std.proofs.lemmas.List.Sorted.{IsPermutation-refl}
-use Rattle.paged_read.specs.Puts.{numbered}
+use Rattle.paged_read.specs.Puts.{delivered_pages}
 use Rattle.paged_read.proofs.BatchReads.{not_asked, no_pages, some_pages}
 use Rattle.paged_read.specs.Ranges.{page_ranges}
 use Rattle.paged_read.proofs.view.View.read_lacks.Goals as goal
@@ -60,7 +60,7 @@ returns-clause-reads g c =
     let out = c.in_ok-out.out.items in
     let delivers = delivers_same t.page_size c.deref.result.now pages old.present.readable old.present.readable out out (sym c.deref.ensures.value) refl refl c.in_ok-out.ensures.reads.0 in
     let marked = marked_same c.in_ok-at.at.items out c.deref-3.result.now c.deref-3.ensures.value c.in_ok-at.ensures.found in
-    let content = told t old.present.readable in
+    let content = logical_bytes t old.present.readable in
     let each = told_same t.page_size content c.in_ok-at.at.items c.deref-5.result.now out c.deref-6.result.now c.args.batch.now.lacks.items c.deref-4.result.now c.deref-5.ensures.value c.deref-6.ensures.value c.deref-4.ensures.value
     (lacks_told t pages old.present.readable c.in_ok-at.at.items out (length c.args.buf.now) c.args.batch.now.lacks.items c.requires.can.there c.requires.below delivers marked c.requires.lacks) in
     let full = subst (λ (o : List (ℕ × List ℕ)). All (λ page. value_len g.H.Sum.sum_of t.page_size page.1 ≡ t.page_size) o) c.deref-3.ensures.value c.in_ok-at.ensures.full in (
@@ -84,9 +84,9 @@ returns-in_err-at-clause-puts g c =
     let out = c.in_ok-out.out.items in
     let delivers = delivers_same t.page_size c.deref.result.now pages old.present.readable old.present.readable out out (sym c.deref.ensures.value) refl refl c.in_ok-out.ensures.reads.0 in
     let there = delivers_same t.page_size pages c.deref-2.result.now old.present.readable old.present.readable out c.deref-3.result.now c.deref-2.ensures.value refl c.deref-3.ensures.value delivers in
-    let each = subst (λ (l : List ℕ). IsPermutation l (numbered c.deref-2.result.now c.deref-3.result.now)) c.deref-2.ensures.value (numbered_each t.page_size c.deref-2.result.now old.present.readable c.deref-3.result.now there) in
+    let each = subst (λ (l : List ℕ). IsPermutation l (delivered_pages c.deref-2.result.now c.deref-3.result.now)) c.deref-2.ensures.value (numbered_each t.page_size c.deref-2.result.now old.present.readable c.deref-3.result.now there) in
     let p = err_from_is_err_and c.from_residual-in_err-at.result c.from_residual-in_err-at.ensures.1 in
-    rw p.1 (record { order = numbered c.deref-2.result.now c.deref-3.result.now; each = each; puts = c.in_err-at.ensures.puts old c.requires.can there })
+    rw p.1 (record { order = delivered_pages c.deref-2.result.now c.deref-3.result.now; each = each; puts = c.in_err-at.ensures.puts old c.requires.can there })
 
 pub returns-clause-puts : goal.returns-clause-puts
 returns-clause-puts g c =
@@ -96,15 +96,15 @@ returns-clause-puts g c =
     let out = c.in_ok-out.out.items in
     let delivers = delivers_same t.page_size c.deref.result.now pages old.present.readable old.present.readable out out (sym c.deref.ensures.value) refl refl c.in_ok-out.ensures.reads.0 in
     let there = delivers_same t.page_size pages c.deref-2.result.now old.present.readable old.present.readable out c.deref-3.result.now c.deref-2.ensures.value refl c.deref-3.ensures.value delivers in
-    let each = subst (λ (l : List ℕ). IsPermutation l (numbered c.deref-2.result.now c.deref-3.result.now)) c.deref-2.ensures.value (numbered_each t.page_size c.deref-2.result.now old.present.readable c.deref-3.result.now there) in
-    record { order = numbered c.deref-2.result.now c.deref-3.result.now; each = each; puts = c.in_ok-at.ensures.puts old c.requires.can there }
+    let each = subst (λ (l : List ℕ). IsPermutation l (delivered_pages c.deref-2.result.now c.deref-3.result.now)) c.deref-2.ensures.value (numbered_each t.page_size c.deref-2.result.now old.present.readable c.deref-3.result.now there) in
+    record { order = delivered_pages c.deref-2.result.now c.deref-3.result.now; each = each; puts = c.in_ok-at.ensures.puts old c.requires.can there }
 
 pub returns-then-is_empty-clause-reads : goal.returns-then-is_empty-clause-reads
 returns-then-is_empty-clause-reads g c =
     let t = tail_at c.args.self.page_size c.args.self.id c.args.self.tip.now in
     let old = g.B.Blob.life c.args.blob.now in
     let none = no_pages c.as_slice.result.now c.args.batch.now.pages.items (sym c.is_empty.ensures ∙ c.if-is_empty.true) c.as_slice.ensures.value in (
-      ap (λ (l : List Lack). with_told t.page_size (told t old.present.readable) (pieces_in l) c.args.buf.now) (sym (no_lacks t.page_size (length c.args.buf.now) c.args.batch.now.pages.items c.args.batch.now.lacks.items none c.requires.lacks)),
+      ap (λ (l : List Lack). with_told t.page_size (logical_bytes t old.present.readable) (pieces_in l) c.args.buf.now) (sym (no_lacks t.page_size (length c.args.buf.now) c.args.batch.now.pages.items c.args.batch.now.lacks.items none c.requires.lacks)),
       subst (λ (l : List ℕ). ArePagesFull g.H.Sum.sum_of t.page_size l old.present.readable) (sym none) (λ page has. absurd (omega (arith, has.1))),
       none_failed_start old.present,
     )

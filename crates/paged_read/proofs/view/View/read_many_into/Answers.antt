@@ -3,7 +3,7 @@ use Rattle.std.specs.Int.NonZero.{non_zero_usize_get}
 use Rattle.disk.specs.declared.error.Error.{Error}
 use Rattle.disk.specs.declared.error.Error.TheVariants.{OutOfMemory}
 use Rattle.paged_read.specs.Failures.{none_failed_start}
-use Rattle.paged_read.specs.Tail.{tail_at, size_of}
+use Rattle.paged_read.specs.Tail.{tail_at, tail_size}
 use Rattle.paged_read.specs.Batch.{ranges_of}
 use Rattle.std.proofs.lemmas.Result.{err_from_is_err_and}
 use Rattle.page.specs.Geometry.{AreInOrder, EndWithin, RangesGo}
@@ -37,7 +37,7 @@ pub returns-in_err-ranges-clause-goes : goal.returns-in_err-ranges-clause-goes
 returns-in_err-ranges-clause-goes g c =
     let t = tail_at c.args.self.page_size c.args.self.id c.args.self.tip.now in
     read_many_goes g.H.Sum.sum_of t c.args.cache.now (g.B.Blob.life c.args.blob.now) (g.B.Blob.life c.args.blob.now) c.requires.can (ranges_of (non_zero_usize_get c.args.len) c.args.offsets.now) c.args.buf.now c.args.buf.now c.from_residual-in_err-ranges.result
-    (let within : EndWithin (size_of t) (ranges_of (non_zero_usize_get c.args.len) c.args.offsets.now) = search rules in
+    (let within : EndWithin (tail_size t) (ranges_of (non_zero_usize_get c.args.len) c.args.offsets.now) = search rules in
     let is : c.from_residual-in_err-ranges.result ≡ Err OutOfMemory = search rules in
     subst (λ (r : Result ℕ Error). ReadsMany g.H.Sum.sum_of t c.args.cache.now (ranges_of (non_zero_usize_get c.args.len) c.args.offsets.now) c.args.buf.now (g.B.Blob.life c.args.blob.now) (g.B.Blob.life c.args.blob.now) r) (sym is) (within, none_failed_start (g.B.Blob.life c.args.blob.now).present))
     refl

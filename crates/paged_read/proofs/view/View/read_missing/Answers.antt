@@ -30,7 +30,7 @@ read_pieces-requires-clause-pieces g c =
     let some : 0 < t.page_size = c.args.self.page_size.ok in
     let len = length c.args.buf.now in
     let items : c.deref.result.now ≡ pieces_of t.page_size (c.args.offset, len) 0 = c.deref.ensures.value ∙ c.in_ok-push_pieces.ensures.ok ∙ ap (λ (l : List Piece). l ++ pieces_of t.page_size (c.args.offset, len) 0) c.new-pieces.ensures.items in
-    let left : c.deref-2.result.now ≡ pieces_left c.args.cache.now t.id (pieces_of t.page_size (c.args.offset, len) 0) = c.deref-2.ensures.value ∙ c.in_ok-left.ensures.reads.0 ∙ ap (λ (l : List Piece). pieces_left c.args.cache.now t.id l) items in
+    let left : c.deref-2.result.now ≡ pieces_left c.args.cache.now t.id (pieces_of t.page_size (c.args.offset, len) 0) = c.deref-2.ensures.value ∙ c.in_ok-left.ensures.copies.0 ∙ ap (λ (l : List Piece). pieces_left c.args.cache.now t.id l) items in
     subst (λ (l : List Piece). All (IsPieceOf t (length c.read_cached_many.new.buf)) l) (sym left) (left_are t c.args.cache.now c.args.offset len some c.requires.below (length c.read_cached_many.new.buf) (omega (arith, c.read_cached_many.ensures.size)))
 
 pub returns-clause-reads : goal.returns-clause-reads
@@ -40,7 +40,7 @@ returns-clause-reads g c =
     let len = length c.args.buf.now in
     let items : c.deref.result.now ≡ pieces_of t.page_size (c.args.offset, len) 0 = c.deref.ensures.value ∙ c.in_ok-push_pieces.ensures.ok ∙ ap (λ (l : List Piece). l ++ pieces_of t.page_size (c.args.offset, len) 0) c.new-pieces.ensures.items in
     missing_read t c.args.cache.now c.args.offset len some c.requires.below g.H.Sum.sum_of (g.B.Blob.life c.args.blob.now) (g.B.Blob.life c.read_pieces.new.blob) c.deref-2.result.now c.deref.result.now c.args.buf.now c.read_cached_many.new.buf c.read_pieces.new.buf c.read_pieces.result
-    c.requires.can refl items (c.deref-2.ensures.value ∙ c.in_ok-left.ensures.reads.0) c.in_ok-left.ensures.reads.1 c.read_pieces.ensures.reads
+    c.requires.can refl items (c.deref-2.ensures.value ∙ c.in_ok-left.ensures.copies.0) c.in_ok-left.ensures.copies.1 c.read_pieces.ensures.reads
 
 pub returns-clause-asks : goal.returns-clause-asks
 returns-clause-asks g c =
@@ -48,7 +48,7 @@ returns-clause-asks g c =
     let some : 0 < t.page_size = c.args.self.page_size.ok in
     let len = length c.args.buf.now in
     let items : c.deref.result.now ≡ pieces_of t.page_size (c.args.offset, len) 0 = c.deref.ensures.value ∙ c.in_ok-push_pieces.ensures.ok ∙ ap (λ (l : List Piece). l ++ pieces_of t.page_size (c.args.offset, len) 0) c.new-pieces.ensures.items in
-    let left : c.deref-2.result.now ≡ pieces_left c.args.cache.now t.id (pieces_of t.page_size (c.args.offset, len) 0) = c.deref-2.ensures.value ∙ c.in_ok-left.ensures.reads.0 ∙ ap (λ (l : List Piece). pieces_left c.args.cache.now t.id l) items in
+    let left : c.deref-2.result.now ≡ pieces_left c.args.cache.now t.id (pieces_of t.page_size (c.args.offset, len) 0) = c.deref-2.ensures.value ∙ c.in_ok-left.ensures.copies.0 ∙ ap (λ (l : List Piece). pieces_left c.args.cache.now t.id l) items in
     omega (arith, c.read_pieces.ensures.asks, ap length left, left_many t c.args.cache.now c.args.offset len some c.requires.below)
 
 pub read_piece-requires-clause-piece : goal.read_piece-requires-clause-piece
@@ -103,7 +103,7 @@ returns-clause-puts g c =
     let len = length c.args.buf.now in
     let items : c.deref.result.now ≡ pieces_of t.page_size (c.args.offset, len) 0 = c.deref.ensures.value ∙ c.in_ok-push_pieces.ensures.ok ∙ ap (λ (l : List Piece). l ++ pieces_of t.page_size (c.args.offset, len) 0) c.new-pieces.ensures.items in
     subst (λ (l : List ℕ). PutsAsked g.H.Sum.sum_of t l (g.B.Blob.life c.args.blob.now) (g.B.Blob.life c.read_pieces.new.blob) c.args.cache.now c.read_pieces.new.cache c.read_pieces.result)
-    (left_pages t c.args.cache.now c.args.offset len c.args.self.page_size.ok c.requires.below c.deref.result.now c.deref-2.result.now items (c.deref-2.ensures.value ∙ c.in_ok-left.ensures.reads.0))
+    (left_pages t c.args.cache.now c.args.offset len c.args.self.page_size.ok c.requires.below c.deref.result.now c.deref-2.result.now items (c.deref-2.ensures.value ∙ c.in_ok-left.ensures.copies.0))
     c.read_pieces.ensures.puts
 
 pub returns-in_err-push_pieces-clause-reads : goal.returns-in_err-push_pieces-clause-reads

@@ -1,7 +1,7 @@
 use Rattle.std.proofs.Common.{◌≡◌, ◌+◌, ◌-◌, ◌∙◌, List, ℕ, take, drop, length, sym, ap, arith}
 use Rattle.std.proofs.lemmas.List.{length-take-le}
 use Rattle.cache.specs.Pages.{page_of_content}
-use Rattle.paged_read.specs.Tail.{tail_at, told}
+use Rattle.paged_read.specs.Tail.{logical_bytes, tail_at}
 use Rattle.paged_read.specs.Ranges.{page_at}
 use Rattle.paged_read.proofs.Leaving.{piece_told, length-page_at, leaves_cache, leaves_put, payload_told}
 use Rattle.paged_read.proofs.PageReads.{page_full}
@@ -46,10 +46,10 @@ returns-clause-puts g c =
     let page = c.args.piece.page in
     let size : c.from.result ≡ t.page_size = c.from.ensures ∙ c.get.ensures.value in
     let payload = take c.from.result c.as_ref.result.now in
-    let is : payload ≡ page_of_content c.args.cache.now.page_size (told t readable) page =
+    let is : payload ≡ page_of_content c.args.cache.now.page_size (logical_bytes t readable) page =
     ap (λ k. take k c.as_ref.result.now) size ∙ ap (λ (l : List ℕ). take t.page_size l) (c.as_ref.ensures ∙ c.in_ok-bytes.ensures.reads.0)
-    ∙ payload_told t readable c.requires.can.there page c.requires.piece.below ∙ ap (λ P. page_of_content P (told t readable) page) (sym c.requires.can.page_size) in
-    puts_one t.id page (told t readable) payload c.args.cache.now c.keep.new.self is c.keep.ensures.puts
+    ∙ payload_told t readable c.requires.can.there page c.requires.piece.below ∙ ap (λ P. page_of_content P (logical_bytes t readable) page) (sym c.requires.can.page_size) in
+    puts_one t.id page (logical_bytes t readable) payload c.args.cache.now c.keep.new.self is c.keep.ensures.puts
 
 pub returns-in_err-bytes-clause-can : goal.returns-in_err-bytes-clause-can
 returns-in_err-bytes-clause-can g c =

@@ -5,8 +5,8 @@ use Rattle.std.specs.List.{Contains}
 use Rattle.crash.proofs.LookLaws.{looked_readable}
 use Rattle.cache.specs.declared.piece.Piece.{Piece}
 use Rattle.paged_read.specs.Failures.{none_failed_start, none_failed_joins}
-use Rattle.paged_read.specs.Tail.{tail_at, told}
-use Rattle.paged_read.specs.Parts.{with_told, pages_of, ArePagesFull}
+use Rattle.paged_read.specs.Tail.{logical_bytes, tail_at}
+use Rattle.paged_read.specs.Parts.{with_told, piece_pages, ArePagesFull}
 use Rattle.crash.specs.Looks.{looked_joins, looked_start}
 use Rattle.paged_read.proofs.Leaving.{told_later}
 use Rattle.paged_read.proofs.PageReads.{one_page, piece_among, told_step, full_step, full_same, faults_later}
@@ -37,8 +37,8 @@ returns-in_err-read_piece-clause-reads g c =
     let d : Piece = record { page = 0; skip = 0; buf_offset = 0; len = 0 } in
     let item : Piece = get_or c.args.pieces.now k d in
     let here = piece_among c.args.pieces.now k d c.loop-piece-test.true in
-    rw (p.1, p.2) (faults_later g.H.Sum.sum_of t.page_size (item.page ∷ []) (pages_of c.args.pieces.now) (g.B.Blob.life c.args.blob.now) (g.B.Blob.life c.loop-piece.blob) (g.B.Blob.life c.read_piece.new.blob) c.in_err-read_piece.field-0.0 c.loop-piece.invariant.looked c.loop-piece.invariant.none_failed
-    (λ page has. subst (λ q. Contains (pages_of c.args.pieces.now) q) (sym (one_page item.page page has)) here) c.in_err-read_piece.ensures.reads)
+    rw (p.1, p.2) (faults_later g.H.Sum.sum_of t.page_size (item.page ∷ []) (piece_pages c.args.pieces.now) (g.B.Blob.life c.args.blob.now) (g.B.Blob.life c.loop-piece.blob) (g.B.Blob.life c.read_piece.new.blob) c.in_err-read_piece.field-0.0 c.loop-piece.invariant.looked c.loop-piece.invariant.none_failed
+    (λ page has. subst (λ q. Contains (piece_pages c.args.pieces.now) q) (sym (one_page item.page page has)) here) c.in_err-read_piece.ensures.reads)
 
 pub loop-piece-preserved : goal.loop-piece-preserved
 loop-piece-preserved g c =
@@ -51,7 +51,7 @@ loop-piece-preserved g c =
     let looked = c.loop-piece.invariant.looked in
     record {
       bytes =
-          told_step t.page_size (told t old.present.readable) c.args.pieces.now k d c.loop-piece.buf c.read_piece.new.buf (with_told t.page_size (told t old.present.readable) c.args.pieces.now c.args.buf.now) c.loop-piece-test.true
+          told_step t.page_size (logical_bytes t old.present.readable) c.args.pieces.now k d c.loop-piece.buf c.read_piece.new.buf (with_told t.page_size (logical_bytes t old.present.readable) c.args.pieces.now c.args.buf.now) c.loop-piece-test.true
           (c.in_ok-read_piece.ensures.reads.0 ∙ ap (λ (l : List ℕ). with_told t.page_size l (item ∷ []) c.loop-piece.buf) (told_later t old mid looked))
           c.loop-piece.invariant.bytes;
       size = c.read_piece.ensures.size ∙ c.loop-piece.invariant.size;
@@ -60,7 +60,7 @@ loop-piece-preserved g c =
           (full_same g.H.Sum.sum_of t.page_size (item.page ∷ []) mid.present.readable old.present.readable (sym (looked_readable old mid looked)) c.in_ok-read_piece.ensures.reads.1);
       within = omega (arith, c.loop-piece-test.true);
       asks = omega (arith, c.loop-piece.invariant.asks, c.in_ok-read_piece.ensures.answered);
-      puts = puts_piece_more t c.args.pieces.now k d (told t old.present.readable) (told t mid.present.readable) c.args.cache.now c.loop-piece.cache c.read_piece.new.cache c.loop-piece-test.true (told_later t old mid looked) c.loop-piece.invariant.puts c.in_ok-read_piece.ensures.puts;
+      puts = puts_piece_more t c.args.pieces.now k d (logical_bytes t old.present.readable) (logical_bytes t mid.present.readable) c.args.cache.now c.loop-piece.cache c.read_piece.new.cache c.loop-piece-test.true (told_later t old mid looked) c.loop-piece.invariant.puts c.in_ok-read_piece.ensures.puts;
       none_failed = none_failed_joins old.present mid.present (g.B.Blob.life c.read_piece.new.blob).present c.loop-piece.invariant.none_failed c.in_ok-read_piece.ensures.reads.2;
       looked = looked_joins old mid (g.B.Blob.life c.read_piece.new.blob) looked c.read_piece.ensures.looked;
       can = c.read_piece.ensures.can;
@@ -73,8 +73,8 @@ returns-clause-reads g c =
     let k = c.loop-piece.piece-index in
     let none : drop k c.args.pieces.now ≡ [] = drop_all k c.args.pieces.now c.loop-piece-test.false in
     let all : take k c.args.pieces.now ≡ c.args.pieces.now = take_all k c.args.pieces.now c.loop-piece-test.false in (
-      sym (ap (λ (l : List Piece). with_told t.page_size (told t old.present.readable) l c.loop-piece.buf) none) ∙ c.loop-piece.invariant.bytes,
-      subst (λ (l : List Piece). ArePagesFull g.H.Sum.sum_of t.page_size (pages_of l) old.present.readable) all c.loop-piece.invariant.full,
+      sym (ap (λ (l : List Piece). with_told t.page_size (logical_bytes t old.present.readable) l c.loop-piece.buf) none) ∙ c.loop-piece.invariant.bytes,
+      subst (λ (l : List Piece). ArePagesFull g.H.Sum.sum_of t.page_size (piece_pages l) old.present.readable) all c.loop-piece.invariant.full,
       c.loop-piece.invariant.none_failed,
     )
 
@@ -90,7 +90,7 @@ pub returns-clause-puts : goal.returns-clause-puts
 returns-clause-puts g c =
     let t = tail_at c.args.self.page_size c.args.self.id c.args.self.tip.now in
     let pieces = c.args.pieces.now in (
-      puts_all_pieces t pieces c.loop-piece.piece-index (told t (g.B.Blob.life c.args.blob.now).present.readable) c.args.cache.now c.loop-piece.cache c.loop-piece-test.false c.loop-piece.invariant.puts,
+      puts_all_pieces t pieces c.loop-piece.piece-index (logical_bytes t (g.B.Blob.life c.args.blob.now).present.readable) c.args.cache.now c.loop-piece.cache c.loop-piece-test.false c.loop-piece.invariant.puts,
       omega (arith, c.loop-piece.invariant.asks, c.loop-piece.invariant.within, c.loop-piece-test.false, length-map pieces (λ (piece : Piece). piece.page)),
     )
 

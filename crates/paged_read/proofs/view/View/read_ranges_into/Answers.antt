@@ -7,7 +7,7 @@ use Rattle.disk.specs.declared.error.Error.TheVariants.{OutOfMemory}
 use Rattle.paged_read.specs.Failures.{none_failed_start}
 use Rattle.paged_read.specs.Ranges.{ReadsMany}
 use Rattle.paged_read.specs.Puts.{PutsSome}
-use Rattle.paged_read.specs.Tail.{tail_at, told}
+use Rattle.paged_read.specs.Tail.{logical_bytes, tail_at}
 use Rattle.paged_read.specs.Parts.{with_told}
 use Rattle.paged_read.specs.Batch.{pieces_in}
 use Rattle.std.proofs.lemmas.Result.{err_from_is_err_and}
@@ -97,7 +97,7 @@ pub returns-clause-goes : goal.returns-clause-goes
 returns-clause-goes g c =
     let t = tail_at c.args.self.page_size c.args.self.id c.args.self.tip.now in
     let old = g.B.Blob.life c.args.blob.now in
-    let content = told t old.present.readable in
+    let content = logical_bytes t old.present.readable in
     let gathered = c.in_ok-batch.ensures.gathered in
     let reads = c.in_ok-read_lacks.ensures.reads in
     let whole : take (length c.args.buf.now) c.gather.new.buf ≡ c.gather.new.buf = take_all (length c.args.buf.now) c.gather.new.buf (omega (arith, c.gather.ensures.size)) in

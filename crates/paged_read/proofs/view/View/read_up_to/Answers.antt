@@ -1,6 +1,6 @@
 use Rattle.std.proofs.Common.{rules, refl, Ok, Err, Result, ℕ, ◌≡◌, ◌+◌, ◌-◌, ◌≤◌, ◌∙◌, ◌++◌, [], ◌∷◌, length, take, drop, min, inr, ap, subst, sym, arith}
 use Rattle.paged_read.specs.Failures.{NoneFailed, none_failed_start}
-use Rattle.paged_read.specs.Tail.{tail_at, told, size_of}
+use Rattle.paged_read.specs.Tail.{tail_at, logical_bytes, tail_size}
 use Rattle.paged_read.specs.Ranges.{slice, AreMissingFull, ReadsUpTo, range_up_to}
 use Rattle.std.proofs.lemmas.Result.{err_from_is_err_and}
 use Rattle.std.specs.Prelude.{Vec}
@@ -27,7 +27,7 @@ returns-then-len-eq0-clause-leaves g c =
 pub returns-then-len-eq0-clause-costs : goal.returns-then-len-eq0-clause-costs
 returns-then-len-eq0-clause-costs g c =
     let t = tail_at c.args.self.page_size c.args.self.id c.args.self.tip.now in
-    costs_empty g.H.Sum.sum_of t (range_up_to t c.args.offset c.args.len) c.args.cache.now (g.B.Blob.life c.args.blob.now) _ (missing_none c.args.cache.now t c.args.offset (min c.args.len (size_of t - c.args.offset)) (omega (arith, c.if-len-eq0.true)))
+    costs_empty g.H.Sum.sum_of t (range_up_to t c.args.offset c.args.len) c.args.cache.now (g.B.Blob.life c.args.blob.now) _ (missing_none c.args.cache.now t c.args.offset (min c.args.len (tail_size t - c.args.offset)) (omega (arith, c.if-len-eq0.true)))
 
 pub returns-then-offset-size-clause-goes : goal.returns-then-offset-size-clause-goes
 returns-then-offset-size-clause-goes g c =
@@ -66,11 +66,11 @@ returns-in_err-read_into-clause-goes g c =
     let t = tail_at c.args.self.page_size c.args.self.id c.args.self.tip.now in
     let old = g.B.Blob.life c.args.blob.now in
     let new = g.B.Blob.life c.read_into.new.blob in
-    let count : c.min-count.result ≡ min c.args.len (size_of t - c.args.offset) = omega (arith, c.min-count.ensures, c.size-size.ensures) in
-    let many : length c.deref_mut.result.now ≡ min c.args.len (size_of t - c.args.offset) = c.deref_mut.ensures.len ∙ c.in_ok-resize.ensures.len ∙ count in
+    let count : c.min-count.result ≡ min c.args.len (tail_size t - c.args.offset) = omega (arith, c.min-count.ensures, c.size-size.ensures) in
+    let many : length c.deref_mut.result.now ≡ min c.args.len (tail_size t - c.args.offset) = c.deref_mut.ensures.len ∙ c.in_ok-resize.ensures.len ∙ count in
     let p = err_from_is_err_and c.from_residual-in_err-read_into.result c.from_residual-in_err-read_into.ensures.1 in
     let result = c.from_residual-in_err-read_into.result in
-    let within : c.args.offset + length c.deref_mut.result.now ≤ size_of t = omega (arith, many, c.size-size.ensures, c.if-offset-size.false) in
+    let within : c.args.offset + length c.deref_mut.result.now ≤ tail_size t = omega (arith, many, c.size-size.ensures, c.if-offset-size.false) in
     let answers : ReadsUpTo g.H.Sum.sum_of t c.args.cache.now c.args.offset c.args.len old new result =
     rw (p.1, p.2) (up_to_refused g.H.Sum.sum_of t c.args.cache.now c.args.offset c.args.len (length c.deref_mut.result.now) (λ (u : Unit {0}). c.read_into.new.buf) old new c.in_err-read_into.field-0.0 many within (omega (arith, within, c.size-size.ensures)) c.in_err-read_into.ensures.goes.answers) in
     read_up_to_goes g.H.Sum.sum_of t c.args.cache.now old new c.requires.can c.args.offset c.args.len result answers (λ some past. absurd (omega (arith, past, c.size-size.ensures, c.if-offset-size.false))) (search rules)
@@ -83,8 +83,8 @@ returns-in_err-read_into-clause-costs g c =
     let t = tail_at c.args.self.page_size c.args.self.id c.args.self.tip.now in
     let old = g.B.Blob.life c.args.blob.now in
     let new = g.B.Blob.life c.read_into.new.blob in
-    let count : c.min-count.result ≡ min c.args.len (size_of t - c.args.offset) = omega (arith, c.min-count.ensures, c.size-size.ensures) in
-    let many : length c.deref_mut.result.now ≡ min c.args.len (size_of t - c.args.offset) = c.deref_mut.ensures.len ∙ c.in_ok-resize.ensures.len ∙ count in
+    let count : c.min-count.result ≡ min c.args.len (tail_size t - c.args.offset) = omega (arith, c.min-count.ensures, c.size-size.ensures) in
+    let many : length c.deref_mut.result.now ≡ min c.args.len (tail_size t - c.args.offset) = c.deref_mut.ensures.len ∙ c.in_ok-resize.ensures.len ∙ count in
     let p = err_from_is_err_and c.from_residual-in_err-read_into.result c.from_residual-in_err-read_into.ensures.1 in
     let e = c.in_err-read_into.field-0.0 in
     rw p.1 (costs_refused_again {A = Unit {0}} g.H.Sum.sum_of t (range_up_to t c.args.offset c.args.len) c.args.cache.now c.read_into.new.cache old new e p.0
@@ -94,16 +94,16 @@ pub returns-clause-goes : goal.returns-clause-goes
 returns-clause-goes g c =
     let t = tail_at c.args.self.page_size c.args.self.id c.args.self.tip.now in
     let d = (g.B.Blob.life c.args.blob.now).present in
-    let count : c.min-count.result ≡ min c.args.len (size_of t - c.args.offset) = omega (arith, c.min-count.ensures, c.size-size.ensures) in
+    let count : c.min-count.result ≡ min c.args.len (tail_size t - c.args.offset) = omega (arith, c.min-count.ensures, c.size-size.ensures) in
     let room : c.resize.new.self.len ≡ c.min-count.result = c.in_ok-resize.ensures.len in
-    let many : length c.deref_mut.result.now ≡ min c.args.len (size_of t - c.args.offset) = c.deref_mut.ensures.len ∙ room ∙ count in
+    let many : length c.deref_mut.result.now ≡ min c.args.len (tail_size t - c.args.offset) = c.deref_mut.ensures.len ∙ room ∙ count in
     let bytes = c.read_into.new.buf in
     let written : take c.resize.new.self.len (bytes ++ drop (length bytes) c.resize.new.self.items) ≡ bytes =
     vec_written c.resize.new.self.len bytes c.resize.new.self.items (c.read_into.ensures.goes.size ∙ c.deref_mut.ensures.len) in
-    let read : (c.args.offset + length c.deref_mut.result.now ≤ size_of t) × (bytes ≡ slice (told t d.readable) (c.args.offset, length c.deref_mut.result.now)) × AreMissingFull g.H.Sum.sum_of c.args.cache.now t ((c.args.offset, length c.deref_mut.result.now) ∷ []) d.readable × NoneFailed d (g.B.Blob.life c.read_into.new.blob).present = c.in_ok-read_into.ensures.goes.answers in
+    let read : (c.args.offset + length c.deref_mut.result.now ≤ tail_size t) × (bytes ≡ slice (logical_bytes t d.readable) (c.args.offset, length c.deref_mut.result.now)) × AreMissingFull g.H.Sum.sum_of c.args.cache.now t ((c.args.offset, length c.deref_mut.result.now) ∷ []) d.readable × NoneFailed d (g.B.Blob.life c.read_into.new.blob).present = c.in_ok-read_into.ensures.goes.answers in
     read_up_to_goes g.H.Sum.sum_of t c.args.cache.now (g.B.Blob.life c.args.blob.now) (g.B.Blob.life c.read_into.new.blob) c.requires.can c.args.offset c.args.len _ (
       inr (omega (arith, c.size-size.ensures, c.if-offset-size.false)),
-      written ∙ read.1 ∙ ap (λ n. slice (told t d.readable) (c.args.offset, n)) many,
+      written ∙ read.1 ∙ ap (λ n. slice (logical_bytes t d.readable) (c.args.offset, n)) many,
       count,
       subst (λ n. AreMissingFull g.H.Sum.sum_of c.args.cache.now t ((c.args.offset, n) ∷ []) d.readable) many read.2,
       read.3,
@@ -118,7 +118,7 @@ returns-clause-costs g c =
     let t = tail_at c.args.self.page_size c.args.self.id c.args.self.tip.now in
     let old = g.B.Blob.life c.args.blob.now in
     let new = g.B.Blob.life c.read_into.new.blob in
-    let count : c.min-count.result ≡ min c.args.len (size_of t - c.args.offset) = omega (arith, c.min-count.ensures, c.size-size.ensures) in
-    let many : length c.deref_mut.result.now ≡ min c.args.len (size_of t - c.args.offset) = c.deref_mut.ensures.len ∙ c.in_ok-resize.ensures.len ∙ count in
+    let count : c.min-count.result ≡ min c.args.len (tail_size t - c.args.offset) = omega (arith, c.min-count.ensures, c.size-size.ensures) in
+    let many : length c.deref_mut.result.now ≡ min c.args.len (tail_size t - c.args.offset) = c.deref_mut.ensures.len ∙ c.in_ok-resize.ensures.len ∙ count in
     costs_again {A = Unit {0}} g.H.Sum.sum_of t (range_up_to t c.args.offset c.args.len) c.args.cache.now c.read_into.new.cache old new _ _
     (subst (λ n. ReadCosts {A = Unit {0}} g.H.Sum.sum_of t (c.args.offset, n) c.args.cache.now c.read_into.new.cache old new (Ok _)) many c.in_ok-read_into.ensures.costs)

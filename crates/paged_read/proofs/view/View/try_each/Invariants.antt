@@ -1,6 +1,6 @@
 use Rattle.std.proofs.Common.{◌≡◌, take, sum_by}
 use Rattle.disk.specs.Disk.{Disk}
-use Rattle.paged_read.specs.Tail.{tail_at, told, CanRead}
+use Rattle.paged_read.specs.Tail.{tail_at, logical_bytes, CanRead}
 use Rattle.paged_read.specs.Ranges.{missed_from, HasServed}
 use Rattle.paged_read.proofs.view.View.try_each.Given as goal
 
@@ -11,5 +11,5 @@ invariant-loop-index g l =
     record {
       buf_offset : l.buf_offset ≡ sum_by (λ range. range.1) ranges;
       missed : l.missed.items ≡ missed_from 0 l.cache t ranges;
-      served : (d : Disk) → CanRead t l.cache d → HasServed l.cache t ranges (told t d.readable) (take l.buf_offset l.buf);
+      served : (d : Disk) → CanRead t l.cache d → HasServed l.cache t ranges (logical_bytes t d.readable) (take l.buf_offset l.buf);
     }

@@ -4,7 +4,7 @@ use Rattle.std.proofs.lemmas.Result.{err_from_is_err_and}
 use Rattle.disk.specs.declared.error.Error.TheVariants.{OutOfMemory}
 use Rattle.page.specs.Geometry.{AreInOrder}
 use Rattle.paged_read.specs.Tail.{tail_at}
-use Rattle.paged_read.specs.Reads.{TriesMany}
+use Rattle.paged_read.specs.Reads.{TryReadManyGoes}
 use Rattle.paged_read.specs.Batch.{ranges_of}
 use Rattle.paged_read.proofs.RangedLists.{sum_ranges_of}
 use Rattle.paged_read.proofs.view.View.try_read_many_sync_into.Goals as goal
@@ -27,4 +27,4 @@ returns g c =
     let len = non_zero_usize_get c.args.len in
     let t = tail_at c.args.self.page_size c.args.self.id c.args.self.tip.now in
     let same : c.deref.result.now ≡ ranges_of len c.args.offsets.now = c.deref.ensures.value ∙ c.in_ok-ranges.ensures.items ∙ ap (λ (n : ℕ). ranges_of n c.args.offsets.now) c.get.ensures.value in
-    record { goes = subst (λ (rs : List (ℕ × ℕ)). TriesMany t rs c.args.cache.now c.args.buf.now c.try_read_ranges_sync_into.new.buf c.try_read_ranges_sync_into.result) same c.try_read_ranges_sync_into.ensures.goes }
+    record { goes = subst (λ (rs : List (ℕ × ℕ)). TryReadManyGoes t rs c.args.cache.now c.args.buf.now c.try_read_ranges_sync_into.new.buf c.try_read_ranges_sync_into.result) same c.try_read_ranges_sync_into.ensures.goes }

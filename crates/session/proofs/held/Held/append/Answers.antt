@@ -2,7 +2,7 @@ use Rattle.std.proofs.Common.{rules, ◌≡◌, inl, Some, None, Ok, Err, refl, 
 use Rattle.std.specs.Prelude.{Option}
 use Rattle.writer_state.specs.WriterState.{WriterState}
 use Rattle.session.specs.declared.steps.Reply.TheVariants.{At, Fault}
-use Rattle.session.specs.Calls.{Appended}
+use Rattle.session.specs.Calls.{DidAppend}
 use Rattle.session.proofs.Below.{can_in, leaves_on, leaves_gone, sound_in}
 use Rattle.session.proofs.held.Held.append.Goals as goal
 
@@ -18,7 +18,7 @@ returns-in-Ok-clause-goes g c =
     let is = c.in-Ok.ensures in
     let old = g.B.Blob.life c.args.blob.now in
     let new = g.B.Blob.life c.append.new.blob in
-    subst (λ (o : Option WriterState). Appended g.H.Sum.sum_of o (Some c.in-Ok.writer) c.args.bytes.now c.args.cache.now c.append.new.cache old new (At c.in-Ok.at)) (sym at) (
+    subst (λ (o : Option WriterState). DidAppend g.H.Sum.sum_of o (Some c.in-Ok.writer) c.args.bytes.now c.args.cache.now c.append.new.cache old new (At c.in-Ok.at)) (sym at) (
       c.in-Ok.writer,
       refl,
       is.ready.0 (record { sound = sound_in g.H.Sum.sum_of c.args.self.now c.in-Some.writer (g.B.Blob.life c.args.blob.now).present at c.requires.sound; can = can_in c.args.self.now c.in-Some.writer c.args.cache.now (g.B.Blob.life c.args.blob.now).present at c.requires.cached; fresh = c.requires.fresh }),
@@ -32,7 +32,7 @@ returns-in-Err-clause-goes g c =
     let is = c.in-Err.ensures in
     let old = g.B.Blob.life c.args.blob.now in
     let new = g.B.Blob.life c.append.new.blob in
-    subst (λ (o : Option WriterState). Appended g.H.Sum.sum_of o c.take.new.self c.args.bytes.now c.args.cache.now c.append.new.cache old new (Fault c.in-Err.error)) (sym at) (
+    subst (λ (o : Option WriterState). DidAppend g.H.Sum.sum_of o c.take.new.self c.args.bytes.now c.args.cache.now c.append.new.cache old new (Fault c.in-Err.error)) (sym at) (
       none,
       record { goes = is.goes; owes = is.owes; costs = is.costs },
     )

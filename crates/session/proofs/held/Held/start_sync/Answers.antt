@@ -2,7 +2,7 @@ use Rattle.std.proofs.Common.{rules, ◌≡◌, inl, Some, None, Ok, Err, sym, s
 use Rattle.std.specs.Prelude.{Option}
 use Rattle.writer_state.specs.WriterState.{WriterState}
 use Rattle.session.specs.declared.steps.Reply.TheVariants.{Fault}
-use Rattle.session.specs.Calls.{Starts, StartSays}
+use Rattle.session.specs.Calls.{DidStartSync, StartSays}
 use Rattle.session.proofs.Below.{can_in, leaves_on, leaves_gone, sound_in}
 use Rattle.session.proofs.held.Held.start_sync.Goals as goal
 
@@ -29,7 +29,7 @@ returns-in-Err-clause-goes g c =
     let is = c.in-Err.ensures in
     let old = g.B.Blob.life c.args.blob.now in
     let new = g.B.Blob.life c.start_sync.new.blob in
-    subst (λ (o : Option WriterState). Starts g.H.Sum.sum_of o c.take.new.self c.args.names.now.items c.make_room.new.self.items c.args.cache.now c.start_sync.new.cache old new (Fault c.in-Err.error)) (sym at)
+    subst (λ (o : Option WriterState). DidStartSync g.H.Sum.sum_of o c.take.new.self c.args.names.now.items c.make_room.new.self.items c.args.cache.now c.start_sync.new.cache old new (Fault c.in-Err.error)) (sym at)
     (inl (none, search rules, record { goes = is.goes; owes = is.owes; costs = is.costs }))
 
 pub returns-after-started-clause-tails : goal.returns-after-started-clause-tails

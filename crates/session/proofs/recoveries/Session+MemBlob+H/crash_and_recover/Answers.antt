@@ -42,13 +42,13 @@ returns-clause-later g c =
     crashed_leads g.H.Sum.sum_of c.args.cache.now.page_size d (torn c.args.keep.now d.since d.base) (life_of c.crash.new.blob) (life_of c.recover.new.blob) c.in_ok-crash.ensures.crashed c.in_ok-crash.ensures.left
     c.recover.ensures.owes.attempts
 
-pub returns-in_err-crash-clause-others : goal.returns-in_err-crash-clause-others
-returns-in_err-crash-clause-others g c = others_unchanged c.args.self.now c.crash.new.self c.args.cache.now c.in_err-crash.ensures.same.0
+pub returns-in_err-crash-clause-others_anew : goal.returns-in_err-crash-clause-others_anew
+returns-in_err-crash-clause-others_anew g c = others_unchanged c.args.self.now c.crash.new.self c.args.cache.now c.in_err-crash.ensures.same.0
 
-pub returns-in_err-self-inside-clause-others : goal.returns-in_err-self-inside-clause-others
-returns-in_err-self-inside-clause-others g c = others_closed c.args.self.now c.crash.new.self c.args.cache.now c.recover.new.cache c.in_ok-crash.ensures.closed c.recover.ensures.owes.others
+pub returns-in_err-self-inside-clause-others_anew : goal.returns-in_err-self-inside-clause-others_anew
+returns-in_err-self-inside-clause-others_anew g c = others_closed c.args.self.now c.crash.new.self c.args.cache.now c.recover.new.cache c.in_ok-crash.ensures.closed c.recover.ensures.owes.others
 
-pub returns-clause-others : goal.returns-clause-others
-returns-clause-others g c =
+pub returns-clause-others_anew : goal.returns-clause-others_anew
+returns-clause-others_anew g c =
     let leaves = others_anew c.args.self.now c.in_ok-self-inside.field-0 c.args.cache.now c.recover.new.cache c.in_ok-self-inside.ensures.goes.apart c.recover.ensures.owes.others in
     search rules

@@ -3,7 +3,7 @@ use Rattle.std.specs.Prelude.{Option}
 use Rattle.writer_state.specs.WriterState.{WriterState}
 use Rattle.session.specs.declared.steps.Reply.TheVariants.{Length, Fault}
 use Rattle.session.specs.Run.{FitsWriter}
-use Rattle.session.specs.Calls.{Truncated}
+use Rattle.session.specs.Calls.{DidTruncate}
 use Rattle.session.specs.Others.{WriterLeavesOthers}
 use Rattle.session.proofs.Below.{sound_in, can_in, in_recovery}
 use Rattle.session.proofs.OtherWriters.{others_gone, others_on}
@@ -18,7 +18,7 @@ returns-in-Ok-clause-goes g c =
     let at : c.args.self.now.writer ≡ Some c.in-Some-take.writer = search rules in
     let is = c.in-Ok.ensures in
     let inside = c.self-inside.inside in
-    subst (λ (o : Option WriterState). Truncated sum c.args.self.now.recovering c.args.self.now.writer o c.args.size c.args.cache.now c.truncate.new.cache old (g.B.Blob.life c.truncate.new.blob) (Length c.size-size.result)) (sym (in_recovery inside.0.1.0 (Some c.in-Ok.writer) inside.0.1.1.1.0.writer (search rules)))
+    subst (λ (o : Option WriterState). DidTruncate sum c.args.self.now.recovering c.args.self.now.writer o c.args.size c.args.cache.now c.truncate.new.cache old (g.B.Blob.life c.truncate.new.blob) (Length c.size-size.result)) (sym (in_recovery inside.0.1.0 (Some c.in-Ok.writer) inside.0.1.1.1.0.writer (search rules)))
     (cuts_here sum c.args.self.now.recovering c.args.self.now.writer c.in-Some-take.writer (Some c.in-Ok.writer) c.args.size c.args.cache.now c.truncate.new.cache old (g.B.Blob.life c.truncate.new.blob) (Length c.size-size.result) phase at (
       c.in-Ok.writer,
       refl,
@@ -42,7 +42,7 @@ returns-in-Err-clause-goes g c =
     let none : c.take.new.self ≡ None = search rules in
     let is = c.in-Err.ensures in
     let inside = c.self-inside.inside in
-    subst (λ (o : Option WriterState). Truncated sum c.args.self.now.recovering c.args.self.now.writer o c.args.size c.args.cache.now c.truncate.new.cache old (g.B.Blob.life c.truncate.new.blob) (Fault c.in-Err.error)) (sym (in_recovery inside.0.1.0 c.take.new.self inside.0.1.1.1.0.writer (search rules)))
+    subst (λ (o : Option WriterState). DidTruncate sum c.args.self.now.recovering c.args.self.now.writer o c.args.size c.args.cache.now c.truncate.new.cache old (g.B.Blob.life c.truncate.new.blob) (Fault c.in-Err.error)) (sym (in_recovery inside.0.1.0 c.take.new.self inside.0.1.1.1.0.writer (search rules)))
     (cuts_here sum c.args.self.now.recovering c.args.self.now.writer c.in-Some-take.writer c.take.new.self c.args.size c.args.cache.now c.truncate.new.cache old (g.B.Blob.life c.truncate.new.blob) (Fault c.in-Err.error) phase at (
       none,
       record { goes = is.goes; owes = is.owes; costs = is.costs },

@@ -5,7 +5,7 @@ use Rattle.cache.specs.CacheState.{CacheState}
 use Rattle.paged.specs.declared.within.Refusal.{Refusal}
 use Rattle.paged.specs.declared.within.Refusal.TheVariants.{WouldCut, Failed}
 use Rattle.paged.specs.Within.{GivesIdWithin as WriterGivesIdWithin, RecoversWithin}
-use Rattle.session.specs.Within.{BeginsWithin, GivesIdWithin}
+use Rattle.session.specs.Within.{BeginsWithin, GivesSessionIdWithin}
 use Rattle.session.proofs.OtherLaws.{begun_apart}
 use Rattle.session.proofs.PromiseLaws.{begun, gives_back, attempts_through}
 use Rattle.session.proofs.sessions.Session.recover_within.Goals as goal
@@ -15,7 +15,7 @@ begins_within : (sum : List ℕ → ℕ) (cache : CacheState) (capacity allowed 
 begins_within sum cache capacity allowed old new (WouldCut cut) recovers = recovers
 begins_within sum cache capacity allowed old new (Failed e) recovers = recovers
 
-gives_within : (e : Refusal) (cache after : CacheState) → WriterGivesIdWithin (Err e) cache after → GivesIdWithin (Err e) cache after
+gives_within : (e : Refusal) (cache after : CacheState) → WriterGivesIdWithin (Err e) cache after → GivesSessionIdWithin (Err e) cache after
 gives_within (WouldCut cut) cache after gives = gives
 gives_within (Failed e) cache after gives = gives
 
