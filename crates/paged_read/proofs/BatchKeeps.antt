@@ -18,7 +18,7 @@ use Rattle.paged_read.specs.Parts.{with_told, ArePagesFull, PagesFault}
 use Rattle.paged_read.specs.Puts.{PutsPages, PutsFirst, delivered_pages}
 use Rattle.paged_read.specs.Batch.{CachesFullPage, AreMarked, IsDelivered, KeepsFault, CanPutPiece, IsTold, IsLack, pieces_in, bytes_found}
 use Rattle.paged_read.specs.declared.lack.Lack.{Lack}
-use Rattle.paged_read.proofs.Leaving.{length-page_at, payload_told}
+use Rattle.paged_read.proofs.Leaving.{length-page_at, payload_told, put_mid_is}
 use Rattle.crash.proofs.Lists.{within_take}
 use Rattle.disk.specs.declared.error.Error.{Error}
 use Rattle.disk.specs.declared.error.Error.TheVariants.{ReadFailed, WriteFailed, ResizeFailed, SyncFailed, InvalidChecksum, BlobInsufficientLength, OffsetOverflow, OutOfMemory, IdsExhausted}
