@@ -28,7 +28,7 @@ use Rattle.session.specs.declared.steps.Step.TheVariants.{Append, TryAppend}
 use Rattle.session.specs.declared.steps.Reply.{Reply}
 use Rattle.session.specs.declared.steps.Reply.TheVariants.{At, Nothing, Fault}
 use Rattle.session.specs.Run.{RunState, SessionState, fits_buffer, buffered_after, written_after, awaited_after, appended, ended, needs_sync, faults, HasCause, AwaitedSyncFailed, FaultsComeFirst, UsesDevice, AllCover, pending_in, WriterRepresents}
-use Rattle.session.specs.Run.Touch.{Leaves, Changes}
+use Rattle.session.specs.Run.DeviceUse.{Leaves, Changes}
 use Rattle.session.proofs.Words.{OwesStarts, AppendTold}
 use Rattle.session.proofs.Apart.{AlwaysApart, StandsApart, SteppedApart}
 use Rattle.session.proofs.StepLaws.{held, no_moments, turned_here, few_calls, cover_longer, halves, each_end, stepped, unasked, unasked_over, stands_now, stands_ended, Halves}

@@ -22,7 +22,7 @@ use Rattle.session.specs.declared.steps.Step.{Step}
 use Rattle.session.specs.declared.steps.Step.TheVariants.{Append, Owned, TryAppend, Sync, StartSync, Wait, WaitSync, Needs, Size, Read, ReadUpTo, TryRead, ReadRanges, TryReadRanges, Begin, Truncate, Snapshot, TrySnapshot, Snap, Seal, Replay, Ensure, Take, Seek, DropSnapshot, DropReplay, Scan}
 use Rattle.session.specs.declared.steps.Reply.TheVariants.{At, Nothing, Done, Length, Bytes, Fault, Closed, NotRecovering, NoSuch, Served, Missed, BadRanges, Taken, Sealed, NotAppending}
 use Rattle.session.specs.Run.{HasEnsured, needs_no_device, PassesContent, passed, RunReplay, replaying, rewritten, RunState, buffered_after, awaited_after, appended, after_sync, starting, truncated, noted, flushed, left_by_seal, sealed_by, snapshot_at, after_wait, at_step, needs_sync, raised, answer_of_start, ended, fit_together, turned_away, without_replay, without_snapshot, Accepts, faults, HasCause, Allocates, awaited_name, RefusesStep, TakesStep, FaultsComeFirst, RiseBelow, AnswersStep, use_of_step, Ran}
-use Rattle.session.specs.Run.Touch.{Leaves, Looks, Changes}
+use Rattle.session.specs.Run.DeviceUse.{Leaves, Looks, Changes}
 use Rattle.session.specs.Promise.{Crashes, fresh}
 
 -- a writer of "abcdef", all of which every crash keeps: "ef" is buffered, of eight bytes

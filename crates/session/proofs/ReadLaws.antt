@@ -28,7 +28,7 @@ use Rattle.session.specs.declared.steps.Step.TheVariants.{ReadUpTo, Scan, TryRea
 use Rattle.session.specs.declared.steps.Reply.{Reply}
 use Rattle.session.specs.declared.steps.Reply.TheVariants.{At, Nothing, Done, Started, Answer, Length, Bytes, Fault, Closed, NotRecovering, NoSuch, Served, Missed, BadRanges, Taken, Sealed, NotAppending, Replaying}
 use Rattle.session.specs.Run.{RunState, SessionState, faults, HasCause, TakesStep, UsesDevice, FaultsComeFirst, FitsWriter}
-use Rattle.session.specs.Run.Touch.{Leaves, Looks}
+use Rattle.session.specs.Run.DeviceUse.{Leaves, Looks}
 use Rattle.session.specs.Calls.{ReadsBytesUpTo, ReadsUpToRange, DidReadUpTo, TriedBytes, DidTryRead, ScanCounts, ScansBlob, DidScan}
 use Rattle.session.proofs.StepLaws.{no_moments, held, turned_here, turned_closed, unasked}
 use Rattle.session.proofs.SizeLaws.{looked_steps, alike_stays_started}

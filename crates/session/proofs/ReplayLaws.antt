@@ -37,7 +37,7 @@ use Rattle.session.specs.declared.steps.Step.TheVariants.{Replay, Ensure, Take, 
 use Rattle.session.specs.declared.steps.Reply.{Reply}
 use Rattle.session.specs.declared.steps.Reply.TheVariants.{Done, Answer, Bytes, Fault, NoSuch, Replaying}
 use Rattle.session.specs.Run.{needs_no_device, AllCover, AnswersStep, at_step, CacheFits, content_after, Did, ended, raised, WriterFits, faults, FitsWriter, FaultsComeFirst, HasCause, HasEnsured, HasFetched, has_replay_at, IsBelow, IsSoundSession, IsReplayIn, last, moved, numbered, passed, pending_in, RunReplay, replay_in_run, replaying, replay_size, rewritten, SessionState, RunState, Represents, TakesStep, use_of_step, UsesDevice, turned_away, WriterRepresents}
-use Rattle.session.specs.Run.Touch.{Leaves, Looks, Changes}
+use Rattle.session.specs.Run.DeviceUse.{Leaves, Looks, Changes}
 use Rattle.session.specs.Calls.{AtReplay, EnsureSays, KeepsAllButReplays, KeepsButReplays, LeavesTaken, ReplayCanGoOn, SeeksOf, Steps, TakesOf, TakesReplay}
 use Rattle.session.proofs.Words.{ReplayTold}
 use Rattle.session.proofs.WordLaws.{replay_told}

@@ -41,7 +41,7 @@ use Rattle.session.specs.declared.steps.Step.TheVariants.{Snapshot, TrySnapshot,
 use Rattle.session.specs.declared.steps.Reply.{Reply}
 use Rattle.session.specs.declared.steps.Reply.TheVariants.{Nothing, Bytes, Fault, Closed, NoSuch, Taken, Sealed, NotAppending}
 use Rattle.session.specs.Run.{RunReplay, RunState, SessionState, at_step, noted, flushed, left_by_seal, ended, sealed_by, snapshot_at, numbered, turned_away, faults, HasCause, TakesStep, FaultsComeFirst, AnswersStep, UsesDevice, use_of_wait, last, AllCover, pending_in, WriterRepresents, HasSoundWriter, FitsWriter, CacheFits, IsSoundSession, IsBelow, IsSnapshot, Represents}
-use Rattle.session.specs.Run.Touch.{Leaves, Looks, Changes}
+use Rattle.session.specs.Run.DeviceUse.{Leaves, Looks, Changes}
 use Rattle.session.specs.Calls.{IfAppending, with_snapshot, TakesSnapshot, TakesTriedSnapshot, sealed_with, SealsSession, DidSnapshot, DidTrySnapshot, DidSeal, DidSnap, ReadsBytes, RangeStepGoes, LeavesTaken, Steps}
 use Rattle.session.proofs.Words.{SnapshotTold, SealTold}
 use Rattle.session.proofs.WordLaws.{seal_told, snapshot_told}

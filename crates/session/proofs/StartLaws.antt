@@ -28,7 +28,7 @@ use Rattle.session.specs.declared.steps.Step.TheVariants.{StartSync, Wait, WaitS
 use Rattle.session.specs.declared.steps.Reply.{Reply}
 use Rattle.session.specs.declared.steps.Reply.TheVariants.{At, Nothing, Done, Started, Answer, Length, Bytes, Fault, Closed, NotRecovering, NoSuch, Served, Missed, BadRanges, Taken, Sealed, NotAppending, Replaying}
 use Rattle.session.specs.Run.{RunReplay, RunState, SessionState, ended, starting, after_wait, answer_of_start, is_complete, HasCompleted, turned_away, AnswersStep, faults, HasCause, AwaitedSyncFailed, TakesStep, use_of_wait, last, UsesDevice, AllCover, pending_in, WriterRepresents, WriterFits, NamesFit, HasSoundWriter}
-use Rattle.session.specs.Run.Touch.{Leaves, Changes}
+use Rattle.session.specs.Run.DeviceUse.{Leaves, Changes}
 use Rattle.session.specs.Calls.{KeepsRest, names_after, with_name, DidStartSync, Waits, DidWaitFor, is_given, DidNeeds as SaysNeeds, DidBegin, KeepsSnapshots}
 use Rattle.session.proofs.Words.{StartTold, WaitTold}
 use Rattle.session.proofs.WordLaws.{start_told, wait_told}

@@ -17,7 +17,7 @@ use Rattle.session.specs.declared.steps.Step.TheVariants.{Append, Owned, TryAppe
 use Rattle.session.specs.declared.steps.Reply.{Reply}
 use Rattle.session.specs.declared.steps.Reply.TheVariants.{Closed}
 use Rattle.session.specs.Run.{RunState, SessionState, ended, is_complete, raised_floor, raised, lowered, forgetting, at_step, turned_away, content_after, TakesStep, FaultsComeFirst, AnswersStep, DeviceUse, use_of_step, last, UsesDevice, AllCover, WriterRepresents, WriterFits, NamesFit}
-use Rattle.session.specs.Run.Touch.{Leaves, Looks, Changes}
+use Rattle.session.specs.Run.DeviceUse.{Leaves, Looks, Changes}
 use Rattle.session.proofs.Apart.{AlwaysApart, StandsApart, SteppedApart}
 
 -- a session with another writer, or none

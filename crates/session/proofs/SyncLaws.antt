@@ -16,7 +16,7 @@ use Rattle.paged.proofs.Halves.{syncs_stay, sync_keeps_all}
 use Rattle.session.specs.declared.steps.Step.TheVariants.{Sync}
 use Rattle.session.specs.declared.steps.Reply.TheVariants.{Done, Fault}
 use Rattle.session.specs.Run.{RunState, SessionState, after_sync, ended, needs_sync, faults, HasCause, use_of_wait, UsesDevice, AllCover, pending_in, WriterRepresents}
-use Rattle.session.specs.Run.Touch.{Changes}
+use Rattle.session.specs.Run.DeviceUse.{Changes}
 use Rattle.session.proofs.Words.{SyncTold}
 use Rattle.session.proofs.Apart.{AlwaysApart, StandsApart}
 use Rattle.session.proofs.StepLaws.{held, no_moments, turned_here, few_calls, halves, each_end, itself, stepped, stands_now, stands_ended, Halves}

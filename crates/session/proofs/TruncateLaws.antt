@@ -28,7 +28,7 @@ use Rattle.session.specs.declared.steps.Step.TheVariants.{Truncate}
 use Rattle.session.specs.declared.steps.Reply.{Reply}
 use Rattle.session.specs.declared.steps.Reply.TheVariants.{At, Nothing, Done, Started, Answer, Length, Bytes, Fault, Closed, NotRecovering, NoSuch, Served, Missed, BadRanges, Taken, Sealed, NotAppending, Replaying}
 use Rattle.session.specs.Run.{RunState, SessionState, truncated, lowered, forgetting, at_step, ended, turned_away, faults, HasCause, TakesStep, pending_in, AllCover, NamesFit}
-use Rattle.session.specs.Run.Touch.{Changes}
+use Rattle.session.specs.Run.DeviceUse.{Changes}
 use Rattle.session.specs.Calls.{IsClosed, KeepsRest, TruncateSays, TruncatesWriter, DidTruncate}
 use Rattle.session.proofs.StepLaws.{held, held_same, keeps_fewer, would_longer, cover_stays, all_lowered, begun_keeps, begun_covers, through_each, each_end, few_calls, raised_within, leaves, answers_away, stepped_by}
 use Rattle.session.proofs.AppendLaws.{had_failed_as, calls_few, settled_started, settled_awaits}
