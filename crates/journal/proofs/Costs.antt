@@ -14,6 +14,7 @@ use Rattle.paged_read.specs.Ranges.{is_served, missing, touches}
 use Rattle.paged_read.specs.Reads.{ReadCosts}
 use Rattle.paged_read.specs.Searches.{AreReadsWithin, ReadsWithin, scan_bytes}
 use Rattle.paged_read.specs.Tail.{Tail, tail_size, logical_bytes}
+use Rattle.paged_read.proofs.PutLaws.{asked_in_order}
 use Rattle.paged_read.proofs.RangedPages.{is_lacked, lacks_served, served_lacks, touch_true}
 use Rattle.paged_read.proofs.Windows.{touches_yes}
 use Rattle.paged_read.proofs.Searching.{cuts_within, gained_none, page_within}
@@ -169,7 +170,7 @@ pub range_costs : {A : Type 0} (sum : List ℕ → ℕ) (t : Tail) (range : ℕ 
 range_costs sum t range cache after old new result costs = record {
   calls = omega (arith, costs.asks.0, missing_met cache t range);
   held = λ served.
-      (costs.asks.1 served, nothing_put sum t (missing cache t (range ∷ [])) old.present.readable cache after result (eqb-true _ _ served) costs.puts);
+      (costs.asks.1 served, nothing_put sum t (missing cache t (range ∷ [])) old.present.readable cache after result (eqb-true _ _ served) (asked_in_order sum t (missing cache t (range ∷ [])) old new cache after result costs.puts));
 }
 
 -- no read

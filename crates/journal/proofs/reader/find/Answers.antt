@@ -11,7 +11,7 @@ frame_at-requires g c =
     let life = g.B.Blob.life c.args.blob.now in
     record {
       view = c.view.ensures.view;
-      opened = subst (λ (t : Tail). IsOpenSnapshot g.H.Sum.sum_of t c.args.cache.now life) (sym c.view.ensures.tail) c.requires.opened;
+      readable = subst (λ (t : Tail). IsOpenSnapshot g.H.Sum.sum_of t c.args.cache.now life) (sym c.view.ensures.tail) c.requires.opened;
     }
 
 pub returns-clause-reads : goal.returns-clause-reads

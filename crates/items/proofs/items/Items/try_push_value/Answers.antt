@@ -30,7 +30,7 @@ returns-clause-goes g c =
           let over : BuffersOver sum s.writer bytes v (Ok (Some at)) = subst (λ (o : Option ℕ). BuffersOver sum s.writer bytes v (Ok o)) w.in-Ok-Some.field-0-is w.in-Ok-Some.ensures.appends in
           answers (Ok (Some i)) w.result-is
           (subst (λ (t : ItemsState). length bytes ≡ t.size → i ≡ count t → TryPushGoes sum t bytes now (Ok (Some i))) c.self.view_is
-          (λ long number. tried_some sum s bytes v at i tried over tries.can_read long number) (g.met.T.FixedSize.sized c.args.value.now ∙ c.requires.size) c.len-at.ensures.count)
+          (λ long number. tried_some sum s bytes v at i tried over tries.keeps_reads long number) (g.met.T.FixedSize.sized c.args.value.now ∙ c.requires.size) c.len-at.ensures.count)
       | in-Ok-None w ↦
           let tried : TryAppendGoes s.writer bytes v (Ok None) = subst (λ (o : Option ℕ). TryAppendGoes s.writer bytes v (Ok o)) w.in-Ok-None.field-0-is w.in-Ok-None.ensures.goes in
           answers (Ok None) w.result-is (subst (λ (t : ItemsState). TryPushGoes sum t bytes now (Ok None)) c.self.view_is (tried_none sum s bytes v tried))
@@ -48,4 +48,4 @@ returns-clause-ready g c =
     let now : ItemsState = record { writer = v; size = s.size } in
     let goes = c.try_append_value.ensures in
     subst (λ (t : ItemsState). length bytes ≡ t.size → c.len-at.result ≡ count t → (cache : CacheState) (life : Life) → AreItems sum t cache life → GoReady sum t now cache life × DurabilityLasts sum t now life life) c.self.view_is
-    (tries_ready sum s bytes v c.len-at.result c.try_append_value.result goes.tries goes.appends goes.can_read) (g.met.T.FixedSize.sized c.args.value.now ∙ c.requires.size) c.len-at.ensures.count
+    (tries_ready sum s bytes v c.len-at.result c.try_append_value.result goes.goes goes.appends goes.keeps_reads) (g.met.T.FixedSize.sized c.args.value.now ∙ c.requires.size) c.len-at.ensures.count

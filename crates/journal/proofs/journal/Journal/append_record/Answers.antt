@@ -17,7 +17,7 @@ use Rattle.journal.proofs.journal.Journal.append_record.Goals.{After-append, Aft
 
 -- where the buffer has no room the journal is as it was
 same : (g : Over) (c : After-append g) → c.try_append.new.self ≡ c.args.self
-same g c = not_fitting c.args.self c.try_append.new.self (frame g.R.Sum.sum_of c.args.bytes.now) _ c.in_default.is c.in_ok-offset.ensures.goes
+same g c = not_fitting c.args.self c.try_append.new.self (frame g.R.Sum.sum_of c.args.bytes.now) _ c.in_default.is c.in_ok-offset.ensures.tries
 
 -- nothing was asked of the device
 unasked : (g : Over) (c : After-try_append g)
@@ -31,7 +31,7 @@ unasked g c =
 pub returns-in_err-offset-clause-goes : goal.returns-in_err-offset-clause-goes
 returns-in_err-offset-clause-goes g c =
     buffer_refused g.H.Sum.sum_of g.R.Sum.sum_of c.args.self c.try_append.new.self c.args.bytes.now c.args.cache.now (g.B.Blob.life c.args.blob.now) c.in_err-offset.field-0.0 c.from_residual.result
-    c.from_residual.ensures.1 c.in_err-offset.ensures.goes
+    c.from_residual.ensures.1 c.in_err-offset.ensures.tries
 
 pub returns-in_err-offset-clause-leaves : goal.returns-in_err-offset-clause-leaves
 returns-in_err-offset-clause-leaves g c = unasked g (goal.at.returns-in_err-offset-clause-leaves g c).After-try_append
@@ -54,7 +54,7 @@ returns-in_err-framed-clause-leaves g c = unasked g (goal.at.returns-in_err-fram
 pub append-requires : goal.append-requires
 append-requires g c =
     let life = g.B.Blob.life c.args.blob.now in
-    let same : c.try_append.new.self ≡ c.args.self = not_fitting c.args.self c.try_append.new.self (frame g.R.Sum.sum_of c.args.bytes.now) _ c.in_default.is c.in_ok-offset.ensures.goes in
+    let same : c.try_append.new.self ≡ c.args.self = not_fitting c.args.self c.try_append.new.self (frame g.R.Sum.sum_of c.args.bytes.now) _ c.in_default.is c.in_ok-offset.ensures.tries in
     record {
       ready = subst (λ (w : WriterState). IsReady g.H.Sum.sum_of w c.args.cache.now life) (sym same) (ready_of g.H.Sum.sum_of c.args.self c.args.cache.now life c.requires.journal);
     }
@@ -93,11 +93,11 @@ returns-clause-leaves g c =
 
 pub returns-in_err-offset-clause-costs : goal.returns-in_err-offset-clause-costs
 returns-in_err-offset-clause-costs g c =
-    costs_refused c.args.self c.try_append.new.self (frame g.R.Sum.sum_of c.args.bytes.now) c.args.cache.now (g.B.Blob.life c.args.blob.now) c.in_err-offset.field-0.0 c.from_residual.result c.from_residual.ensures.1 c.in_err-offset.ensures.goes
+    costs_refused c.args.self c.try_append.new.self (frame g.R.Sum.sum_of c.args.bytes.now) c.args.cache.now (g.B.Blob.life c.args.blob.now) c.in_err-offset.field-0.0 c.from_residual.result c.from_residual.ensures.1 c.in_err-offset.ensures.tries
 
 pub returns-in-Some-clause-costs : goal.returns-in-Some-clause-costs
 returns-in-Some-clause-costs g c =
-    costs_buffered c.args.self c.try_append.new.self (frame g.R.Sum.sum_of c.args.bytes.now) c.args.cache.now (g.B.Blob.life c.args.blob.now) c.in-Some.offset _ c.in-Some.is c.in_ok-offset.ensures.goes
+    costs_buffered c.args.self c.try_append.new.self (frame g.R.Sum.sum_of c.args.bytes.now) c.args.cache.now (g.B.Blob.life c.args.blob.now) c.in-Some.offset _ c.in-Some.is c.in_ok-offset.ensures.tries
 
 pub returns-in_err-framed-clause-costs : goal.returns-in_err-framed-clause-costs
 returns-in_err-framed-clause-costs g c =

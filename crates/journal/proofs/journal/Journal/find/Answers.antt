@@ -15,7 +15,7 @@ frame_at-requires g c =
     let e : tail_at v.page_size v.id v.tip.now ≡ tail_of c.args.self.now = c.view.ensures.tail ∙ ap (λ (w : WriterState). tail_of w) c.self.view_is in
     record {
       view = c.view.ensures.view;
-      opened = subst (λ (t : Tail). IsOpenSnapshot g.H.Sum.sum_of t c.args.cache.now life) (sym e) (opened_writer g.H.Sum.sum_of c.args.self.now c.args.cache.now life c.requires.between);
+      readable = subst (λ (t : Tail). IsOpenSnapshot g.H.Sum.sum_of t c.args.cache.now life) (sym e) (opened_writer g.H.Sum.sum_of c.args.self.now c.args.cache.now life c.requires.between);
     }
 
 pub returns-clause-reads : goal.returns-clause-reads
