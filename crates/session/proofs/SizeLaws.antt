@@ -21,7 +21,7 @@ use Rattle.paged_read.specs.Tail.{Tail, tail_size as size_of_tail}
 use Rattle.paged_read.specs.Failures.{none_failed_start}
 use Rattle.paged_read.specs.Ranges.{Reads, missing}
 use Rattle.paged_read.specs.Reads.{ReadCosts, ReadIntoGoes}
-use Rattle.paged_read.proofs.PutLaws.{puts_none}
+use Rattle.paged_read.proofs.PutLaws.{asked_none}
 use Rattle.paged.specs.Caches.{tail_of}
 use Rattle.paged.specs.Reads.{size_of}
 use Rattle.session.specs.declared.steps.Step.{Step}
@@ -103,7 +103,7 @@ read_cause sum P w cache offset len before old new IdsExhausted size full goes =
 costs_none : (sum : List ℕ → ℕ) (t : Tail) (cache : CacheState) (offset len : ℕ) (life : Life) (e : Error) → ReadCosts {A = Vec ℕ Global} sum t (offset, len) cache cache life life (Err e)
 costs_none sum t cache offset len life e = record {
   asks = (omega arith, λ served. refl);
-  puts = puts_none sum t (missing cache t ((offset, len) ∷ [])) life.present.readable cache;
+  puts = asked_none sum t (missing cache t ((offset, len) ∷ [])) life cache e;
 }
 
 -- no room was made for what is to be read

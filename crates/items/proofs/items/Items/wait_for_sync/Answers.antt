@@ -13,7 +13,7 @@ use Rattle.items.proofs.items.Items.wait_for_sync.Goals.{After-wait_for_sync}
 
 pub wait_for_sync-requires : goal.wait_for_sync-requires
 wait_for_sync-requires g c = record {
-  stands = inl (subst (λ (v : ItemsState). IsSound g.H.Sum.sum_of v.writer (g.B.Blob.life c.args.blob.now).present) (sym c.self.view_is)
+  sound = inl (subst (λ (v : ItemsState). IsSound g.H.Sum.sum_of v.writer (g.B.Blob.life c.args.blob.now).present) (sym c.self.view_is)
       (stand g.H.Sum.sum_of c.args.self c.requires.items.0 (g.B.Blob.life c.args.blob.now) c.requires.items.1).ready.sound);
 }
 

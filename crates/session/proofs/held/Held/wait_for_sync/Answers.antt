@@ -11,7 +11,7 @@ use Rattle.session.proofs.held.Held.wait_for_sync.Goals as goal
 pub wait_for_sync-requires : goal.wait_for_sync-requires
 wait_for_sync-requires g c =
     let at : c.args.self.now ≡ Some c.in-Some.writer = search rules in
-    record { stands = inl (sound_in g.H.Sum.sum_of c.args.self.now c.in-Some.writer (g.B.Blob.life c.args.blob.now).present at c.requires.sound) }
+    record { sound = inl (sound_in g.H.Sum.sum_of c.args.self.now c.in-Some.writer (g.B.Blob.life c.args.blob.now).present at c.requires.sound) }
 
 pub returns-in-Ok-clause-goes : goal.returns-in-Ok-clause-goes
 returns-in-Ok-clause-goes g c =
