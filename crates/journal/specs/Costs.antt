@@ -23,7 +23,8 @@ writer_and_tail (Err e) = Err e
 -- the making of a reader
 abbrev pub ReaderCosts : WriterState → (cache after : CacheState) → Life → Life
     → Result (WriterState × ReaderState) Error → Type 0
-ReaderCosts w cache after old new result = SnapshotCosts w cache after old new (writer_and_tail result)
+ReaderCosts w cache after old new result =
+    SnapshotCosts w cache after old new (writer_and_tail result)
 
 -- how many pages below a tail a range has bytes of
 abbrev pub pages_met : Tail → ℕ × ℕ → ℕ
@@ -31,7 +32,8 @@ pages_met t range = length (filter (touches t.page_size range) (range_with_len 0
 
 -- where the frame that begins at an offset of a content lies, as far as there is any of it
 abbrev pub frame_range : List ℕ → (offset : ℕ) → ℕ × ℕ
-frame_range content offset = (offset, min (frame_len (drop offset content)) (length content - offset))
+frame_range content offset =
+    (offset, min (frame_len (drop offset content)) (length content - offset))
 
 -- the most device calls that a read of this frame makes: one for each page of its first two bytes,
 -- which tell its length, and one for each of its pages
