@@ -1,25 +1,25 @@
 -- What a journal's calls ask of the device, from what the writer's calls and reads do.
-use Rattle.std.proofs.Common.{◌≡◌, ◌⊎◌, inl, inr, ℕ, zero, suc, ◌+◌, ◌-◌, ◌*◌, ◌<◌, ◌≤◌, ◌++◌, Bool, true, false, cond, List, [], ◌∷◌, length, take, drop, min, refl, sym, ap, ◌∙◌, subst, arith, Ok, Err, Result}
-use Rattle.std.specs.Prelude.{Option, Some, None, ◌&&◌, ◌||◌, not, is_some, nat_eq}
+use Rattle.std.proofs.Common.{◌≡◌, ℕ, zero, suc, ◌+◌, ◌-◌, ◌<◌, ◌≤◌, ◌++◌, Bool, true, false, cond, List, [], ◌∷◌, length, take, drop, min, refl, sym, ap, ◌∙◌, subst, arith, Ok, Err, Result}
+use Rattle.std.specs.Prelude.{Option, Some, ◌||◌}
 use Rattle.std.specs.List.{filter, range_with_len}
 use Rattle.std.specs.Result.{IsErrAnd}
 use Rattle.std.proofs.lemmas.Bool.{and_parts, and_from, false_from_ne_true, both_ways, eqb-true}
 use Rattle.disk.specs.Disk.{Entry, Life}
 use Rattle.disk.specs.declared.error.Error.{Error}
 use Rattle.disk.specs.declared.error.Error.TheVariants.{ReadFailed, WriteFailed, ResizeFailed, SyncFailed, InvalidChecksum, BlobInsufficientLength, OffsetOverflow, OutOfMemory, IdsExhausted}
-use Rattle.cache.specs.CacheState.{cached_page, CacheState}
+use Rattle.cache.specs.CacheState.{CacheState}
 use Rattle.writer_state.specs.WriterState.{WriterState}
-use Rattle.paged_read.specs.Puts.{PutsFirst, PutsInOrder, PutsPages}
+use Rattle.paged_read.specs.Puts.{PutsInOrder, PutsPages}
 use Rattle.paged_read.specs.Ranges.{is_served, missing, touches}
 use Rattle.paged_read.specs.Reads.{ReadCosts}
 use Rattle.paged_read.specs.Searches.{AreReadsWithin, ReadsWithin, scan_bytes}
-use Rattle.paged_read.specs.Tail.{Tail, tail_size, logical_bytes}
+use Rattle.paged_read.specs.Tail.{Tail, logical_bytes}
 use Rattle.paged_read.proofs.PutLaws.{asked_in_order}
 use Rattle.paged_read.proofs.RangedPages.{is_lacked, lacks_served, served_lacks, touch_true}
 use Rattle.paged_read.proofs.Windows.{touches_yes}
 use Rattle.paged_read.proofs.Searching.{cuts_within, gained_none, page_within}
 use Rattle.paged.specs.Caches.{PutsOnceWaited}
-use Rattle.paged.specs.Calls.{AsksAtMost, BuffersAll, IsSettled, TryAppendGoes, sync_calls}
+use Rattle.paged.specs.Calls.{AsksAtMost, BuffersAll, IsSettled, TryAppendGoes}
 use Rattle.paged.specs.Costs.{AppendCosts, SnapshotCosts}
 use Rattle.paged.specs.Flush.{has_work}
 use Rattle.paged.proofs.Caching.{puts_nothing}
