@@ -15,7 +15,7 @@ use Rattle.crash.proofs.Pages.{length-pages, pages_at, pages_fit, pages_reach, t
 use Rattle.crash.proofs.Texts.{active_is, active_none, text_full, text_part, value_len_le}
 use Rattle.paged_read.specs.declared.prefix.Prefix.{Prefix}
 use Rattle.paged_read.specs.Ranges.{page_at}
-use Rattle.paged_read.specs.Prefix.{after_pages, value_and_slot, prefix_of, prefix_pages, prefix_size, partial_pages, tip_of}
+use Rattle.paged_read.specs.Prefix.{value_and_slot, prefix_of, prefix_pages, prefix_size, partial_pages, tip_of}
 use Rattle.paged.specs.Recovery.{opened_prefix, opened_size, slot_of_tip}
 use Rattle.paged_read.proofs.Prefixes.{partial_pages_le, one_page, prefix_full, prefix_part, tip_short, last_is}
 

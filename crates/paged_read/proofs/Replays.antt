@@ -1,6 +1,6 @@
 -- Fills of a replay: what a batch, and the bytes after the full pages, add to what is at hand.
 use Rattle.std.proofs.Common.{◌≡◌, ◌⊎◌, inl, inr, ℕ, zero, suc, ◌+◌, ◌*◌, ◌-◌, ◌/◌, ◌%◌, ◌<◌, ◌≤◌, min, max, List, [], ◌∷◌, ◌++◌, length, take, drop, ◌^◌, refl, sym, ap, ◌∙◌, subst, arith, All, Bool, true, false, true≢false, Result, Ok, Err, length-append, length-drop}
-use Rattle.std.proofs.lemmas.Bool.{cases_lt, le-leb, lt-leb}
+use Rattle.std.proofs.lemmas.Bool.{cases_lt, lt-leb}
 use Rattle.std.proofs.lemmas.Nat.{div_below, mod_below, div-add-mod', le-div}
 use Rattle.std.proofs.lemmas.List.{drop_all, drop-drop, drop-take, take-take, take_all, take-append-le, drop-append-le, length-take-le}
 use Rattle.std.proofs.Math.Nat.{div-mul-le_self, le-div_iff_mul-le, mul-div_cancel, mul-le-mul_right, mul-mod_left, suc-mul}

@@ -1,6 +1,6 @@
 -- What the words of a disk, of pages, of a crash and of a sound writer don't hold of, though it is nearly right; and an example
 -- where one was missing. Pages have 4 bytes, and the checksum is their sum.
-use Rattle.std.proofs.Common.{◌≡◌, inl, inr, ℕ, ◌+◌, ◌*◌, ◌≤◌, List, [], ◌∷◌, ◌++◌, length, refl, ap, subst, arith, Ok, Err}
+use Rattle.std.proofs.Common.{◌≡◌, inl, inr, ℕ, List, [], ◌∷◌, ◌++◌, length, refl, ap, arith, Ok, Err}
 use Rattle.std.specs.Prelude.{Some, None, get_or, true, false}
 use Rattle.disk.specs.Disk.{IsWhole, LogGrows, SomeFailed, HasFailed, logged, next}
 use Rattle.disk.specs.Disk.Operation.{Write}

@@ -1,5 +1,5 @@
 -- Floors that every image keeps, of a sound writer's content and of any other.
-use Rattle.std.proofs.Common.{◌≡◌, inl, inr, ℕ, ◌+◌, ◌*◌, ◌≤◌, List, [], length, take, sym, ap, ◌∙◌, arith, length-take}
+use Rattle.std.proofs.Common.{◌≡◌, inl, inr, ℕ, ◌+◌, ◌≤◌, List, [], length, take, sym, ap, ◌∙◌, arith, length-take}
 use Rattle.disk.specs.Disk.{Disk, IsImage, Life}
 use Rattle.page.specs.Page.{text}
 use Rattle.crash.specs.Built.{kept_len}
