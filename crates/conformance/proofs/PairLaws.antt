@@ -1,8 +1,8 @@
 -- Two sessions on one cache: what the calls of one leave of both.
-use Rattle.std.proofs.Common.{◌≡◌, ◌<◌, ℕ, List, arith, get_or, sym, subst}
+use Rattle.std.proofs.Common.{◌<◌, ℕ, List, arith, get_or, rules}
 use Rattle.std.specs.Prelude.{Option, Some, None, IfSome}
 use Rattle.disk.specs.Disk.{Disk}
-use Rattle.cache.specs.CacheState.{CacheState}
+use Rattle.cache.specs.CacheState.{CacheState, empty_cache}
 use Rattle.cache.specs.Pages.{IsFresh}
 use Rattle.writer_state.specs.WriterState.{WriterState}
 use Rattle.paged_read.specs.Tail.{Tail, CanRead}
@@ -10,13 +10,9 @@ use Rattle.paged_read.specs.Snapshots.{LeavesReads}
 use Rattle.paged.specs.Caches.{tail_of}
 use Rattle.session.specs.Run.{CacheFits, FitsWriter, IsSessionReady, SessionState}
 use Rattle.session.specs.Promise.{closed}
-use Rattle.session.specs.Others.{IsNewTo, IsOther, LeavesOtherBlobs}
-use Rattle.session.proofs.TwoSessions.{AreApart, apart_both, new_apart, still_apart, still_ready}
+use Rattle.session.specs.Others.{AreApart, IsNewTo, IsOther, LeavesOtherBlobs}
+use Rattle.session.proofs.TwoSessions.{apart_both, closed_has_none, new_apart, still_apart, still_ready}
 use Rattle.conformance.specs.Pair.{AreBothReady}
-
--- a closed session has nothing of any blob
-closed_has_none : (id : ℕ) → IsOther closed id
-closed_has_none id = record { writer = tt; snapshots = λ k o lt. absurd (omega (arith, lt)) }
 
 closed_writer : (o : Option WriterState) → IfSome o (λ w. IsOther closed w.id)
 closed_writer None = tt
@@ -83,6 +79,15 @@ exchanged sum session other cache d e both = record {
   ready = both.other;
   other = both.ready;
   apart = apart_both session other both.apart;
+}
+
+-- two closed ones with a new cache
+pub both_anew : (sum : List ℕ → ℕ) (P most : ℕ) (d e : Disk)
+    → AreBothReady sum closed closed (empty_cache P most) d e
+both_anew sum P most d e = record {
+  ready = closed_ready sum (empty_cache P most) d (search rules);
+  other = closed_ready sum (empty_cache P most) e (search rules);
+  apart = closed_apart closed;
 }
 
 -- the one that is closed leaves the other

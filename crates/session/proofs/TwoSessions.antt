@@ -1,6 +1,6 @@
 -- Two sessions on one cache: what the steps of one leave of the other; and examples of what they may not do.
 use Rattle.std.proofs.Common.{◌≡◌, ◌≢◌, ℕ, List, [], ◌∷◌, refl, sym, arith, get_or, lit<, lit≤}
-use Rattle.std.specs.Prelude.{All, IfSome, Option, Some, None}
+use Rattle.std.specs.Prelude.{IfSome, Option, Some, None}
 use Rattle.disk.specs.Disk.{Disk}
 use Rattle.writer_state.specs.WriterState.{WriterState}
 use Rattle.cache.specs.CacheState.{CacheState, empty_cache}
@@ -9,15 +9,14 @@ use Rattle.paged_read.specs.Tail.{Tail, CanRead}
 use Rattle.paged.specs.Caches.{tail_of}
 use Rattle.session.specs.Run.{CacheFits, FitsWriter, IsSessionReady, SessionState}
 use Rattle.session.specs.Promise.{closed}
-use Rattle.session.specs.Others.{IsNewTo, IsNotOf, IsOther, LeavesOtherBlobs, LeavesOthersAnew}
+use Rattle.session.specs.Others.{AreApart, IsNewTo, IsNotOf, IsOther, LeavesOtherBlobs, LeavesOthersAnew}
 use Rattle.session.proofs.ComesBackExamples.{empty}
 
 -- ---- the laws
 
--- each part of the other session is of a blob that this one has nothing of
-pub record AreApart (session other : SessionState) : Type 0 where
-  pub writer : IfSome other.writer (λ w. IsOther session w.id)
-  pub snapshots : All (λ o. IfSome o (λ t. IsOther session t.id)) other.snapshots
+-- a closed session has nothing of any blob
+pub closed_has_none : (id : ℕ) → IsOther closed id
+closed_has_none id = record { writer = tt; snapshots = λ k o lt. absurd (omega (arith, lt)) }
 
 -- the steps of one: the other may take some next
 reads_writer : (o : Option WriterState) (was now : SessionState) (cache after : CacheState) (d : Disk) → IfSome o (λ w. IsOther was w.id) → LeavesOtherBlobs was now cache after → FitsWriter o cache d → FitsWriter o after d
@@ -110,9 +109,6 @@ can_read_none = record { there = lit≤ tt; page_size = refl; given = lit< tt; c
 can_read_one : CanRead one_page two_given sevens
 can_read_one = record { there = lit≤ tt; page_size = refl; given = lit< tt; cached = λ page bytes lt held. absurd (cc held) }
 
-closed_has_none : (id : ℕ) → IsOther closed id
-closed_has_none id = record { writer = tt; snapshots = λ k o lt. absurd (omega (arith, lt)) }
-
 -- make the cache anew
 no_new_cache : LeavesOtherBlobs closed closed two_given (empty_cache 4 10) → ⊥
 no_new_cache leaves = omega (arith, (leaves.reads no_page empty (closed_has_none 0) can_read_none).given)
@@ -129,3 +125,7 @@ no_page_of_another leaves =
 -- take a snapshot of another blob
 no_snapshot_of_another : LeavesOtherBlobs closed (record closed { snapshots = Some one_page ∷ [] }) two_given two_given → ⊥
 no_snapshot_of_another leaves = (leaves.apart 1 (closed_has_none 1)).snapshots 0 None (lit< tt) refl
+
+-- two of one blob
+no_session_twice : AreApart (record closed { snapshots = Some one_page ∷ [] }) (record closed { snapshots = Some one_page ∷ [] }) → ⊥
+no_session_twice apart = (apart.snapshots 0 None (lit< tt)).snapshots 0 None (lit< tt) refl

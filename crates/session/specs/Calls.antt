@@ -1,25 +1,23 @@
 -- What one step of a session does, and each call after it.
-use Rattle.std.specs.Prelude.{◌≡◌, ◌≢◌, ◌⊎◌, ◌<◌, ◌≤◌, ◌+◌, ◌^◌, ◌++◌, ℕ, List, [], ◌∷◌}
+use Rattle.std.specs.Prelude.{◌≡◌, ◌⊎◌, ◌<◌, ◌≤◌, ◌+◌, ◌^◌, ◌++◌, ℕ, List, [], ◌∷◌}
 use Rattle.std.specs.Prelude.{length, Bool}
 use Rattle.std.specs.Prelude.{true, false, nat_eq, nat_lt, Option, Some, None, Result, Ok, Err}
-use Rattle.std.specs.Prelude.{IfOk, OnOk, take, min, nat_le, ◌&&◌, slice_set, map, is_some}
+use Rattle.std.specs.Prelude.{take, min, nat_le, ◌&&◌, slice_set, map, is_some}
 use Rattle.std.specs.Prelude.{if◌then◌else◌, Vec, ⊤}
 use Rattle.std.specs.List.{insert, list_any}
 use Rattle.std.specs.Int.NonZero.{non_zero_usize_get}
 use Rattle.std.specs.declared.alloc.Global.{Global}
 use Rattle.std.specs.List.Sorted.{IsStrictlyIncreasing}
-use Rattle.disk.specs.Disk.{Disk, HasFailed, Life, life_after, WaitGoes}
+use Rattle.disk.specs.Disk.{Disk, Life, life_after, WaitGoes}
 use Rattle.disk.specs.declared.started_sync.StartedSync.{StartedSync}
 use Rattle.disk.specs.declared.started_sync.StartedSync.TheVariants.{Done as AllDone, Named}
 use Rattle.disk.specs.declared.error.Error.{Error}
 use Rattle.disk.specs.declared.error.Error.TheVariants.{BlobInsufficientLength, OffsetOverflow}
-use Rattle.disk.specs.declared.error.Error.TheVariants.{InvalidChecksum, OutOfMemory, ReadFailed}
+use Rattle.disk.specs.declared.error.Error.TheVariants.{InvalidChecksum, OutOfMemory}
 use Rattle.page.specs.Geometry.{RangesGo}
-use Rattle.page.specs.Page.{text}
 use Rattle.writer_state.specs.WriterState.{WriterState}
-use Rattle.writer_state.specs.declared.sync_state.SyncState.TheVariants.{Dirty}
 use Rattle.crash.specs.Looks.{Looked}
-use Rattle.writer_state.specs.Sound.{IsSound, content as content_of}
+use Rattle.writer_state.specs.Sound.{content as content_of}
 use Rattle.paged.specs.Calls.{TryAppendGoes, BuffersOver, sync_calls}
 use Rattle.paged.specs.Goes.{AppendGoes, ReplayGoes, SealGoes, SnapshotGoes, StartSyncGoes}
 use Rattle.paged.specs.Goes.{SyncAllGoes, WaitForSyncGoes}

@@ -25,6 +25,12 @@ pub record IsOther (session : SessionState) (id : ℕ) : Type 0 where
   pub writer : IsNotOf id session.writer
   pub snapshots : All (λ o. IfSome o (λ t. id ≢ t.id)) session.snapshots
 
+-- two sessions are of different blobs: each part of the second, its writer and its snapshots, is of
+-- a blob that is another one to the first
+pub record AreApart (session other : SessionState) : Type 0 where
+  pub writer : IfSome other.writer (λ w. IsOther session w.id)
+  pub snapshots : All (λ o. IfSome o (λ t. IsOther session t.id)) other.snapshots
+
 -- what the steps of a session leave of other blobs: what can be read of one, over whatever disk,
 -- can be read on, and it is still another one; the cache keeps its settings
 pub record LeavesOtherBlobs (was now : SessionState) (cache after : CacheState) : Type 0 where

@@ -1,4 +1,4 @@
-use Rattle.std.proofs.Common.{rules, ◌≡◌, inl, Some, None, Ok, Err, sym, subst}
+use Rattle.std.proofs.Common.{rules, ◌≡◌, inl, Some, None, Ok, sym, subst}
 use Rattle.std.specs.Prelude.{Option}
 use Rattle.writer_state.specs.WriterState.{WriterState}
 use Rattle.session.specs.declared.steps.Reply.TheVariants.{Fault}

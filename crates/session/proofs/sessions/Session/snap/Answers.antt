@@ -1,15 +1,14 @@
-use Rattle.std.proofs.Common.{◌≡◌, ◌∙◌, ℕ, length, ap, sym, subst, arith, Ok, Err, Some}
-use Rattle.std.specs.Prelude.{IfSome, Option}
+use Rattle.std.proofs.Common.{◌≡◌, ◌∙◌, length, ap, sym, subst, arith, Some}
+use Rattle.std.specs.Prelude.{Option}
 use Rattle.std.specs.Vec.{with_items}
 use Rattle.std.proofs.lemmas.List.{with_items_is}
-use Rattle.paged_read.specs.Tail.{Tail, HasFullPages}
-use Rattle.paged_read.specs.Ranges.{Reads}
+use Rattle.paged_read.specs.Tail.{Tail}
 use Rattle.session.specs.Run.{SessionState}
 use Rattle.session.specs.Calls.{DidSnap}
 use Rattle.crash.specs.Looks.{looked_start}
 use Rattle.paged_read.proofs.Outliving.{look_leaves_writers}
 use Rattle.session.specs.declared.steps.Reply.TheVariants.{Bytes, Fault}
-use Rattle.session.proofs.Below.{at_offset, of_each}
+use Rattle.session.proofs.Below.{at_offset}
 use Rattle.session.proofs.Numbered.{stands_at}
 use Rattle.session.proofs.OtherLaws.{snap_others}
 use Rattle.session.proofs.SizeLaws.{read_says, read_fails, room_refused}
