@@ -1,5 +1,5 @@
 -- Two sessions on one cache: what the calls of one leave of both.
-use Rattle.std.proofs.Common.{◌<◌, ℕ, List, arith, get_or, rules}
+use Rattle.std.proofs.Common.{ℕ, List, get_or, rules}
 use Rattle.std.specs.Prelude.{Option, Some, None, IfSome}
 use Rattle.disk.specs.Disk.{Disk}
 use Rattle.cache.specs.CacheState.{CacheState, empty_cache}
@@ -8,7 +8,7 @@ use Rattle.writer_state.specs.WriterState.{WriterState}
 use Rattle.paged_read.specs.Tail.{Tail, CanRead}
 use Rattle.paged_read.specs.Snapshots.{LeavesReads}
 use Rattle.paged.specs.Caches.{tail_of}
-use Rattle.session.specs.Run.{CacheFits, FitsWriter, IsSessionReady, SessionState}
+use Rattle.session.specs.Run.{FitsWriter, IsSessionReady, SessionState}
 use Rattle.session.specs.Promise.{closed}
 use Rattle.session.specs.Others.{AreApart, IsNewTo, IsOther, LeavesOtherBlobs}
 use Rattle.session.proofs.TwoSessions.{apart_both, closed_has_none, new_apart, still_apart, still_ready}
