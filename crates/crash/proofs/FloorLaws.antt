@@ -4,16 +4,14 @@ use Rattle.disk.specs.Disk.{Disk, Life, IsImage, ResizeGoes, SyncGoes, next}
 use Rattle.disk.specs.Disk.Operation.{Resize}
 use Rattle.disk.specs.declared.error.Error.{Error}
 use Rattle.page.specs.Page.{text}
-use Rattle.crash.specs.Kept.{AllKeep, Through, AllOnly}
+use Rattle.crash.specs.Kept.{AllKeep, Through}
 use Rattle.crash.specs.Looks.{Looked, SameButLog}
-use Rattle.crash.specs.Stays.{KeepsFloors, KeepsAllFloors, LeavesOnly}
+use Rattle.crash.specs.Stays.{KeepsFloors}
 use Rattle.crash.proofs.CutLaws.{resize_cases, sync_cases}
 use Rattle.crash.proofs.Disks.{base_is_image, image_alike, readable_stays}
 use Rattle.crash.specs.Moments.{through_end, through_joins, through_more, through_start, through_then}
-use Rattle.crash.specs.Guard.{IsChanceFree}
 use Rattle.crash.proofs.Moments.{keeps_alike}
 use Rattle.crash.proofs.Promise.{guards_below, keeps_on, keeps_same, keeps_settle, resize_leaves_below}
-use Rattle.crash.proofs.DistinctLaws.{vouched_alike}
 
 -- what is readable is an image
 abbrev pub ReadsImage : Life → Type 0
@@ -113,24 +111,3 @@ floors_of_content sum P content old new image floors = λ floor enough keeps.
     (floors floor there (keeps_same sum P content readable floor old.present (sym same) keeps))
 
 -- ---- calls that only read
-
--- they keep the floors of each content
-pub looked_keeps : (sum : List ℕ → ℕ) (P : ℕ) (old new : Life) → Looked old new → KeepsAllFloors sum P old new
-looked_keeps sum P old new looked = λ content. floors_looked sum P content old new looked
-
--- a disk that is the same but for its log has the same images
-image_before : (d e : Disk) (image : List ℕ) → SameButLog d e → IsImage e image → IsImage d image
-image_before d e image same is =
-    let i : IsImage (record d { log = e.log }) image = subst (λ (x : Disk). IsImage x image) same is in
-    record { no_shorter = i.no_shorter; no_longer = i.no_longer; each = i.each }
-
--- so no other texts are left
-pub only_later : (sum : List ℕ → ℕ) (P : ℕ) (held : List ℕ) (d e : Disk) → SameButLog d e → AllOnly sum P held held d → AllOnly sum P held held e
-only_later sum P held d e same only = record {
-  only = λ image is free. only.only image (image_before d e image same is) (subst (λ (x : Disk). IsChanceFree sum P x image) same free);
-  vouched = vouched_alike sum P d e (ap (λ (x : Disk). x.base) same) (ap (λ (x : Disk). x.since) same) only.vouched;
-}
-
-pub looked_leaves : (sum : List ℕ → ℕ) (P : ℕ) (held : List ℕ) (old new : Life) → Looked old new → AllOnly sum P held held old.present → LeavesOnly sum P held held old new
-looked_leaves sum P held old new looked only =
-    through_then (SameButLog old.present) (AllOnly sum P held held) old new (λ d same. only_later sum P held old.present d same only) looked.through

@@ -1,32 +1,24 @@
 -- Runs of items: what each step does, from what the call of the items does.
-use Rattle.std.proofs.Common.{inl, inr, take, ◌≤◌, ◌≡◌, ◌≢◌, ℕ, List, [], ◌∷◌, ◌++◌, length, refl, sym, ap, ◌∙◌, subst, append-nil, length-append, arith, Some, None, Ok, Err}
-use Rattle.std.specs.Prelude.{Option, Vec}
+use Rattle.std.proofs.Common.{inl, inr, take, ◌≤◌, ◌≡◌, ◌≢◌, ℕ, List, [], ◌∷◌, ◌++◌, length, refl, sym, ap, ◌∙◌, subst, append-nil, length-append, arith, Some, None}
+use Rattle.std.specs.Prelude.{Option}
 use Rattle.std.proofs.lemmas.Bool.{cases_lt}
 use Rattle.std.proofs.lemmas.List.{append_assoc, take_all, take-append-le}
-use Rattle.std.specs.declared.alloc.Global.{Global}
 use Rattle.disk.specs.Disk.{Life}
-use Rattle.disk.specs.declared.error.Error.{Error}
 use Rattle.cache.specs.CacheState.{CacheState}
 use Rattle.cache.specs.Pages.{IsFresh}
 use Rattle.crash.specs.Kept.{Through}
 use Rattle.crash.specs.Moments.{through_start, through_joins, through_end}
-use Rattle.paged.specs.Calls.{CallCause}
 use Rattle.items.specs.State.{ItemsState}
 use Rattle.items.specs.Standing.{AreItems, items_of, ItemsCallLeaves}
-use Rattle.items.specs.Calls.{AreSynced, IsPushed, PushGoes}
 use Rattle.items.specs.Items.{AreDurable, KeepsItems}
 use Rattle.items.specs.declared.run.ItemStep.{ItemStep}
 use Rattle.items.specs.declared.run.ItemStep.TheVariants.{Push, Get, Len, Sync}
 use Rattle.items.specs.Run.RunsItems.{no_step, one_more}
-use Rattle.items.specs.Run.{HasSizes, SameSizes, DidItem, RunsItems, RanItems, Stop, IsOpenSession, StepLeaves, DidAndSays, PushedItem, GivesItem, GotItem, TellsLength, SyncedItems}
+use Rattle.items.specs.Run.{HasSizes, SameSizes, DidItem, RunsItems, RanItems, Stop, IsOpenSession, StepLeaves, PushedItem, TellsLength}
 use Rattle.items.specs.declared.run.ItemReply.{ItemReply}
-use Rattle.items.specs.declared.run.ItemReply.TheVariants.{Item, BadItem, Bytes, Done, Fault}
+use Rattle.items.specs.declared.run.ItemReply.TheVariants.{BadItem}
 use Rattle.items.proofs.Laws.{first_of_more}
 use Rattle.items.proofs.Standing.{nothing_leaves, stand}
-
--- the items of a session that has some
-pub items_in : (sum : List ℕ → ℕ) (was : Option ItemsState) (s : ItemsState) (cache : CacheState) (life : Life) → was ≡ Some s → IsOpenSession sum was cache life → AreItems sum s cache life
-items_in sum was s cache life is stood = subst (λ (o : Option ItemsState). IsOpenSession sum o cache life) is stood
 
 -- the cache serves on
 pub fresh_in : (sum : List ℕ → ℕ) (was : Option ItemsState) (cache : CacheState) (life : Life) → IsOpenSession sum was cache life → IsFresh cache
@@ -41,68 +33,15 @@ pub step_nothing : (sum : List ℕ → ℕ) (was : Option ItemsState) (more : Li
 step_nothing sum None more cache life stood = (refl, refl)
 step_nothing sum (Some s) more cache life stood = nothing_done sum s more cache life stood
 
--- a call that pushes nothing
-pub nothing_more : (sum : List ℕ → ℕ) (s : ItemsState) (cache after : CacheState) (old new : Life) → ItemsCallLeaves sum s (items_of s old) cache after old new → ItemsCallLeaves sum s (items_of s old ++ []) cache after old new
-nothing_more sum s cache after old new leaves = subst (λ (all : List (List ℕ)). ItemsCallLeaves sum s all cache after old new) (sym (append-nil (items_of s old))) leaves
-
-no_sizes : (was now : Option ItemsState) → was ≡ None → now ≡ None → SameSizes was now
-no_sizes was now is then = subst (λ (o : Option ItemsState). SameSizes o now) (sym is) (subst (λ (o : Option ItemsState). SameSizes None o) (sym then) tt)
-
 own_sizes : (was : Option ItemsState) → SameSizes was was
 own_sizes None = tt
 own_sizes (Some s) = (refl, refl)
-
--- a session that has none
-pub closed : (sum : List ℕ → ℕ) (was now : Option ItemsState) (more : List (List ℕ)) (cache : CacheState) (life : Life) (Says : Type 0) → was ≡ None → now ≡ None → IsOpenSession sum was cache life → Says → DidAndSays sum was now more cache cache life life Says
-closed sum was now more cache life Says is then stood says = record {
-  stands = subst (λ (o : Option ItemsState). IsOpenSession sum o cache life) (is ∙ sym then) stood;
-  leaves = step_nothing sum was more cache life stood;
-  sizes = no_sizes was now is then;
-  says = says;
-}
-
--- a push, by its reply
-pub did_push : (sum : List ℕ → ℕ) (item : List ℕ) (was now : Option ItemsState) (s t : ItemsState) (cache after : CacheState) (old new : Life) (i : ℕ) → was ≡ Some s → now ≡ Some t → IsPushed sum s item after old new t i → ItemsCallLeaves sum s (items_of s old ++ item ∷ []) cache after old new
-    → PushedItem sum item was now cache after old new (Item i)
-did_push sum item was now s t cache after old new i is then pushed leaves =
-    subst (λ (o : Option ItemsState). PushedItem sum item o now cache after old new (Item i)) (sym is)
-    (subst (λ (o : Option ItemsState). PushedItem sum item (Some s) o cache after old new (Item i)) (sym then) (record { stands = pushed.goes.stand; leaves = leaves; sizes = (pushed.goes.same.page_size, pushed.goes.size); says = (t, refl, pushed) }))
 
 pub bad_push : (sum : List ℕ → ℕ) (item : List ℕ) (was now : Option ItemsState) (s : ItemsState) (cache : CacheState) (life : Life) → was ≡ Some s → now ≡ Some s → length item ≢ s.size → IsOpenSession sum was cache life → PushedItem sum item was now cache cache life life BadItem
 bad_push sum item was now s cache life is then other stood =
     subst (λ (o : Option ItemsState). IsOpenSession sum o cache life → PushedItem sum item o now cache cache life life BadItem) (sym is)
     (subst (λ (o : Option ItemsState). AreItems sum s cache life → PushedItem sum item (Some s) o cache cache life life BadItem) (sym then)
     (λ items. record { stands = items; leaves = nothing_done sum s (item ∷ []) cache life items; sizes = (refl, refl); says = (other, refl, refl) })) stood
-
-pub refused_push : (sum : List ℕ → ℕ) (item : List ℕ) (was now : Option ItemsState) (s : ItemsState) (cache after : CacheState) (old new : Life) (e : Error) → was ≡ Some s → now ≡ None → PushGoes sum s item after old new (Err e) → ItemsCallLeaves sum s (items_of s old ++ item ∷ []) cache after old new
-    → PushedItem sum item was now cache after old new (Fault e)
-refused_push sum item was now s cache after old new e is then refused leaves =
-    subst (λ (o : Option ItemsState). PushedItem sum item o now cache after old new (Fault e)) (sym is)
-    (subst (λ (o : Option ItemsState). PushedItem sum item (Some s) o cache after old new (Fault e)) (sym then) (record { stands = leaves.fresh; leaves = leaves; sizes = tt; says = (refl, refused) }))
-
--- a read
-pub did_get : (sum : List ℕ → ℕ) (i : ℕ) (was now : Option ItemsState) (s : ItemsState) (cache after : CacheState) (old new : Life) (bytes : Vec ℕ Global) → was ≡ Some s → now ≡ Some s → GivesItem s i old new (Ok bytes) → AreItems sum s after new → ItemsCallLeaves sum s (items_of s old) cache after old new
-    → GotItem sum i was now cache after old new (Bytes bytes)
-did_get sum i was now s cache after old new bytes is then gives stood leaves =
-    subst (λ (o : Option ItemsState). GotItem sum i o now cache after old new (Bytes bytes)) (sym is)
-    (subst (λ (o : Option ItemsState). GotItem sum i (Some s) o cache after old new (Bytes bytes)) (sym then) (record { stands = stood; leaves = nothing_more sum s cache after old new leaves; sizes = (refl, refl); says = (refl, gives) }))
-
-pub refused_get : (sum : List ℕ → ℕ) (i : ℕ) (was now : Option ItemsState) (s : ItemsState) (cache after : CacheState) (old new : Life) (e : Error) → was ≡ Some s → now ≡ Some s → GivesItem s i old new (Err e) → AreItems sum s after new → ItemsCallLeaves sum s (items_of s old) cache after old new
-    → GotItem sum i was now cache after old new (Fault e)
-refused_get sum i was now s cache after old new e is then gives stood leaves =
-    subst (λ (o : Option ItemsState). GotItem sum i o now cache after old new (Fault e)) (sym is)
-    (subst (λ (o : Option ItemsState). GotItem sum i (Some s) o cache after old new (Fault e)) (sym then) (record { stands = stood; leaves = nothing_more sum s cache after old new leaves; sizes = (refl, refl); says = (refl, gives) }))
-
--- a sync
-pub did_sync : (sum : List ℕ → ℕ) (was now : Option ItemsState) (s t : ItemsState) (cache after : CacheState) (old new : Life) → was ≡ Some s → now ≡ Some t → AreSynced sum s after old new t → ItemsCallLeaves sum s (items_of s old) cache after old new → SyncedItems sum was now cache after old new Done
-did_sync sum was now s t cache after old new is then synced leaves =
-    subst (λ (o : Option ItemsState). SyncedItems sum o now cache after old new Done) (sym is)
-    (subst (λ (o : Option ItemsState). SyncedItems sum (Some s) o cache after old new Done) (sym then) (record { stands = synced.goes.stand; leaves = nothing_more sum s cache after old new leaves; sizes = (synced.goes.same.page_size, synced.goes.size); says = (t, refl, synced) }))
-
-pub refused_sync : (sum : List ℕ → ℕ) (was now : Option ItemsState) (s : ItemsState) (cache after : CacheState) (old new : Life) (e : Error) → was ≡ Some s → now ≡ None → CallCause s.writer.sync old new e → ItemsCallLeaves sum s (items_of s old) cache after old new → SyncedItems sum was now cache after old new (Fault e)
-refused_sync sum was now s cache after old new e is then cause leaves =
-    subst (λ (o : Option ItemsState). SyncedItems sum o now cache after old new (Fault e)) (sym is)
-    (subst (λ (o : Option ItemsState). SyncedItems sum (Some s) o cache after old new (Fault e)) (sym then) (record { stands = leaves.fresh; leaves = nothing_more sum s cache after old new leaves; sizes = tt; says = (refl, cause) }))
 
 -- a question for the number of items
 pub did_len : (sum : List ℕ → ℕ) (was : Option ItemsState) (cache : CacheState) (life : Life) (reply : ItemReply) → IsOpenSession sum was cache life → TellsLength was reply → DidItem sum Len was was cache cache life life reply

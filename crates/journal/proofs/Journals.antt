@@ -53,12 +53,6 @@ keeps_committed sum own P old new keeps = λ content n commits.
     (λ d kept. record { floor = commits.floor; within = commits.within; kept = kept; there = commits.there })
     (keeps content commits.floor commits.within commits.kept)
 
--- one call after another
-pub floors_join : (sum : List ℕ → ℕ) (P : ℕ) (old mid new : Life) → KeepsAllFloors sum P old mid → KeepsAllFloors sum P mid new → KeepsAllFloors sum P old new
-floors_join sum P old mid new first second = λ content floor enough kept.
-    let begun = first content floor enough kept in
-    through_joins (AllKeep sum P content floor) old mid new begun (second content floor enough (through_end (AllKeep sum P content floor) old mid begun))
-
 -- a text that is a beginning of a content has the first of its records
 text_prefix : (own : List ℕ → ℕ) (read content : List ℕ) → read ≡ take (length read) content → IsPrefix (records own read) (records own content)
 text_prefix own read content is = subst (λ (l : List ℕ). IsPrefix (records own l) (records own content)) (sym is) (records-take own (length read) content)

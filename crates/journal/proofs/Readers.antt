@@ -427,11 +427,6 @@ pub next_none : (own : List ℕ → ℕ) (held : List ℕ) (from offset : ℕ) �
 next_none own held from offset so_far end =
     record { goes = so_far; ends = λ none. ap (λ (l : List ℕ). records own l) (drop_all offset held end) ∙ records-none own }
 
--- the frame that was found is it
-pub next_some : (own : List ℕ → ℕ) (held : List ℕ) (from offset : ℕ) (bytes : Option (List ℕ)) (end : ℕ) → records own (drop from held) ≡ records own (drop offset held)
-    → IsFound own held offset bytes end → (bytes ≡ None → ⊥) → IsNext own held from bytes end
-next_some own held from offset bytes end so_far found some = record { goes = so_far ∙ found.rest; ends = λ none. absurd (some none) }
-
 -- it is no record, and is passed over
 pub next_later : (own : List ℕ → ℕ) (held : List ℕ) (from offset : ℕ) (bytes : Option (List ℕ)) (end : ℕ) → records own (drop from held) ≡ records own (drop offset held)
     → IsFound own held offset bytes end → bytes ≡ None → records own (drop from held) ≡ records own (drop end held)

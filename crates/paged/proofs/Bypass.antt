@@ -177,11 +177,6 @@ module _ (P fill end : ℕ) (bytes : List ℕ) (some : 0 < P) (enough : fill + P
     short = omega (arith, length-drop end bytes, is, cut_short);
   }
 
--- the same, of bytes that are these
-pub cut_same : (P fill : ℕ) (bytes first whole rest as_first as_whole as_rest : List ℕ) → as_first ≡ first → as_whole ≡ whole → as_rest ≡ rest → IsCut P fill bytes first whole rest → IsCut P fill bytes as_first as_whole as_rest
-cut_same P fill bytes first whole rest as_first as_whole as_rest one two three cut =
-    subst (λ l. IsCut P fill bytes l as_whole as_rest) (sym one) (subst (λ l. IsCut P fill bytes first l as_rest) (sym two) (subst (λ l. IsCut P fill bytes first whole l) (sym three) cut))
-
 -- what is too big has a page after what fills the tip
 pub big_enough : (w : WriterState) (more : ℕ) → goes_direct w more ≡ true → fill_of w + w.page_size ≤ more
 big_enough w more big = grind (arith, nat_tests, big)

@@ -26,8 +26,7 @@ use Rattle.paged.specs.Calls.{CarriesOn, Settles, waited_writer, TryAppendGoes}
 use Rattle.disk.specs.declared.error.Error.TheVariants.{OffsetOverflow, OutOfMemory, ReadFailed, WriteFailed, ResizeFailed, SyncFailed, InvalidChecksum, BlobInsufficientLength, IdsExhausted}
 use Rattle.paged.specs.Flush.{carried, synced, with_value, full_in}
 use Rattle.paged.specs.Direct.{IsDirect, buffering}
-use Rattle.paged.specs.Caches.{PutsUpTo, CachesTo, Caches, ReadsOn, KeepsReads, tail_of}
-use Rattle.paged_read.specs.Tail.{CanRead}
+use Rattle.paged.specs.Caches.{PutsUpTo, CachesTo, Caches, ReadsOn, KeepsReads}
 
 -- nothing is put
 pub puts_nothing : (id from P : ℕ) (bytes : List ℕ) (cache : CacheState)
@@ -56,13 +55,6 @@ pub refused_after : {A : Type 0} (Q : Error → Type 0) (w now : WriterState) (b
 refused_after {A} Q w now bytes cache after to result is puts =
     let p = err_from_is_err_and {Q = Q} result is in
     subst (λ (r : Result A Error). CachesTo w now bytes cache after r) (sym p.1) (to, puts)
-
--- an answer's kind alone decides
-pub same_answer : {A B : Type 0} (w now later : WriterState) (bytes : List ℕ)
-    (cache after : CacheState) (a : A) (b : B) → now.full_pages ≡ later.full_pages
-    → CachesTo w now bytes cache after (Ok a) → CachesTo w later bytes cache after (Ok b)
-same_answer w now later bytes cache after a b same puts =
-    subst (λ (to : ℕ). PutsUpTo w.id w.full_pages w.page_size bytes to cache after) same puts
 
 -- whether the call is refused afterwards or not
 pub put_either : {A : Type 0} (w now : WriterState) (bytes : List ℕ) (cache after : CacheState)
@@ -551,14 +543,3 @@ tried_reads w now bytes (Err SyncFailed) x = elim x [ ]
 tried_reads w now bytes (Err InvalidChecksum) x = elim x [ ]
 tried_reads w now bytes (Err BlobInsufficientLength) x = elim x [ ]
 tried_reads w now bytes (Err IdsExhausted) x = elim x [ ]
-
--- reads go on over a blob whose bytes stay
-pub reads_stay : (w now : WriterState) (cache : CacheState) (old new : Life)
-    → now ≡ waited_writer w → new.present.readable ≡ old.present.readable → ReadsOn w now cache cache old new
-reads_stay w now cache old new is same can =
-    subst (λ (v : WriterState). CanRead (tail_of v) cache new.present) (sym is) (record {
-      there = subst (λ (r : List ℕ). w.full_pages * (w.page_size + 12) ≤ length r) (sym same) can.there;
-      page_size = can.page_size;
-      given = can.given;
-      cached = subst (λ (r : List ℕ). IsTrueFor w.id (stored w.page_size w.full_pages r ++ w.tip) w.full_pages cache) (sym same) can.cached;
-    })

@@ -9,7 +9,7 @@ use Rattle.disk.specs.declared.error.Error.{Error}
 use Rattle.disk.specs.declared.error.Error.TheVariants.{OffsetOverflow, SyncFailed}
 use Rattle.writer_state.specs.WriterState.{WriterState, after_write}
 use Rattle.writer_state.specs.declared.sync_state.SyncState.{SyncState}
-use Rattle.writer_state.specs.declared.sync_state.SyncState.TheVariants.{Clean, Dirty, Pending}
+use Rattle.writer_state.specs.declared.sync_state.SyncState.TheVariants.{Dirty, Pending}
 use Rattle.writer_state.specs.Sound.{IsConsistent, IsIntact, IsSound, CanWrite, content, guard_slot, MayFlush}
 use Rattle.crash.specs.Started.{AllSettled}
 use Rattle.crash.specs.Stays.{StaysThrough}
@@ -20,7 +20,7 @@ use Rattle.writer_state.proofs.Soundness.{carry_consistent, consistent_leaves, i
 use Rattle.writer_state.proofs.CallLaws.{sync_stays, sync_consistent, sync_content, write_stays, write_consistent, durable_write_consistent, write_content, write_intact}
 use Rattle.disk.proofs.Logs.{grows_same, grows_once, grows_joins}
 use Rattle.paged.proofs.Flushing.{length-rest}
-use Rattle.paged.proofs.Causes.{write_cause, sync_cause, cause_later, sync_asks, write_grows, sync_grows}
+use Rattle.paged.proofs.Causes.{write_cause, sync_cause, cause_later, write_grows, sync_grows}
 use Rattle.paged.specs.Flush.{full_in, rest_of, has_work, carried, synced, written, offset_of, flush_bytes, with_value}
 use Rattle.paged.specs.Calls.{AsksAtMost, settle_calls, sync_calls, HoldsWithin, PendingSyncFailed, CallCause, IsSameWriter, CarriesOn, Fails, Flushes, SyncsOver, Settles, IsSettled, IsWritten, WaitsForNone}
 
@@ -147,10 +147,6 @@ unfolding IsConsistent
 settle_goes sum w now old new (Ok done) small sound goes state = (settle_ok sum w now old new small sound goes state, state)
 settle_goes sum w now old new (Err e) small sound goes state = record { cause = sync_cause w.sync old new e goes; stays = sync_stays sum w old sound new (Err e) goes; log = sync_grows old new (Err e) goes }
 
--- a clean writer has nothing to settle
-pub settled_already : (sum : List ℕ → ℕ) (w : WriterState) (life : Life) → IsConsistent sum w life.present → w.sync ≡ Clean → Settles sum w life life (Ok w)
-settled_already sum w life sound clean = (goes_on_same sum w life sound, ap (λ s. record w { sync = s }) clean)
-
 -- what is left after the full pages is written as it is, or there is nothing left
 pub settled_after : (sum : List ℕ → ℕ) (w : WriterState) (rest : Bool) → 0 < w.page_size → rest ≡ not (length w.tip % w.page_size == 0) → IsSettled (synced (after_write sum w (full_in w) rest))
 settled_after sum w false some is = record {
@@ -212,12 +208,6 @@ dirty_carried w dirty = subst (λ (s : SyncState). MayFlush s w.flushed w.durabl
 pub ready_settled : (sum : List ℕ → ℕ) (w : WriterState) (d : Disk) → IsConsistent sum w d → MayFlush w.sync w.flushed (guard_slot w.sync w.flushed w.durable) → AllSettled d
 unfolding IsConsistent
 ready_settled sum w d sound ready = flush_settled d w.sync w.flushed (guard_slot w.sync w.flushed w.durable) ready sound.stands.starts
-
--- so is that of a writer that waits for none, once it was carried
-pub may_flush_carried : (w : WriterState) (s : SyncState) → s ≡ w.sync → WaitsForNone s → MayFlush w.sync w.flushed (guard_slot w.sync w.flushed w.durable)
-may_flush_carried w Clean is none = subst (λ (s : SyncState). MayFlush s w.flushed (guard_slot s w.flushed w.durable)) is refl
-may_flush_carried w Dirty is none = subst (λ (s : SyncState). MayFlush s w.flushed (guard_slot s w.flushed w.durable)) is tt
-may_flush_carried w (Pending name) is none = absurd none
 
 -- a writer that waits for none and isn't clean is dirty
 pub dirty_state : (w : WriterState) (s : SyncState) → s ≡ w.sync → WaitsForNone w.sync → (s ≡ Dirty) ⊎ ((name : ℕ) × (s ≡ Pending name)) → w.sync ≡ Dirty
@@ -295,20 +285,10 @@ pub flush_dirty : (sum : List ℕ → ℕ) (v now : WriterState) (rest : Bool) (
 flush_dirty sum v now rest (Ok done) state = ap (λ (w : WriterState). w.sync) state
 flush_dirty sum v now rest (Err e) state = tt
 
--- so what is buffered is within the capacity
-pub short_within : {A : Type 0} (state : A → WriterState) (P capacity : ℕ) (result : Result A Error) → P ≤ capacity → IfOk result (λ a. length (state a).tip < P) → IfOk result (λ a. (state a).capacity ≡ capacity)
-    → IfOk result (λ a. HoldsWithin (state a))
-short_within state P capacity (Ok a) room short same = omega (arith, room, short, same)
-short_within state P capacity (Err e) room short same = tt
-
 -- less than a page is buffered after a sync
 pub sync_within : (sum : List ℕ → ℕ) (w : WriterState) (old new : Life) (result : Result WriterState Error) → w.page_size ≤ w.capacity → SyncsOver sum w old new result → IfOk result (λ now. HoldsWithin now)
 sync_within sum w old new (Ok now) room syncs = omega (arith, syncs.1.short, syncs.0.same.page_size, syncs.0.same.capacity, room)
 sync_within sum w old new (Err e) room syncs = tt
-
--- what is written is made durable in one call, or none
-pub settle_asks : (w : WriterState) (old new : Life) (result : Result (Unit {0}) Error) → w.sync ≡ Dirty → SyncGoes old new result → AsksAtMost (settle_calls w.sync) old new
-settle_asks w old new result dirty goes = omega (arith, sync_asks old new result goes, ap settle_calls dirty)
 
 -- a sync that writes and syncs, in two
 pub sync_asks_twice : (w : WriterState) (old mid new : Life) → has_work w true ≡ true → w.sync ≡ Dirty → AsksAtMost 1 old mid → AsksAtMost 1 mid new → AsksAtMost (sync_calls w) old new
@@ -321,10 +301,6 @@ pub sync_asks_once : (w : WriterState) (old new : Life) → has_work w true ≡ 
 sync_asks_once w old new work first =
     let write : (if has_work w true then 1 else 0) ≡ 1 = ap {B = ℕ} (λ b. if b then 1 else 0) work in
     omega (arith, first, write)
-
--- where something is unsynced a call is due
-pub settle_due : (w : WriterState) → w.sync ≡ Dirty → settle_calls w.sync ≡ 0 → ⊥
-settle_due w dirty none = omega (arith, ap settle_calls dirty, none)
 
 -- and where something isn't written
 pub sync_due : (w : WriterState) → has_work w true ≡ true → sync_calls w ≡ 0 → ⊥

@@ -80,17 +80,6 @@ copied_next sum durable pages i page footer_more out between next first below is
     ∙ ap (λ bytes. out ++ bytes) (sym (at_drop_more (λ ps. with_footers ps (footers_of sum durable ps)) pages i page below))
     ∙ before
 
--- one footer more
-pub footers_next : (sum : List ℕ → ℕ) (durable : Option ActiveChecksum) (pages : List (List ℕ)) (i : ℕ) (page footer_more out next first : List ℕ) → i < length pages → page ≡ get_or pages i page
-    → footer_more ≡ footer (kept_slot durable) (kept_bytes durable) (slot_bytes (length page) (sum page)) → next ≡ out ++ footer_more
-    → out ++ footers_of sum durable (drop i pages) ≡ first → next ++ footers_of sum None (drop (i + 1) pages) ≡ first
-footers_next sum durable pages i page footer_more out next first below is more joined before =
-    ap (λ bytes. bytes ++ footers_of sum None (drop (i + 1) pages)) (joined ∙ ap (λ bytes. out ++ bytes) more)
-    ∙ append_assoc out (footer (kept_slot durable) (kept_bytes durable) (slot_bytes (length page) (sum page))) (footers_of sum None (drop (i + 1) pages))
-    ∙ ap (λ p. out ++ (footer (kept_slot durable) (kept_bytes durable) (slot_bytes (length p) (sum p)) ++ footers_of sum None (drop (i + 1) pages))) is
-    ∙ ap (λ bytes. out ++ bytes) (sym (at_drop_more (footers_of sum durable) pages i page below))
-    ∙ before
-
 -- one page more, with its footer
 pub with_next : (page footer_more out between next : List ℕ) (pages : List (List ℕ)) (at : ℕ) (footers first : List ℕ) → footer_more ≡ slice_range footers at (at + 12) → between ≡ out ++ page → next ≡ between ++ footer_more
     → out ++ with_footers (page ∷ pages) (drop at footers) ≡ first → next ++ with_footers pages (drop (at + 12) footers) ≡ first

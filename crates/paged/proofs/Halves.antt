@@ -1,22 +1,16 @@
 -- The two halves of the promise, read off what each moment of a call owes.
-use Rattle.std.proofs.Common.{◌≡◌, ℕ, ◌≤◌, arith, List, [], ◌++◌, sym, ◌∙◌, subst, append-nil, Ok, Err, Result, length, take, length-take}
-use Rattle.std.proofs.lemmas.List.{take-take}
-use Rattle.std.specs.Prelude.{OnOk, IfOk}
+use Rattle.std.proofs.Common.{◌≡◌, ℕ, List, ◌++◌, sym, ◌∙◌, subst, append-nil, Ok, Err, Result}
+use Rattle.std.specs.Prelude.{OnOk}
 use Rattle.disk.specs.Disk.{Life}
 use Rattle.disk.specs.declared.error.Error.{Error}
 use Rattle.disk.specs.declared.error.Error.TheVariants.{ReadFailed, WriteFailed, ResizeFailed, SyncFailed, InvalidChecksum, BlobInsufficientLength, OffsetOverflow, OutOfMemory, IdsExhausted}
 use Rattle.writer_state.specs.WriterState.{WriterState}
 use Rattle.writer_state.specs.Sound.{IsConsistent, IsSound, Soundness, content}
 use Rattle.crash.specs.Stays.{StaysThrough, KeepsAll, KeepsFloors, LeavesOnly, KeepsAllFloors}
-use Rattle.crash.specs.Kept.{AllKeep, Through}
-use Rattle.crash.specs.Moments.{through_then}
 use Rattle.writer_state.proofs.FloorLaws.{floors_of_sound}
 use Rattle.crash.proofs.Moments.{kept_through, only_through}
-use Rattle.crash.proofs.Promise.{keeps_same}
 use Rattle.writer_state.proofs.Soundness.{consistent_of, settle_keeps}
-use Rattle.disk.specs.declared.started_sync.StartedSync.{StartedSync}
-use Rattle.paged.specs.Calls.{Succeeds, Syncs, Appends, StartsSync, WaitsForSync, HoldsWithin}
-use Rattle.paged.specs.Truncate.{KeepsFloorsWithin}
+use Rattle.paged.specs.Calls.{Syncs, Appends}
 use Rattle.paged.proofs.Appends.{append_unasked}
 
 -- whatever a sync answers
@@ -59,29 +53,3 @@ leaves_only sum P content old new stays = only_through sum P content content old
 -- and a sync does
 pub sync_keeps : (sum : List ℕ → ℕ) (w : WriterState) (old new : Life) (result : Result WriterState Error) → IsSound sum w old.present → Syncs sum w old new result → KeepsAllFloors sum w.page_size old new
 sync_keeps sum w old new result sound syncs = floors_of_sound sum w old new sound (keeps_floors sum w.page_size (content w old.present.readable) old new (syncs_stay sum w old new result syncs))
-
--- so do a start and a wait
-pub goes_stay : (sum : List ℕ → ℕ) (w now : WriterState) (old new : Life) → Succeeds sum w old [] now new → StaysThrough sum w.page_size (content w old.present.readable) old new
-goes_stay sum w now old new goes = subst (λ c. StaysThrough sum w.page_size c old new) (append-nil (content w old.present.readable)) goes.stays
-
-pub starts_stay : (sum : List ℕ → ℕ) (w : WriterState) (old new : Life) (result : Result (WriterState × StartedSync) Error) → StartsSync sum w old new result → StaysThrough sum w.page_size (content w old.present.readable) old new
-starts_stay sum w old new (Ok r) (goes, written, state, covered) = goes_stay sum w r.0 old new goes
-starts_stay sum w old new (Err e) refused = refused.stays
-
-pub waits_stay : (sum : List ℕ → ℕ) (w : WriterState) (old new : Life) (result : Result WriterState Error) → WaitsForSync sum w old new result → StaysThrough sum w.page_size (content w old.present.readable) old new
-waits_stay sum w old new (Ok now) (goes, is) = goes_stay sum w now old new goes
-waits_stay sum w old new (Err e) refused = refused.stays
-
--- less than a page is buffered after a start
-pub start_within : (sum : List ℕ → ℕ) (w : WriterState) (old new : Life) (result : Result (WriterState × StartedSync) Error) → w.page_size ≤ w.capacity → StartsSync sum w old new result → IfOk result (λ r. HoldsWithin r.0)
-start_within sum w old new (Ok r) room (goes, written, state, covered) = omega (arith, written.short, goes.same.page_size, goes.same.capacity, room)
-start_within sum w old new (Err e) room refused = tt
-
--- floors within the first n bytes of any content are kept from mid on
-pub within_kept : (sum : List ℕ → ℕ) (P n : ℕ) (content : List ℕ) (floor : ℕ) (mid new : Life) → floor ≤ n → floor ≤ length content → KeepsFloorsWithin n sum P mid new
-    → AllKeep sum P content floor mid.present → Through (AllKeep sum P content floor) mid new
-within_kept sum P n content floor mid new le within keeps kept =
-    let same : take floor (take n content) ≡ take floor content = take-take floor n content le in
-    through_then (AllKeep sum P (take n content) floor) (AllKeep sum P content floor) mid new
-    (λ d. keeps_same sum P (take n content) content floor d same)
-    (keeps content floor (omega (arith, le, within, length-take n content)) (keeps_same sum P content (take n content) floor mid.present (sym same) kept))

@@ -1,9 +1,9 @@
 -- A slot that tells the first bytes of the tip's page.
-use Rattle.std.proofs.Common.{◌≡◌, ℕ, zero, suc, ◌*◌, ◌<◌, ◌≤◌, List, [], ◌∷◌, length, take, drop, get_or, refl, sym, ap, ◌∙◌, subst, arith, length-take, length-append}
+use Rattle.std.proofs.Common.{◌≡◌, ℕ, zero, suc, ◌*◌, ◌<◌, ◌≤◌, List, [], ◌∷◌, length, take, drop, refl, sym, ap, ◌∙◌, subst, arith, length-take, length-append}
 use Rattle.std.specs.Prelude.{Option, None, Some}
 use Rattle.std.specs.List.{concat}
 use Rattle.std.proofs.Math.Nat.{zero-mul}
-use Rattle.std.proofs.lemmas.List.{take-take, take_at, take_all, drop_more}
+use Rattle.std.proofs.lemmas.List.{take-take, take_at, take_all}
 use Rattle.std.proofs.lemmas.List.Elements.{All-head}
 use Rattle.disk.specs.Disk.{Disk}
 use Rattle.page.specs.Tip.{ArePages}
@@ -18,13 +18,6 @@ use Rattle.paged.proofs.Flushing.{short_drained}
 pub tells_none : (sum : List ℕ → ℕ) (pages : List (List ℕ)) → TellsFirstPage sum None pages
 tells_none sum [] = tt
 tells_none sum (page ∷ pages) = tt
-
--- the first of the pages that are left
-pub tells_next : (sum : List ℕ → ℕ) (slot : Option ActiveChecksum) (pages : List (List ℕ)) (i : ℕ) (page : List ℕ)
-    → i < length pages → page ≡ get_or pages i page → TellsFirstPage sum slot (drop i pages) → TellsFirst sum slot page
-tells_next sum slot pages i page below is tells =
-    subst (λ (p : List ℕ). TellsFirst sum slot p) (sym is)
-    (subst (λ (left : List (List ℕ)). TellsFirstPage sum slot left) (drop_more pages i page below) tells)
 
 -- of a sound writer's tip the slot that was written last
 tip_tells : (sum : List ℕ → ℕ) (P full : ℕ) (tip readable : List ℕ) (flushed : Option ActiveChecksum) → TipPage sum P full tip readable flushed

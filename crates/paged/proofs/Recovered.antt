@@ -95,10 +95,6 @@ module _ (sum : List ℕ → ℕ) (cache : CacheState) (capacity : ℕ) (old mid
   pub opened_length : length mid.present.readable ≡ opened_size sum cache.page_size old.present.readable
   opened_length = ap length opened_readable ∙ length-opened sum cache.page_size old.present.readable
 
-  -- where the writer is clean, so is the blob
-  pub opened_durable : w.sync ≡ Clean → IsDurable mid.present
-  opened_durable is = kept_durable old mid (opened_bytes sum cache.page_size old.present.readable) opened.sync opened.kept (sym (ap (λ (x : WriterState). x.sync) opened.state) ∙ is)
-
   -- the same numbers as a program has them
   pub counted_length : (count page_size : ℕ) → page_size ≡ cache.page_size → count ≡ w.full_pages + slot_pages w.flushed → length mid.present.readable ≡ count * (page_size + 12)
   counted_length count page_size same counted =

@@ -67,17 +67,6 @@ look_refused reach len a old new OffsetOverflow looks = absurd looks
 look_refused reach len a old new OutOfMemory looks = looks
 look_refused reach len a old new IdsExhausted looks = looks
 
-pub scan_refused : (reach len other : ℕ) (old new : Life) (e : Error) → ScanAnswers reach len old new (Err e) → ScanAnswers reach other old new (Err e)
-scan_refused reach len other old new ReadFailed scans = scans
-scan_refused reach len other old new WriteFailed scans = scans
-scan_refused reach len other old new ResizeFailed scans = scans
-scan_refused reach len other old new SyncFailed scans = scans
-scan_refused reach len other old new InvalidChecksum scans = scans
-scan_refused reach len other old new BlobInsufficientLength scans = scans
-scan_refused reach len other old new OffsetOverflow scans = scans
-scan_refused reach len other old new OutOfMemory scans = scans
-scan_refused reach len other old new IdsExhausted scans = scans
-
 -- it only looks
 pub scan_looks : (reach len : ℕ) (old new : Life) (result : Result ℕ Error) → ScanAnswers reach len old new result → Looked old new
 scan_looks reach len old new (Ok n) scans = scans.1

@@ -9,9 +9,8 @@ use Rattle.cache.specs.CacheState.{CacheState}
 use Rattle.writer_state.specs.WriterState.{WriterState}
 use Rattle.writer_state.specs.declared.sync_state.SyncState.{SyncState}
 use Rattle.writer_state.specs.declared.sync_state.SyncState.TheVariants.{Clean, Dirty, Pending}
-use Rattle.writer_state.specs.Sound.{IsIntact, IsSound, content}
-use Rattle.crash.specs.Stays.{StaysThrough, KeepsAllFloors, LeavesOnly}
-use Rattle.writer_state.proofs.FloorLaws.{floors_of_sound}
+use Rattle.writer_state.specs.Sound.{IsIntact, content}
+use Rattle.crash.specs.Stays.{StaysThrough}
 use Rattle.paged_read.specs.Tail.{Tail, CanRead}
 use Rattle.paged_read.specs.Replay.{CanReplay, IsReplayOf, new_replay, ReplayState}
 use Rattle.paged_read.specs.Snapshots.{IsTailOf, SnapshotReads}
@@ -21,7 +20,6 @@ use Rattle.paged.specs.Calls.{CarriesOn, waited_writer, waited_state, wait_calls
 use Rattle.paged.specs.Flush.{has_work}
 use Rattle.paged.specs.Replays.{ReplaysOver}
 use Rattle.paged.specs.Snapshots.{answer_of_seal, SnapshotsOver, seal_calls}
-use Rattle.paged.proofs.Halves.{keeps_floors, leaves_only}
 use Rattle.paged.proofs.Over.{goes_stay}
 use Rattle.paged.proofs.There.{consistent_has_pages}
 use Rattle.paged.proofs.Waits.{wait_readable}
@@ -64,22 +62,6 @@ pub make_stays : (sum : List ℕ → ℕ) (w : WriterState) (old new : Life)
 make_stays sum w old new (Ok r) (goes, short, is) = goes_stay sum w r.0 old new goes
 make_stays sum w old new (Err e) refused = refused.stays
 
-module _ (sum : List ℕ → ℕ) (w : WriterState) (old new : Life)
-    (sound : IsSound sum w old.present) where
-  pub make_keeps : (result : Result (WriterState × Tail) Error) → SnapshotsOver sum w old new result
-      → KeepsAllFloors sum w.page_size old new
-  make_keeps result makes =
-      floors_of_sound sum w old new sound
-      (keeps_floors sum w.page_size (content w old.present.readable) old new
-      (make_stays sum w old new result makes))
-
-  pub make_leaves : (result : Result (WriterState × Tail) Error) → SnapshotsOver sum w old new result
-      → LeavesOnly sum w.page_size (content w old.present.readable)
-      (content w old.present.readable) old new
-  make_leaves result makes =
-      leaves_only sum w.page_size (content w old.present.readable) old new
-      (make_stays sum w old new result makes)
-
 -- ---- a replay that begins
 
 pub begin_stays : (sum : List ℕ → ℕ) (w : WriterState) (size : ℕ) (old new : Life)
@@ -87,23 +69,6 @@ pub begin_stays : (sum : List ℕ → ℕ) (w : WriterState) (size : ℕ) (old n
     → StaysThrough sum w.page_size (content w old.present.readable) old new
 begin_stays sum w size old new (Ok r) begins = goes_stay sum w r.0 old new begins.0
 begin_stays sum w size old new (Err e) refused = refused.stays
-
-module _ (sum : List ℕ → ℕ) (w : WriterState) (size : ℕ) (old new : Life)
-    (sound : IsSound sum w old.present) where
-  pub begin_keeps : (result : Result (WriterState × ReplayState) Error)
-      → ReplaysOver sum w size old new result → KeepsAllFloors sum w.page_size old new
-  begin_keeps result begins =
-      floors_of_sound sum w old new sound
-      (keeps_floors sum w.page_size (content w old.present.readable) old new
-      (begin_stays sum w size old new result begins))
-
-  pub begin_leaves : (result : Result (WriterState × ReplayState) Error)
-      → ReplaysOver sum w size old new result
-      → LeavesOnly sum w.page_size (content w old.present.readable)
-      (content w old.present.readable) old new
-  begin_leaves result begins =
-      leaves_only sum w.page_size (content w old.present.readable) old new
-      (begin_stays sum w size old new result begins)
 
 -- the pages that it is of are there
 pub begun_can : (sum : List ℕ → ℕ) (w now : WriterState) (size : ℕ) (r : ReplayState)

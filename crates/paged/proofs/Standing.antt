@@ -17,9 +17,9 @@ use Rattle.writer_state.proofs.FlushLaws.{rest_settled, exact_content, page_cont
 use Rattle.writer_state.proofs.Soundness.{exact_sound, page_sound}
 use Rattle.paged_read.specs.declared.prefix.Prefix.{Prefix}
 use Rattle.paged_read.specs.Ranges.{page_at}
-use Rattle.paged_read.specs.Prefix.{prefix_of, prefix_pages, partial_pages, HasBytes}
+use Rattle.paged_read.specs.Prefix.{partial_pages, HasBytes}
 use Rattle.paged.specs.Recovery.{IsDurable, at_prefix}
-use Rattle.paged.proofs.Firsts.{After, IsFirst, prefix_is}
+use Rattle.paged.proofs.Firsts.{After}
 
 module _ (sum : List ℕ → ℕ) (P : ℕ) (bytes readable : List ℕ) (full : ℕ) (v : List ℕ × ActiveChecksum) (after : After sum P (pages P bytes) full (Some v)) where
   -- the page after some pages, where what is readable ends with it
@@ -105,9 +105,3 @@ module _ (sum : List ℕ → ℕ) (small_sum : IsSmall sum) (P id capacity : ℕ
       let e : full + 0 ≡ full = omega arith in
       stands_none full (omega (arith, within)) are after (cut ∙ ap (λ (n : ℕ). take (n * (P + 12)) bytes) e)
   stands_after full (Some v) within are after has cut good = stands_some full v are after has cut good
-
-  -- after the prefix of the bytes' pages, which is all that the blob has
-  pub stands_first : (p : Prefix) → p ≡ prefix_of sum P (pages P bytes) → HasBytes P p.full_pages bytes p.partial → d.readable ≡ take (prefix_pages p * (P + 12)) bytes → PageIsGood sum P p.full_pages d.readable → StandsFor p
-  stands_first p is has cut good =
-      let first : IsFirst sum P (pages P bytes) p = subst (λ (q : Prefix). IsFirst sum P (pages P bytes) q) (sym is) (prefix_is sum P (pages P bytes)) in
-      stands_after p.full_pages p.partial first.within first.full first.after has cut good

@@ -4,7 +4,7 @@ use Rattle.std.proofs.Math.Nat.{mul-le-mul_right, suc-mul}
 use Rattle.std.proofs.lemmas.List.{take-take, length-take-le}
 use borrow.Rule.Slice.PartMut.{put_mid, post_of, Post-is}
 use Rattle.disk.specs.Disk.{Life}
-use Rattle.crash.specs.Looks.{Looked, looked_start, looked_joins}
+use Rattle.crash.specs.Looks.{Looked, looked_start}
 use Rattle.crash.specs.Contents.{stored}
 use Rattle.crash.proofs.LookLaws.{looked_readable}
 use Rattle.crash.proofs.Lists.{within_append, drop_past}
@@ -12,7 +12,7 @@ use Rattle.crash.proofs.Pages.{stored_within, length-stored}
 use Rattle.cache.specs.CacheState.{CacheState, Puts, put_at}
 use Rattle.cache.specs.declared.piece.Piece.{Piece}
 use Rattle.cache.specs.Pages.{page_of_content, CachesOnly, IsTrueFor}
-use Rattle.cache.proofs.CacheLaws.{put_weakly, caches_none, caches_put, caches_join, read_true, fresh_stays}
+use Rattle.cache.proofs.CacheLaws.{put_weakly, caches_none, caches_put, read_true, fresh_stays}
 use Rattle.paged_read.specs.Tail.{Tail, logical_bytes, tail_size, CanRead}
 use Rattle.paged_read.specs.Ranges.{LeavesAll, page_at}
 use Rattle.paged_read.specs.Parts.{IsPieceOf, with_told}
@@ -88,15 +88,6 @@ leaves_put t cache after old new page bytes can looked below is puts =
     let same : t.full_pages * cache.page_size ≡ t.full_pages * t.page_size = ap (λ P. t.full_pages * P) size in
     let page_is : bytes ≡ page_of_content cache.page_size content page = is ∙ payload_told t old.present.readable can.there page below ∙ ap (λ P. page_of_content P content page) (sym size) in
     leaves_of t cache after old new can looked (caches_put t.id 0 page content bytes cache after (omega arith) (omega (arith, all, more, same)) page_is (put_weakly (t.id, page) bytes cache after puts))
-
--- one call after another
-pub leaves_joins : (t : Tail) (cache between after : CacheState) (old mid new : Life) → LeavesAll t cache between old mid → LeavesAll t between after mid new → LeavesAll t cache after old new
-leaves_joins t cache between after old mid new first second = record {
-  looked = looked_joins old mid new first.looked second.looked;
-  cached = caches_join t.id 0 (logical_bytes t old.present.readable) cache between after first.cached (subst (λ (content : List ℕ). CachesOnly t.id 0 content between after) (told_later t old mid first.looked) second.cached);
-  can = second.can;
-  fresh = λ fresh. second.fresh (first.fresh fresh);
-}
 
 -- ---- a piece of a page that was read
 

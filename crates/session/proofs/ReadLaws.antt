@@ -1,11 +1,11 @@
 -- What the steps that read other than all of a range do.
 use Rattle.std.proofs.Common.{◌≡◌, ◌⊎◌, ℕ, ◌+◌, ◌-◌, ◌*◌, ◌<◌, ◌≤◌, List, [], length, take, drop, min, refl, sym, ap, ◌∙◌, subst, arith, inl, inr, Bool, true, false, Err, lit<}
-use Rattle.std.specs.Prelude.{Option, Some, None, IfSome, nat_le, nat_eq, if◌then◌else◌}
+use Rattle.std.specs.Prelude.{Option, Some, None, nat_le, nat_eq, if◌then◌else◌}
 use Rattle.std.proofs.lemmas.Bool.Decides.{nat_tests}
 use Rattle.std.specs.List.{Contains}
 use Rattle.std.proofs.lemmas.Bool.{leb-true, and_parts, cases_lt}
 use Rattle.std.proofs.lemmas.List.{take_all, length-drop}
-use Rattle.disk.specs.Disk.{Disk, Life}
+use Rattle.disk.specs.Disk.{Life}
 use Rattle.disk.specs.declared.error.Error.{Error}
 use Rattle.disk.specs.declared.error.Error.TheVariants.{ReadFailed, WriteFailed, ResizeFailed, SyncFailed, InvalidChecksum, BlobInsufficientLength, OffsetOverflow, OutOfMemory, IdsExhausted}
 use Rattle.crash.specs.Kept.{Through}
@@ -218,8 +218,3 @@ try_read_takes sum was cache offset len life reply ready fits goes = by_writer w
     by_writer (Some w) at tried =
         let sound = sound_of sum was w life.present at ready in
         held_takes sum (TryRead offset len) reply was was w (Some w) life life at (same_rest was) at sound ready.starts (try_read_steps sum was w cache offset len life reply sound (can_of was w cache life.present at fits) tried)
-
--- the cache's page size is the writer's
-pub page_size_fits : (o : Option WriterState) (cache : CacheState) (d : Disk) → FitsWriter o cache d → IfSome o (λ w. cache.page_size ≡ w.page_size)
-page_size_fits None cache d fits = tt
-page_size_fits (Some w) cache d fits = fits.page_size

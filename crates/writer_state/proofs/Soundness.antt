@@ -30,7 +30,7 @@ use Rattle.crash.proofs.BuiltLaws.{IsSmall, slot_len_of, slot_crc_of}
 use Rattle.writer_state.proofs.FlushLaws.{tip_reach, flush_reach, pages_written, flush_content, operated_stands, settle_stands, state_stands, fits_alike, starts_alike, alike_content, longer_stands, longer_content, carry_stands, settled_stands, exact_stands, length-content, content_in_page, content_in_tip}
 use Rattle.crash.proofs.Disks.{base_is_whole, fixed_at_rest, operated_base, operated_since, latest_is_whole}
 use Rattle.crash.proofs.PageFacts.{page_begins, slot_at, slot_offset_le, own_beginning}
-use Rattle.crash.proofs.Promise.{keeps_at_rest, keeps_less, keeps_same, guards_at_rest, guards_longer, guards_less, guards_alike, held_alike, held_stays, leaves_page_below, write_leaves_below, part_of_beginning, SaysOnly, truthful_at_rest, truthful_alike, truthful_longer, only_content, whole_is_chance_free}
+use Rattle.crash.proofs.Promise.{keeps_at_rest, keeps_less, keeps_same, guards_at_rest, guards_longer, guards_less, guards_alike, held_alike, part_of_beginning, SaysOnly, truthful_at_rest, truthful_alike, truthful_longer, only_content, whole_is_chance_free}
 use Rattle.crash.proofs.Moments.{stays_itself, stays_alike, stays_settled, stays_guarded}
 use Rattle.crash.proofs.Spared.{flush_keeps_full, held_through_flush, guards_with_tip, truthful_through_flush}
 
@@ -260,18 +260,6 @@ guard_alike sum P content d e full (Some f) base since guard = record {
   there = guard.there;
   held = held_alike sum P d e full f.slot (slot_bytes f.len f.crc) (take f.len (drop (full * P) content)) base since guard.held;
 }
-
--- over a write after its page
-guard_below : (sum : List ℕ → ℕ) (P : ℕ) (content : List ℕ) (d e : Disk) (full offset : ℕ) (written : List ℕ) (tip : Option ActiveChecksum) → e.base ≡ d.base → e.since ≡ d.since ++ Write offset written ∷ [] → (full + 1) * (P + 12) ≤ offset
-    → TipGuard sum P content d full tip → TipGuard sum P content e full tip
-guard_below sum P content d e full offset written None base since after guard = tt
-guard_below sum P content d e full offset written (Some f) base since after guard =
-    let bytes = take f.len (drop (full * P) content) in
-    record {
-      there = guard.there;
-      held = held_stays sum P d e (Write offset written) full f.slot (slot_bytes f.len f.crc) bytes base since
-          (leaves_page_below (Write offset written) P full offset f.slot (slot_bytes f.len f.crc) bytes (write_leaves_below offset written) after refl guard.held.fits) guard.held;
-    }
 
 -- over a flush that repeats it
 guard_repeated : (sum : List ℕ → ℕ) (P : ℕ) (content : List ℕ) (d e : Disk) (full m : ℕ) (rest : List ℕ) (tip : Option ActiveChecksum) → e.base ≡ d.base → e.since ≡ d.since ++ Write (full * (P + 12)) (built sum P tip m rest) ∷ []
@@ -635,10 +623,6 @@ module _ (sum : List ℕ → ℕ) (w : WriterState) (old new : Life) (sound : Co
   -- a call that only reads keeps soundness
   pub looked_consistent : Consistency sum w new.present
   looked_consistent = let same = same_parts old.present new.present looked.same in alike_consistent sum w old.present new.present sound same.0 same.1 same.2 (ap (λ (x : Disk). coverings x) looked.same) (ap (λ (x : Disk). x.settled) looked.same)
-
-  -- and the content
-  pub looked_content : content w new.present.readable ≡ content w old.present.readable
-  looked_content = ap (λ (l : List ℕ). content w l) (same_parts old.present new.present looked.same).0
 
 -- ---- a blob in which no page is damaged
 
