@@ -29,7 +29,7 @@ use Rattle.disk.specs.declared.started_sync.StartedSync.TheVariants.{Named}
 use Rattle.paged.proofs.Snapshotting.{begun_can, begun_gives, made_stands}
 use Rattle.paged.proofs.There.{consistent_has_pages}
 use Rattle.paged.specs.Owes.{Owes}
-use Rattle.paged.specs.Ready.{CanGoOn, IsReady, IsUsable, StaysUsable}
+use Rattle.paged.specs.Ready.{CanGoOn, IsReady, IsUsable, StaysUsable, WaitsUsable}
 use Rattle.paged.specs.Goes.{AppendAnswers, AppendGoes, Holds, IsRefused, IsUnderWay, ReplayGoes, SealGoes, SnapshotGoes, StartSyncGoes, SyncAllGoes, WaitForSyncGoes}
 use Rattle.paged.proofs.Caching.{caches_law, caches_law_same, fresh_law, only_law, reads_after}
 use Rattle.paged.proofs.Covers.{completed}
@@ -76,14 +76,11 @@ usable_after {A} sum writer w more bytes old new cache after a usable is goes pu
 }
 
 -- and ready where it was
-pub stays_usable : {A : Type 0} (sum : List ℕ → ℕ) (writer : A → WriterState) (w : WriterState) (more bytes : List ℕ) (old new : Life) (cache after : CacheState) (a : A)
+pub stays_usable : {A : Type 0} (sum : List ℕ → ℕ) (writer : A → WriterState) (w : WriterState) (more bytes : List ℕ) (old new : Life) (cache after : CacheState) (a : A) → CanGoOn sum w cache old
     → bytes ≡ w.tip ++ more → CarriesOn sum w old more (writer a) new → Caches {A = A} writer w bytes cache after (Ok a) → StaysUsable {A = A} sum writer w cache after old new (Ok a)
-stays_usable {A} sum writer w more bytes old new cache after a is goes puts = (
-  λ ready.
-      let usable = usable_after {A = A} sum writer w more bytes old new cache after a (ready_is_usable sum w cache old ready) is goes puts in
-      record { sound = still_sound sum w (writer a) more old new ready.sound goes; can = usable.can; fresh = usable.fresh },
-  λ usable. usable_after {A = A} sum writer w more bytes old new cache after a usable is goes puts,
-)
+stays_usable {A} sum writer w more bytes old new cache after a asked is goes puts =
+    let usable = usable_after {A = A} sum writer w more bytes old new cache after a (usable_of sum w cache old asked) is goes puts in
+    (λ ready. record { sound = still_sound sum w (writer a) more old new ready.sound goes; can = usable.can; fresh = usable.fresh }, usable)
 
 -- reads of a writer that appended nothing go on
 reads_same : {A : Type 0} (a : A) (sum : List ℕ → ℕ) (w now : WriterState) (cache after : CacheState) (old new : Life) → IsUsable sum w cache old → CarriesOn sum w old [] now new
@@ -268,7 +265,7 @@ usable_waited sum w now cache old new waits usable =
       fresh = usable.fresh;
     }
 
-pub waited_usable : (sum : List ℕ → ℕ) (w now : WriterState) (cache : CacheState) (old new : Life) → WaitsOver sum w old new (Ok now) → StaysUsable {A = WriterState} sum (λ v. v) w cache cache old new (Ok now)
+pub waited_usable : (sum : List ℕ → ℕ) (w now : WriterState) (cache : CacheState) (old new : Life) → WaitsOver sum w old new (Ok now) → WaitsUsable sum w cache old new (Ok now)
 waited_usable sum w now cache old new waits = (
   λ ready.
       let usable = usable_waited sum w now cache old new waits (ready_is_usable sum w cache old ready) in

@@ -22,7 +22,7 @@ ghost use Rattle.cache.specs.CacheState.{CacheState};
 ghost use Rattle.paged.specs.Costs.{StartSyncCosts, WaitForSyncCosts};
 ghost use Rattle.paged.specs.Goes.{StartSyncGoes, WaitForSyncGoes};
 ghost use Rattle.paged.specs.Owes.{Owes, OwesWaiting};
-ghost use Rattle.paged.specs.Ready.{CanGoOn, StaysUsable};
+ghost use Rattle.paged.specs.Ready.{CanGoOn, StaysUsable, WaitsUsable};
 
 use crate::Writer;
 use cache::CacheRef;
@@ -149,8 +149,7 @@ impl<B: Blob, H: Sum, Phase> Writer<B, H, Phase> {
             IsSound H.sum_of self old ⊎ IsConsistent H.sum_of self old }
         ensures goes { WaitForSyncGoes H.sum_of self (B.life blob.old) (B.life blob.new) result }
         ensures ready { let old = B.life blob.old in let new = B.life blob.new in
-            (cache : CacheState)
-            → StaysUsable H.sum_of (λ w. w) self cache cache old new result }
+            (cache : CacheState) → WaitsUsable H.sum_of self cache old new result }
         ensures owes { OwesWaiting H.sum_of self (B.life blob.old) (B.life blob.new) }
         ensures costs { WaitForSyncCosts self (B.life blob.old) (B.life blob.new) result }
     {

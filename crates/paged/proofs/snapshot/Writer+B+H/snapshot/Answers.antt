@@ -27,7 +27,7 @@ pub returns-clause-ready : goal.returns-clause-ready
 returns-clause-ready g c =
     let is = c.in_ok-sealed.ensures in
     stays_usable {A = WriterState × Tail} g.H.Sum.sum_of (λ r. r.0) c.args.self [] c.args.self.tip (g.B.Blob.life c.args.blob.now) (g.B.Blob.life c.snapshot_all.new.blob) c.args.cache.now c.snapshot_all.new.cache
-    (c.snapshot_all.new.self, c.in_ok-sealed.sealed) (sym (append-nil c.args.self.tip)) is.makes.0 is.puts
+    (c.snapshot_all.new.self, c.in_ok-sealed.sealed) c.requires.ready (sym (append-nil c.args.self.tip)) is.makes.0 is.puts
 
 pub returns-in_err-sealed-clause-owes : goal.returns-in_err-sealed-clause-owes
 returns-in_err-sealed-clause-owes g c =

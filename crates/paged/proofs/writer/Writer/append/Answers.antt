@@ -27,7 +27,7 @@ pub returns-clause-ready : goal.returns-clause-ready
 returns-clause-ready g c =
     let is = c.in_ok-append_bytes.ensures in
     stays_usable {A = WriterState × ℕ} g.H.Sum.sum_of (λ r. r.0) c.args.self c.args.bytes.now (c.args.self.tip ++ c.args.bytes.now) (g.B.Blob.life c.args.blob.now) (g.B.Blob.life c.append_bytes.new.blob) c.args.cache.now c.append_bytes.new.cache
-    (c.append_bytes.new.self, c.size-at.result) refl is.appends.1 is.puts
+    (c.append_bytes.new.self, c.size-at.result) c.requires.ready refl is.appends.1 is.puts
 
 pub returns-in_err-append_bytes-clause-owes : goal.returns-in_err-append_bytes-clause-owes
 returns-in_err-append_bytes-clause-owes g c =

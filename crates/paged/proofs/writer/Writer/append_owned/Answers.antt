@@ -27,7 +27,7 @@ pub returns-clause-ready : goal.returns-clause-ready
 returns-clause-ready g c =
     let is = c.in_ok-append_buf.ensures in
     stays_usable {A = WriterState × ℕ} g.H.Sum.sum_of (λ r. r.0) c.args.self c.args.bytes (c.args.self.tip ++ c.args.bytes) (g.B.Blob.life c.args.blob.now) (g.B.Blob.life c.append_buf.new.blob) c.args.cache.now c.append_buf.new.cache
-    (c.append_buf.new.self, c.size-at.result) refl is.appends.1 is.puts
+    (c.append_buf.new.self, c.size-at.result) c.requires.ready refl is.appends.1 is.puts
 
 pub returns-in_err-append_buf-clause-owes : goal.returns-in_err-append_buf-clause-owes
 returns-in_err-append_buf-clause-owes g c =

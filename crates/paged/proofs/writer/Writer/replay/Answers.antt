@@ -28,7 +28,7 @@ pub returns-clause-ready : goal.returns-clause-ready
 returns-clause-ready g c =
     let is = c.in_ok-replay.ensures in
     stays_usable {A = WriterState × ReplayState} g.H.Sum.sum_of (λ r. r.0) c.args.self [] c.args.self.tip (g.B.Blob.life c.args.blob.now) (g.B.Blob.life c.replay_all.new.blob) c.args.cache.now c.replay_all.new.cache
-    (c.replay_all.new.self, c.in_ok-replay.replay) (sym (append-nil c.args.self.tip)) is.begins.0 is.puts
+    (c.replay_all.new.self, c.in_ok-replay.replay) c.requires.ready (sym (append-nil c.args.self.tip)) is.begins.0 is.puts
 
 pub returns-in_err-replay-clause-owes : goal.returns-in_err-replay-clause-owes
 returns-in_err-replay-clause-owes g c =

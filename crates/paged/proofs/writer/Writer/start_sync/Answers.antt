@@ -27,7 +27,7 @@ pub returns-clause-ready : goal.returns-clause-ready
 returns-clause-ready g c =
     let is = c.in_ok-started.ensures in
     stays_usable {A = WriterState × StartedSync} g.H.Sum.sum_of (λ r. r.0) c.args.self [] c.args.self.tip (g.B.Blob.life c.args.blob.now) (g.B.Blob.life c.start_all.new.blob) c.args.cache.now c.start_all.new.cache
-    (c.start_all.new.self, c.in_ok-started.started) (sym (append-nil c.args.self.tip)) is.starts_sync.0 is.puts
+    (c.start_all.new.self, c.in_ok-started.started) c.requires.ready (sym (append-nil c.args.self.tip)) is.starts_sync.0 is.puts
 
 pub returns-in_err-started-clause-owes : goal.returns-in_err-started-clause-owes
 returns-in_err-started-clause-owes g c =

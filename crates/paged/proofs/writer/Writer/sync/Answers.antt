@@ -25,7 +25,7 @@ pub returns-clause-ready : goal.returns-clause-ready
 returns-clause-ready g c =
     let is = c.in_ok-sync_all.ensures in
     stays_usable {A = WriterState} g.H.Sum.sum_of (λ w. w) c.args.self [] c.args.self.tip (g.B.Blob.life c.args.blob.now) (g.B.Blob.life c.sync_all.new.blob) c.args.cache.now c.sync_all.new.cache
-    c.sync_all.new.self (sym (append-nil c.args.self.tip)) is.syncs.0 is.puts
+    c.sync_all.new.self c.requires.ready (sym (append-nil c.args.self.tip)) is.syncs.0 is.puts
 
 pub returns-in_err-sync_all-clause-owes : goal.returns-in_err-sync_all-clause-owes
 returns-in_err-sync_all-clause-owes g c =
