@@ -250,6 +250,7 @@ impl<H: Sum, R: Sum> Journals<H, R> {
     }
 
     // The offset of its frame. A journal that refuses it is gone.
+    #[tactic(auto, using(crate::proofs::ReaderLaws::reader_stays))]
     fn append(&mut self, bytes: &[u8]) -> Result<Option<u64>, Error> {
         let Some(journal) = self.journal.take() else {
             return Ok(None);
