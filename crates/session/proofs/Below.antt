@@ -2,7 +2,6 @@
 use Rattle.std.proofs.Common.{◌≡◌, ℕ, suc, ◌<◌, ◌≤◌, zero, List, [], ◌∷◌, ◌++◌, length, map, refl, sym, ap, ◌∙◌, subst, arith, append-nil, inl, Bool, true, false}
 use Rattle.std.specs.Prelude.{All, IfSome, Option, Some, None, nat_lt, get_or, option_map}
 use Rattle.std.proofs.lemmas.List.Elements.{All-append}
-use Rattle.std.proofs.lemmas.Bool.{false≢true}
 use Rattle.std.proofs.lemmas.Bool.Decides.{nat_tests}
 use Rattle.std.proofs.lemmas.Option.{get_or_from_slice_get, slice_get_within, slice_get_read}
 use Rattle.std.specs.List.{slice_get}
@@ -19,7 +18,7 @@ use Rattle.session.specs.declared.steps.Step.{Step}
 use Rattle.session.specs.declared.steps.Reply.{Reply}
 use Rattle.session.specs.declared.steps.Reply.TheVariants.{At, Fault, Nothing}
 use Rattle.disk.specs.declared.error.Error.TheVariants.{OffsetOverflow, OutOfMemory}
-use Rattle.session.specs.Run.{CacheFits, FitsWriter, HasSoundWriter, IsBelow, IsReplayIn, IsSnapshot, IsSoundSession, replay_in_run, Represents, RunReplay, RunState, SessionState, writer_in}
+use Rattle.session.specs.Run.{CacheFits, FitsWriter, HasSoundWriter, IsBelow, IsReplayIn, IsSnapshot, IsSoundSession, replay_in_run, Represents, RunReplay, RunState, SessionState}
 use Rattle.session.specs.Promise.{session_of}
 use Rattle.session.specs.Calls.{LeavesRunState, LeavesTaken, Steps, TriedAppend}
 use Rattle.session.proofs.OtherWriters.{others_gone, others_here, others_on, others_stay, settings_same}
@@ -34,15 +33,6 @@ sound_in sum o w d at sound = subst (λ (x : Option WriterState). HasSoundWriter
 -- and can be read with the cache that fits it
 pub can_in : (o : Option WriterState) (w : WriterState) (cache : CacheState) (d : Disk) → o ≡ Some w → FitsWriter o cache d → CanRead (tail_of w) cache d
 can_in o w cache d at fits = subst (λ (x : Option WriterState). FitsWriter x cache d) at fits
-
--- the one of the two by which the session takes its steps
-pub in_recovery : (recovering : Bool) (recovery appending : Option WriterState) → recovering ≡ true → writer_in recovering recovery appending ≡ recovery
-in_recovery true recovery appending is = refl
-in_recovery false recovery appending is = absurd (false≢true is)
-
-pub in_appending : (recovering : Bool) (recovery appending : Option WriterState) → recovering ≡ false → writer_in recovering recovery appending ≡ appending
-in_appending false recovery appending is = refl
-in_appending true recovery appending is = absurd (false≢true (sym is))
 
 -- ---- what a call of the writer leaves
 

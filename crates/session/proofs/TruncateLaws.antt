@@ -326,12 +326,6 @@ cuts_takes sum was now w n cache after old new NotAppending at recovering sound 
 cuts_takes sum was now w n cache after old new NoSuch at recovering sound rest cuts = absurd cuts
 cuts_takes sum was now w n cache after old new (Replaying index) at recovering sound rest cuts = absurd cuts
 
--- what a call of the writer did, by the session's state
-pub cuts_here : (sum : List ℕ → ℕ) (recovering : Bool) (o : Option WriterState) (w : WriterState) (now : Option WriterState) (n : ℕ) (cache after : CacheState) (old new : Life) (reply : Reply) → recovering ≡ true → o ≡ Some w → TruncatesWriter sum w now n cache after old new reply
-    → DidTruncate sum recovering o now n cache after old new reply
-cuts_here sum recovering o w now n cache after old new reply phase at cuts =
-    subst (λ (b : Bool). DidTruncate sum b o now n cache after old new reply) (sym phase) (subst (λ (x : Option WriterState). DidTruncate sum true x now n cache after old new reply) (sym at) cuts)
-
 -- a truncate by a session that is closed
 pub truncated_closed : (sum : List ℕ → ℕ) (was now : SessionState) (n : ℕ) (old new : Life) (reply : Reply) → IsReadyApart sum was old.present → was.writer ≡ None → KeepsRest was now → IsClosed now.writer old new reply
     → StepsApart sum (Truncate n) reply was now old new

@@ -485,11 +485,6 @@ SealsSession sum w was now cache after old new (Fault e) =
     ⊎ HadNoRoomFor e was now cache after old new
 SealsSession sum w was now cache after old new _ = ⊥
 
--- the reply to a step of a writer that appends, by one in recovery
-abbrev pub RefusesAppending : Option WriterState → Reply → Type 0
-RefusesAppending None reply = reply ≡ Closed
-RefusesAppending (Some w) reply = reply ≡ NotAppending
-
 -- a step of a writer that appends, by whether the session is in recovery, and its writer: where it
 -- is turned away, this is so
 abbrev pub IfAppending : (recovering : Bool) → Option WriterState → Reply → (turned : Type 0)

@@ -3,3 +3,4 @@ pub mod Calls
 pub mod Promise
 pub mod Within
 pub mod Others
+pub mod Phase

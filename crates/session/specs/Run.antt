@@ -697,11 +697,6 @@ pub record SessionState : Type 0 where
   pub snapshots : List (Option Tail)
   pub replays : List (Option ReplayState)
 
--- the one of two writers by which a session takes its steps
-abbrev pub writer_in : (recovering : Bool) → Option WriterState → Option WriterState
-    → Option WriterState
-writer_in recovering recovery appending = if recovering then recovery else appending
-
 -- the started sync that a writer in this state waits for
 abbrev pub pending_in : SyncState → Option ℕ
 pending_in Clean = None

@@ -1,5 +1,5 @@
 // The writer of a session, in one of its two phases.
-ghost use Rattle.std.specs.Prelude.{◌≡◌, option_map, IfOk};
+ghost use Rattle.std.specs.Prelude.{◌≡◌, if◌then◌else◌, is_some, option_map, true, IfOk};
 ghost use Rattle.cache.specs.Pages.{IsFresh};
 ghost use Rattle.writer_state.specs.Sound.{IsSound};
 ghost use Rattle.paged_read.specs.Tail.{CanRead};
@@ -7,9 +7,10 @@ ghost use Rattle.paged.specs.Caches.{tail_of};
 ghost use Rattle.paged.specs.Ready.{IsReady};
 ghost use Rattle.paged.specs.Reads.{size_of};
 ghost use Rattle.session.specs.Calls.{AppendSays, DidAppend, DidNeeds, LeavesTaken, Sized};
-ghost use Rattle.session.specs.Calls.{DidStartSync, DidSync, TriedAppend, Waits};
+ghost use Rattle.session.specs.Calls.{DidStartSync, DidSync, DidTruncate, TriedAppend, Waits};
 ghost use Rattle.session.specs.Calls.{IsOfEither, TakenBy};
 ghost use Rattle.cache.specs.CacheState.{CacheState};
+ghost use Rattle.session.specs.Others.{WriterLeavesOthers};
 ghost use Rattle.session.specs.Run.{FitsOn, FitsWriter, HasSoundWriter, KeepsCache};
 
 use crate::names::Names;
@@ -17,7 +18,7 @@ use crate::steps::{Reply, Step};
 use cache::CacheRef;
 use disk::{Blob, Error, IoBuf, StartedSync};
 use page::Sum;
-use paged::Writer;
+use paged::{Recovering, Writer};
 use std::alloc::Global;
 use std::marker::Model;
 
@@ -52,6 +53,17 @@ impl<B, H, Phase> Held<B, H, Phase> {
         ensures { result ≡ option_map size_of self.now }
     {
         Some(self.writer.as_ref()?.size())
+    }
+
+    /// The reply where there is a writer.
+    pub(crate) fn reply(&self, reply: Reply) -> Reply
+        ensures { result ≡ if is_some self.now then reply else Reply.Closed }
+    {
+        if self.writer.is_some() {
+            reply
+        } else {
+            Reply::Closed
+        }
     }
 
     fn length(&self) -> Reply
@@ -110,7 +122,7 @@ impl<B: Blob, H: Sum, Phase> Held<B, H, Phase> {
             Step::ReadRanges(ranges) => self.read_ranges(blob, cache, ranges),
             Step::TryReadRanges(ranges) => self.try_read_ranges(cache, ranges),
             Step::Scan(proven, most, buffer_size) => self.scan(blob, *proven, *most, *buffer_size),
-            _ => Reply::Closed,
+            _ => unreachable!(),
         }
     }
 
@@ -247,6 +259,30 @@ impl<B: Blob, H: Sum, Phase> Held<B, H, Phase> {
             Ok(writer) => {
                 self.writer = Some(writer);
                 Reply::Done
+            }
+            Err(error) => Reply::Fault(error),
+        }
+    }
+}
+
+impl<B: Blob, H: Sum> Held<B, H, Recovering> {
+    pub(crate) fn truncate(&mut self, blob: &mut B, cache: &mut CacheRef, size: u64) -> Reply
+        requires sound { HasSoundWriter H.sum_of self.old (B.life blob.old).present }
+        requires cached { FitsWriter self.old cache.old (B.life blob.old).present }
+        ensures goes { let old = B.life blob.old in let new = B.life blob.new in
+            DidTruncate H.sum_of true self.old self.new size cache.old cache.new old new result }
+        ensures cached { FitsWriter self.new cache.new (B.life blob.new).present }
+        ensures fresh_ids { IsFresh cache.old → IsFresh cache.new }
+        ensures others { WriterLeavesOthers self.old self.new cache.old cache.new }
+    {
+        let Some(writer) = self.writer.take() else {
+            return Reply::Closed;
+        };
+        match writer.truncate(blob, cache, size) {
+            Ok(writer) => {
+                let size = writer.size();
+                self.writer = Some(writer);
+                Reply::Length(size)
             }
             Err(error) => Reply::Fault(error),
         }

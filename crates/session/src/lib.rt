@@ -5,6 +5,7 @@
 mod drops;
 mod held;
 mod names;
+mod phase;
 mod reads;
 mod recoveries;
 mod replays;

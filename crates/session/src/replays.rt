@@ -11,6 +11,7 @@ ghost use Rattle.session.specs.Run.{FitsWriter, HasSoundWriter};
 
 use crate::Session;
 use crate::held::Held;
+use crate::phase::WriterPhase;
 use crate::steps::Reply;
 use cache::CacheRef;
 use disk::{Blob, Error, ReadOptions};
@@ -96,12 +97,13 @@ impl<B: Blob, H: Sum> Session<B, H> {
         ensures tails { let old = B.life blob.old in let new = B.life blob.new in
             LeavesTaken H.sum_of self.old.writer self.new.writer cache.old cache.new old new }
     {
-        if self.recovering {
-            self.recovery
-                .replay(&mut self.replays, blob, cache, buffer_size)
-        } else {
-            self.appending
-                .replay(&mut self.replays, blob, cache, buffer_size)
+        match &mut self.phase {
+            WriterPhase::Recovery(held) => {
+                held.replay(&mut self.replays, blob, cache, buffer_size)
+            }
+            WriterPhase::Appending(held) => {
+                held.replay(&mut self.replays, blob, cache, buffer_size)
+            }
         }
     }
 

@@ -13,19 +13,20 @@ ghost use Rattle.session.specs.Others.{LeavesOtherBlobs, WriterLeavesOthers};
 ghost use Rattle.session.specs.Run.{CacheFits, FitsWriter, HasSoundWriter, IsSoundSession};
 ghost use Rattle.session.specs.Run.{IsSessionReady, TookNone};
 ghost use Rattle.session.specs.Promise.{Promises, RepresentsWhereSound, closed, session_of};
-ghost use Rattle.session.specs.Calls.{DidBegin, is_given, IsOfEither, KeepsRest, KeepsSnapshots};
+ghost use Rattle.session.specs.Calls.{DidBegin, is_given, IsOfEither, KeepsSnapshots};
 ghost use Rattle.session.specs.Calls.{KeepsUncut};
 ghost use Rattle.session.specs.Calls.{DidCall, DidTruncate, LeavesTaken, RunGoes, Steps, TakenBy};
 ghost use Rattle.session.specs.Calls.{DidWaitFor};
 
 use crate::held::Held;
 use crate::names::Names;
+use crate::phase::WriterPhase;
 use crate::replays::forget;
 use crate::steps::{Reply, Step};
 use cache::CacheRef;
 use disk::{Blob, Error, StartedSync};
 use page::Sum;
-use paged::{Append, Recovering, Recovery, Replay, Sealed, Writer, wait_sync};
+use paged::{Recovery, Replay, Sealed, Writer, wait_sync};
 use std::alloc::Global;
 use std::marker::Model;
 
@@ -39,10 +40,7 @@ use std::marker::Model;
 #[derive(Drop)]
 pub struct Session<B, H> {
     pub(crate) alloc: Global,
-    pub(crate) recovering: bool,
-    // The writer, while it is in recovery, and once it appends.
-    pub(crate) recovery: Held<B, H, Recovering>,
-    pub(crate) appending: Held<B, H, Append>,
+    pub(crate) phase: WriterPhase<B, H>,
     pub(crate) names: Names,
     // None in the place of one that was let go, or of a replay that was forgotten.
     pub(crate) snapshots: Vec<Option<Sealed<B, H>>>,
@@ -50,13 +48,14 @@ pub struct Session<B, H> {
 }
 
 impl<B, H> Model for Session<B, H> {
-    ghost use Rattle.session.specs.Run.{SessionState, writer_in};
+    ghost use Rattle.session.specs.Run.{SessionState};
+    ghost use Rattle.session.specs.Phase.{is_in_recovery, writer_in};
 
     ghost Value = { SessionState };
 
     ghost view = { λ s. record {
-      writer = writer_in s.recovering s.recovery s.appending;
-      recovering = s.recovering;
+      writer = writer_in s.phase;
+      recovering = is_in_recovery s.phase;
       names = s.names.items;
       snapshots = s.snapshots.items;
       replays = s.replays.items;
@@ -70,9 +69,7 @@ impl<B, H> Session<B, H> {
     {
         Session {
             alloc,
-            recovering: false,
-            recovery: Held::none(alloc),
-            appending: Held::none(alloc),
+            phase: WriterPhase::Appending(Held::none(alloc)),
             names: Names::new(alloc),
             snapshots: Vec::new(alloc),
             replays: Vec::new(alloc),
@@ -91,12 +88,10 @@ impl<B: Blob, H: Sum> Session<B, H> {
     {
         Session {
             alloc,
-            recovering: true,
-            recovery: Held {
+            phase: WriterPhase::Recovery(Held {
                 alloc,
                 writer: Some(writer),
-            },
-            appending: Held::none(alloc),
+            }),
             names: Names::new(alloc),
             snapshots: Vec::new(alloc),
             replays: Vec::new(alloc),
@@ -107,10 +102,9 @@ impl<B: Blob, H: Sum> Session<B, H> {
     pub fn size(&self) -> Option<u64>
         ensures { result ≡ option_map size_of self.now.writer }
     {
-        if self.recovering {
-            self.recovery.size()
-        } else {
-            self.appending.size()
+        match &self.phase {
+            WriterPhase::Recovery(held) => held.size(),
+            WriterPhase::Appending(held) => held.size(),
         }
     }
 
@@ -160,10 +154,9 @@ impl<B: Blob, H: Sum> Session<B, H> {
         ensures tails { let old = B.life blob.old in let new = B.life blob.new in
             LeavesTaken H.sum_of self.old.writer self.new.writer cache.old cache.new old new }
     {
-        if self.recovering {
-            self.recovery.step(&mut self.names, blob, cache, step)
-        } else {
-            self.appending.step(&mut self.names, blob, cache, step)
+        match &mut self.phase {
+            WriterPhase::Recovery(held) => held.step(&mut self.names, blob, cache, step),
+            WriterPhase::Appending(held) => held.step(&mut self.names, blob, cache, step),
         }
     }
 
@@ -190,17 +183,17 @@ impl<B: Blob, H: Sum> Session<B, H> {
     fn begin(&mut self) -> Reply
         ensures goes { DidBegin self.old.writer self.old self.new result }
     {
-        if !self.recovering {
-            return match self.appending.writer {
-                Some(_) => Reply::Done,
-                None => Reply::Closed,
-            };
-        }
-        let Some(writer) = self.recovery.writer.take() else {
+        let taken = match &mut self.phase {
+            WriterPhase::Recovery(held) => held.writer.take(),
+            WriterPhase::Appending(held) => return held.reply(Reply::Done),
+        };
+        let Some(writer) = taken else {
             return Reply::Closed;
         };
-        self.appending.writer = Some(Writer::from(writer));
-        self.recovering = false;
+        self.phase = WriterPhase::Appending(Held {
+            alloc: self.alloc,
+            writer: Some(Writer::from(writer)),
+        });
         Reply::Done
     }
 
@@ -217,40 +210,14 @@ impl<B: Blob, H: Sum> Session<B, H> {
         ensures turned { self.old.recovering ≡ false → cache.new ≡ cache.old }
         ensures others { WriterLeavesOthers self.old.writer self.new.writer cache.old cache.new }
     {
-        if self.recovering && self.recovery.writer.is_some() {
-            forget(&mut self.replays);
-        }
-        self.cut(blob, cache, size)
-    }
-
-    fn cut(&mut self, blob: &mut B, cache: &mut CacheRef, size: u64) -> Reply
-        requires sound { HasSoundWriter H.sum_of self.old.writer (B.life blob.old).present }
-        requires cached { FitsWriter self.old.writer cache.old (B.life blob.old).present }
-        ensures goes { let old = B.life blob.old in let new = B.life blob.new in
-            DidTruncate H.sum_of self.old.recovering self.old.writer self.new.writer size cache.old
-            cache.new old new result }
-        ensures rest { KeepsRest self.old self.new }
-        ensures cached { FitsWriter self.new.writer cache.new (B.life blob.new).present }
-        ensures fresh_ids { IsFresh cache.old → IsFresh cache.new }
-        ensures turned { self.old.recovering ≡ false → cache.new ≡ cache.old }
-        ensures others { WriterLeavesOthers self.old.writer self.new.writer cache.old cache.new }
-    {
-        if !self.recovering {
-            return match self.appending.writer {
-                Some(_) => Reply::NotRecovering,
-                None => Reply::Closed,
-            };
-        }
-        let Some(writer) = self.recovery.writer.take() else {
-            return Reply::Closed;
-        };
-        match writer.truncate(blob, cache, size) {
-            Ok(writer) => {
-                let size = writer.size();
-                self.recovery.writer = Some(writer);
-                Reply::Length(size)
+        match &mut self.phase {
+            WriterPhase::Recovery(held) => {
+                if held.writer.is_some() {
+                    forget(&mut self.replays);
+                }
+                held.truncate(blob, cache, size)
             }
-            Err(error) => Reply::Fault(error),
+            WriterPhase::Appending(held) => held.reply(Reply::NotRecovering),
         }
     }
 }

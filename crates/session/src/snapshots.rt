@@ -1,33 +1,21 @@
 // Steps that make snapshots and read them.
-ghost use Rattle.std.specs.Prelude.{◌≡◌, All, IfSome, true};
+ghost use Rattle.std.specs.Prelude.{◌≡◌, All, IfSome};
 ghost use Rattle.cache.specs.Pages.{IsFresh};
 ghost use Rattle.paged_read.specs.Replay.{LeavesAllReplays};
 ghost use Rattle.paged_read.specs.Snapshots.{LeavesAllReads, LeavesAllTails, LeavesAllWriters};
 ghost use Rattle.paged_read.specs.Tail.{CanRead, HasFullPages};
 ghost use Rattle.session.specs.Calls.{DidSeal, DidSnap, DidSnapshot, DidTrySnapshot};
-ghost use Rattle.session.specs.Calls.{LeavesTaken, RefusesAppending};
+ghost use Rattle.session.specs.Calls.{LeavesTaken};
 ghost use Rattle.session.specs.Others.{LeavesOtherBlobs};
 ghost use Rattle.session.specs.Run.{FitsWriter, HasSoundWriter, numbered};
 
 use crate::Session;
+use crate::phase::WriterPhase;
 use crate::reads::room_within;
 use crate::steps::Reply;
 use cache::CacheRef;
 use disk::{Blob, Error, StartedSync};
 use page::Sum;
-
-impl<B, H> Session<B, H> {
-    // Whether there is a writer is asked before its phase.
-    fn not_appending(&self) -> Reply
-        requires { self.now.recovering ≡ true }
-        ensures { RefusesAppending self.now.writer result }
-    {
-        match self.recovery.writer {
-            Some(_) => Reply::NotAppending,
-            None => Reply::Closed,
-        }
-    }
-}
 
 impl<B: Blob, H: Sum> Session<B, H> {
     // Room for the snapshot is made first: refused there, nothing is done and the writer stays.
@@ -42,19 +30,20 @@ impl<B: Blob, H: Sum> Session<B, H> {
         ensures tails { let old = B.life blob.old in let new = B.life blob.new in
             LeavesTaken H.sum_of self.old.writer self.new.writer cache.old cache.new old new }
     {
-        if self.recovering {
-            return self.not_appending();
-        }
-        let Some(writer) = self.appending.writer.take() else {
+        let held = match &mut self.phase {
+            WriterPhase::Recovery(held) => return held.reply(Reply::NotAppending),
+            WriterPhase::Appending(held) => held,
+        };
+        let Some(writer) = held.writer.take() else {
             return Reply::Closed;
         };
         if self.snapshots.try_reserve(1).is_err() {
-            self.appending.writer = Some(writer);
+            held.writer = Some(writer);
             return Reply::Fault(Error::OutOfMemory);
         }
         match writer.snapshot(blob, cache) {
             Ok((writer, snapshot)) => {
-                self.appending.writer = Some(writer);
+                held.writer = Some(writer);
                 let index = self.snapshots.len();
                 self.snapshots.push_reserved(Some(snapshot));
                 Reply::Taken(index)
@@ -66,10 +55,11 @@ impl<B: Blob, H: Sum> Session<B, H> {
     pub(crate) fn try_snapshot(&mut self) -> Reply
         ensures { DidTrySnapshot self.old self.new result }
     {
-        if self.recovering {
-            return self.not_appending();
-        }
-        let Some(writer) = &self.appending.writer else {
+        let held = match &self.phase {
+            WriterPhase::Recovery(held) => return held.reply(Reply::NotAppending),
+            WriterPhase::Appending(held) => held,
+        };
+        let Some(writer) = &held.writer else {
             return Reply::Closed;
         };
         if self.snapshots.try_reserve(1).is_err() {
@@ -98,14 +88,15 @@ impl<B: Blob, H: Sum> Session<B, H> {
         ensures tails { let old = B.life blob.old in let new = B.life blob.new in
             LeavesTaken H.sum_of self.old.writer self.new.writer cache.old cache.new old new }
     {
-        if self.recovering {
-            return self.not_appending();
-        }
-        let Some(writer) = self.appending.writer.take() else {
+        let held = match &mut self.phase {
+            WriterPhase::Recovery(held) => return held.reply(Reply::NotAppending),
+            WriterPhase::Appending(held) => held,
+        };
+        let Some(writer) = held.writer.take() else {
             return Reply::Closed;
         };
         if self.snapshots.try_reserve(1).is_err() || self.names.make_room().is_err() {
-            self.appending.writer = Some(writer);
+            held.writer = Some(writer);
             return Reply::Fault(Error::OutOfMemory);
         }
         match writer.seal(blob, cache) {
