@@ -1,7 +1,6 @@
 -- What the steps do that append, and how much they buffer.
 use Rattle.std.proofs.Common.{◌≡◌, ℕ, ◌+◌, ◌<◌, ◌≤◌, List, [], ◌∷◌, ◌++◌, length, refl, sym, ap, ◌∙◌, subst, arith, append-nil, length-append, inl, inr, Bool, true, false, Ok, Err, Result, Vec, ◌*◌, ◌/◌, ◌%◌, min, lit<, lit≤}
 use Rattle.std.specs.Prelude.{Option, Some, None, nat_le, nat_lt, nat_eq, if◌then◌else◌, is_some, ◌==◌, ◌||◌, ◌&&◌, not}
-use Rattle.std.specs.List.{Contains}
 use Rattle.std.specs.declared.alloc.Global.{Global}
 use Rattle.std.proofs.Math.Nat.{mul-add-div_right, mul-add-mod_self_right, mod-eq_of_lt}
 use Rattle.std.proofs.lemmas.Bool.{false≢true, leb-true, le-leb, cases_lt}
@@ -27,7 +26,7 @@ use Rattle.paged.proofs.Halves.{appends_stay}
 use Rattle.session.specs.declared.steps.Step.TheVariants.{Append, TryAppend}
 use Rattle.session.specs.declared.steps.Reply.{Reply}
 use Rattle.session.specs.declared.steps.Reply.TheVariants.{At, Nothing, Fault}
-use Rattle.session.specs.Run.{RunState, SessionState, fits_buffer, buffered_after, written_after, awaited_after, appended, ended, needs_sync, faults, HasCause, AwaitedSyncFailed, FaultsComeFirst, UsesDevice, AllCover, pending_in, WriterRepresents}
+use Rattle.session.specs.Run.{RunState, SessionState, fits_buffer, buffered_after, written_after, awaited_after, appended, ended, needs_sync, HasCause, AwaitedSyncFailed, FaultsComeFirst, UsesDevice, AllCover, pending_in, WriterRepresents}
 use Rattle.session.specs.Run.DeviceUse.{Leaves, Changes}
 use Rattle.session.proofs.Words.{OwesStarts, AppendTold}
 use Rattle.session.proofs.Apart.{AlwaysApart, StandsApart, SteppedApart}
@@ -328,7 +327,7 @@ had_without_room awaited d false never had = had
 -- why an append is refused
 append_cause : (sum : List ℕ → ℕ) (P : ℕ) (w : WriterState) (bytes : Vec ℕ Global) (old new : Life) (e : Error) (before : RunState)
     → physical_blob_size w.page_size w.full_pages (length w.tip + length bytes.items) ≡ physical_blob_size P 0 (length before.content + length bytes.items) → before.awaited ≡ pending_in w.sync
-    → (fits_buffer before (length bytes.items) ≡ true → e ≡ SyncFailed → ⊥) → Appends sum w bytes.items old new (Err e) → Contains (faults (Append bytes)) e × HasCause P (Append bytes) before old.present new.present e
+    → (fits_buffer before (length bytes.items) ≡ true → e ≡ SyncFailed → ⊥) → Appends sum w bytes.items old new (Err e) → HasCause P (Append bytes) before old.present new.present e
 append_cause sum P w bytes old new ReadFailed before offsets awaited room goes = absurd goes.cause
 append_cause sum P w bytes old new WriteFailed before offsets awaited room goes = ((0, lit< tt, refl), goes.cause)
 append_cause sum P w bytes old new ResizeFailed before offsets awaited room goes = absurd goes.cause
@@ -341,8 +340,8 @@ append_cause sum P w bytes old new SyncFailed before offsets awaited room goes =
 )
 append_cause sum P w bytes old new InvalidChecksum before offsets awaited room goes = absurd goes.cause
 append_cause sum P w bytes old new BlobInsufficientLength before offsets awaited room goes = absurd goes.cause
-append_cause sum P w bytes old new OffsetOverflow before offsets awaited room goes = ((2, lit< tt, refl), omega (arith, goes.1, offsets))
-append_cause sum P w bytes old new OutOfMemory before offsets awaited room goes = ((3, lit< tt, refl), tt)
+append_cause sum P w bytes old new OffsetOverflow before offsets awaited room goes = omega (arith, goes.1, offsets)
+append_cause sum P w bytes old new OutOfMemory before offsets awaited room goes = tt
 append_cause sum P w bytes old new IdsExhausted before offsets awaited room goes = absurd goes.cause
 
 -- an append that is refused
@@ -358,7 +357,7 @@ append_refused_steps sum was w bytes e old new sound says = λ P before stands.
     let cause = append_cause sum P w bytes old new e before (needed_offsets sum was P w (length bytes.items) old before sound stands) fits.awaited (λ is fault. subst (λ (x : Error). BuffersAll w bytes.items old new (Err x)) fault (room is)) says.appends in
     stepped sum P (Append bytes) (Fault e) (held was None) old new before (ended longer before) through.moments fits.has_writer (turned_here before.has_writer fits.has_writer) h
     (touched through.moments h.goes (fits_buffer before (length bytes.items)) (λ is. stayed e (room is)))
-    (cause.0, cause.1, refl) (append_foretold sum was P w bytes old new (Err e) (Fault e) before sound stands says (λ is. cc is)) (stands_ended sum P was w old new before longer through.moments stands h)
+    (cause, refl) (append_foretold sum was P w bytes old new (Err e) (Fault e) before sound stands says (λ is. cc is)) (stands_ended sum P was w old new before longer through.moments stands h)
   where
     stayed : (e : Error) → BuffersAll w bytes.items old new (Err e) → new ≡ old
     stayed ReadFailed none = absurd none
@@ -410,16 +409,15 @@ try_nothing_steps sum was w v bytes life sound tries = λ P before stands.
 -- why a try is refused
 try_cause : (P : ℕ) (w v : WriterState) (bytes : Vec ℕ Global) (before : RunState) (from to : Disk) (e : Error) → length w.tip ≡ before.buffered → w.capacity ≡ before.capacity
     → physical_blob_size w.page_size w.full_pages (length w.tip + length bytes.items) ≡ physical_blob_size P 0 (length before.content + length bytes.items)
-    → TryAppendGoes w bytes.items v (Err e) → Contains (faults (TryAppend bytes)) e × HasCause P (TryAppend bytes) before from to e × (v ≡ w) × FaultsComeFirst P (TryAppend bytes) (Fault e) before
+    → TryAppendGoes w bytes.items v (Err e) → HasCause P (TryAppend bytes) before from to e × (v ≡ w) × FaultsComeFirst P (TryAppend bytes) (Fault e) before
 try_cause P w v bytes before from to ReadFailed buffered capacity offsets tries = absurd tries
 try_cause P w v bytes before from to WriteFailed buffered capacity offsets tries = absurd tries
 try_cause P w v bytes before from to ResizeFailed buffered capacity offsets tries = absurd tries
 try_cause P w v bytes before from to SyncFailed buffered capacity offsets tries = absurd tries
 try_cause P w v bytes before from to InvalidChecksum buffered capacity offsets tries = absurd tries
 try_cause P w v bytes before from to BlobInsufficientLength buffered capacity offsets tries = absurd tries
-try_cause P w v bytes before from to OffsetOverflow buffered capacity offsets tries = ((0, lit< tt, refl), omega (arith, tries.0, offsets), tries.1, (λ overflows. refl, λ none. absurd none))
+try_cause P w v bytes before from to OffsetOverflow buffered capacity offsets tries = (omega (arith, tries.0, offsets), tries.1, (λ overflows. refl, λ none. absurd none))
 try_cause P w v bytes before from to OutOfMemory buffered capacity offsets tries = (
-  (1, lit< tt, refl),
   le-leb (before.buffered + length bytes.items) before.capacity (omega (arith, tries.1, buffered, capacity)),
   tries.2,
   (λ overflows. absurd (omega (arith, overflows, offsets, tries.0)), λ none. absurd none),
@@ -443,4 +441,4 @@ pub try_refused_steps : (sum : List ℕ → ℕ) (was : SessionState) (w v : Wri
     → AlwaysApart sum (TryAppend bytes) (Fault e) (held was (Some w)) (held was (Some w)) life life
 try_refused_steps sum was w v bytes e life sound tries = λ P before stands.
     let cause = try_cause P w v bytes before life.present life.present e stands.fits.buffered stands.fits.capacity (needed_offsets sum was P w (length bytes.items) life before sound stands) tries in
-    unasked sum P was w (TryAppend bytes) (Fault e) (held was (Some w)) life before before (turned_here before.has_writer stands.fits.has_writer) stands (cause.0, cause.1, refl) cause.3 stands
+    unasked sum P was w (TryAppend bytes) (Fault e) (held was (Some w)) life before before (turned_here before.has_writer stands.fits.has_writer) stands (cause.0, refl) cause.2 stands

@@ -1,14 +1,14 @@
 -- Examples of what a run says.
 use Rattle.std.proofs.Common.{lit<, ◌≡◌, ◌⊎◌, ◌+◌, ◌<◌, ℕ, zero, suc, Vec, List, [], ◌∷◌, ◌++◌, length, length-append, take, drop, refl, sym, ap, subst, ◌∙◌, inl, inr, arith, true, false}
 use Rattle.std.specs.Prelude.{Some, None, if◌then◌else◌}
-use Rattle.std.specs.List.{Contains, flat_map}
+use Rattle.std.specs.List.{flat_map}
 use Rattle.std.specs.declared.alloc.Global.{Global}
 use Rattle.std.proofs.lemmas.Bool.{le-leb, false≢true}
 use Rattle.std.proofs.lemmas.Bool.Decides.{nat_tests}
 use Rattle.disk.specs.Disk.{Disk, Entry, SomeFailed}
 use Rattle.disk.specs.declared.started_sync.StartedSync.TheVariants.{Done as AllDone, Named}
 use Rattle.disk.specs.declared.error.Error.{Error}
-use Rattle.disk.specs.declared.error.Error.TheVariants.{WriteFailed, SyncFailed, BlobInsufficientLength, OffsetOverflow, OutOfMemory}
+use Rattle.disk.specs.declared.error.Error.TheVariants.{ReadFailed, WriteFailed, ResizeFailed, SyncFailed, InvalidChecksum, BlobInsufficientLength, OffsetOverflow, OutOfMemory, IdsExhausted}
 use Rattle.page.specs.Geometry.{EndWithin}
 use Rattle.page.specs.Page.{text}
 use Rattle.page.specs.Sums.{add_sum}
@@ -21,7 +21,7 @@ use Rattle.std.specs.declared.num.NonZeroUsize.{NonZeroUsize}
 use Rattle.session.specs.declared.steps.Step.{Step}
 use Rattle.session.specs.declared.steps.Step.TheVariants.{Append, Owned, TryAppend, Sync, StartSync, Wait, WaitSync, Needs, Size, Read, ReadUpTo, TryRead, ReadRanges, TryReadRanges, Begin, Truncate, Snapshot, TrySnapshot, Snap, Seal, Replay, Ensure, Take, Seek, DropSnapshot, DropReplay, Scan}
 use Rattle.session.specs.declared.steps.Reply.TheVariants.{At, Nothing, Done, Length, Bytes, Fault, Closed, NotRecovering, NoSuch, Served, Missed, BadRanges, Taken, Sealed, NotAppending}
-use Rattle.session.specs.Run.{HasEnsured, needs_no_device, PassesContent, passed, RunReplay, replaying, rewritten, RunState, buffered_after, awaited_after, appended, after_sync, starting, truncated, noted, flushed, left_by_seal, sealed_by, snapshot_at, after_wait, at_step, needs_sync, raised, answer_of_start, ended, fit_together, turned_away, without_replay, without_snapshot, Accepts, faults, HasCause, Allocates, awaited_name, RefusesStep, TakesStep, FaultsComeFirst, RiseBelow, AnswersStep, use_of_step, Ran}
+use Rattle.session.specs.Run.{HasEnsured, needs_no_device, passed, RunReplay, replaying, rewritten, RunState, buffered_after, awaited_after, appended, after_sync, starting, truncated, noted, flushed, left_by_seal, sealed_by, snapshot_at, after_wait, at_step, needs_sync, raised, answer_of_start, ended, fit_together, turned_away, without_replay, without_snapshot, Accepts, HasCause, awaited_name, RefusesStep, TakesStep, FaultsComeFirst, RiseBelow, AnswersStep, use_of_step, Ran}
 use Rattle.session.specs.Run.DeviceUse.{Leaves, Looks, Changes}
 use Rattle.session.specs.Promise.{Crashes, fresh}
 
@@ -106,7 +106,7 @@ pub a_busy_sync : use_of_step 4 Sync none_synced ≡ Changes 2
 a_busy_sync = refl
 
 -- so it isn't refused
-pub no_idle_fault : Allocates Sync six_stand → ⊥
+pub no_idle_fault : HasCause 4 Sync six_stand durable durable OutOfMemory → ⊥
 no_idle_fault none = absurd (false≢true none)
 
 -- where the log stayed, no call failed
@@ -191,11 +191,11 @@ a_wait_done = (refl, refl)
 
 -- a wait is refused where its sync had failed, and not because another had
 pub a_wait_of_a_failed_sync : HasCause 4 Wait six_started (record pending { started = record { covers = 2; bytes = []; failed = true } ∷ [] }) pending SyncFailed
-a_wait_of_a_failed_sync = inr refl
+a_wait_of_a_failed_sync = ((0, lit< tt, refl), inr refl)
 
 pub no_fault_of_another : HasCause 4 Wait six_started pending pending SyncFailed → ⊥
-no_fault_of_another (inl (more, is, failed)) = none_failed SyncFailed pending.log more is failed
-no_fault_of_another (inr had) = absurd (false≢true had)
+no_fault_of_another (listed, inl (more, is, failed)) = none_failed SyncFailed pending.log more is failed
+no_fault_of_another (listed, inr had) = absurd (false≢true had)
 
 -- there is no memory for a name: then nothing was done
 pub no_room_for_a_name : RefusesStep StartSync OutOfMemory durable durable six_stand six_stand
@@ -420,13 +420,21 @@ pub a_question_leaves : (ranges : Vec (ℕ × ℕ) Global) → use_of_step 4 (Tr
 a_question_leaves ranges = refl
 
 -- a size has no error
-pub no_fault_of_a_size : (e : Error) → Contains (faults Size) e → ⊥
-no_fault_of_a_size e (k, lt, is) = omega (arith, lt)
+pub no_fault_of_a_size : (e : Error) → HasCause 4 Size six_stand durable durable e → ⊥
+no_fault_of_a_size ReadFailed ((k, lt, is), failed) = omega (arith, lt)
+no_fault_of_a_size WriteFailed ((k, lt, is), failed) = omega (arith, lt)
+no_fault_of_a_size ResizeFailed ((k, lt, is), failed) = omega (arith, lt)
+no_fault_of_a_size SyncFailed ((k, lt, is), failed) = omega (arith, lt)
+no_fault_of_a_size InvalidChecksum cause = cause
+no_fault_of_a_size BlobInsufficientLength cause = cause
+no_fault_of_a_size OffsetOverflow cause = cause
+no_fault_of_a_size OutOfMemory cause = cause
+no_fault_of_a_size IdsExhausted cause = cause
 
 -- so no device fault is answered
 pub no_fault_of_its_own : HasCause 4 Sync none_synced durable durable SyncFailed → ⊥
-no_fault_of_its_own (inl (more, is, failed)) = none_failed SyncFailed durable.log more is failed
-no_fault_of_its_own (inr had) = absurd had
+no_fault_of_its_own (listed, inl (more, is, failed)) = none_failed SyncFailed durable.log more is failed
+no_fault_of_its_own (listed, inr had) = absurd had
 
 -- nor does a sync ever overflow
 pub no_overflow : HasCause 4 Sync none_synced durable durable OffsetOverflow → ⊥
@@ -618,7 +626,7 @@ pub a_page_is_not : needs_no_device (Some six_replayed) 1 ≡ false
 a_page_is_not = refl
 
 -- an offset past the end is refused, and the end is not
-pub past_the_end : PassesContent (Seek 0 7) (replaying 4 64 six_stand)
+pub past_the_end : HasCause 4 (Seek 0 7) (replaying 4 64 six_stand) durable durable BlobInsufficientLength
 past_the_end = lit< tt
 
 -- a truncate that is called forgets it, and its number isn't given again

@@ -1,7 +1,7 @@
 -- What the steps that read ranges do.
 use Rattle.std.proofs.Common.{◌≡◌, ◌⊎◌, ℕ, zero, suc, ◌+◌, ◌^◌, ◌<◌, ◌≤◌, List, [], ◌∷◌, ◌++◌, length, take, drop, cond, refl, sym, ap, ◌∙◌, subst, arith, inl, inr, Bool, true, false, Ok, Err, Result, Vec, lit<}
 use Rattle.std.specs.Prelude.{Option, Some, None, nat_le, nat_lt, ◌&&◌, if◌then◌else◌, sum_by}
-use Rattle.std.specs.List.{Contains, filter, flat_map, range_with_len}
+use Rattle.std.specs.List.{filter, flat_map, range_with_len}
 use Rattle.std.specs.declared.alloc.Global.{Global}
 use Rattle.std.proofs.lemmas.Bool.{leb-true, le-leb, and_parts, false≢true}
 use Rattle.std.proofs.lemmas.List.{drop_all}
@@ -27,7 +27,7 @@ use Rattle.session.specs.declared.steps.Step.{Step}
 use Rattle.session.specs.declared.steps.Step.TheVariants.{ReadRanges, TryReadRanges}
 use Rattle.session.specs.declared.steps.Reply.{Reply}
 use Rattle.session.specs.declared.steps.Reply.TheVariants.{At, Nothing, Done, Started, Answer, Length, Bytes, Fault, Closed, NotRecovering, NoSuch, Served, Missed, BadRanges, Taken, Sealed, NotAppending, Replaying}
-use Rattle.session.specs.Run.{RunState, SessionState, in_order_from, fit_together, turned_away, content_after, faults, HasCause, TakesStep, FaultsComeFirst, RiseBelow, NumbersSome, use_of_step}
+use Rattle.session.specs.Run.{RunState, SessionState, in_order_from, fit_together, turned_away, content_after, HasCause, TakesStep, FaultsComeFirst, RiseBelow, NumbersSome, use_of_step}
 use Rattle.session.specs.Calls.{CostsRanges, ReadsRanges, ReadRangesSays, DidReadRanges, TriedRanges, DidTryReadRanges}
 use Rattle.paged_read.specs.Reads.{ReadManyCosts}
 use Rattle.paged_read.proofs.PutLaws.{puts_none}
@@ -291,15 +291,15 @@ bad_takes sum step was w old new reply away stays at ready replied same =
 
 -- why a read of ranges is refused
 ranges_cause : (sum : List ℕ → ℕ) (P : ℕ) (w : WriterState) (cache : CacheState) (ranges : Vec (ℕ × ℕ) Global) (before : RunState) (old new : Life) (e : Error) → size_of w ≡ length before.content → (e ≡ InvalidChecksum → ⊥) → ReadsMany sum (tail_of w) cache ranges.items [] old new (Err e)
-    → Contains (faults (ReadRanges ranges)) e × HasCause P (ReadRanges ranges) before old.present new.present e
+    → HasCause P (ReadRanges ranges) before old.present new.present e
 ranges_cause sum P w cache ranges before old new ReadFailed size full goes = ((0, lit< tt, refl), goes.1)
 ranges_cause sum P w cache ranges before old new WriteFailed size full goes = absurd goes.1
 ranges_cause sum P w cache ranges before old new ResizeFailed size full goes = absurd goes.1
 ranges_cause sum P w cache ranges before old new SyncFailed size full goes = absurd goes.1
 ranges_cause sum P w cache ranges before old new InvalidChecksum size full goes = absurd (full refl)
-ranges_cause sum P w cache ranges before old new BlobInsufficientLength size full goes = ((1, lit< tt, refl), subst (λ (n : ℕ). RangesGo n ranges.items (Err BlobInsufficientLength)) size goes.1)
-ranges_cause sum P w cache ranges before old new OffsetOverflow size full goes = ((2, lit< tt, refl), subst (λ (n : ℕ). RangesGo n ranges.items (Err OffsetOverflow)) size goes.1)
-ranges_cause sum P w cache ranges before old new OutOfMemory size full goes = ((3, lit< tt, refl), tt)
+ranges_cause sum P w cache ranges before old new BlobInsufficientLength size full goes = subst (λ (n : ℕ). RangesGo n ranges.items (Err BlobInsufficientLength)) size goes.1
+ranges_cause sum P w cache ranges before old new OffsetOverflow size full goes = subst (λ (n : ℕ). RangesGo n ranges.items (Err OffsetOverflow)) size goes.1
+ranges_cause sum P w cache ranges before old new OutOfMemory size full goes = tt
 ranges_cause sum P w cache ranges before old new IdsExhausted size full goes = absurd goes.1
 
 -- no more are counted than there are
@@ -330,7 +330,7 @@ read_ranges_steps sum was w cache after ranges old new reply fits sound says = �
           few,
           refl,
         )
-    taken (Fault e) P before stands size full reads = let cause = ranges_cause sum P w cache ranges before old new e size (λ is. full (ap Fault is)) reads in (cause.0, cause.1, refl)
+    taken (Fault e) P before stands size full reads = let cause = ranges_cause sum P w cache ranges before old new e size (λ is. full (ap Fault is)) reads in (cause, refl)
     taken (At n) P before stands size full reads = absurd reads
     taken Nothing P before stands size full reads = absurd reads
     taken Done P before stands size full reads = absurd reads
@@ -397,7 +397,7 @@ try_read_ranges_steps sum was w cache ranges life reply fits sound tried = λ P 
   where
     taken : (r : Reply) (P : ℕ) (before : RunState) → size_of w ≡ length before.content → TriedRanges w cache ranges.items r → TakesStep sum P (TryReadRanges ranges) r life.present life.present before before
     taken (Missed numbers) P before size misses = (numbers_some w cache ranges.items before.content numbers.items size misses, refl)
-    taken (Fault e) P before size is = subst (λ (x : Error). TakesStep sum P (TryReadRanges ranges) (Fault x) life.present life.present before before) (sym is) ((0, lit< tt, refl), tt, refl)
+    taken (Fault e) P before size is = subst (λ (x : Error). TakesStep sum P (TryReadRanges ranges) (Fault x) life.present life.present before before) (sym is) (tt, refl)
     taken (At n) P before size tried = absurd tried
     taken Nothing P before size tried = absurd tried
     taken Done P before size tried = absurd tried

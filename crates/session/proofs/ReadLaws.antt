@@ -2,7 +2,6 @@
 use Rattle.std.proofs.Common.{◌≡◌, ◌⊎◌, ℕ, ◌+◌, ◌-◌, ◌*◌, ◌<◌, ◌≤◌, List, [], length, take, drop, min, refl, sym, ap, ◌∙◌, subst, arith, inl, inr, Bool, true, false, Err, lit<}
 use Rattle.std.specs.Prelude.{Option, Some, None, nat_le, nat_eq, if◌then◌else◌}
 use Rattle.std.proofs.lemmas.Bool.Decides.{nat_tests}
-use Rattle.std.specs.List.{Contains}
 use Rattle.std.proofs.lemmas.Bool.{leb-true, and_parts, cases_lt}
 use Rattle.std.proofs.lemmas.List.{take_all, length-drop}
 use Rattle.disk.specs.Disk.{Life}
@@ -27,7 +26,7 @@ use Rattle.std.specs.Int.NonZero.{non_zero_usize_get}
 use Rattle.session.specs.declared.steps.Step.TheVariants.{ReadUpTo, Scan, TryRead}
 use Rattle.session.specs.declared.steps.Reply.{Reply}
 use Rattle.session.specs.declared.steps.Reply.TheVariants.{At, Nothing, Done, Started, Answer, Length, Bytes, Fault, Closed, NotRecovering, NoSuch, Served, Missed, BadRanges, Taken, Sealed, NotAppending, Replaying}
-use Rattle.session.specs.Run.{RunState, SessionState, faults, HasCause, TakesStep, UsesDevice, FaultsComeFirst, FitsWriter}
+use Rattle.session.specs.Run.{RunState, SessionState, HasCause, TakesStep, UsesDevice, FaultsComeFirst, FitsWriter}
 use Rattle.session.specs.Run.DeviceUse.{Leaves, Looks}
 use Rattle.session.specs.Calls.{ReadsBytesUpTo, ReadsUpToRange, DidReadUpTo, TriedBytes, DidTryRead, ScanCounts, ScansBlob, DidScan}
 use Rattle.session.proofs.StepLaws.{no_moments, held, turned_here, turned_closed, unasked}
@@ -48,15 +47,15 @@ take_up_to xs offset len size is =
 
 -- why such a read is refused
 up_to_cause : (sum : List ℕ → ℕ) (P : ℕ) (w : WriterState) (cache : CacheState) (offset len : ℕ) (before : RunState) (old new : Life) (e : Error) → size_of w ≡ length before.content → (e ≡ InvalidChecksum → ⊥)
-    → ReadsUpTo sum (tail_of w) cache offset len old new (Err e) → Contains (faults (ReadUpTo offset len)) e × HasCause P (ReadUpTo offset len) before old.present new.present e
+    → ReadsUpTo sum (tail_of w) cache offset len old new (Err e) → HasCause P (ReadUpTo offset len) before old.present new.present e
 up_to_cause sum P w cache offset len before old new ReadFailed size full goes = ((0, lit< tt, refl), goes)
 up_to_cause sum P w cache offset len before old new WriteFailed size full goes = absurd goes
 up_to_cause sum P w cache offset len before old new ResizeFailed size full goes = absurd goes
 up_to_cause sum P w cache offset len before old new SyncFailed size full goes = absurd goes
 up_to_cause sum P w cache offset len before old new InvalidChecksum size full goes = absurd (full refl)
-up_to_cause sum P w cache offset len before old new BlobInsufficientLength size full goes = ((1, lit< tt, refl), (goes.1, omega (arith, size, goes.2)))
+up_to_cause sum P w cache offset len before old new BlobInsufficientLength size full goes = (goes.1, omega (arith, size, goes.2))
 up_to_cause sum P w cache offset len before old new OffsetOverflow size full goes = absurd goes
-up_to_cause sum P w cache offset len before old new OutOfMemory size full goes = ((2, lit< tt, refl), tt)
+up_to_cause sum P w cache offset len before old new OutOfMemory size full goes = tt
 up_to_cause sum P w cache offset len before old new IdsExhausted size full goes = absurd goes
 
 -- such a read
@@ -81,7 +80,7 @@ read_up_to_steps sum was w cache after offset len old new reply sound says = λ 
     taken (Fault e) P before stands size reads =
         let goes = reads.goes in
         let cause = up_to_cause sum P w cache offset len before old new e size (λ is. goes.never_if_sound w sound refl (omega arith) (ap Err is)) goes.answers in
-        ((cause.0, cause.1, refl), (λ none. absurd none, λ passes. cc (goes.end passes.0 (omega (arith, size, passes.1)))))
+        ((cause, refl), (λ none. absurd none, λ passes. cc (goes.end passes.0 (omega (arith, size, passes.1)))))
     taken (At n) P before stands size reads = absurd reads
     taken Nothing P before stands size reads = absurd reads
     taken Done P before stands size reads = absurd reads
@@ -115,9 +114,9 @@ read_up_to_takes sum was cache after offset len old new reply ready goes = by_wr
 
 -- why one is refused
 scan_cause : (P proven most reach len : ℕ) (buffer_size : NonZeroUsize) (old new : Life) (before : RunState) (e : Error) → ScanAnswers reach len old new (Err e) → IsWithinBlob {A = ℕ} (Err e) → (most ≡ 0 → ⊥)
-    → Contains (faults (Scan proven most buffer_size)) e × HasCause P (Scan proven most buffer_size) before old.present new.present e
+    → HasCause P (Scan proven most buffer_size) before old.present new.present e
 scan_cause P proven most reach len buffer_size old new before ReadFailed scans within some = ((0, lit< tt, refl), scans.0)
-scan_cause P proven most reach len buffer_size old new before OutOfMemory scans within some = ((1, lit< tt, refl), some)
+scan_cause P proven most reach len buffer_size old new before OutOfMemory scans within some = some
 scan_cause P proven most reach len buffer_size old new before WriteFailed scans within some = absurd scans
 scan_cause P proven most reach len buffer_size old new before ResizeFailed scans within some = absurd scans
 scan_cause P proven most reach len buffer_size old new before SyncFailed scans within some = absurd scans
@@ -147,7 +146,7 @@ scan_steps sum was w proven most buffer_size old new reply sound says = λ P bef
         let end : ℕ = scan_end w.page_size (flushed_pages w) most in
         let cause = scan_cause P proven most (end * (w.page_size + 12)) (min most (scan_to sum w.page_size w.full_pages end proven old.present.readable)) buffer_size old new before e counts.goes.answers (counts.goes.never (inl sound))
         (λ none. absurd (cc (counts.goes.none none).0)) in
-        ((cause.0, cause.1, refl), λ none. (counts.goes.none none).1)
+        ((cause, refl), λ none. (counts.goes.none none).1)
     taken (At n) P before stands counts = absurd counts
     taken Nothing P before stands counts = absurd counts
     taken Done P before stands counts = absurd counts
@@ -191,7 +190,7 @@ try_read_steps sum was w cache offset len life reply sound can tried = λ P befo
         ((omega (arith, size, within), tries.1 refl life.present can ∙ ap (λ (l : List ℕ). take len (drop offset l)) (sym stands.fits.content)), refl)
     taken Nothing P before stands size tried = refl
     taken (Fault e) P before stands size (is, within) =
-        subst (λ (x : Error). TakesStep sum P (TryRead offset len) (Fault x) life.present life.present before before) (sym is) ((0, lit< tt, refl), omega (arith, size, within), refl)
+        subst (λ (x : Error). TakesStep sum P (TryRead offset len) (Fault x) life.present life.present before before) (sym is) (omega (arith, size, within), refl)
     taken (At n) P before stands size tried = absurd tried
     taken Done P before stands size tried = absurd tried
     taken (Started sync) P before stands size tried = absurd tried

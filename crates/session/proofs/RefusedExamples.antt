@@ -64,7 +64,7 @@ a_refused_run bytes is = (
     [],
     refl,
     after_failure,
-    (((1, omega arith, refl), inl it_failed, refl), (λ over. absurd over, λ passes. absurd passes)),
+    ((((1, omega arith, refl), inl it_failed), refl), (λ over. absurd over, λ passes. absurd passes)),
     (nothing_yet, (unsynced_survives, ((alike failed refl refl).0, tt))),
     (refl, refl, (alike failed refl refl).0),
   ),
@@ -105,7 +105,7 @@ none_failed fault log (e ∷ es) is some = omega (arith, ap length is, length-ap
 pub no_fault_of_its_own : (after : RunState) → EachStepIsExact add_sum 4 (Sync ∷ []) (Fault SyncFailed ∷ []) saved [] (fresh 4 8 ab) after → ⊥
 no_fault_of_its_own after told =
     let there : saved ≡ last saved told.1 = one_step Sync (Fault SyncFailed) saved [] (fresh 4 8 ab) after told in
-    by_cause (subst (λ (d : Disk). HasFailed SyncFailed saved d ⊎ ⊥) (sym there) told.5.0.1)
+    by_cause (subst (λ (d : Disk). HasFailed SyncFailed saved d ⊎ ⊥) (sym there) told.5.0.0.1)
   where
     by_cause : HasFailed SyncFailed saved saved ⊎ ⊥ → ⊥
     by_cause (inl (more, is, some)) = none_failed SyncFailed saved.log more is some
@@ -113,7 +113,7 @@ no_fault_of_its_own after told =
 
 -- nor by an error that no sync has
 pub no_overflow_of_a_sync : (moments : List Disk) (after : RunState) → EachStepIsExact add_sum 4 (Sync ∷ []) (Fault OffsetOverflow ∷ []) saved moments (fresh 4 8 ab) after → ⊥
-no_overflow_of_a_sync moments after told = told.5.0.1
+no_overflow_of_a_sync moments after told = told.5.0.0
 
 -- ---- a sync that is started
 

@@ -3,7 +3,6 @@ use Rattle.std.proofs.Common.{◌≡◌, ◌⊎◌, ℕ, zero, suc, ◌+◌, ◌
 use Rattle.std.specs.Prelude.{All, Option, Some, None, nat_le, nat_eq, if◌then◌else◌, option_map, is_some, get_or, ⊤, ◌||◌, ◌/◌}
 use Rattle.std.specs.declared.num.NonZeroUsize.{NonZeroUsize}
 use Rattle.std.specs.Int.NonZero.{non_zero_usize_get}
-use Rattle.std.specs.List.{Contains}
 use Rattle.std.proofs.Math.ListN.{set}
 use Rattle.std.proofs.Math.Nat.{div-add-mod'}
 use Rattle.std.proofs.lemmas.Bool.{false≢true}
@@ -36,7 +35,7 @@ use Rattle.session.specs.declared.steps.Step.{Step}
 use Rattle.session.specs.declared.steps.Step.TheVariants.{Replay, Ensure, Take, Seek}
 use Rattle.session.specs.declared.steps.Reply.{Reply}
 use Rattle.session.specs.declared.steps.Reply.TheVariants.{Done, Answer, Bytes, Fault, NoSuch, Replaying}
-use Rattle.session.specs.Run.{needs_no_device, AllCover, AnswersStep, at_step, CacheFits, content_after, Did, ended, raised, WriterFits, faults, FitsWriter, FaultsComeFirst, HasCause, HasEnsured, HasFetched, has_replay_at, IsBelow, IsSoundSession, IsReplayIn, last, moved, numbered, passed, pending_in, RunReplay, replay_in_run, replaying, replay_size, rewritten, SessionState, RunState, Represents, TakesStep, use_of_step, UsesDevice, turned_away, WriterRepresents}
+use Rattle.session.specs.Run.{needs_no_device, AllCover, AnswersStep, at_step, CacheFits, content_after, Did, ended, raised, WriterFits, FitsWriter, FaultsComeFirst, HasCause, HasEnsured, HasFetched, has_replay_at, IsBelow, IsSoundSession, IsReplayIn, last, moved, numbered, passed, pending_in, RunReplay, replay_in_run, replaying, replay_size, rewritten, SessionState, RunState, Represents, TakesStep, use_of_step, UsesDevice, turned_away, WriterRepresents}
 use Rattle.session.specs.Run.DeviceUse.{Leaves, Looks, Changes}
 use Rattle.session.specs.Calls.{AtReplay, EnsureSays, KeepsAllButReplays, KeepsButReplays, LeavesTaken, ReplayCanGoOn, SeeksOf, Steps, TakesOf, TakesReplay}
 use Rattle.session.proofs.Words.{ReplayTold}
@@ -139,7 +138,7 @@ replay_steps sum was w v r buffer_size old new at sound says = λ P before all.
 
 -- why one isn't
 replay_cause : (P : ℕ) (w : WriterState) (buffer_size : NonZeroUsize) (before : RunState) (old new : Life) (e : Error) → (before.written ≡ true → e ≡ SyncFailed → ⊥) → before.awaited ≡ pending_in w.sync → CallCause w.sync old new e
-    → Contains (faults (Replay buffer_size)) e × HasCause P (Replay buffer_size) before old.present new.present e
+    → HasCause P (Replay buffer_size) before old.present new.present e
 replay_cause P w buffer_size before old new ReadFailed written awaited cause = absurd cause
 replay_cause P w buffer_size before old new WriteFailed written awaited cause = ((0, lit< tt, refl), cause)
 replay_cause P w buffer_size before old new ResizeFailed written awaited cause = absurd cause
@@ -153,7 +152,7 @@ replay_cause P w buffer_size before old new SyncFailed written awaited cause = (
 replay_cause P w buffer_size before old new InvalidChecksum written awaited cause = absurd cause
 replay_cause P w buffer_size before old new BlobInsufficientLength written awaited cause = absurd cause
 replay_cause P w buffer_size before old new OffsetOverflow written awaited cause = absurd cause
-replay_cause P w buffer_size before old new OutOfMemory written awaited cause = ((2, lit< tt, refl), tt)
+replay_cause P w buffer_size before old new OutOfMemory written awaited cause = tt
 replay_cause P w buffer_size before old new IdsExhausted written awaited cause = absurd cause
 
 replay_refused_steps : (sum : List ℕ → ℕ) (was : SessionState) (w : WriterState) (buffer_size : NonZeroUsize) (e : Error) (old new : Life) → ReplayTold sum w (non_zero_usize_get buffer_size) old new (Err e) → AlwaysApart sum (Replay buffer_size) (Fault e) (held was (Some w)) (held was None) old new
@@ -164,7 +163,7 @@ replay_refused_steps sum was w buffer_size e old new says = λ P before stands.
     let h = same_halves sum was P w old new before stands through (owed_starts sum P was w old new before stands says.owes) in
     let cause = replay_cause P w buffer_size before old new e (λ written fault. never P before fits written fault) fits.awaited says.begins.cause in
     stepped sum P (Replay buffer_size) (Fault e) (held was None) old new before (ended before.content before) through.moments fits.has_writer (turned_here before.has_writer fits.has_writer) h
-    (replay_touch P w before old new through.moments fits h.goes says.calls (λ none. (says.idle none).1)) (cause.0, cause.1, inl refl) (λ none. absurd none, λ none. absurd none)
+    (replay_touch P w before old new through.moments fits h.goes says.calls (λ none. (says.idle none).1)) (cause, inl refl) (λ none. absurd none, λ none. absurd none)
     (stands_ended sum P was w old new before before.content through.moments stands h)
   where
     never : (P : ℕ) (before : RunState) → WriterRepresents P w before old.present → before.written ≡ true → e ≡ SyncFailed → ⊥
@@ -175,7 +174,7 @@ replay_refused_steps sum was w buffer_size e old new says = λ P before stands.
 -- there is no memory for one in the session's list
 no_room_to_replay : (sum : List ℕ → ℕ) (was : SessionState) (w : WriterState) (buffer_size : NonZeroUsize) (life : Life) → AlwaysApart sum (Replay buffer_size) (Fault OutOfMemory) (held was (Some w)) (held was (Some w)) life life
 no_room_to_replay sum was w buffer_size life = λ P before stands.
-    unasked sum P was w (Replay buffer_size) (Fault OutOfMemory) (held was (Some w)) life before before (turned_here before.has_writer stands.fits.has_writer) stands ((2, lit< tt, refl), tt, inr (refl, refl, refl))
+    unasked sum P was w (Replay buffer_size) (Fault OutOfMemory) (held was (Some w)) life before before (turned_here before.has_writer stands.fits.has_writer) stands (tt, inr (refl, refl, refl))
     (λ none. absurd none, λ none. absurd none) stands
 
 -- the replays with one more, as they are told
@@ -497,7 +496,7 @@ fetched_of sum r q readable d fills gives =
       within = subst (λ (t : Tail). length q.hand ≤ length (logical_bytes t readable) - q.position) (sym fills.tail) (hand_within sum q (logical_bytes r.tail readable) d gives);
     }
 
-ensure_cause : (sum : List ℕ → ℕ) (P : ℕ) (index count : ℕ) (t : Tail) (before : RunState) (old new : Life) (e : Error) → HasFullPages sum t old.present → FillFault sum t old new e → Contains (faults (Ensure index count)) e × HasCause P (Ensure index count) before old.present new.present e
+ensure_cause : (sum : List ℕ → ℕ) (P : ℕ) (index count : ℕ) (t : Tail) (before : RunState) (old new : Life) (e : Error) → HasFullPages sum t old.present → FillFault sum t old new e → HasCause P (Ensure index count) before old.present new.present e
 ensure_cause sum P index count t before old new ReadFailed full fault = ((0, lit< tt, refl), fault)
 ensure_cause sum P index count t before old new WriteFailed full fault = absurd fault
 ensure_cause sum P index count t before old new ResizeFailed full fault = absurd fault
@@ -505,7 +504,7 @@ ensure_cause sum P index count t before old new SyncFailed full fault = absurd f
 ensure_cause sum P index count t before old new InvalidChecksum full fault = absurd (fault full)
 ensure_cause sum P index count t before old new BlobInsufficientLength full fault = absurd fault
 ensure_cause sum P index count t before old new OffsetOverflow full fault = absurd fault
-ensure_cause sum P index count t before old new OutOfMemory full fault = ((1, lit< tt, refl), tt)
+ensure_cause sum P index count t before old new OutOfMemory full fault = tt
 ensure_cause sum P index count t before old new IdsExhausted full fault = absurd fault
 
 -- where so many are had
@@ -553,7 +552,7 @@ ensure_goes sum index count was old new seen r q gives (Fault error) says = let 
   touched = λ P before here. ensure_touched P index count r before old new seen says.idle here;
   takes = λ P before here.
       let cause = ensure_cause sum P index count r.tail before old new error gives.tail.full e.1 in
-      (cause.0, cause.1, (replay_in_run old.present.readable r, replay_in_run old.present.readable q, here, fetched_of sum r q old.present.readable new.present says.ensures.0 (says.through sum (logical_bytes r.tail old.present.readable) gives), refl));
+      (cause, (replay_in_run old.present.readable r, replay_in_run old.present.readable q, here, fetched_of sum r q old.present.readable new.present says.ensures.0 (says.through sum (logical_bytes r.tail old.present.readable) gives), refl));
   foretells = λ P before here. (λ none. absurd none, λ none. absurd none);
 }
 ensure_goes sum index count was old new seen r q gives other says = absurd says.ensures
@@ -595,7 +594,7 @@ take_goes sum index count was life moments none r q gives (Fault e) (fault, is) 
   touched = λ P before here. none;
   takes = λ P before here.
       let same : moved index (replay_in_run life.present.readable q) before ≡ before = ap (λ (x : ReplayState). moved index (replay_in_run life.present.readable x) before) is ∙ moved_back index (replay_in_run life.present.readable r) before here in
-      subst (λ (x : Error). TakesStep sum P (Take index count) (Fault x) life.present life.present before (moved index (replay_in_run life.present.readable q) before)) (sym fault) ((0, lit< tt, refl), tt, same);
+      subst (λ (x : Error). TakesStep sum P (Take index count) (Fault x) life.present life.present before (moved index (replay_in_run life.present.readable q) before)) (sym fault) (tt, same);
   foretells = λ P before here. (λ none. absurd none, λ none. absurd none);
 }
 take_goes sum index count was life moments none r q gives other takes on = absurd takes
@@ -626,7 +625,7 @@ seek_fails sum index offset was life moments none r q gives BlobInsufficientLeng
   takes = λ P before here.
       let same : moved index (replay_in_run life.present.readable q) before ≡ before = ap (λ (x : ReplayState). moved index (replay_in_run life.present.readable x) before) is ∙ moved_back index (replay_in_run life.present.readable r) before here in
       let beyond : replay_size before index < offset = omega (arith, past, replay_has sum r life.present gives, size_found before index (replay_in_run life.present.readable r) here) in
-      ((0, lit< tt, refl), beyond, same);
+      (beyond, same);
   foretells = λ P before here. (λ fault. absurd fault, λ beyond. refl);
 }
 seek_fails sum index offset was life moments none r q gives other fault on = absurd fault

@@ -110,7 +110,7 @@ owned_cause P bytes s from to IdsExhausted cause = cause
 
 -- so is what it takes
 owned_takes : (sum : List ℕ → ℕ) (P : ℕ) (bytes : Vec ℕ Global) (reply : Reply) (s after : RunState) (from to : Disk) → TakesStep sum P (Append bytes) reply from to s after → TakesStep sum P (Owned bytes) reply from to s after
-owned_takes sum P bytes (Fault e) s after from to (listed, cause, refuses) = (listed, owned_cause P bytes s from to e cause, refuses)
+owned_takes sum P bytes (Fault e) s after from to (cause, refuses) = (owned_cause P bytes s from to e cause, refuses)
 owned_takes sum P bytes (At n) s after from to takes = takes
 owned_takes sum P bytes Nothing s after from to takes = takes
 owned_takes sum P bytes Done s after from to takes = takes

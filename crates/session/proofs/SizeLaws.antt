@@ -2,7 +2,6 @@
 use Rattle.std.proofs.Common.{◌≡◌, ℕ, ◌<◌, List, [], ◌∷◌, length, take, drop, refl, sym, ap, ◌∙◌, subst, arith, Ok, Err, ◌^◌, lit<}
 use Rattle.std.specs.Prelude.{Some, None, Vec}
 use Rattle.std.specs.declared.alloc.Global.{Global}
-use Rattle.std.specs.List.{Contains}
 use Rattle.disk.specs.Disk.{Disk, Life, coverings}
 use Rattle.disk.specs.declared.error.Error.{Error}
 use Rattle.disk.specs.declared.error.Error.TheVariants.{ReadFailed, WriteFailed, ResizeFailed, SyncFailed, InvalidChecksum, BlobInsufficientLength, OffsetOverflow, OutOfMemory, IdsExhausted}
@@ -28,7 +27,7 @@ use Rattle.session.specs.declared.steps.Step.{Step}
 use Rattle.session.specs.declared.steps.Step.TheVariants.{Size, Read}
 use Rattle.session.specs.declared.steps.Reply.{Reply}
 use Rattle.session.specs.declared.steps.Reply.TheVariants.{At, Nothing, Done, Started, Answer, Length, Bytes, Fault, Closed, NotRecovering, NoSuch, Served, Missed, BadRanges, Taken, Sealed, NotAppending, Replaying}
-use Rattle.session.specs.Run.{RunState, SessionState, at_step, turned_away, faults, HasCause, content_after, TakesStep, FaultsComeFirst, use_of_step, UsesDevice, AllCover}
+use Rattle.session.specs.Run.{RunState, SessionState, at_step, turned_away, HasCause, content_after, TakesStep, FaultsComeFirst, use_of_step, UsesDevice, AllCover}
 use Rattle.session.specs.Calls.{RangeStepGoes, ReadsBytes, RefusesRoom}
 use Rattle.session.proofs.Apart.{AlwaysApart, StandsApart, SteppedApart}
 use Rattle.session.proofs.StepLaws.{held, turned_here, each_end, stepped, unasked, stands_now, Halves}
@@ -88,15 +87,15 @@ looked_steps sum was P w step reply old new before same begins here sound looked
 
 -- why a read is refused: a sound writer has no page below its tip that isn't full
 read_cause : (sum : List ℕ → ℕ) (P : ℕ) (w : WriterState) (cache : CacheState) (offset len : ℕ) (before : RunState) (old new : Life) (e : Error) → size_of w ≡ length before.content → (e ≡ InvalidChecksum → ⊥)
-    → Reads {A = Vec ℕ Global} sum (tail_of w) cache (offset, len) (λ b. b.items) old new (Err e) → Contains (faults (Read offset len)) e × HasCause P (Read offset len) before old.present new.present e
+    → Reads {A = Vec ℕ Global} sum (tail_of w) cache (offset, len) (λ b. b.items) old new (Err e) → HasCause P (Read offset len) before old.present new.present e
 read_cause sum P w cache offset len before old new ReadFailed size full goes = ((0, lit< tt, refl), goes)
 read_cause sum P w cache offset len before old new WriteFailed size full goes = absurd goes
 read_cause sum P w cache offset len before old new ResizeFailed size full goes = absurd goes
 read_cause sum P w cache offset len before old new SyncFailed size full goes = absurd goes
 read_cause sum P w cache offset len before old new InvalidChecksum size full goes = absurd (full refl)
-read_cause sum P w cache offset len before old new BlobInsufficientLength size full goes = ((1, lit< tt, refl), (goes.1, omega (arith, size, goes.2)))
-read_cause sum P w cache offset len before old new OffsetOverflow size full goes = ((2, lit< tt, refl), goes.1)
-read_cause sum P w cache offset len before old new OutOfMemory size full goes = ((3, lit< tt, refl), tt)
+read_cause sum P w cache offset len before old new BlobInsufficientLength size full goes = (goes.1, omega (arith, size, goes.2))
+read_cause sum P w cache offset len before old new OffsetOverflow size full goes = goes.1
+read_cause sum P w cache offset len before old new OutOfMemory size full goes = tt
 read_cause sum P w cache offset len before old new IdsExhausted size full goes = absurd goes
 
 -- what a read costs that asks for nothing
@@ -222,7 +221,7 @@ read_steps sum was w cache after offset len old new reply sound says = λ P befo
     taken (Fault e) P before stands size reads =
         let goes = reads.goes in
         let cause = read_cause sum P w cache offset len before old new e size (λ is. goes.never_if_sound w sound refl (omega arith) (ap Err is)) goes.answers in
-        ((cause.0, cause.1, refl), (λ over. cc (goes.overflow over), λ passes. cc (goes.end passes.0 (omega (arith, size, passes.1)))))
+        ((cause, refl), (λ over. cc (goes.overflow over), λ passes. cc (goes.end passes.0 (omega (arith, size, passes.1)))))
     taken (At n) P before stands size reads = absurd reads
     taken Nothing P before stands size reads = absurd reads
     taken Done P before stands size reads = absurd reads

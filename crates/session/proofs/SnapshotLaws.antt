@@ -1,7 +1,6 @@
 -- What the steps do that make snapshots, and read them.
 use Rattle.std.proofs.Common.{◌≡◌, ◌⊎◌, ℕ, zero, suc, ◌+◌, ◌<◌, ◌≤◌, ◌%◌, List, [], ◌∷◌, ◌++◌, length, map, take, drop, refl, sym, ap, ◌∙◌, subst, arith, append-nil, inl, inr, Bool, true, false, Ok, Err, lit<, lit≤}
 use Rattle.std.specs.Prelude.{All, IfSome, Option, Some, None, nat_le, nat_lt, nat_eq, if◌then◌else◌, is_some, option_map}
-use Rattle.std.specs.List.{Contains}
 use Rattle.std.specs.Prelude.{Vec}
 use Rattle.std.specs.declared.alloc.Global.{Global}
 use Rattle.std.proofs.Math.Bool.{or-false}
@@ -40,7 +39,7 @@ use Rattle.session.specs.declared.steps.Step.{Step}
 use Rattle.session.specs.declared.steps.Step.TheVariants.{Snapshot, TrySnapshot, Snap, Seal}
 use Rattle.session.specs.declared.steps.Reply.{Reply}
 use Rattle.session.specs.declared.steps.Reply.TheVariants.{Nothing, Bytes, Fault, Closed, NoSuch, Taken, Sealed, NotAppending}
-use Rattle.session.specs.Run.{RunReplay, RunState, SessionState, at_step, noted, flushed, left_by_seal, ended, sealed_by, snapshot_at, numbered, turned_away, faults, HasCause, TakesStep, FaultsComeFirst, AnswersStep, UsesDevice, use_of_wait, last, AllCover, pending_in, WriterRepresents, HasSoundWriter, FitsWriter, CacheFits, IsSoundSession, IsBelow, IsSnapshot, Represents}
+use Rattle.session.specs.Run.{RunReplay, RunState, SessionState, at_step, noted, flushed, left_by_seal, ended, sealed_by, snapshot_at, numbered, turned_away, HasCause, TakesStep, FaultsComeFirst, AnswersStep, UsesDevice, use_of_wait, last, AllCover, pending_in, WriterRepresents, HasSoundWriter, FitsWriter, CacheFits, IsSoundSession, IsBelow, IsSnapshot, Represents}
 use Rattle.session.specs.Run.DeviceUse.{Leaves, Looks, Changes}
 use Rattle.session.specs.Calls.{IfAppending, with_snapshot, TakesSnapshot, TakesTriedSnapshot, sealed_with, SealsSession, DidSnapshot, DidTrySnapshot, DidSeal, DidSnap, ReadsBytes, RangeStepGoes, LeavesTaken, Steps}
 use Rattle.session.proofs.Words.{SnapshotTold, SealTold}
@@ -215,7 +214,7 @@ snapshot_steps sum was w v t after old new at phase sound says on = λ P before 
 
 -- why one is refused
 snapshot_cause : (P : ℕ) (w : WriterState) (before : RunState) (old new : Life) (e : Error) → (nat_lt before.buffered P ≡ true → e ≡ SyncFailed → ⊥) → before.awaited ≡ pending_in w.sync → CallCause w.sync old new e
-    → Contains (faults Snapshot) e × HasCause P Snapshot before old.present new.present e
+    → HasCause P Snapshot before old.present new.present e
 snapshot_cause P w before old new ReadFailed short awaited cause = absurd cause
 snapshot_cause P w before old new WriteFailed short awaited cause = ((0, lit< tt, refl), cause)
 snapshot_cause P w before old new ResizeFailed short awaited cause = absurd cause
@@ -229,7 +228,7 @@ snapshot_cause P w before old new SyncFailed short awaited cause = (
 snapshot_cause P w before old new InvalidChecksum short awaited cause = absurd cause
 snapshot_cause P w before old new BlobInsufficientLength short awaited cause = absurd cause
 snapshot_cause P w before old new OffsetOverflow short awaited cause = absurd cause
-snapshot_cause P w before old new OutOfMemory short awaited cause = ((2, lit< tt, refl), tt)
+snapshot_cause P w before old new OutOfMemory short awaited cause = tt
 snapshot_cause P w before old new IdsExhausted short awaited cause = absurd cause
 
 snapshot_refused_steps : (sum : List ℕ → ℕ) (was : SessionState) (w : WriterState) (e : Error) (old new : Life) → was.recovering ≡ false → SnapshotTold sum w old new (Err e) → AlwaysApart sum Snapshot (Fault e) (held was (Some w)) (held was None) old new
@@ -240,7 +239,7 @@ snapshot_refused_steps sum was w e old new phase says = λ P before stands.
     let h = same_halves sum was P w old new before stands through (owed_starts sum P was w old new before stands says.owes) in
     let cause = snapshot_cause P w before old new e (λ short fault. never P before fits short fault) fits.awaited says.makes.cause in
     stepped sum P Snapshot (Fault e) (held was None) old new before (ended before.content before) through.moments fits.has_writer (here before.has_writer before.recovering fits.has_writer (sym stands.phase ∙ phase)) h
-    (touched P before fits through.moments h.goes (has_work w false) refl) (cause.0, cause.1, inl refl) (λ none. absurd none, λ none. absurd none) (stands_ended sum P was w old new before before.content through.moments stands h)
+    (touched P before fits through.moments h.goes (has_work w false) refl) (cause, inl refl) (λ none. absurd none, λ none. absurd none) (stands_ended sum P was w old new before before.content through.moments stands h)
   where
     never : (P : ℕ) (before : RunState) → WriterRepresents P w before old.present → nat_lt before.buffered P ≡ true → e ≡ SyncFailed → ⊥
     never P before fits short fault = by_work (has_work w false) refl
@@ -259,7 +258,7 @@ snapshot_refused_steps sum was w e old new phase says = λ P before stands.
 -- there is no memory for a snapshot in the session's list
 no_room_for_one : (sum : List ℕ → ℕ) (was : SessionState) (w : WriterState) (life : Life) → was.recovering ≡ false → AlwaysApart sum Snapshot (Fault OutOfMemory) (held was (Some w)) (held was (Some w)) life life
 no_room_for_one sum was w life phase = λ P before stands.
-    unasked sum P was w Snapshot (Fault OutOfMemory) (held was (Some w)) life before before (here before.has_writer before.recovering stands.fits.has_writer (sym stands.phase ∙ phase)) stands ((2, lit< tt, refl), tt, inr (refl, refl, refl))
+    unasked sum P was w Snapshot (Fault OutOfMemory) (held was (Some w)) life before before (here before.has_writer before.recovering stands.fits.has_writer (sym stands.phase ∙ phase)) stands (tt, inr (refl, refl, refl))
     (λ none. absurd none, λ none. absurd none) stands
 
 -- a snapshot by a session
@@ -364,7 +363,7 @@ try_snapshot_takes sum was now cache life reply ready fits did = by_state was.re
     tries w at phase Nothing (full, is) =
         same_session Nothing is (same_apart Nothing w at phase is (λ P s stands. let more : P ≤ s.buffered = omega (arith, full, stands.buffered, stands.page_size) in (more, refl)))
     tries w at phase (Fault e) (fault, is) =
-        same_session (Fault e) is (same_apart (Fault e) w at phase is (λ P s stands. subst (λ (x : Error). TakesStep sum P TrySnapshot (Fault x) life.present life.present s s) (sym fault) ((0, lit< tt, refl), tt, refl)))
+        same_session (Fault e) is (same_apart (Fault e) w at phase is (λ P s stands. subst (λ (x : Error). TakesStep sum P TrySnapshot (Fault x) life.present life.present s s) (sym fault) (tt, refl)))
     tries w at phase r goes = absurd goes
 
     by_state : (phase : Bool) (o : Option WriterState) → was.recovering ≡ phase → was.writer ≡ o → IfAppending phase o reply (now ≡ was) (λ w. TakesTriedSnapshot w was now reply) → Steps sum TrySnapshot reply was now life life × CacheFits now cache life.present
@@ -466,7 +465,7 @@ seal_steps sum was w t sync after old new at phase says on = λ P before all.
     (sealed_stands sum P was w t sync old new before through.moments stands starts.3 h))))
 
 -- why one isn't
-seal_cause : (P : ℕ) (w : WriterState) (before : RunState) (old new : Life) (e : Error) → before.awaited ≡ pending_in w.sync → CallCause w.sync old new e → Contains (faults Seal) e × HasCause P Seal before old.present new.present e
+seal_cause : (P : ℕ) (w : WriterState) (before : RunState) (old new : Life) (e : Error) → before.awaited ≡ pending_in w.sync → CallCause w.sync old new e → HasCause P Seal before old.present new.present e
 seal_cause P w before old new ReadFailed awaited cause = absurd cause
 seal_cause P w before old new WriteFailed awaited cause = ((0, lit< tt, refl), cause)
 seal_cause P w before old new ResizeFailed awaited cause = absurd cause
@@ -474,7 +473,7 @@ seal_cause P w before old new SyncFailed awaited cause = ((1, lit< tt, refl), el
 seal_cause P w before old new InvalidChecksum awaited cause = absurd cause
 seal_cause P w before old new BlobInsufficientLength awaited cause = absurd cause
 seal_cause P w before old new OffsetOverflow awaited cause = absurd cause
-seal_cause P w before old new OutOfMemory awaited cause = ((2, lit< tt, refl), tt)
+seal_cause P w before old new OutOfMemory awaited cause = tt
 seal_cause P w before old new IdsExhausted awaited cause = absurd cause
 
 seal_refused_steps : (sum : List ℕ → ℕ) (was : SessionState) (w : WriterState) (e : Error) (old new : Life) → was.recovering ≡ false → SealTold sum w old new (Err e) → AlwaysApart sum Seal (Fault e) (held was (Some w)) (held was None) old new
@@ -485,13 +484,13 @@ seal_refused_steps sum was w e old new phase says = λ P before stands.
     let h = same_halves sum was P w old new before stands through (owed_starts sum P was w old new before stands says.owes) in
     let cause = seal_cause P w before old new e fits.awaited says.seals.cause in
     stepped sum P Seal (Fault e) (held was None) old new before (ended before.content before) through.moments fits.has_writer (here before.has_writer before.recovering fits.has_writer (sym stands.phase ∙ phase)) h
-    (seal_touch w P before old new through.moments fits h.goes says.calls (λ none. (says.idle none).1)) (cause.0, cause.1, inl refl) (λ none. absurd none, λ none. absurd none)
+    (seal_touch w P before old new through.moments fits h.goes says.calls (λ none. (says.idle none).1)) (cause, inl refl) (λ none. absurd none, λ none. absurd none)
     (stands_ended sum P was w old new before before.content through.moments stands h)
 
 -- there is no memory for the snapshot or the name in the session's lists
 no_room_to_seal : (sum : List ℕ → ℕ) (was : SessionState) (w : WriterState) (life : Life) → was.recovering ≡ false → AlwaysApart sum Seal (Fault OutOfMemory) (held was (Some w)) (held was (Some w)) life life
 no_room_to_seal sum was w life phase = λ P before stands.
-    unasked sum P was w Seal (Fault OutOfMemory) (held was (Some w)) life before before (here before.has_writer before.recovering stands.fits.has_writer (sym stands.phase ∙ phase)) stands ((2, lit< tt, refl), tt, inr (refl, refl, refl))
+    unasked sum P was w Seal (Fault OutOfMemory) (held was (Some w)) life before before (here before.has_writer before.recovering stands.fits.has_writer (sym stands.phase ∙ phase)) stands (tt, inr (refl, refl, refl))
     (λ none. absurd none, λ none. absurd none) stands
 
 pub seal_takes : (sum : List ℕ → ℕ) (was now : SessionState) (cache after : CacheState) (old new : Life) (reply : Reply) → IsSoundSession sum was old.present → CacheFits was cache old.present → FitsWriter now.writer after new.present
@@ -562,15 +561,15 @@ looked_stands sum P was s d e alike stands =
 
 -- why one is refused
 snap_cause : (sum : List ℕ → ℕ) (P : ℕ) (t : Tail) (cache : CacheState) (index offset len : ℕ) (before : RunState) (old new : Life) (e : Error) → size_of_tail t ≡ length (snapshot_at before index) → (e ≡ InvalidChecksum → ⊥)
-    → Reads {A = Vec ℕ Global} sum t cache (offset, len) (λ b. b.items) old new (Err e) → Contains (faults (Snap index offset len)) e × HasCause P (Snap index offset len) before old.present new.present e
+    → Reads {A = Vec ℕ Global} sum t cache (offset, len) (λ b. b.items) old new (Err e) → HasCause P (Snap index offset len) before old.present new.present e
 snap_cause sum P t cache index offset len before old new ReadFailed size full goes = ((0, lit< tt, refl), goes)
 snap_cause sum P t cache index offset len before old new WriteFailed size full goes = absurd goes
 snap_cause sum P t cache index offset len before old new ResizeFailed size full goes = absurd goes
 snap_cause sum P t cache index offset len before old new SyncFailed size full goes = absurd goes
 snap_cause sum P t cache index offset len before old new InvalidChecksum size full goes = absurd (full refl)
-snap_cause sum P t cache index offset len before old new BlobInsufficientLength size full goes = ((1, lit< tt, refl), (goes.1, omega (arith, size, goes.2)))
-snap_cause sum P t cache index offset len before old new OffsetOverflow size full goes = ((2, lit< tt, refl), goes.1)
-snap_cause sum P t cache index offset len before old new OutOfMemory size full goes = ((3, lit< tt, refl), tt)
+snap_cause sum P t cache index offset len before old new BlobInsufficientLength size full goes = (goes.1, omega (arith, size, goes.2))
+snap_cause sum P t cache index offset len before old new OffsetOverflow size full goes = goes.1
+snap_cause sum P t cache index offset len before old new OutOfMemory size full goes = tt
 snap_cause sum P t cache index offset len before old new IdsExhausted size full goes = absurd goes
 
 snap_taken : (sum : List ℕ → ℕ) (P : ℕ) (t : Tail) (cache after : CacheState) (index offset len : ℕ) (before : RunState) (old new : Life) (reply : Reply) → logical_bytes t old.present.readable ≡ snapshot_at before index → size_of_tail t ≡ length (snapshot_at before index)
@@ -582,7 +581,7 @@ snap_taken sum P t cache after index offset len before old new (Bytes bytes) tel
 snap_taken sum P t cache after index offset len before old new (Fault e) tells size full reads =
     let goes = reads.goes in
     let cause = snap_cause sum P t cache index offset len before old new e size (λ is. goes.never full (ap Err is)) goes.answers in
-    ((cause.0, cause.1, refl), (λ over. cc (goes.overflow over), λ passes. cc (goes.end passes.0 (omega (arith, size, passes.1)))))
+    ((cause, refl), (λ over. cc (goes.overflow over), λ passes. cc (goes.end passes.0 (omega (arith, size, passes.1)))))
 snap_taken sum P t cache after index offset len before old new r tells size full reads = absurd reads
 
 -- the one of a number, as a standing has it

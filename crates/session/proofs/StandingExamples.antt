@@ -1,11 +1,11 @@
 -- Examples of the parts of a standing, of the bytes that a read answers, and of the causes of an error. The writer of `six_stand` has
 -- "abcdef", of which "ef" is buffered, of eight bytes.
-use Rattle.std.proofs.Common.{◌≡◌, ℕ, zero, suc, Vec, List, [], ◌∷◌, ◌++◌, refl, sym, ap, inl, inr, arith, true, false}
+use Rattle.std.proofs.Common.{◌≡◌, ◌<◌, ℕ, zero, suc, Vec, List, [], ◌∷◌, ◌++◌, refl, sym, ap, inl, inr, arith, true, false}
 use Rattle.std.specs.Prelude.{Some, None, get_or}
 use Rattle.std.specs.declared.alloc.Global.{Global}
 use Rattle.std.proofs.lemmas.Bool.{false≢true}
 use Rattle.disk.specs.Disk.{Disk, failed_at}
-use Rattle.disk.specs.declared.error.Error.TheVariants.{WriteFailed, BlobInsufficientLength, OutOfMemory}
+use Rattle.disk.specs.declared.error.Error.TheVariants.{WriteFailed, BlobInsufficientLength, OffsetOverflow, OutOfMemory}
 use Rattle.page.specs.Geometry.{EndWithin}
 use Rattle.page.specs.Sums.{add_sum}
 use Rattle.writer_state.specs.declared.sync_state.SyncState.TheVariants.{Clean, Dirty, Pending}
@@ -15,8 +15,8 @@ use Rattle.paged_read.specs.Replay.{new_replay}
 use Rattle.session.specs.declared.steps.Step.TheVariants.{Append, Sync, Size, Read, Seek, Truncate}
 use Rattle.session.specs.declared.steps.Reply.TheVariants.{Length, Fault, Closed, NotAppending}
 use Rattle.session.specs.Run.{RunReplay, RunState, fits_buffer, written_after, moved, forgetting, raised_floor, lowered, has_name, numbered, has_snapshot_at, has_replay_at, replay_size, in_order_from, unless_appending, ended}
-use Rattle.session.specs.Run.{is_complete, NamesFit, RiseBelow, PassesContent, FaultsComeFirst, Allocates, faults, RefusesStep, TakesStep, AnswersStep}
-use Rattle.session.specs.Run.{IsSlice, SlicesUpTo, SlicesAll, NumbersSome, HasFetched, HasCompleted, Overflows, AwaitedSyncFailed, HadNoRoom, content_after, other_content, AllCover, pending_in, WriterFits, replay_in_run}
+use Rattle.session.specs.Run.{is_complete, NamesFit, RiseBelow, FaultsComeFirst, StepFaults, HasCause, faults, no_faults, replaying, RefusesStep, TakesStep, AnswersStep}
+use Rattle.session.specs.Run.{IsSlice, SlicesUpTo, SlicesAll, NumbersSome, HasFetched, HasCompleted, AwaitedSyncFailed, HadNoRoom, content_after, other_content, AllCover, pending_in, WriterFits, replay_in_run}
 use Rattle.session.specs.Promise.{fresh}
 use Rattle.session.proofs.Examples.{six_stand, none_synced, six_started}
 use Rattle.session.proofs.ComesBackExamples.{ab, saved, ab_writer}
@@ -241,17 +241,17 @@ there_is_no_third_to_miss numbers = omega (arith, numbers.0.1)
 
 -- ---- causes
 
-pub past_all_numbers : Overflows 4 (Read 18446744073709551615 1) six_stand
+pub past_all_numbers : HasCause 4 (Read 18446744073709551615 1) six_stand durable durable OffsetOverflow
 past_all_numbers = omega arith
 
-pub within_the_numbers : Overflows 4 (Read 0 6) six_stand → ⊥
+pub within_the_numbers : HasCause 4 (Read 0 6) six_stand durable durable OffsetOverflow → ⊥
 within_the_numbers over = omega (arith, over)
 
 -- three bytes from the fifth on pass the end, and two end there
-pub three_pass_the_end : PassesContent (Read 4 3) six_stand
+pub three_pass_the_end : HasCause 4 (Read 4 3) six_stand durable durable BlobInsufficientLength
 three_pass_the_end = (omega arith, omega arith)
 
-pub two_do_not : PassesContent (Read 4 2) six_stand → ⊥
+pub two_do_not : HasCause 4 (Read 4 2) six_stand durable durable BlobInsufficientLength → ⊥
 two_do_not passes = omega (arith, passes.1)
 
 -- so the standing alone tells the fault, before any other
@@ -262,11 +262,18 @@ pub no_other_fault_is : FaultsComeFirst 4 (Read 4 3) (Fault OutOfMemory) six_sta
 no_other_fault_is foretold = let is : Fault OutOfMemory ≡ Fault BlobInsufficientLength = foretold.1 three_pass_the_end in absurd (cc is)
 
 -- a sync that has something to do may ask for memory
-pub a_sync_allocates : Allocates Sync none_synced
+pub a_sync_allocates : HasCause 4 Sync none_synced durable durable OutOfMemory
 a_sync_allocates = refl
 
-pub a_seek_has_one_fault : faults (Seek 0 7) ≡ BlobInsufficientLength ∷ []
+-- a seek asks no device, and its one error is the end
+abbrev pub faults_of_a_seek : StepFaults
+faults_of_a_seek = record { device = []; overflow = ⊥; end = 6 < 7; memory = ⊥ }
+
+pub a_seek_has_one_fault : faults 4 (Seek 0 7) (replaying 4 64 six_stand) ≡ faults_of_a_seek
 a_seek_has_one_fault = refl
+
+pub a_size_has_none : faults 4 Size six_stand ≡ no_faults
+a_size_has_none = refl
 
 -- a refused read doesn't end the writer, and a refused sync does
 pub a_read_ends_nothing : RefusesStep (Read 4 3) BlobInsufficientLength durable durable six_stand (ended six six_stand) → ⊥

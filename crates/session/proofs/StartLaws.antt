@@ -1,7 +1,6 @@
 -- What the steps on started syncs do, and the end of a recovery.
 use Rattle.std.proofs.Common.{◌≡◌, ◌⊎◌, ℕ, zero, suc, ◌+◌, ◌<◌, ◌≤◌, List, [], ◌∷◌, length, slice_get, refl, sym, ap, ◌∙◌, subst, arith, append-nil, length-append, inl, inr, Bool, true, false, Ok, Err, Result, lit<, lit≤}
 use Rattle.std.specs.Prelude.{All, Option, Some, None, nat_le, nat_lt, nat_eq, drop, ◌-◌, if◌then◌else◌, is_some, IfOk, ◌||◌}
-use Rattle.std.specs.List.{Contains}
 use Rattle.std.proofs.lemmas.Bool.{false≢true}
 use Rattle.std.proofs.lemmas.Bool.Decides.{nat_tests}
 use Rattle.disk.specs.Disk.{Disk, Life, WaitSync as WaitCall, next, life_after, logged, coverings, disk_settled_to, failed_at, WaitGoes}
@@ -27,7 +26,7 @@ use Rattle.paged.specs.Calls.{CallCause, Succeeds, Fails as CallRefuses, IsSettl
 use Rattle.session.specs.declared.steps.Step.TheVariants.{StartSync, Wait, WaitSync, Needs, Begin}
 use Rattle.session.specs.declared.steps.Reply.{Reply}
 use Rattle.session.specs.declared.steps.Reply.TheVariants.{At, Nothing, Done, Started, Answer, Length, Bytes, Fault, Closed, NotRecovering, NoSuch, Served, Missed, BadRanges, Taken, Sealed, NotAppending, Replaying}
-use Rattle.session.specs.Run.{RunReplay, RunState, SessionState, ended, starting, after_wait, answer_of_start, is_complete, HasCompleted, turned_away, AnswersStep, faults, HasCause, AwaitedSyncFailed, TakesStep, use_of_wait, last, UsesDevice, AllCover, pending_in, WriterRepresents, WriterFits, NamesFit, HasSoundWriter}
+use Rattle.session.specs.Run.{RunReplay, RunState, SessionState, ended, starting, after_wait, answer_of_start, is_complete, HasCompleted, turned_away, AnswersStep, HasCause, AwaitedSyncFailed, TakesStep, use_of_wait, last, UsesDevice, AllCover, pending_in, WriterRepresents, WriterFits, NamesFit, HasSoundWriter}
 use Rattle.session.specs.Run.DeviceUse.{Leaves, Changes}
 use Rattle.session.specs.Calls.{KeepsRest, names_after, with_name, DidStartSync, Waits, DidWaitFor, is_given, DidNeeds as SaysNeeds, DidBegin, KeepsSnapshots}
 use Rattle.session.proofs.Words.{StartTold, WaitTold}
@@ -172,7 +171,7 @@ start_steps sum was w v sync old new sound says = λ P before stands.
 
 -- why one isn't
 start_cause : (P : ℕ) (w : WriterState) (before : RunState) (old new : Life) (e : Error) → before.written ≡ false → before.awaited ≡ pending_in w.sync → CallCause w.sync old new e
-    → Contains (faults StartSync) e × HasCause P StartSync before old.present new.present e
+    → HasCause P StartSync before old.present new.present e
 start_cause P w before old new ReadFailed some awaited cause = absurd cause
 start_cause P w before old new WriteFailed some awaited cause = ((0, lit< tt, refl), cause)
 start_cause P w before old new ResizeFailed some awaited cause = absurd cause
@@ -186,7 +185,7 @@ start_cause P w before old new SyncFailed some awaited cause = (
 start_cause P w before old new InvalidChecksum some awaited cause = absurd cause
 start_cause P w before old new BlobInsufficientLength some awaited cause = absurd cause
 start_cause P w before old new OffsetOverflow some awaited cause = absurd cause
-start_cause P w before old new OutOfMemory some awaited cause = ((2, lit< tt, refl), tt)
+start_cause P w before old new OutOfMemory some awaited cause = tt
 start_cause P w before old new IdsExhausted some awaited cause = absurd cause
 
 start_refused_steps : (sum : List ℕ → ℕ) (was : SessionState) (w : WriterState) (e : Error) (old new : Life) → StartTold sum w old new (Err e) → AlwaysApart sum StartSync (Fault e) (held was (Some w)) (held was None) old new
@@ -199,7 +198,7 @@ start_refused_steps sum was w e old new says = λ P before stands.
     let cause = start_cause P w before old new e some fits.awaited says.starts_sync.cause in
     stepped sum P StartSync (Fault e) (held was None) old new before (ended before.content before) through.moments fits.has_writer (turned_here before.has_writer fits.has_writer) h
     (start_touch w P before old new through.moments fits h.goes says.calls (λ none. (says.idle none).1))
-    (cause.0, cause.1, inl (some, refl)) (λ none. absurd none, λ none. absurd none) (stands_ended sum P was w old new before before.content through.moments stands h)
+    (cause, inl (some, refl)) (λ none. absurd none, λ none. absurd none) (stands_ended sum P was w old new before before.content through.moments stands h)
   where
     unwritten : (written : Bool) → written ≡ nat_eq (start_calls w) 0 → written ≡ false
     unwritten false is = refl
@@ -208,7 +207,7 @@ start_refused_steps sum was w e old new says = λ P before stands.
 -- there is no memory for its name
 no_room_steps : (sum : List ℕ → ℕ) (was : SessionState) (w : WriterState) (life : Life) → AlwaysApart sum StartSync (Fault OutOfMemory) (held was (Some w)) (held was (Some w)) life life
 no_room_steps sum was w life = λ P before stands.
-    unasked sum P was w StartSync (Fault OutOfMemory) (held was (Some w)) life before before (turned_here before.has_writer stands.fits.has_writer) stands ((2, lit< tt, refl), tt, inr (refl, refl, refl)) (λ none. absurd none, λ none. absurd none) stands
+    unasked sum P was w StartSync (Fault OutOfMemory) (held was (Some w)) life before before (turned_here before.has_writer stands.fits.has_writer) stands (tt, inr (refl, refl, refl)) (λ none. absurd none, λ none. absurd none) stands
 
 -- ---- waits of the writer
 
@@ -298,7 +297,7 @@ wait_steps sum was w v old new says = λ P before stands.
 
 -- why one is refused
 wait_cause : (P : ℕ) (w : WriterState) (before : RunState) (old new : Life) (e : Error) → is_some before.awaited ≡ true → before.awaited ≡ pending_in w.sync → CallCause w.sync old new e → (e ≡ WriteFailed → ⊥)
-    → Contains (faults Wait) e × HasCause P Wait before old.present new.present e
+    → HasCause P Wait before old.present new.present e
 wait_cause P w before old new ReadFailed some awaited cause wrote = absurd cause
 wait_cause P w before old new WriteFailed some awaited cause wrote = absurd (wrote refl)
 wait_cause P w before old new ResizeFailed some awaited cause wrote = absurd cause
@@ -306,7 +305,7 @@ wait_cause P w before old new SyncFailed some awaited cause wrote = ((0, lit< tt
 wait_cause P w before old new InvalidChecksum some awaited cause wrote = absurd cause
 wait_cause P w before old new BlobInsufficientLength some awaited cause wrote = absurd cause
 wait_cause P w before old new OffsetOverflow some awaited cause wrote = absurd cause
-wait_cause P w before old new OutOfMemory some awaited cause wrote = ((1, lit< tt, refl), some)
+wait_cause P w before old new OutOfMemory some awaited cause wrote = some
 wait_cause P w before old new IdsExhausted some awaited cause wrote = absurd cause
 
 wait_refused_steps : (sum : List ℕ → ℕ) (was : SessionState) (w : WriterState) (e : Error) (old new : Life) → WaitTold sum w old new (Err e) → AlwaysApart sum Wait (Fault e) (held was (Some w)) (held was None) old new
@@ -320,7 +319,7 @@ wait_refused_steps sum was w e old new says = λ P before stands.
     waits_no_write w.sync old new (sym (ap is_some fits.awaited) ∙ some) (subst (λ (x : Error). wait_calls w.sync ≡ 1 → SettlesBy w.sync old new (Err x)) is says.settles)) in
     stepped sum P Wait (Fault e) (held was None) old new before (ended before.content before) through.moments fits.has_writer (turned_here before.has_writer fits.has_writer) h
     (waits_touch w P before old new through.moments fits h.goes says.calls (λ none. (says.idle none).1))
-    (cause.0, cause.1, refl) (λ none. absurd none, λ none. absurd none) (stands_ended sum P was w old new before before.content through.moments stands h)
+    (cause, refl) (λ none. absurd none, λ none. absurd none) (stands_ended sum P was w old new before before.content through.moments stands h)
   where
     awaits : (awaited : Option ℕ) → awaited ≡ pending_in w.sync → is_some awaited ≡ true
     awaits (Some name) is = refl
@@ -457,7 +456,7 @@ unnamed_steps sum was name life given = λ P before stands. record {
 }
 
 -- why one is refused
-named_cause : (P : ℕ) (name : ℕ) (s : RunState) (old new : Life) (e : Error) → WaitGoes name old new (Err e) → Contains (faults (WaitSync name)) e × HasCause P (WaitSync name) s old.present new.present e
+named_cause : (P : ℕ) (name : ℕ) (s : RunState) (old new : Life) (e : Error) → WaitGoes name old new (Err e) → HasCause P (WaitSync name) s old.present new.present e
 named_cause P name s old new SyncFailed (failed, why, is) = (
   (0, lit< tt, refl),
   elim why [
@@ -465,7 +464,7 @@ named_cause P name s old new SyncFailed (failed, why, is) = (
     | inr had ↦ inr had
   ],
 )
-named_cause P name s old new OutOfMemory is = ((1, lit< tt, refl), tt)
+named_cause P name s old new OutOfMemory is = tt
 named_cause P name s old new ReadFailed goes = absurd goes
 named_cause P name s old new WriteFailed goes = absurd goes
 named_cause P name s old new ResizeFailed goes = absurd goes
@@ -594,7 +593,7 @@ named_takes sum was name old new reply small ready goes = by_name (is_given was.
         subst (λ (r : Reply). StepsApart sum (WaitSync name) r was was old new) (sym replied)
         (subst (λ (life : Life). StepsApart sum (WaitSync name) NoSuch was was old life) (sym same) (record { ready = ready; always = unnamed_steps sum was name old is }))
     by_name true is Done goes = waits Done (Ok tt) is goes (λ P s. (complete name old new tt goes, refl))
-    by_name true is (Fault e) goes = waits (Fault e) (Err e) is goes (λ P s. let cause = named_cause P name s old new e goes in (cause.0, cause.1, refl))
+    by_name true is (Fault e) goes = waits (Fault e) (Err e) is goes (λ P s. let cause = named_cause P name s old new e goes in (cause, refl))
     by_name true is (At n) goes = absurd goes
     by_name true is Nothing goes = absurd goes
     by_name true is (Started sync) goes = absurd goes

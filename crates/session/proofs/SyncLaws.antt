@@ -1,7 +1,6 @@
 -- What a sync does.
 use Rattle.std.proofs.Common.{◌≡◌, ℕ, ◌+◌, ◌<◌, ◌≤◌, List, [], length, refl, sym, ap, ◌∙◌, subst, arith, append-nil, inl, inr, Bool, true, false, Ok, Err, Result, ◌%◌, lit<}
 use Rattle.std.specs.Prelude.{Option, Some, None, nat_eq, if◌then◌else◌}
-use Rattle.std.specs.List.{Contains}
 use Rattle.disk.specs.Disk.{Disk, Life, life_after}
 use Rattle.disk.specs.declared.error.Error.{Error}
 use Rattle.disk.specs.declared.error.Error.TheVariants.{ReadFailed, WriteFailed, ResizeFailed, SyncFailed, InvalidChecksum, BlobInsufficientLength, OffsetOverflow, OutOfMemory, IdsExhausted}
@@ -15,7 +14,7 @@ use Rattle.paged.specs.Calls.{CallCause, Succeeds, Syncs, IsSettled, HoldsWithin
 use Rattle.paged.proofs.Halves.{syncs_stay, sync_keeps_all}
 use Rattle.session.specs.declared.steps.Step.TheVariants.{Sync}
 use Rattle.session.specs.declared.steps.Reply.TheVariants.{Done, Fault}
-use Rattle.session.specs.Run.{RunState, SessionState, after_sync, ended, needs_sync, faults, HasCause, use_of_wait, UsesDevice, AllCover, pending_in, WriterRepresents}
+use Rattle.session.specs.Run.{RunState, SessionState, after_sync, ended, needs_sync, HasCause, use_of_wait, UsesDevice, AllCover, pending_in, WriterRepresents}
 use Rattle.session.specs.Run.DeviceUse.{Changes}
 use Rattle.session.proofs.Words.{SyncTold}
 use Rattle.session.proofs.Apart.{AlwaysApart, StandsApart}
@@ -90,7 +89,7 @@ sync_steps sum was w v old new sound says = λ P before stands.
     (synced_stands sum was P w v old new before sound stands says.syncs.0 says.syncs.1 says.within (sync_keeps_all sum w old new (Ok v) says.syncs) covered h.stays)
 
 -- why a sync is refused
-sync_cause : (P : ℕ) (w : WriterState) (before : RunState) (old new : Life) (e : Error) → needs_sync before ≡ true → before.awaited ≡ pending_in w.sync → CallCause w.sync old new e → Contains (faults Sync) e × HasCause P Sync before old.present new.present e
+sync_cause : (P : ℕ) (w : WriterState) (before : RunState) (old new : Life) (e : Error) → needs_sync before ≡ true → before.awaited ≡ pending_in w.sync → CallCause w.sync old new e → HasCause P Sync before old.present new.present e
 sync_cause P w before old new ReadFailed work awaited cause = absurd cause
 sync_cause P w before old new WriteFailed work awaited cause = ((0, lit< tt, refl), cause)
 sync_cause P w before old new ResizeFailed work awaited cause = absurd cause
@@ -98,7 +97,7 @@ sync_cause P w before old new SyncFailed work awaited cause = ((1, lit< tt, refl
 sync_cause P w before old new InvalidChecksum work awaited cause = absurd cause
 sync_cause P w before old new BlobInsufficientLength work awaited cause = absurd cause
 sync_cause P w before old new OffsetOverflow work awaited cause = absurd cause
-sync_cause P w before old new OutOfMemory work awaited cause = ((2, lit< tt, refl), work)
+sync_cause P w before old new OutOfMemory work awaited cause = work
 sync_cause P w before old new IdsExhausted work awaited cause = absurd cause
 
 -- a sync that is refused
@@ -112,4 +111,4 @@ sync_refused_steps sum was w e old new says = λ P before stands.
     let cause = sync_cause P w before old new e work fits.awaited says.syncs.cause in
     stepped sum P Sync (Fault e) (held was None) old new before (ended before.content before) through.moments fits.has_writer (turned_here before.has_writer fits.has_writer) h
     (sync_touch w P before old new through.moments fits h.goes says.calls (λ none. (says.idle none).1))
-    (cause.0, cause.1, refl) (λ none. absurd none, λ none. absurd none) (stands_ended sum P was w old new before before.content through.moments stands h)
+    (cause, refl) (λ none. absurd none, λ none. absurd none) (stands_ended sum P was w old new before before.content through.moments stands h)

@@ -2,7 +2,7 @@
 use Rattle.std.proofs.Common.{◌≡◌, ℕ, ◌+◌, ◌≤◌, ◌%◌, List, [], ◌∷◌, length, take, map, refl, sym, ap, ◌∙◌, subst, arith, inl, inr, Bool, true, false, Ok, Err, lit<, lit≤, min, length-take}
 use Rattle.std.specs.Prelude.{All, Option, Some, None, nat_lt, nat_eq, if◌then◌else◌, ◌==◌, ◌&&◌}
 use Rattle.std.specs.Int.{div_ceil}
-use Rattle.std.specs.List.{Contains, list_any}
+use Rattle.std.specs.List.{list_any}
 use Rattle.std.proofs.Math.Seq.{take-length}
 use Rattle.std.proofs.lemmas.List.{take-take}
 use Rattle.std.proofs.lemmas.Bool.{false≢true}
@@ -27,7 +27,7 @@ use Rattle.paged.proofs.Flushes.{size_is_length}
 use Rattle.session.specs.declared.steps.Step.TheVariants.{Truncate}
 use Rattle.session.specs.declared.steps.Reply.{Reply}
 use Rattle.session.specs.declared.steps.Reply.TheVariants.{At, Nothing, Done, Started, Answer, Length, Bytes, Fault, Closed, NotRecovering, NoSuch, Served, Missed, BadRanges, Taken, Sealed, NotAppending, Replaying}
-use Rattle.session.specs.Run.{RunState, SessionState, truncated, lowered, forgetting, at_step, ended, turned_away, faults, HasCause, TakesStep, pending_in, AllCover, NamesFit}
+use Rattle.session.specs.Run.{RunState, SessionState, truncated, lowered, forgetting, at_step, ended, turned_away, HasCause, TakesStep, pending_in, AllCover, NamesFit}
 use Rattle.session.specs.Run.DeviceUse.{Changes}
 use Rattle.session.specs.Calls.{IsClosed, KeepsRest, TruncateSays, TruncatesWriter, DidTruncate}
 use Rattle.session.proofs.StepLaws.{held, held_same, keeps_fewer, would_longer, cover_stays, all_lowered, begun_keeps, begun_covers, through_each, each_end, few_calls, raised_within, leaves, answers_away, stepped_by}
@@ -227,7 +227,7 @@ truncate_steps sum was w v n cache after old new recovering sound says = λ P be
 
 -- why one is refused
 truncate_cause : (sum : List ℕ → ℕ) (P n : ℕ) (w : WriterState) (before : RunState) (old new : Life) (e : Error) → IsSound sum w old.present → before.awaited ≡ pending_in w.sync → TruncateCause sum n w old new e
-    → Contains (faults (Truncate n)) e × HasCause P (Truncate n) before old.present new.present e
+    → HasCause P (Truncate n) before old.present new.present e
 truncate_cause sum P n w before old new ReadFailed sound awaited cause = ((0, lit< tt, refl), cause)
 truncate_cause sum P n w before old new WriteFailed sound awaited cause = ((1, lit< tt, refl), cause)
 truncate_cause sum P n w before old new ResizeFailed sound awaited cause = ((2, lit< tt, refl), cause)
@@ -235,7 +235,7 @@ truncate_cause sum P n w before old new SyncFailed sound awaited cause = ((3, li
 truncate_cause sum P n w before old new InvalidChecksum sound awaited cause = absurd (cause.2 sound)
 truncate_cause sum P n w before old new BlobInsufficientLength sound awaited cause = absurd cause
 truncate_cause sum P n w before old new OffsetOverflow sound awaited cause = absurd cause
-truncate_cause sum P n w before old new OutOfMemory sound awaited cause = ((4, lit< tt, refl), tt)
+truncate_cause sum P n w before old new OutOfMemory sound awaited cause = tt
 truncate_cause sum P n w before old new IdsExhausted sound awaited cause = absurd cause
 
 truncate_refused_steps : (sum : List ℕ → ℕ) (was : SessionState) (w : WriterState) (n : ℕ) (e : Error) (cache after : CacheState) (old new : Life) → was.recovering ≡ true → IsSound sum w old.present → TruncateSays sum w n cache after old new (Err e)
@@ -256,7 +256,7 @@ truncate_refused_steps sum was w n e cache after old new recovering sound says =
       only = each_end (AllOnly sum P before.content (take n before.content)) old new through.moments h.goes h.only;
     } in
     cut_steps sum P n was w (Fault e) (held was None) old new before (ended (take n before.content) (forgetting (lowered n before))) through.moments recovering sound stands h says.costs.calls
-    (λ s lower begins. (cause.0, cause.1, subst (λ (x : RunState). ended (take n before.content) (forgetting (lowered n before)) ≡ ended (take n x.content) x) (sym (begins ∙ lower)) refl)) after_it
+    (λ s lower begins. (cause, subst (λ (x : RunState). ended (take n before.content) (forgetting (lowered n before)) ≡ ended (take n x.content) x) (sym (begins ∙ lower)) refl)) after_it
 
 -- where the recovery has ended it is turned away
 turned_steps : (sum : List ℕ → ℕ) (was : SessionState) (w : WriterState) (n : ℕ) (life : Life) → was.recovering ≡ false → AlwaysApart sum (Truncate n) NotRecovering (held was (Some w)) (held was (Some w)) life life

@@ -2,7 +2,7 @@
 use Rattle.std.specs.Prelude.{◌≡◌, ◌≢◌, ◌⊎◌, ◌<◌, ◌≤◌, ◌+◌, ◌%◌, ◌^◌, ◌++◌, ℕ, List, [], ◌∷◌}
 use Rattle.std.specs.Prelude.{length, take, drop, min, max, map, All, Bool, true, false, not}
 use Rattle.std.specs.Prelude.{nat_le, nat_lt, nat_eq, ◌||◌, ◌&&◌, ◌*◌, ◌-◌, ◌/◌}
-use Rattle.std.specs.Prelude.{option_map, slice_set, IfSome}
+use Rattle.std.specs.Prelude.{option_map, slice_set, IfSome, ⊤}
 use Rattle.std.specs.Prelude.{if◌then◌else◌, is_some, slice_get, sum_by, Option, Some, None, Err}
 use Rattle.std.specs.Int.NonZero.{non_zero_usize_get}
 use Rattle.std.specs.List.{Contains, list_any, flat_map, range_with_len}
@@ -438,72 +438,96 @@ Accepts sum P step reply from to s after = ⊥
 
 -- ---- steps that are refused
 
--- the errors that a step may answer
-abbrev pub faults : Step → List Error
-faults (Append bytes) = WriteFailed ∷ SyncFailed ∷ OffsetOverflow ∷ OutOfMemory ∷ []
-faults (Owned bytes) = WriteFailed ∷ SyncFailed ∷ OffsetOverflow ∷ OutOfMemory ∷ []
-faults (TryAppend bytes) = OffsetOverflow ∷ OutOfMemory ∷ []
-faults Sync = WriteFailed ∷ SyncFailed ∷ OutOfMemory ∷ []
-faults StartSync = WriteFailed ∷ SyncFailed ∷ OutOfMemory ∷ []
-faults Wait = SyncFailed ∷ OutOfMemory ∷ []
-faults (WaitSync name) = SyncFailed ∷ OutOfMemory ∷ []
-faults Needs = []
-faults Size = []
-faults Begin = []
-faults (Truncate n) =
-    ReadFailed ∷ WriteFailed ∷ ResizeFailed ∷ SyncFailed ∷ OutOfMemory ∷ []
-faults (Read offset len) = ReadFailed ∷ BlobInsufficientLength ∷ OffsetOverflow ∷ OutOfMemory ∷ []
-faults (ReadUpTo offset len) = ReadFailed ∷ BlobInsufficientLength ∷ OutOfMemory ∷ []
-faults (TryRead offset len) = OutOfMemory ∷ []
-faults (ReadRanges ranges) = ReadFailed ∷ BlobInsufficientLength ∷ OffsetOverflow ∷ OutOfMemory ∷ []
-faults (TryReadRanges ranges) = OutOfMemory ∷ []
-faults Snapshot = WriteFailed ∷ SyncFailed ∷ OutOfMemory ∷ []
-faults TrySnapshot = OutOfMemory ∷ []
-faults (Snap index offset len) =
-    ReadFailed ∷ BlobInsufficientLength ∷ OffsetOverflow ∷ OutOfMemory ∷ []
-faults Seal = WriteFailed ∷ SyncFailed ∷ OutOfMemory ∷ []
-faults (Scan proven most buffer_size) = ReadFailed ∷ OutOfMemory ∷ []
-faults (Replay buffer_size) = WriteFailed ∷ SyncFailed ∷ OutOfMemory ∷ []
-faults (Ensure index count) = ReadFailed ∷ OutOfMemory ∷ []
-faults (Take index count) = OutOfMemory ∷ []
-faults (Seek index offset) = BlobInsufficientLength ∷ []
-faults (DropSnapshot index) = []
-faults (DropReplay index) = []
+-- the errors that a step may answer, and when
+pub record StepFaults : Type 1 where
+  -- those of the device calls that it may make
+  pub device : List Error
+  -- OffsetOverflow: an offset, or the blob that the new size needs, passes the greatest number
+  pub overflow : Type 0
+  -- BlobInsufficientLength: a range or an offset passes the end, and no greatest number; or some
+  -- bytes are asked for where there is none
+  pub end : Type 0
+  -- OutOfMemory: the step may ask for memory
+  pub memory : Type 0
 
--- an offset, or the blob that the new size needs in pages of P bytes, passes the greatest number;
--- of ranges the first that can't be read decides
-abbrev pub Overflows : (P : ℕ) → Step → RunState → Type 0
-Overflows P (Append bytes) s =
-    2 ^ 64 ≤ physical_blob_size P 0 (length s.content + length bytes.items)
-Overflows P (Owned bytes) s =
-    2 ^ 64 ≤ physical_blob_size P 0 (length s.content + length bytes.items)
-Overflows P (TryAppend bytes) s =
-    2 ^ 64 ≤ physical_blob_size P 0 (length s.content + length bytes.items)
-Overflows P (Read offset len) s = 2 ^ 64 ≤ offset + len
-Overflows P (Snap index offset len) s = 2 ^ 64 ≤ offset + len
-Overflows P (ReadRanges ranges) s = RangesGo (length s.content) ranges.items (Err OffsetOverflow)
-Overflows P step s = ⊥
+-- a step that answers none; each line of the table has what its step adds
+abbrev pub no_faults : StepFaults
+no_faults = record { device = []; overflow = ⊥; end = ⊥; memory = ⊥ }
 
--- a range or an offset passes the end, and no greatest number; or some bytes are asked for where
--- there is none
-abbrev pub PassesContent : Step → RunState → Type 0
-PassesContent (Read offset len) s = (offset + len < 2 ^ 64) × (length s.content < offset + len)
-PassesContent (Snap index offset len) s =
-    (offset + len < 2 ^ 64) × (length (snapshot_at s index) < offset + len)
-PassesContent (ReadUpTo offset len) s = (len ≢ 0) × (length s.content ≤ offset)
-PassesContent (ReadRanges ranges) s =
-    RangesGo (length s.content) ranges.items (Err BlobInsufficientLength)
-PassesContent (Seek index offset) s = replay_size s index < offset
-PassesContent step s = ⊥
-
--- a step that may ask for memory
-abbrev pub Allocates : Step → RunState → Type 0
-Allocates (TryAppend bytes) s = fits_buffer s (length bytes.items) ≡ true
-Allocates (TryRead offset len) s = offset + len ≤ length s.content
-Allocates Sync s = needs_sync s ≡ true
-Allocates (Scan proven most buffer_size) s = most ≢ 0
-Allocates Wait s = is_some s.awaited ≡ true
-Allocates step s = Unit {0}
+-- the table, in pages of P bytes; of ranges the first that can't be read decides
+abbrev pub faults : (P : ℕ) → Step → RunState → StepFaults
+faults P (Append bytes) s = record no_faults {
+  device = WriteFailed ∷ SyncFailed ∷ [];
+  overflow = 2 ^ 64 ≤ physical_blob_size P 0 (length s.content + length bytes.items);
+  memory = ⊤;
+}
+faults P (Owned bytes) s = record no_faults {
+  device = WriteFailed ∷ SyncFailed ∷ [];
+  overflow = 2 ^ 64 ≤ physical_blob_size P 0 (length s.content + length bytes.items);
+  memory = ⊤;
+}
+faults P (TryAppend bytes) s = record no_faults {
+  overflow = 2 ^ 64 ≤ physical_blob_size P 0 (length s.content + length bytes.items);
+  memory = fits_buffer s (length bytes.items) ≡ true;
+}
+faults P Sync s = record no_faults {
+  device = WriteFailed ∷ SyncFailed ∷ [];
+  memory = needs_sync s ≡ true;
+}
+faults P StartSync s = record no_faults { device = WriteFailed ∷ SyncFailed ∷ []; memory = ⊤ }
+faults P Wait s = record no_faults {
+  device = SyncFailed ∷ [];
+  memory = is_some s.awaited ≡ true;
+}
+faults P (WaitSync name) s = record no_faults { device = SyncFailed ∷ []; memory = ⊤ }
+faults P Needs s = no_faults
+faults P Size s = no_faults
+faults P Begin s = no_faults
+faults P (Truncate n) s = record no_faults {
+  device = ReadFailed ∷ WriteFailed ∷ ResizeFailed ∷ SyncFailed ∷ [];
+  memory = ⊤;
+}
+faults P (Read offset len) s = record {
+  device = ReadFailed ∷ [];
+  overflow = 2 ^ 64 ≤ offset + len;
+  end = (offset + len < 2 ^ 64) × (length s.content < offset + len);
+  memory = ⊤;
+}
+faults P (ReadUpTo offset len) s = record no_faults {
+  device = ReadFailed ∷ [];
+  end = (len ≢ 0) × (length s.content ≤ offset);
+  memory = ⊤;
+}
+faults P (TryRead offset len) s = record no_faults { memory = offset + len ≤ length s.content }
+faults P (ReadRanges ranges) s = record {
+  device = ReadFailed ∷ [];
+  overflow = RangesGo (length s.content) ranges.items (Err OffsetOverflow);
+  end = RangesGo (length s.content) ranges.items (Err BlobInsufficientLength);
+  memory = ⊤;
+}
+faults P (TryReadRanges ranges) s = record no_faults { memory = ⊤ }
+faults P Snapshot s = record no_faults { device = WriteFailed ∷ SyncFailed ∷ []; memory = ⊤ }
+faults P TrySnapshot s = record no_faults { memory = ⊤ }
+faults P (Snap index offset len) s = record {
+  device = ReadFailed ∷ [];
+  overflow = 2 ^ 64 ≤ offset + len;
+  end = (offset + len < 2 ^ 64) × (length (snapshot_at s index) < offset + len);
+  memory = ⊤;
+}
+faults P Seal s = record no_faults { device = WriteFailed ∷ SyncFailed ∷ []; memory = ⊤ }
+faults P (Scan proven most buffer_size) s = record no_faults {
+  device = ReadFailed ∷ [];
+  memory = most ≢ 0;
+}
+faults P (Replay buffer_size) s = record no_faults {
+  device = WriteFailed ∷ SyncFailed ∷ [];
+  memory = ⊤;
+}
+faults P (Ensure index count) s = record no_faults { device = ReadFailed ∷ []; memory = ⊤ }
+faults P (Take index count) s = record no_faults { memory = ⊤ }
+faults P (Seek index offset) s = record no_faults { end = replay_size s index < offset }
+faults P (DropSnapshot index) s = no_faults
+faults P (DropReplay index) s = no_faults
 
 -- the started sync that a step waits for, in pages of P bytes
 abbrev pub awaited_name : (P : ℕ) → Step → RunState → Option ℕ
@@ -526,14 +550,18 @@ AwaitedSyncFailed (Some name) d = had_failed d.started name ≡ true
 
 -- why a step may answer this error
 abbrev pub HasCause : (P : ℕ) → Step → RunState → Disk → Disk → Error → Type 0
-HasCause P step s from to ReadFailed = HasFailed ReadFailed from to
-HasCause P step s from to WriteFailed = HasFailed WriteFailed from to
-HasCause P step s from to ResizeFailed = HasFailed ResizeFailed from to
+HasCause P step s from to ReadFailed =
+    Contains (faults P step s).device ReadFailed × HasFailed ReadFailed from to
+HasCause P step s from to WriteFailed =
+    Contains (faults P step s).device WriteFailed × HasFailed WriteFailed from to
+HasCause P step s from to ResizeFailed =
+    Contains (faults P step s).device ResizeFailed × HasFailed ResizeFailed from to
 HasCause P step s from to SyncFailed =
-    HasFailed SyncFailed from to ⊎ AwaitedSyncFailed (awaited_name P step s) from
-HasCause P step s from to OffsetOverflow = Overflows P step s
-HasCause P step s from to BlobInsufficientLength = PassesContent step s
-HasCause P step s from to OutOfMemory = Allocates step s
+    Contains (faults P step s).device SyncFailed
+    × (HasFailed SyncFailed from to ⊎ AwaitedSyncFailed (awaited_name P step s) from)
+HasCause P step s from to OffsetOverflow = (faults P step s).overflow
+HasCause P step s from to BlobInsufficientLength = (faults P step s).end
+HasCause P step s from to OutOfMemory = (faults P step s).memory
 HasCause P step s from to e = ⊥
 
 -- the content that the step would have left
@@ -574,15 +602,14 @@ RefusesStep step e from to s after = after ≡ s
 abbrev pub TakesStep : (List ℕ → ℕ) → (P : ℕ) → Step → Reply → Disk → Disk → RunState → RunState
     → Type 0
 TakesStep sum P step (Fault e) from to s after =
-    Contains (faults step) e × HasCause P step s from to e
-    × RefusesStep step e from to (at_step step s) after
+    HasCause P step s from to e × RefusesStep step e from to (at_step step s) after
 TakesStep sum P step reply from to s after = Accepts sum P step reply from to (at_step step s) after
 
 -- a fault that the standing alone tells comes before any other reply
 abbrev pub FaultsComeFirst : (P : ℕ) → Step → Reply → RunState → Type 0
 FaultsComeFirst P step reply s =
-    (Overflows P step s → reply ≡ Fault OffsetOverflow)
-    × (PassesContent step s → reply ≡ Fault BlobInsufficientLength)
+    ((faults P step s).overflow → reply ≡ Fault OffsetOverflow)
+    × ((faults P step s).end → reply ≡ Fault BlobInsufficientLength)
 
 -- a step's reply, and the standing after it
 abbrev pub AnswersStep : (List ℕ → ℕ) → (P : ℕ) → Step → Reply → Disk → Disk → RunState → RunState
