@@ -55,7 +55,7 @@ impl<B, H, Phase> Held<B, H, Phase> {
         Some(self.writer.as_ref()?.size())
     }
 
-    /// The reply where there is a writer.
+    /// This reply where there is a writer, and else `Closed`.
     pub(crate) fn reply(&self, reply: Reply) -> Reply
         ensures { result ≡ if is_some self.now then reply else Reply.Closed }
     {
