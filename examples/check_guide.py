@@ -3,14 +3,17 @@
 README.md and docs/GUIDE.md: each block of code that follows a line `In FILE:` must stand in that file, word for word,
 at whatever indentation. README.md and docs/CONTRACTS.md: each clause must stand in a file of crates/*/src, except for
 the short names that docs/CONTRACTS.md introduces at its beginning. And each clause of each public call of the crates in
-WHOLE must stand in docs/CONTRACTS.md. README.md and docs/ERRORS.md: each error that a row of a table of calls lists
-must stand in the clauses of each call of the row, or in a definition of specs/ that these reach. Only definitions that
-take an error, or an answer that may be one, are followed. So it is text that is compared: a clause speaks of this
-error. Whether the call answers it, and no other, the page has to be read for. "the same" means the row above, an error
-that is "never of" a call isn't looked for there, and "those of" a call isn't followed. docs/GUIDE.md: each line of
-crates.txt that it quotes must stand there, except that of the crate `mine`. docs/DEFINITIONS.md: each word must stand
-in a file of crates/. In every page each link, and each path below crates/, docs/ or examples/, must be there. README.md
-and docs/PROTOCOL.md must have the same table of exit statuses. It prints what isn't so, and ends with status 1 then.
+WHOLE must stand in docs/CONTRACTS.md, under a head that names the call: so a clause that calls share may stand once,
+under a head that names them all. A head is a heading, or the bold words that begin a paragraph. The crate of its calls
+is the first that its chapter names as "the crate `NAME`", or `paged`. A clause under a head that names such calls must
+be one of theirs. README.md and docs/ERRORS.md: each error that a row of a table of calls lists must stand in the
+clauses of each call of the row, or in a definition of specs/ that these reach. Only definitions that take an error, or
+an answer that may be one, are followed. So it is text that is compared: a clause speaks of this error. Whether the call
+answers it, and no other, the page has to be read for. "the same" means the row above, an error that is "never of" a
+call isn't looked for there, and "those of" a call isn't followed. docs/GUIDE.md: each line of crates.txt that it quotes
+must stand there, except that of the crate `mine`. docs/DEFINITIONS.md: each word must stand in a file of crates/. In
+every page each link, and each path below crates/, docs/ or examples/, must be there. README.md and docs/PROTOCOL.md
+must have the same table of exit statuses. It prints what isn't so, and ends with status 1 then.
 """
 import functools
 import glob
@@ -36,6 +39,14 @@ SHORT = [
     ("(non_zero_usize_get buffer_size)", "buffer_size"),
     ("let P = non_zero_u16_get page_size in", ""),
     ("let w = self.now in let P = w.page_size in", "let w = self.now in"),
+    ("(non_zero_u16_get page_size)", "P"),
+    ("let old = life_of blob.old in", ""),
+    ("(life_of blob.old)", "old"),
+    ("(life_of blob.new)", "new"),
+    ("let t = tail_of self.now in", ""),
+    ("(ranges_of (non_zero_usize_get len) offsets.now)", "ranges"),
+    ("let ranges = ranges_of (non_zero_usize_get len) offsets.now in", ""),
+    ("let s = non_zero_usize_get size in", ""),
 ]
 
 # The crates whose public calls the page of contracts has with all their clauses.
@@ -140,12 +151,37 @@ def public_calls(crate):
     return calls
 
 
-def missing_clauses(page):
-    """The clauses of public calls that a page lacks, and how many calls there are."""
-    quoted = set(clauses("".join(re.findall(r"^    .*\n", read(page), re.M))))
+def quoted_by_head(page):
+    """The clauses of a page by the head that they stand under: its crate, the calls that it names, and its clauses."""
+    found = []
+    for chapter in re.split(r"^(?=## )", read(page), flags=re.M):
+        crate = re.search(r"the\s+crate\s+`(\w+)`", chapter)
+        for part in re.split(r"^(?=#|\*\*)", chapter, flags=re.M):
+            head = re.match(r"#+ .*|\*\*.*?\*\*", part, re.S)
+            calls = re.findall(r"`(?:(\w+)::)?(\w+)", head[0]) if head else []
+            found.append((crate[1] if crate else "paged", calls, clauses("".join(re.findall(r"^    .*\n", part, re.M)))))
+    return found
+
+
+def is_named(crate, call, head_crate, head_calls):
+    """Whether a head names a call: by its name, or by this and the type or the crate in front."""
+    return crate == head_crate and any(name == call[1] and owner in ("", call[0]) for owner, name in head_calls)
+
+
+def wrong_heads(page):
+    """The clauses of public calls that stand under no head of a page that names the call, those that stand under the
+    head of calls that don't have them, and how many calls there are."""
     calls = [(crate, call) for crate in WHOLE for call in public_calls(crate)]
-    wrong = [f"not in {page}: {crate}: {name}: {clause}" for crate, (_, name, found, _) in calls for clause in found
-             if clause not in quoted]
+    heads = quoted_by_head(page)
+    wrong = []
+    for crate, call in calls:
+        there = {clause for *head, quoted in heads if is_named(crate, call, *head) for clause in quoted}
+        wrong += [f"not under {call[1]} in {page}: {crate}: {clause}" for clause in call[2] if clause not in there]
+    for *head, quoted in heads:
+        named = [call for crate, call in calls if is_named(crate, call, *head)]
+        theirs = {clause for call in named for clause in call[2]}
+        wrong += [f"{page}: not a clause of {', '.join(call[1] for call in named)}: {clause}" for clause in quoted
+                  if named and clause not in theirs]
     return wrong, len(calls)
 
 
@@ -265,7 +301,7 @@ def main():
     found = {
         "snippets": wrong_code(["README.md", "docs/GUIDE.md"]),
         "clauses": wrong_clauses(["README.md", "docs/CONTRACTS.md"]),
-        "public calls": missing_clauses("docs/CONTRACTS.md"),
+        "public calls": wrong_heads("docs/CONTRACTS.md"),
         "errors of calls": wrong_errors(),
         "crates": wrong_crates("docs/GUIDE.md"),
         "words": wrong_words("docs/DEFINITIONS.md"),
