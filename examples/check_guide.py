@@ -170,15 +170,16 @@ def is_named(crate, call, head_crate, head_calls):
 
 def wrong_heads(page):
     """The clauses of public calls that stand under no head of a page that names the call, those that stand under the
-    head of calls that don't have them, and how many calls there are."""
+    head of calls that don't have them, and how many calls there are. `paged` gives out calls of `paged_read`."""
     calls = [(crate, call) for crate in WHOLE for call in public_calls(crate)]
     heads = quoted_by_head(page)
     wrong = []
     for crate, call in calls:
         there = {clause for *head, quoted in heads if is_named(crate, call, *head) for clause in quoted}
         wrong += [f"not under {call[1]} in {page}: {crate}: {clause}" for clause in call[2] if clause not in there]
+    given_out = [("paged", call) for call in public_calls("paged_read")]
     for *head, quoted in heads:
-        named = [call for crate, call in calls if is_named(crate, call, *head)]
+        named = [call for crate, call in calls + given_out if is_named(crate, call, *head)]
         theirs = {clause for call in named for clause in call[2]}
         wrong += [f"{page}: not a clause of {', '.join(call[1] for call in named)}: {clause}" for clause in quoted
                   if named and clause not in theirs]
