@@ -5,16 +5,18 @@ at whatever indentation. README.md and docs/CONTRACTS.md: each clause must stand
 the short names that docs/CONTRACTS.md introduces at its beginning. And each clause of each public call of the crates in
 WHOLE must stand in docs/CONTRACTS.md, under a head that names the call: so a clause that calls share may stand once,
 under a head that names them all. A head is a heading, or the bold words that begin a paragraph. The crate of its calls
-is the first that its chapter names as "the crate `NAME`", or `paged`. A clause under a head that names such calls must
-be one of theirs. README.md and docs/ERRORS.md: each error that a row of a table of calls lists must stand in the
-clauses of each call of the row, or in a definition of specs/ that these reach. Only definitions that take an error, or
-an answer that may be one, are followed. So it is text that is compared: a clause speaks of this error. Whether the call
-answers it, and no other, the page has to be read for. "the same" means the row above, an error that is "never of" a
-call isn't looked for there, and "those of" a call isn't followed. docs/GUIDE.md: each line of crates.txt that it quotes
-must stand there, except that of the crate `mine`. docs/DEFINITIONS.md: each word must stand in a file of crates/. In
-every page each link, and each path below crates/, docs/ or examples/, must be there. README.md and docs/PROTOCOL.md
-must have the same table of exit statuses. It prints what isn't so, and ends with status 1 then.
+is the first that its chapter names as "the crate `NAME`", or `paged`. A clause under a head that names such calls, or
+before a comment that does, must be one of theirs. README.md and docs/ERRORS.md: each error that a row of a table of
+calls lists must stand in the clauses of each call of the row, or in a definition of specs/ that these reach. Only
+definitions that take an error, or an answer that may be one, are followed. So it is text that is compared: a clause
+speaks of this error. Whether the call answers it, and no other, the page has to be read for. "the same" means the row
+above, an error that is "never of" a call isn't looked for there, and "those of" a call isn't followed. docs/GUIDE.md:
+each line of crates.txt that it quotes must stand there, except that of the crate `mine`. docs/DEFINITIONS.md: each word
+must stand in a file of crates/. In every page each link, and each path below crates/, docs/ or examples/, must be
+there. README.md and docs/PROTOCOL.md must have the same table of exit statuses. It prints what isn't so, and ends with
+status 1 then.
 """
+import collections
 import functools
 import glob
 import os
@@ -92,16 +94,20 @@ def short(clause):
     return clause.strip()
 
 
-def clauses(text):
-    """The clauses of a text: each with its kind and its name, up to the brace that ends it."""
+def clauses_and_comments(text):
+    """The clauses of a text, with their kind and name, up to the brace that ends each, and the comment after it."""
     found = []
     for match in re.finditer(r"\b(requires|ensures)( \w+)? \{", text):
         end, depth = match.end(), 1
         while depth:
             depth += {"{": 1, "}": -1}.get(text[end], 0)
             end += 1
-        found.append(short(text[match.start():end]))
+        found.append((short(text[match.start():end]), re.match(r"(?: *//([^\n]*))?", text[end:])[1] or ""))
     return found
+
+
+def clauses(text):
+    return [clause for clause, _ in clauses_and_comments(text)]
 
 
 def sources(pattern):
@@ -151,38 +157,47 @@ def public_calls(crate):
     return calls
 
 
+def calls_in(text):
+    """The calls that a text names: each with the type or the crate in front, if there is one."""
+    return re.findall(r"\b(?:(\w+)::)?(\w+)", text)
+
+
 def quoted_by_head(page):
-    """The clauses of a page by the head that they stand under: its crate, the calls that it names, and its clauses."""
+    """What a page quotes under each head: its crate, the calls that it names, and its clauses with their comments."""
     found = []
     for chapter in re.split(r"^(?=## )", read(page), flags=re.M):
         crate = re.search(r"the\s+crate\s+`(\w+)`", chapter)
         for part in re.split(r"^(?=#|\*\*)", chapter, flags=re.M):
             head = re.match(r"#+ .*|\*\*.*?\*\*", part, re.S)
-            calls = re.findall(r"`(?:(\w+)::)?(\w+)", head[0]) if head else []
-            found.append((crate[1] if crate else "paged", calls, clauses("".join(re.findall(r"^    .*\n", part, re.M)))))
+            calls = [call for named in re.findall(r"`([\w:]+)", head[0]) for call in calls_in(named)] if head else []
+            code = "".join(re.findall(r"^    .*\n", part, re.M))
+            found.append((crate[1] if crate else "paged", calls, clauses_and_comments(code)))
     return found
 
 
-def is_named(crate, call, head_crate, head_calls):
-    """Whether a head names a call: by its name, or by this and the type or the crate in front."""
-    return crate == head_crate and any(name == call[1] and owner in ("", call[0]) for owner, name in head_calls)
+def named_by(calls, crate, names):
+    """The calls of a crate, out of some, that are named: alone, or with the type or the crate in front."""
+    return [call for its, call in calls if its == crate
+            and any(name == call[1] and owner in ("", call[0]) for owner, name in names)]
 
 
 def wrong_heads(page):
     """The clauses of public calls that stand under no head of a page that names the call, those that stand under the
-    head of calls that don't have them, and how many calls there are. `paged` gives out calls of `paged_read`."""
+    head or before the comment of calls that don't have them, and how many calls there are. `paged` gives out calls of
+    `paged_read`."""
     calls = [(crate, call) for crate in WHOLE for call in public_calls(crate)]
-    heads = quoted_by_head(page)
-    wrong = []
-    for crate, call in calls:
-        there = {clause for *head, quoted in heads if is_named(crate, call, *head) for clause in quoted}
-        wrong += [f"not under {call[1]} in {page}: {crate}: {clause}" for clause in call[2] if clause not in there]
     given_out = [("paged", call) for call in public_calls("paged_read")]
-    for *head, quoted in heads:
-        named = [call for crate, call in calls + given_out if is_named(crate, call, *head)]
-        theirs = {clause for call in named for clause in call[2]}
-        wrong += [f"{page}: not a clause of {', '.join(call[1] for call in named)}: {clause}" for clause in quoted
-                  if named and clause not in theirs]
+    wrong, there = [], collections.defaultdict(set)
+    for crate, names, quoted in quoted_by_head(page):
+        for call in named_by(calls, crate, names):
+            there[crate, call[0], call[1]].update(clause for clause, _ in quoted)
+        for clause, comment in quoted:
+            for named in (names, calls_in(comment)):
+                theirs = named_by(calls + given_out, crate, named)
+                if theirs and not any(clause in call[2] for call in theirs):
+                    wrong.append(f"{page}: not a clause of {', '.join(call[1] for call in theirs)}: {clause}")
+    wrong += [f"not under {owner}::{name} in {page}: {clause}" for crate, (owner, name, found, _) in calls
+              for clause in found if clause not in there[crate, owner, name]]
     return wrong, len(calls)
 
 
