@@ -49,6 +49,11 @@ SHORT = [
     ("(ranges_of (non_zero_usize_get len) offsets.now)", "ranges"),
     ("let ranges = ranges_of (non_zero_usize_get len) offsets.now in", ""),
     ("let s = non_zero_usize_get size in", ""),
+    ("let range : ℕ × ℕ = (i * self.now.size, self.now.size) in", ""),
+    ("let input_old = reader_remaining R.remaining input.old in", ""),
+    ("let input_new = reader_remaining R.remaining input.new in", ""),
+    ("let out_old = writer_contents W.contents out.old in", ""),
+    ("let out_new = writer_contents W.contents out.new in", ""),
 ]
 
 # The crates whose public calls the page of contracts has with all their clauses.
