@@ -33,7 +33,7 @@ ROLES = {
     "owes": r"Owes",
     "can": r"Can",
     "costs": r"Costs|^Asks|^Reads",
-    "ready": r"Ready|^(?:Is|Are|Has|Can|Stays)[A-Z]",
+    "ready": r"Ready|^(?:Is|Are|Has|Can|Stays|Waits)[A-Z]",
     "asked": r"Asked|^(?:Is|Are)[A-Z]",
 }
 
