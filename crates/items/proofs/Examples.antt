@@ -1,20 +1,23 @@
 -- Each definition of items, computed on a few bytes. Pages have 4 bytes, and the checksum is their sum.
-use Rattle.std.proofs.Common.{◌≡◌, ℕ, zero, suc, ◌<◌, List, [], ◌∷◌, ◌++◌, take, refl, ap, arith, Some, None, Ok, Err}
+use Rattle.std.proofs.Common.{◌≡◌, ℕ, zero, suc, ◌<◌, List, [], ◌∷◌, ◌++◌, take, refl, sym, ap, subst, arith, true, false, Some, None, Ok, Err}
 use Rattle.std.specs.Prelude.{All, get_or, slice_get}
+use Rattle.std.proofs.lemmas.List.{append_cancel_left}
 use Rattle.std.proofs.lemmas.Option.{same_Some}
-use Rattle.disk.specs.Disk.{Life}
-use Rattle.disk.specs.declared.error.Error.TheVariants.{BlobInsufficientLength, OffsetOverflow}
+use Rattle.disk.specs.Disk.{Entry, Life, ReadAt}
+use Rattle.disk.specs.declared.error.Error.TheVariants.{BlobInsufficientLength, OffsetOverflow, OutOfMemory}
 use Rattle.cache.specs.CacheState.{CacheState}
 use Rattle.page.specs.Page.{text}
 use Rattle.page.specs.Sums.{add_sum}
 use Rattle.page.proofs.Examples.{abcd_page, ef_page}
 use Rattle.crash.proofs.Disks.{base_is_image}
 use Rattle.crash.proofs.Promise.{keeps_less}
+use Rattle.paged_read.specs.Failures.{AreAnswered, NoneFailed, none_failed_start}
 use Rattle.writer_state.proofs.Examples.{a_lost_floor, all_is_covered, all_keep, before, durable, flush_started, seven, six, with_g}
 use Rattle.items.specs.Items.{items, item, item_floor, AreDurable, AreFirst, BringsItemsBack, WouldBeDurable}
-use Rattle.items.specs.State.{ItemsState}
+use Rattle.items.specs.State.{ItemsReplayState, ItemsState}
 use Rattle.items.specs.Standing.{AreItems, count, items_content, items_of}
 use Rattle.items.specs.Calls.{AreRising, ItemIsAt, FirstRefused, GetGoes, IsThere, TryPushGoes, item_ranges}
+use Rattle.items.specs.Readers.{NextItemRefused}
 use Rattle.items.specs.Run.{SameSizes, SaysPushed, TellsLength}
 use Rattle.items.specs.declared.run.ItemReply.TheVariants.{BadItem, Closed, Done, Length}
 use Rattle.items.proofs.Laws.{brings_back, durable_of}
@@ -128,12 +131,12 @@ the_ranges = refl
 -- ---- reads
 
 pub a_get : (life : Life) → GetGoes 3 seven 1 (100 ∷ 101 ∷ 102 ∷ []) life life (Ok tt)
-a_get life = refl
+a_get life = (refl, none_failed_start life.present)
 
 -- another item's bytes aren't an answer
 pub another_item : (life : Life) → GetGoes 3 seven 1 (97 ∷ 98 ∷ 99 ∷ []) life life (Ok tt) → ⊥
 another_item life gets =
-    let same : 100 ∷ 101 ∷ 102 ∷ [] ≡ 97 ∷ 98 ∷ 99 ∷ [] = same_Some (100 ∷ 101 ∷ 102 ∷ []) (97 ∷ 98 ∷ 99 ∷ []) gets in
+    let same : 100 ∷ 101 ∷ 102 ∷ [] ≡ 97 ∷ 98 ∷ 99 ∷ [] = same_Some (100 ∷ 101 ∷ 102 ∷ []) (97 ∷ 98 ∷ 99 ∷ []) gets.0 in
     omega (arith, ap (λ (l : List ℕ). get_or l 0 0) same)
 
 -- number 2 is refused, and not for its offset
@@ -142,6 +145,26 @@ no_get life = (refl, omega arith, omega arith)
 
 pub no_overflow : (life : Life) → GetGoes 3 seven 2 [] life life (Err OffsetOverflow) → ⊥
 no_overflow life gets = omega (arith, gets.1)
+
+-- the same blob, after a read of the device that failed
+abbrev pub failed_read : Entry
+failed_read = record { request = ReadAt 0 16; failed = true }
+
+abbrev pub after_failed_read : Life → Life
+after_failed_read life = record { present = record life.present { log = life.present.log ++ failed_read ∷ [] }; past = life.past }
+
+it_failed : (life : Life) → NoneFailed life.present (after_failed_read life).present → ⊥
+it_failed life (more, is, answered) =
+    let same : failed_read ∷ [] ≡ more = append_cancel_left life.present.log (failed_read ∷ []) more is in
+    let told : true ≡ false = (subst (λ (es : List Entry). AreAnswered es) (sym same) answered).0 in
+    absurd (cc told)
+
+-- it isn't told as want of memory, of an item or of a replay to which nothing came
+pub no_want_of_memory : (life : Life) → GetGoes 3 seven 1 [] life (after_failed_read life) (Err OutOfMemory) → ⊥
+no_want_of_memory life gets = it_failed life gets.1
+
+pub no_want_in_a_replay : (r : ItemsReplayState) (life : Life) → NextItemRefused r r life (after_failed_read life) OutOfMemory → ⊥
+no_want_in_a_replay r life refused = it_failed life (refused refl)
 
 pub they_rise : AreRising (0 ∷ 2 ∷ 5 ∷ [])
 they_rise = (omega arith, (omega arith, (omega arith, tt)))

@@ -1,6 +1,6 @@
 -- Snapshots and replays of items, from those of their bytes.
 use Rattle.std.proofs.Common.{max, le_trans, ◌≡◌, inl, inr, ℕ, suc, ◌+◌, ◌-◌, ◌*◌, ◌/◌, ◌^◌, ◌<◌, ◌≤◌, List, [], ◌∷◌, length, take, drop, Some, Ok, Err, Result, refl, sym, ap, ap₂, ◌∙◌, subst, arith, append-nil, length-drop, add-one}
-use Rattle.std.specs.Prelude.{false, nat_le}
+use Rattle.std.specs.Prelude.{Bool, false, nat_le}
 use Rattle.std.proofs.lemmas.Bool.{cases_lt, leb-false}
 use Rattle.std.proofs.lemmas.List.{drop_all, drop-drop, nil_from_length}
 use Rattle.std.proofs.Math.Nat.{div-le_self, div-mul-le_self, mul-div_cancel, mul-le-mul_right}
@@ -11,7 +11,9 @@ use Rattle.disk.specs.declared.error.Error.TheVariants.{ReadFailed, WriteFailed,
 use Rattle.page.specs.Page.{pieces}
 use Rattle.cache.specs.CacheState.{CacheState}
 use Rattle.writer_state.specs.WriterState.{WriterState}
-use Rattle.paged_read.specs.Replay.{CopyToBytesGoes, FillFault, IsReplayOf, ReplayState, ReplaysOn, Seeks}
+use Rattle.paged_read.specs.Failures.{TellsFailure}
+use Rattle.paged_read.proofs.Failing.{none_failed_same}
+use Rattle.paged_read.specs.Replay.{CopyToBytesGoes, FillFault, IsHad, IsReplayOf, ReplayState, ReplaysOn, Seeks}
 use Rattle.paged_read.specs.Snapshots.{SnapshotReads}
 use Rattle.paged_read.specs.Tail.{Tail, tail_size}
 use Rattle.paged.specs.Goes.{HasReplay as HasWriterReplay, HasSnapshot as HasWriterSnapshot}
@@ -20,8 +22,7 @@ use Rattle.paged.specs.Snapshots.{TriesSnapshot}
 use Rattle.items.specs.Items.{items}
 use Rattle.items.specs.State.{ItemsReplayState, ItemsSnapshotState, ItemsState}
 use Rattle.items.specs.Standing.{AreItems, IsItemsReplay, IsItemsSnapshot, ReplaysItems, bytes_along, items_content, bytes_over, items_left}
-use Rattle.items.specs.Calls.{ItemReadRefused}
-use Rattle.items.specs.Readers.{HoldsAlong, HasItemsReplay, HasItemsSnapshot, SeekItemGoes, TriesItemsSnapshot}
+use Rattle.items.specs.Readers.{HoldsAlong, HasItemsReplay, HasItemsSnapshot, NextItemRefused, SeekItemGoes, TriesItemsSnapshot}
 use Rattle.items.proofs.Laws.{items_within, length-items}
 use Rattle.items.proofs.Standing.{along, is_replay, is_snapshot, stand, stands_on}
 use Rattle.items.proofs.Calls.{goes_same}
@@ -181,17 +182,17 @@ module _ (sum : List ℕ → ℕ) (r : ItemsReplayState) (old new : Life) (was :
   pub had_none : tail_size r.replay.tail < r.replay.position + r.size → items_left r old ≡ []
   had_none past = items_end r.size (r.replay.position / r.size) held r.replay.position was.whole at (omega (arith, past, was.size))
 
-  -- it wasn't refused for a page
-  pub fill_refused : (e : Error) → FillFault sum r.replay.tail old new e → ItemReadRefused old new e
-  fill_refused ReadFailed fault = fault
-  fill_refused OutOfMemory fault = tt
-  fill_refused InvalidChecksum fault = absurd (fault was.gives.tail.full)
-  fill_refused WriteFailed fault = fault
-  fill_refused ResizeFailed fault = fault
-  fill_refused SyncFailed fault = fault
-  fill_refused BlobInsufficientLength fault = fault
-  fill_refused OffsetOverflow fault = fault
-  fill_refused IdsExhausted fault = fault
+  -- it wasn't refused for a page, and where no more came to hand memory was refused with no failed read
+  pub fill_refused : (now : ItemsReplayState) (e : Error) → FillFault sum r.replay.tail old new e → (length now.replay.hand ≡ length r.replay.hand → TellsFailure {A = Bool} old new (Err e)) → NextItemRefused r now old new e
+  fill_refused now ReadFailed fault tells = fault
+  fill_refused now OutOfMemory fault tells = λ same. tells same (λ is. absurd (cc is))
+  fill_refused now InvalidChecksum fault tells = absurd (fault was.gives.tail.full)
+  fill_refused now WriteFailed fault tells = fault
+  fill_refused now ResizeFailed fault tells = fault
+  fill_refused now SyncFailed fault tells = fault
+  fill_refused now BlobInsufficientLength fault tells = fault
+  fill_refused now OffsetOverflow fault tells = fault
+  fill_refused now IdsExhausted fault tells = fault
 
 -- what is at hand after a fill, and after the item is taken
 pub holds_along : (r : ItemsReplayState) (mid now : ReplayState) (count : ℕ) → count ≡ r.size → mid.batch ≡ r.replay.batch → length mid.hand ≤ max (length r.replay.hand) (count + r.replay.batch * r.replay.tail.page_size) → now.batch ≡ mid.batch → length now.hand ≤ length mid.hand
@@ -258,6 +259,10 @@ pub seeks_item : (sum : List ℕ → ℕ) (r : ItemsReplayState) (replay : Repla
     → SeekItemGoes sum r i (record { replay = replay; size = r.size }) result
 seeks_item sum r replay i offset (Ok u) is fits seeks goes = sought sum r (record { replay = replay; size = r.size }) i offset is refl seeks goes
 seeks_item sum r replay i offset (Err e) is fits seeks goes = not_sought sum r (record { replay = replay; size = r.size }) i offset is fits (λ same. ap (λ (x : ReplayState). record { replay = x; size = r.size }) same) e seeks
+
+-- an item that is at hand was so before, unless more came to hand; then the device wasn't asked
+pub copy_unasked : (r now : ItemsReplayState) (count : ℕ) (old new : Life) → count ≤ length now.replay.hand → (IsHad r.replay count → new ≡ old) → NextItemRefused r now old new OutOfMemory
+copy_unasked r now count old new there idle = λ same. none_failed_same old new (idle (inl (omega (arith, same, there))))
 
 -- a copy of bytes is refused for want of memory alone, and then nothing changes
 pub copy_refused : (r now : ReplayState) (count : ℕ) (e : Error) → CopyToBytesGoes r count now (Err e) → (e ≡ OutOfMemory) × (now ≡ r)

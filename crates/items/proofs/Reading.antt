@@ -9,6 +9,7 @@ use Rattle.disk.specs.declared.error.Error.TheVariants.{ReadFailed, WriteFailed,
 use Rattle.page.specs.Geometry.{AreInOrder, AreInOrderFrom, EndWithin, RangesGo}
 use Rattle.cache.specs.CacheState.{CacheState}
 use Rattle.paged_read.specs.Batch.{ranges_of}
+use Rattle.paged_read.specs.Failures.{none_failed_start}
 use Rattle.paged_read.specs.Ranges.{AsksForMissing, AsksOnce, AsksTogether, Reads, ReadsMany, missing, page_ranges, served_ranges, slice}
 use Rattle.paged_read.specs.Tail.{Tail, tail_size, logical_bytes}
 use Rattle.items.specs.Items.{item}
@@ -22,14 +23,15 @@ pub got : (sum : List ℕ → ℕ) (s : ℕ) (t : Tail) (cache : CacheState) (i 
     → length (logical_bytes t old.present.readable) ≡ length (logical_bytes t old.present.readable) / s * s → ItemIsAt s (tail_size t / s) i (Ok offset) → length was ≡ s → (IsErrOf result InvalidChecksum → ⊥) → Reads sum t cache (offset, length was) (λ _. buf) old new result
     → GetGoes s (logical_bytes t old.present.readable) i buf old new result
 got sum s t cache i offset buf was old new (Ok u) size whole (at, fits, there) long never (within, read, full, none) =
-    item_at s i (logical_bytes t old.present.readable) (omega (arith, there, ap (λ (k : ℕ). k / s) size))
-    ∙ ap Some (sym (read ∙ ap₂ (λ (n k : ℕ). take n (drop k (logical_bytes t old.present.readable))) long at))
+    let is = item_at s i (logical_bytes t old.present.readable) (omega (arith, there, ap (λ (k : ℕ). k / s) size))
+    ∙ ap Some (sym (read ∙ ap₂ (λ (n k : ℕ). take n (drop k (logical_bytes t old.present.readable))) long at)) in
+    (is, none)
 got sum s t cache i offset buf was old new (Err OffsetOverflow) size whole (at, fits, there) long never (same, passes) = absurd (omega (arith, at, fits, passes, long))
 got sum s t cache i offset buf was old new (Err BlobInsufficientLength) size whole (at, fits, there) long never (same, below, passes) =
     let least : (i + 1) * s ≤ tail_size t / s * s = mul-le-mul_right s (omega arith) in
     absurd (omega (arith, least, passes, at, long, size, whole, ap (λ (k : ℕ). k / s * s) size))
 got sum s t cache i offset buf was old new (Err ReadFailed) size whole (at, fits, there) long never reads = (omega (arith, there, ap (λ (k : ℕ). k / s) size), reads)
-got sum s t cache i offset buf was old new (Err OutOfMemory) size whole (at, fits, there) long never reads = (omega (arith, there, ap (λ (k : ℕ). k / s) size), tt)
+got sum s t cache i offset buf was old new (Err OutOfMemory) size whole (at, fits, there) long never reads = (omega (arith, there, ap (λ (k : ℕ). k / s) size), reads)
 got sum s t cache i offset buf was old new (Err InvalidChecksum) size whole (at, fits, there) long never reads = absurd (never refl)
 got sum s t cache i offset buf was old new (Err WriteFailed) size whole (at, fits, there) long never reads = absurd reads
 got sum s t cache i offset buf was old new (Err ResizeFailed) size whole (at, fits, there) long never reads = absurd reads
@@ -124,6 +126,7 @@ got_many sum s t cache indices at buf old new (Ok n) size whole is all never (wi
   all_there s (tail_size t) (logical_bytes t old.present.readable) indices size all,
   read ∙ ap (λ (l : List ℕ). flat_map (slice (logical_bytes t old.present.readable)) (ranges_of s l)) is ∙ many_bytes s (logical_bytes t old.present.readable) indices,
   served_is ∙ ap (λ (l : List ℕ). served_ranges cache t (ranges_of s l)) is,
+  none,
 )
 got_many sum s t cache indices at buf old new (Err OffsetOverflow) size whole is all never (same, refused) =
     absurd (not_overflown (tail_size t) (item_ranges s indices) (all_fit s (tail_size t / s) indices all) (subst (λ (l : List ℕ). RangesGo (tail_size t) (ranges_of s l) (Err OffsetOverflow)) is refused))
@@ -131,7 +134,7 @@ got_many sum s t cache indices at buf old new (Err BlobInsufficientLength) size 
     let own : tail_size t ≡ tail_size t / s * s = size ∙ whole ∙ ap (λ (k : ℕ). k / s * s) (sym size) in
     absurd (not_past (tail_size t) (item_ranges s indices) (all_end s (tail_size t) indices own all) (subst (λ (l : List ℕ). RangesGo (tail_size t) (ranges_of s l) (Err BlobInsufficientLength)) is refused))
 got_many sum s t cache indices at buf old new (Err ReadFailed) size whole is all never reads = (all_there s (tail_size t) (logical_bytes t old.present.readable) indices size all, reads.1)
-got_many sum s t cache indices at buf old new (Err OutOfMemory) size whole is all never reads = (all_there s (tail_size t) (logical_bytes t old.present.readable) indices size all, tt)
+got_many sum s t cache indices at buf old new (Err OutOfMemory) size whole is all never reads = (all_there s (tail_size t) (logical_bytes t old.present.readable) indices size all, reads.1)
 got_many sum s t cache indices at buf old new (Err InvalidChecksum) size whole is all never reads = absurd (never refl)
 got_many sum s t cache indices at buf old new (Err WriteFailed) size whole is all never reads = absurd reads.1
 got_many sum s t cache indices at buf old new (Err ResizeFailed) size whole is all never reads = absurd reads.1
@@ -150,7 +153,7 @@ many_not_got s n t content indices cache buf life WriteFailed is refused = absur
 many_not_got s n t content indices cache buf life ResizeFailed is refused = absurd refused.refused
 many_not_got s n t content indices cache buf life SyncFailed is refused = absurd refused.refused
 many_not_got s n t content indices cache buf life InvalidChecksum is refused = absurd refused.refused
-many_not_got s n t content indices cache buf life OutOfMemory is there = (all_there s n content indices is there, tt)
+many_not_got s n t content indices cache buf life OutOfMemory is there = (all_there s n content indices is there, none_failed_start life.present)
 many_not_got s n t content indices cache buf life IdsExhausted is refused = absurd refused.refused
 
 -- their device calls

@@ -18,6 +18,7 @@ use Rattle.writer_state.specs.WriterState.{started_state}
 use Rattle.writer_state.specs.declared.sync_state.SyncState.{SyncState}
 use Rattle.writer_state.specs.declared.sync_state.SyncState.TheVariants.{Clean, Dirty, Pending}
 use Rattle.paged_read.specs.Batch.{ranges_of}
+use Rattle.paged_read.specs.Failures.{NoneFailed}
 use Rattle.paged_read.specs.Ranges.{served_ranges}
 use Rattle.paged_read.specs.Tail.{Tail}
 use Rattle.paged.specs.Calls.{IsSameWriter, CallCause}
@@ -217,10 +218,10 @@ pub record ItemsCrashGoes (sum : List ℕ → ℕ) (s : ℕ) (cache after : Cach
 -- ---- reads
 
 -- why a read of items that there are may answer this error: a read of the device failed in the
--- call, or memory was refused, before the device was asked or between two of its reads
+-- call; or none did, and memory was refused, before the device was asked or after any of its reads
 abbrev pub ItemReadRefused : Life → Life → Error → Type 0
 ItemReadRefused old new ReadFailed = HasFailed ReadFailed old.present new.present
-ItemReadRefused old new OutOfMemory = Unit {0}
+ItemReadRefused old new OutOfMemory = NoneFailed old.present new.present
 ItemReadRefused old new _ = ⊥
 
 -- where the item of this number begins, of n items of s bytes; a number whose bytes have no offsets
@@ -231,10 +232,12 @@ ItemIsAt s n i (Err OffsetOverflow) = (2 ^ 64 ≤ i * s + s) × (n ≤ i)
 ItemIsAt s n i (Err BlobInsufficientLength) = (i * s + s < 2 ^ 64) × (n ≤ i)
 ItemIsAt s n i (Err _) = ⊥
 
--- the item of this number; where there is none this is told before anything is asked for
+-- the item of this number; where there is none this is told before anything is asked for. Unless
+-- the answer is that a read of the device failed, none did
 abbrev pub GetGoes : (s : ℕ) → List ℕ → (i : ℕ) → List ℕ → Life → Life → Result (Unit {0}) Error
     → Type 0
-GetGoes s content i buf old new (Ok u) = slice_get (items s content) i ≡ Some buf
+GetGoes s content i buf old new (Ok u) =
+    (slice_get (items s content) i ≡ Some buf) × NoneFailed old.present new.present
 GetGoes s content i buf old new (Err OffsetOverflow) =
     (new ≡ old) × (2 ^ 64 ≤ i * s + s) × (length content / s ≤ i)
 GetGoes s content i buf old new (Err BlobInsufficientLength) =
@@ -277,13 +280,15 @@ abbrev pub item_ranges : (s : ℕ) → List ℕ → List (ℕ × ℕ)
 item_ranges s indices = ranges_of s (map (λ i. i * s) indices)
 
 -- the items of these numbers, joined, and of how many the cache and the buffer had all; the first
--- number that is refused decides, before anything is asked for
+-- number that is refused decides, before anything is asked for. Unless the answer is that a read of
+-- the device failed, none did
 abbrev pub GetManyGoes : (s : ℕ) → Tail → List ℕ → (indices : List ℕ) → CacheState → List ℕ → Life
     → Life → Result ℕ Error → Type 0
 GetManyGoes s t content indices cache buf old new (Ok n) =
     All (λ i. i < length content / s) indices
     × (buf ≡ flat_map (item s content) indices)
     × (n ≡ served_ranges cache t (item_ranges s indices))
+    × NoneFailed old.present new.present
 GetManyGoes s t content indices cache buf old new (Err OffsetOverflow) =
     (new ≡ old) × FirstRefused s (length content / s) indices OffsetOverflow
 GetManyGoes s t content indices cache buf old new (Err BlobInsufficientLength) =

@@ -2,17 +2,18 @@
 use Rattle.std.specs.Prelude.{◌≡◌, ◌≤◌, ◌<◌, ◌+◌, ◌*◌, ◌/◌, ◌^◌, ℕ, List, [], ◌∷◌, length, drop}
 use Rattle.std.specs.Prelude.{max}
 use Rattle.std.specs.Prelude.{Option, Some, None, Result, Ok, Err}
-use Rattle.disk.specs.Disk.{Life}
+use Rattle.disk.specs.Disk.{Life, HasFailed}
 use Rattle.disk.specs.declared.error.Error.{Error}
-use Rattle.disk.specs.declared.error.Error.TheVariants.{OffsetOverflow, OutOfMemory}
+use Rattle.disk.specs.declared.error.Error.TheVariants.{ReadFailed, OffsetOverflow, OutOfMemory}
 use Rattle.disk.specs.declared.error.Error.TheVariants.{BlobInsufficientLength}
 use Rattle.cache.specs.CacheState.{CacheState}
+use Rattle.paged_read.specs.Failures.{NoneFailed}
 use Rattle.paged.specs.Calls.{CallCause}
 use Rattle.items.specs.Items.{items}
 use Rattle.items.specs.State.{ItemsReplayState, ItemsSnapshotState, ItemsState}
 use Rattle.items.specs.Standing.{AreItems, IsItemsReplay, IsItemsSnapshot, bytes_along, items_left}
 use Rattle.items.specs.Standing.{items_of, items_over}
-use Rattle.items.specs.Calls.{AreGivenBack, GoOn, ItemReadRefused}
+use Rattle.items.specs.Calls.{AreGivenBack, GoOn}
 
 -- a snapshot was made of all items, which go on: its pages lie below their tip
 pub record HasItemsSnapshot (sum : List ℕ → ℕ) (s : ItemsState) (after : CacheState)
@@ -74,6 +75,15 @@ abbrev pub ItemsReplayGoes : (List ℕ → ℕ) → ItemsState → CacheState �
 ItemsReplayGoes sum s after old new (Ok r) = HasItemsReplay sum s after old new r.0 r.1
 ItemsReplayGoes sum s after old new (Err e) = CallCause s.writer.sync old new e
 
+-- why a replay may refuse the next item: a read of the device that was needed failed; or memory was
+-- refused, and then no read failed, unless more came to hand: a read ahead that fails is made anew
+-- once its pages are needed
+abbrev pub NextItemRefused : (r now : ItemsReplayState) → Life → Life → Error → Type 0
+NextItemRefused r now old new ReadFailed = HasFailed ReadFailed old.present new.present
+NextItemRefused r now old new OutOfMemory =
+    length now.replay.hand ≡ length r.replay.hand → NoneFailed old.present new.present
+NextItemRefused r now old new _ = ⊥
+
 -- a replay gives the next item, or none where none is left; where it is refused, the items that it
 -- is to give are those that it was to give
 abbrev pub NextItemGoes : (r now : ItemsReplayState) → Life → Life → Result (Option (List ℕ)) Error
@@ -81,7 +91,7 @@ abbrev pub NextItemGoes : (r now : ItemsReplayState) → Life → Life → Resul
 NextItemGoes r now old new (Ok (Some item)) = items_left r old ≡ item ∷ items_left now new
 NextItemGoes r now old new (Ok None) = (items_left r old ≡ []) × (items_left now new ≡ [])
 NextItemGoes r now old new (Err e) =
-    (items_left now new ≡ items_left r old) × ItemReadRefused old new e
+    (items_left now new ≡ items_left r old) × NextItemRefused r now old new e
 
 -- at hand is no more than what was there, or an item and a batch of pages
 abbrev pub HoldsAlong : (r now : ItemsReplayState) → Type 0

@@ -7,6 +7,7 @@ use Rattle.disk.specs.declared.error.Error.{Error}
 use Rattle.disk.specs.declared.error.Error.TheVariants.{OutOfMemory}
 use Rattle.cache.specs.CacheState.{CacheState}
 use Rattle.cache.specs.Pages.{IsFresh}
+use Rattle.paged_read.specs.Failures.{NoneFailed}
 use Rattle.paged.specs.Calls.{CallCause}
 use Rattle.items.specs.Items.{KeepsItems}
 use Rattle.items.specs.State.{ItemsState}
@@ -65,14 +66,17 @@ PushedItem sum item was now cache after old new reply =
 
 -- the bytes of an item, or why there are none
 abbrev pub GivesItem : ItemsState → (i : ℕ) → Life → Life → Result (Vec ℕ Global) Error → Type 0
-GivesItem s i old new (Ok bytes) = slice_get (items_of s old) i ≡ Some bytes.items
+GivesItem s i old new (Ok bytes) =
+    (slice_get (items_of s old) i ≡ Some bytes.items) × NoneFailed old.present new.present
 GivesItem s i old new (Err e) = GetGoes s.size (items_content s old) i [] old new (Err e)
 
--- a read of an item, which changes nothing
+-- a read of an item, which changes nothing; unless it answers that a read of the device failed,
+-- none did
 abbrev pub SaysGot : (i : ℕ) → (was now : Option ItemsState) → Life → Life → ItemReply → Type 0
 SaysGot i None now old new reply = (reply ≡ Closed) × (now ≡ None)
 SaysGot i (Some s) now old new (Bytes bytes) =
     (now ≡ Some s) × (slice_get (items_of s old) i ≡ Some bytes.items)
+    × NoneFailed old.present new.present
 SaysGot i (Some s) now old new (Fault e) =
     (now ≡ Some s) × GetGoes s.size (items_content s old) i [] old new (Err e)
 SaysGot i (Some s) now old new _ = ⊥

@@ -61,8 +61,10 @@ impl<B: Blob, H: Sum> ItemsReplay<B, H> {
     /// the page; those of another item are copied. Where the item is at hand already the device
     /// isn't asked. At hand is no more than an item and a batch of pages, or what was there.
     ///
-    /// `ReadFailed` where the device failed, `OutOfMemory`. An error leaves the replay where it
-    /// was, so that the call can be made again.
+    /// `ReadFailed` where a read of the device failed that was needed; `OutOfMemory`, also after
+    /// reads of the device. Where no more came to hand none of these failed; else a read ahead may
+    /// have, which is made again once it is needed. An error leaves the replay where it was, so that
+    /// the call can be made again.
     pub fn next(&mut self, blob: &mut B) -> Result<Option<IoBuf>, Error>
         requires replay { IsItemsReplay H.sum_of self.old (B.life blob.old) }
         ensures goes { let old = B.life blob.old in let new = B.life blob.new in

@@ -71,8 +71,9 @@ impl<B: Blob, H: Sum> ItemsSnapshot<B, H> {
     ///
     /// `OffsetOverflow` where an item of this number would begin or end past the greatest `u64`,
     /// else `BlobInsufficientLength` where the snapshot has none: both before anything is asked for.
-    /// `ReadFailed` where the device failed, `OutOfMemory`; then what `buf` holds says nothing. An
-    /// error leaves all else as it was, apart from pages that the cache may hold now.
+    /// `ReadFailed` where a read of the device failed; `OutOfMemory`, also after reads of the
+    /// device, where none failed. Then what `buf` holds says nothing. An error leaves all else as it
+    /// was, apart from pages that the cache may hold now.
     pub fn get(
         &self,
         blob: &mut B,

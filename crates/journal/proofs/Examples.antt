@@ -1,8 +1,14 @@
 -- Each definition of frames, computed on a few bytes. The checksum is the sum of the bytes.
-use Rattle.std.proofs.Common.{◌≡◌, ℕ, List, [], ◌∷◌, ◌++◌, refl}
+use Rattle.std.proofs.Common.{◌≡◌, ℕ, List, [], ◌∷◌, ◌++◌, refl, sym, subst, true, Ok, Err}
 use Rattle.std.specs.Prelude.{Some, None, false}
+use Rattle.std.proofs.lemmas.List.{append_cancel_left}
+use Rattle.disk.specs.Disk.{Entry, Life, ReadAt}
+use Rattle.disk.specs.declared.error.Error.TheVariants.{OutOfMemory}
 use Rattle.page.specs.Sums.{add_sum, const_sum}
+use Rattle.paged_read.specs.Failures.{AreAnswered, NoneFailed}
 use Rattle.paged_read.specs.Tail.{Tail}
+use Rattle.journal.specs.declared.frame.Found.{Found}
+use Rattle.journal.specs.Journal.{ReadRecordGoes}
 use Rattle.journal.specs.Costs.{after_frames, frame_calls, frame_range, frames_calls, pages_met}
 use Rattle.journal.specs.Frame.{frame, record_len, frame_len, is_record, record_of, frames, records, whole_frames, AreWholeFrames, IsPrefix}
 
@@ -96,6 +102,27 @@ a_whole = refl
 
 pub a_prefix : IsPrefix ((97 ∷ 98 ∷ []) ∷ []) ((97 ∷ 98 ∷ []) ∷ (99 ∷ []) ∷ [])
 a_prefix = ((99 ∷ []) ∷ [], refl)
+
+-- the same blob, after a read of the device that failed
+abbrev pub failed_read : Entry
+failed_read = record { request = ReadAt 0 16; failed = true }
+
+abbrev pub after_failed_read : Life → Life
+after_failed_read life = record { present = record life.present { log = life.present.log ++ failed_read ∷ [] }; past = life.past }
+
+it_failed : (life : Life) → NoneFailed life.present (after_failed_read life).present → ⊥
+it_failed life (more, is, answered) =
+    let same : failed_read ∷ [] ≡ more = append_cancel_left life.present.log (failed_read ∷ []) more is in
+    let told : true ≡ false = (subst (λ (es : List Entry). AreAnswered es) (sym same) answered).0 in
+    absurd (cc told)
+
+-- it isn't told as want of memory, though memory may have been asked for after it
+pub no_want_of_memory : (own : List ℕ → ℕ) (life : Life) → ReadRecordGoes own ab_frame 0 life (after_failed_read life) (Err OutOfMemory) → ⊥
+no_want_of_memory own life refused = it_failed life refused
+
+-- nor does it give a record
+pub no_record_after : (own : List ℕ → ℕ) (life : Life) (found : Found) → ReadRecordGoes own ab_frame 0 life (after_failed_read life) (Ok (Some found)) → ⊥
+no_record_after own life found goes = it_failed life goes.1
 
 -- two frames, of 9 bytes and of 8, in pages of 4: the first 16 bytes are in full pages, and one is after them
 abbrev pub two : List ℕ

@@ -20,6 +20,7 @@ use Rattle.crash.specs.Looks.{Looked, looked_start}
 use Rattle.writer_state.specs.Sound.{IsSound, LeavesItsContent, content}
 use Rattle.writer_state.specs.WriterState.{WriterState}
 use Rattle.crash.specs.Moments.{through_start, through_then, through_joins, through_end}
+use Rattle.paged_read.specs.Failures.{NoneFailed, none_failed_joins}
 use Rattle.paged_read.specs.Hand.{HandState, kept_with}
 use Rattle.paged_read.specs.Snapshots.{LeavesOthers, LeavesReads}
 use Rattle.paged_read.specs.Tail.{CanRead}
@@ -32,7 +33,7 @@ use Rattle.paged.specs.Recovers.{Recovers}
 use Rattle.paged.specs.Truncate.{Truncates, KeepsFloorsWithin}
 use Rattle.paged.specs.Writer.{physical_blob_size}
 use Rattle.journal.specs.Frame.{frame, record_len, frame_len, listed, record_of, records, whole_frames, AreWholeFrames, IsPrefix}
-use Rattle.journal.specs.Journal.{IsBetweenCalls, IsJournal, IsNewToJournals, OtherJournalsStay, AllJournalsStay, OnlyReads, LeavesContent, Commits, OnlyRecords, KeepsCommitted, LeavesRecords, CommitsAll, IsAppended, AppendRecordGoes, IsCommitted, CommitGoes, BringsRecordsBack, BringsOnlyRecords, RecordReadRefused, ReadsContent, ReadsFrame, IsFound, IsTrimmed, Trims, JournalHasRecovered, RecoversJournal}
+use Rattle.journal.specs.Journal.{IsBetweenCalls, IsJournal, IsNewToJournals, OtherJournalsStay, AllJournalsStay, OnlyReads, LeavesContent, Commits, OnlyRecords, KeepsCommitted, LeavesRecords, CommitsAll, IsAppended, AppendRecordGoes, IsCommitted, CommitGoes, BringsRecordsBack, BringsOnlyRecords, MeasuresFrame, RecordReadRefused, ReadsContent, ReadsFrame, IsFound, IsTrimmed, Trims, JournalHasRecovered, RecoversJournal}
 use Rattle.journal.proofs.Frames.{records-append, records-take, whole_more, whole_is_whole, records-whole, whole_first, length-whole, frame_is_whole, records-frame, record_of-frame, length-frame, record_len-front, record_of-front, records-from}
 
 -- the first of the first are the first
@@ -294,17 +295,17 @@ failed_later : (e : Error) (a b c : Disk) → LogGrows a b → HasFailed e b c �
 failed_later e a b c (first, one) (second, two, some) =
     (first ++ second, two ∙ ap (λ l. l ++ second) one ∙ append_assoc a.log first second, some_after e first second some)
 
--- so is one after another
-pub refused_later : (old mid new : Life) (e : Error) → Looked old mid → RecordReadRefused mid new e → RecordReadRefused old new e
-refused_later old mid new ReadFailed looked refused = failed_later ReadFailed old.present mid.present new.present looked.log refused
-refused_later old mid new OutOfMemory looked refused = tt
-refused_later old mid new InvalidChecksum looked refused = refused
-refused_later old mid new OffsetOverflow looked refused = refused
-refused_later old mid new BlobInsufficientLength looked refused = refused
-refused_later old mid new WriteFailed looked refused = refused
-refused_later old mid new ResizeFailed looked refused = refused
-refused_later old mid new SyncFailed looked refused = refused
-refused_later old mid new IdsExhausted looked refused = refused
+-- so is one after another that didn't fail
+pub refused_later : (old mid new : Life) (e : Error) → Looked old mid → NoneFailed old.present mid.present → RecordReadRefused mid new e → RecordReadRefused old new e
+refused_later old mid new ReadFailed looked none refused = failed_later ReadFailed old.present mid.present new.present looked.log refused
+refused_later old mid new OutOfMemory looked none refused = none_failed_joins old.present mid.present new.present none refused
+refused_later old mid new InvalidChecksum looked none refused = refused
+refused_later old mid new OffsetOverflow looked none refused = refused
+refused_later old mid new BlobInsufficientLength looked none refused = refused
+refused_later old mid new WriteFailed looked none refused = refused
+refused_later old mid new ResizeFailed looked none refused = refused
+refused_later old mid new SyncFailed looked none refused = refused
+refused_later old mid new IdsExhausted looked none refused = refused
 
 -- its first bytes say how long a frame is
 pub frame_measured : (held : List ℕ) (offset rest len : ℕ) (head : List ℕ) → length (drop offset held) ≡ rest → head ≡ take (min rest 2) (drop offset held) → len ≡ min rest (record_len head + 7)
@@ -316,9 +317,10 @@ frame_measured held offset rest len head long first is =
 
 -- a frame is read in two reads: how long it is, and all of it
 pub frame_read : (held again : List ℕ) (offset rest len : ℕ) (old mid new : Life) (result : Result (List ℕ) Error) → Looked old mid → again ≡ held
-    → len ≡ min (frame_len (drop offset held)) rest → ReadsContent again offset len mid new result → ReadsFrame held offset rest old new result
-frame_read held again offset rest len old mid new (Ok bytes) looked same is second = second ∙ ap₂ (λ k (l : List ℕ). take k (drop offset l)) is same
-frame_read held again offset rest len old mid new (Err e) looked same is second = refused_later old mid new e looked second
+    → MeasuresFrame held offset rest old mid (Ok len) → ReadsContent again offset len mid new result → ReadsFrame held offset rest old new result
+frame_read held again offset rest len old mid new (Ok bytes) looked same (is, none) (second, still) =
+    (second ∙ ap₂ (λ k (l : List ℕ). take k (drop offset l)) is same, none_failed_joins old.present mid.present new.present none still)
+frame_read held again offset rest len old mid new (Err e) looked same (is, none) second = refused_later old mid new e looked none second
 
 -- the frame at an offset
 pub found : (own : List ℕ → ℕ) (content : List ℕ) (offset rest : ℕ) (framed : List ℕ) (bytes : Option (List ℕ)) (end : ℕ) → offset + rest ≡ length content → 0 < rest
@@ -555,10 +557,10 @@ commits_left sum own P content n d e is_image at_rest commits = record {
 }
 
 -- no memory was left for the records, and so the last frame wasn't cut off
-pub trim_unread : (sum own : List ℕ → ℕ) (w : WriterState) (after : CacheState) (old new : Life) (e : Error) (result : Result (WriterState × Vec (List ℕ) Global) Error) → IsErrAnd result (λ x. x ≡ e)
-    → e ≡ OutOfMemory → Trims sum own w after old new result
-trim_unread sum own w after old new e (Ok r) is refused = absurd is
-trim_unread sum own w after old new e (Err x) is refused = inl (subst (λ (y : Error). RecordReadRefused old new y) (sym (is ∙ refused)) tt)
+pub trim_unread : (sum own : List ℕ → ℕ) (w : WriterState) (after : CacheState) (life : Life) (e : Error) (result : Result (WriterState × Vec (List ℕ) Global) Error) → IsErrAnd result (λ x. x ≡ e)
+    → e ≡ OutOfMemory → Trims sum own w after life life result
+trim_unread sum own w after life e (Ok r) is refused = absurd is
+trim_unread sum own w after life e (Err x) is refused = inl (refl, is ∙ refused)
 
 -- ---- what a recovery kept
 

@@ -1,6 +1,6 @@
 -- What a journal's calls leave to readers, and what a reader's reads do.
 use Rattle.std.proofs.Common.{◌≡◌, ℕ, ◌+◌, ◌^◌, ◌<◌, ◌≤◌, List, [], ◌∷◌, ◌++◌, length, drop, refl, sym, ap, ◌∙◌, subst, append-nil, arith, Ok, Err, Result}
-use Rattle.std.specs.Prelude.{Option, Some, None, is_some, false}
+use Rattle.std.specs.Prelude.{Option, Some, None, is_some, false, true}
 use Rattle.std.specs.Result.{IsErrAnd}
 use Rattle.std.proofs.lemmas.List.{drop_all}
 use Rattle.disk.specs.Disk.{Disk, Life, IsImage}
@@ -19,6 +19,7 @@ use Rattle.crash.specs.Stays.{KeepsAllFloors, LeavesOnly}
 use Rattle.writer_state.specs.WriterState.{WriterState}
 use Rattle.paged_read.proofs.FullReads.{full_of_tail, no_fault}
 use Rattle.paged_read.proofs.Outliving.{look_leaves_writers}
+use Rattle.paged_read.specs.Failures.{NoneFailed}
 use Rattle.paged_read.specs.Ranges.{Reads}
 use Rattle.paged_read.specs.Reads.{ReadLeaves}
 use Rattle.paged_read.specs.Snapshots.{LeavesAllTails, LeavesOthers, LeavesReads, LeavesTails, SnapshotReads}
@@ -218,7 +219,7 @@ views_join sum t cache between after old mid new first second = record {
 pub view_refused : {A : Type 0} (sum : List ℕ → ℕ) (t : Tail) (cache : CacheState) (offset len : ℕ) (bytes : A → List ℕ) (old new : Life) (e : Error) → Reads sum t cache (offset, len) bytes old new (Err e) → IsOpenSnapshot sum t cache old
     → offset + len ≤ tail_size t → offset + len < 2 ^ 64 → RecordReadRefused old new e
 view_refused sum t cache offset len bytes old new ReadFailed refused opened within fits = refused
-view_refused sum t cache offset len bytes old new OutOfMemory refused opened within fits = tt
+view_refused sum t cache offset len bytes old new OutOfMemory refused opened within fits = refused
 view_refused sum t cache offset len bytes old new InvalidChecksum refused opened within fits =
     no_fault sum t cache old new (full_of_tail sum t old.present opened.stands.can.there opened.stands.tail.full) ((offset, len) ∷ []) refused
 view_refused sum t cache offset len bytes old new OffsetOverflow (same, passes) opened within fits = absurd (omega (arith, passes, fits))
@@ -433,11 +434,19 @@ pub next_later : (own : List ℕ → ℕ) (held : List ℕ) (from offset : ℕ) 
 next_later own held from offset bytes end so_far found none =
     so_far ∙ found.rest ∙ ap (λ (b : Option (List ℕ)). listed b ++ records own (drop end held)) none
 
+-- it is a record
+pub next_found : (own : List ℕ → ℕ) (held : List ℕ) (from offset : ℕ) (bytes : Option (List ℕ)) (end : ℕ) → records own (drop from held) ≡ records own (drop offset held)
+    → IsFound own held offset bytes end → is_some bytes ≡ true → IsNext own held from bytes end
+next_found own held from offset bytes end so_far found some = record {
+  goes = so_far ∙ found.rest;
+  ends = λ none. let e : false ≡ true = ap (λ (o : Option (List ℕ)). is_some o) (sym none) ∙ some in absurd (cc e);
+}
+
 -- it wasn't read
-pub next_refused : (own : List ℕ → ℕ) (held : List ℕ) (offset : ℕ) (old mid new : Life) (e : Error) (result : Result Found Error) → IsErrAnd result (λ x. x ≡ e) → Looked old mid → RecordReadRefused mid new e
+pub next_refused : (own : List ℕ → ℕ) (held : List ℕ) (offset : ℕ) (old mid new : Life) (e : Error) (result : Result Found Error) → IsErrAnd result (λ x. x ≡ e) → Looked old mid → NoneFailed old.present mid.present → RecordReadRefused mid new e
     → FindsNext own held offset old new result
-next_refused own held offset old mid new e (Ok f) is looked refused = absurd is
-next_refused own held offset old mid new e (Err x) is looked refused = refused_later old mid new x looked (subst (λ (y : Error). RecordReadRefused mid new y) (sym is) refused)
+next_refused own held offset old mid new e (Ok f) is looked none refused = absurd is
+next_refused own held offset old mid new e (Err x) is looked none refused = refused_later old mid new x looked none (subst (λ (y : Error). RecordReadRefused mid new y) (sym is) refused)
 
 -- nothing that is found is nothing
 pub not_some : (o : Option (List ℕ)) → is_some o ≡ false → o ≡ None

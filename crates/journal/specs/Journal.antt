@@ -15,6 +15,7 @@ use Rattle.crash.specs.Looks.{Looked}
 use Rattle.writer_state.specs.Sound.{LeavesItsContent, content}
 use Rattle.crash.specs.Stays.{KeepsAllFloors, LeavesOnly}
 use Rattle.writer_state.specs.WriterState.{WriterState}
+use Rattle.paged_read.specs.Failures.{NoneFailed}
 use Rattle.paged_read.specs.Snapshots.{LeavesOthers, LeavesTails}
 use Rattle.paged.specs.Ready.{IsReady}
 use Rattle.paged.specs.Calls.{IsSameWriter, CallCause}
@@ -156,29 +157,31 @@ abbrev pub CommitGoes : (sum own : List ℕ → ℕ) → WriterState → CacheSt
 CommitGoes sum own w after old new (Ok now) = IsCommitted sum own w after old new now
 CommitGoes sum own w after old new (Err e) = CallCause w.sync old new e
 
--- why a read within the content may answer this error: a read of the device failed in the call, or
--- memory was refused, before the device was asked or between two of its reads
+-- why a read within the content may answer this error: a read of the device failed in the call; or
+-- none did, and memory was refused, before the device was asked or after any of its reads
 abbrev pub RecordReadRefused : Life → Life → Error → Type 0
 RecordReadRefused old new ReadFailed = HasFailed ReadFailed old.present new.present
-RecordReadRefused old new OutOfMemory = Unit {0}
+RecordReadRefused old new OutOfMemory = NoneFailed old.present new.present
 RecordReadRefused old new _ = ⊥
 
--- a read of bytes within a content
+-- a read of bytes within a content; where it answers them no device call failed
 abbrev pub ReadsContent : List ℕ → (offset len : ℕ) → Life → Life → Result (List ℕ) Error → Type 0
-ReadsContent content offset len old new (Ok bytes) = bytes ≡ take len (drop offset content)
+ReadsContent content offset len old new (Ok bytes) =
+    (bytes ≡ take len (drop offset content)) × NoneFailed old.present new.present
 ReadsContent content offset len old new (Err e) = RecordReadRefused old new e
 
 -- a look at how long the frame at an offset is, after which so many bytes stand, where it may be
 -- cut short
 abbrev pub MeasuresFrame : List ℕ → (offset rest : ℕ) → Life → Life → Result ℕ Error → Type 0
 MeasuresFrame content offset rest old new (Ok len) =
-    len ≡ min (frame_len (drop offset content)) rest
+    (len ≡ min (frame_len (drop offset content)) rest) × NoneFailed old.present new.present
 MeasuresFrame content offset rest old new (Err e) = RecordReadRefused old new e
 
 -- a read of the frame at an offset after which so many bytes stand, where it may be cut short
 abbrev pub ReadsFrame : List ℕ → (offset rest : ℕ) → Life → Life → Result (List ℕ) Error → Type 0
 ReadsFrame content offset rest old new (Ok bytes) =
-    let after = drop offset content in bytes ≡ take (min (frame_len after) rest) after
+    let after = drop offset content in
+    (bytes ≡ take (min (frame_len after) rest) after) × NoneFailed old.present new.present
 ReadsFrame content offset rest old new (Err e) = RecordReadRefused old new e
 
 -- the frame that begins at an offset of a content: its record, if it is one, the offset after it,
@@ -190,11 +193,15 @@ pub record IsFound (own : List ℕ → ℕ) (content : List ℕ) (offset : ℕ) 
   pub after : end ≡ offset + min (frame_len (drop offset content)) (length content - offset)
   pub rest : records own (drop offset content) ≡ listed bytes ++ records own (drop end content)
 
--- a read of the frame at an offset: none begins at the end or after it
+-- a read of the frame at an offset: none begins at the end or after it. The device is asked for the
+-- frame's length before memory is asked for; so where memory is refused, reads may have been made.
+-- Unless the answer is that a read failed, none did
 abbrev pub ReadRecordGoes : (own : List ℕ → ℕ) → List ℕ → ℕ → Life → Life
     → Result (Option Found) Error → Type 0
-ReadRecordGoes own content offset old new (Ok None) = length content ≤ offset
-ReadRecordGoes own content offset old new (Ok (Some f)) = IsFound own content offset f.bytes f.end
+ReadRecordGoes own content offset old new (Ok None) =
+    (length content ≤ offset) × NoneFailed old.present new.present
+ReadRecordGoes own content offset old new (Ok (Some f)) =
+    IsFound own content offset f.bytes f.end × NoneFailed old.present new.present
 ReadRecordGoes own content offset old new (Err e) = RecordReadRefused old new e
 
 -- the whole frames are left of a content; these are the records
@@ -206,14 +213,14 @@ pub record IsTrimmed (sum own : List ℕ → ℕ) (w : WriterState) (after : Cac
   pub page_size : now.page_size ≡ w.page_size
   pub id : now.id ≡ w.id
 
--- a trim of a recovered content to its whole frames, by its answer: the records; or a read of the
--- content was refused, or the cut after the frames, if there is more
+-- a trim of a recovered content to its whole frames, by its answer: the records; or memory for them
+-- was refused, before anything was done, or the cut after the frames, if there is more
 abbrev pub Trims : (sum own : List ℕ → ℕ) → WriterState → CacheState → Life → Life
     → Result (WriterState × Vec (List ℕ) Global) Error → Type 0
 Trims sum own w after old new (Ok r) = IsTrimmed sum own w after old new r.0 r.1.items
 Trims sum own w after old new (Err e) =
     let whole = whole_frames (content w old.present.readable) in
-    RecordReadRefused old new e
+    ((new ≡ old) × (e ≡ OutOfMemory))
     ⊎ ((mid : Life) × Looked old mid × (length whole < size_of w)
     × Truncates sum (length whole) w mid new (Err e))
 

@@ -8,6 +8,7 @@ use Rattle.cache.specs.Pages.{IsFresh}
 use Rattle.crash.specs.Looks.{Looked}
 use Rattle.writer_state.specs.Sound.{IsSound, content}
 use Rattle.writer_state.specs.WriterState.{WriterState}
+use Rattle.paged_read.specs.Failures.{NoneFailed}
 use Rattle.paged_read.specs.Snapshots.{LeavesAllTails, LeavesOthers, LeavesTails, SnapshotReads}
 use Rattle.paged_read.specs.Tail.{Tail, logical_bytes, tail_size}
 use Rattle.paged.specs.Calls.{CallCause, IsSameWriter}
@@ -107,18 +108,21 @@ pub record IsNext (own : List ℕ → ℕ) (content : List ℕ) (offset : ℕ) (
   pub ends : bytes ≡ None → records own (drop end content) ≡ []
 
 abbrev pub FindsNext : (own : List ℕ → ℕ) → List ℕ → ℕ → Life → Life → Result Found Error → Type 0
-FindsNext own content offset old new (Ok f) = IsNext own content offset f.bytes f.end
+FindsNext own content offset old new (Ok f) =
+    IsNext own content offset f.bytes f.end × NoneFailed old.present new.present
 FindsNext own content offset old new (Err e) = RecordReadRefused old new e
 
--- a reader moved on after its next record, where there is one
+-- a reader moved on after its next record, where there is one; no device call failed
 pub record MovesOn (own : List ℕ → ℕ) (r now : ReaderState) (old new : Life)
     (bytes : Option (List ℕ)) : Type 0 where
   pub same : now.tail ≡ r.tail
   pub holds : read_over now new ≡ read_over r old
   pub goes : left own r old ≡ listed bytes ++ left own now new
   pub ends : bytes ≡ None → left own now new ≡ []
+  pub none_failed : NoneFailed old.present new.present
 
--- a read of the next record; one that is refused leaves the reader where it was
+-- a read of the next record; one that is refused leaves the reader where it was. Unless the answer
+-- is that a read of the device failed, none did
 abbrev pub NextRecordGoes : (own : List ℕ → ℕ) → (r now : ReaderState) → Life → Life
     → Result (Option (List ℕ)) Error → Type 0
 NextRecordGoes own r now old new (Ok bytes) = MovesOn own r now old new bytes

@@ -317,8 +317,10 @@ impl<B: Blob, H: Sum, R: Sum> Journal<B, H, R> {
     /// offset after another frame, the first of which begins at 0. `None` where none begins there:
     /// at the end of the journal and after it.
     ///
-    /// `ReadFailed` where the device failed, `OutOfMemory`. An error leaves all as it was, except
-    /// for pages that the cache may hold now.
+    /// The device is asked first, for the two bytes that tell the frame's length, and then memory,
+    /// to read the frame. So `OutOfMemory` may come after reads of the device, and none of them
+    /// failed then; `ReadFailed` where one did. An error leaves all as it was, except for pages that
+    /// the cache may hold now.
     pub fn read_record(
         &self,
         blob: &mut B,

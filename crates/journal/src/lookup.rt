@@ -110,7 +110,8 @@ fn read_frame<B: Blob, H: Sum>(
 
 /// The frame that begins at an offset, or none at the end and after it.
 ///
-/// `ReadFailed` where the device failed, `OutOfMemory`.
+/// The device is asked how long the frame is before memory is asked for. `ReadFailed` where a read
+/// of the device failed; `OutOfMemory`, also after reads of the device, where none failed.
 pub fn frame_at<B: Blob, H: Sum, R: Sum>(
     alloc: Global,
     view: View<'_, B, H>,

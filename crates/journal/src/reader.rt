@@ -116,8 +116,9 @@ impl<B: Blob, H: Sum, R: Sum> Reader<B, H, R> {
     /// Each of these frames is read as [`Journal::read_record`](crate::journal::Journal::read_record)
     /// reads it, and once; and no other is.
     ///
-    /// `ReadFailed` where the device failed, `OutOfMemory`, also after reads of the device. An error
-    /// leaves the reader where it was, so that the call can be made again.
+    /// `ReadFailed` where a read of the device failed; `OutOfMemory`, also after reads of the
+    /// device, where none failed. An error leaves the reader where it was, so that the call can be
+    /// made again.
     pub fn next(&mut self, blob: &mut B, cache: &mut CacheRef) -> Result<Option<IoBuf>, Error>
         requires reader { IsReader H.sum_of self.old cache.old (B.life blob.old) }
         ensures goes { let old = B.life blob.old in let new = B.life blob.new in

@@ -1,5 +1,6 @@
 use Rattle.std.proofs.Common.{[]}
 use Rattle.std.proofs.lemmas.Result.{err_from_is_err_and}
+use Rattle.paged_read.specs.Failures.{none_failed_start}
 use Rattle.paged.specs.Reads.{size_of}
 use Rattle.items.specs.Standing.{items_content, items_of}
 use Rattle.items.proofs.Laws.{first_of_itself}
@@ -25,7 +26,7 @@ returns-in_err-resize-clause-gives g c =
     let life = g.B.Blob.life c.args.blob.now in
     let error = err_from_is_err_and c.from_residual-in_err-resize.result c.from_residual-in_err-resize.ensures.1 in
     rw (error.1, error.2)
-    (there_is s.size (size_of s.writer) (items_content s life) c.args.i c.in_ok-find.field-0 (stand g.H.Sum.sum_of s c.args.cache.now life c.requires.items).size c.in_ok-find.ensures, tt)
+    (there_is s.size (size_of s.writer) (items_content s life) c.args.i c.in_ok-find.field-0 (stand g.H.Sum.sum_of s c.args.cache.now life c.requires.items).size c.in_ok-find.ensures, none_failed_start life.present)
 
 pub returns-in_err-resize-clause-leaves : goal.returns-in_err-resize-clause-leaves
 returns-in_err-resize-clause-leaves g c =

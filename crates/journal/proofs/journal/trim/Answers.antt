@@ -34,7 +34,7 @@ none_left sum w cache life between =
 pub returns-in_err-found-clause-trims : goal.returns-in_err-found-clause-trims
 returns-in_err-found-clause-trims g c =
     let life = g.B.Blob.life c.args.blob.now in
-    trim_unread g.H.Sum.sum_of g.R.Sum.sum_of c.args.recovery c.args.cache.now life life c.in_err-found.field-0.0 c.from_residual.result c.from_residual.ensures.1 c.in_err-found.ensures.err
+    trim_unread g.H.Sum.sum_of g.R.Sum.sum_of c.args.recovery c.args.cache.now life c.in_err-found.field-0.0 c.from_residual.result c.from_residual.ensures.1 c.in_err-found.ensures.err
 
 pub returns-in_err-found-clause-fresh : goal.returns-in_err-found-clause-fresh
 returns-in_err-found-clause-fresh g c = c.requires.between.ready.fresh

@@ -16,9 +16,10 @@ returns-in-Ok-clause-measures g c =
     omega (arith, c.requires.within, c.requires.opened.size, length-drop c.args.offset held) in
     let zeros : List ℕ = 0 ∷ 0 ∷ [] in
     let front : length (take c.min.result zeros) ≡ min c.args.rest 2 = omega (arith, c.min.ensures, length-take c.min.result zeros) in
-    frame_measured held c.args.offset c.args.rest c.min-in-Ok.result c.read_into.new.buf long
+    let len = frame_measured held c.args.offset c.args.rest c.min-in-Ok.result c.read_into.new.buf long
     (c.in-Ok.ensures.goes.answers.1 ∙ ap (λ n. take n (drop c.args.offset held)) front)
-    (omega (arith, c.min-in-Ok.ensures, c.record_len_of.ensures.len))
+    (omega (arith, c.min-in-Ok.ensures, c.record_len_of.ensures.len)) in
+    (len, c.in-Ok.ensures.goes.answers.3)
 
 pub returns-in-Ok-clause-leaves : goal.returns-in-Ok-clause-leaves
 returns-in-Ok-clause-leaves g c =

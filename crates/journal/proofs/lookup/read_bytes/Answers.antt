@@ -1,4 +1,6 @@
 use Rattle.std.proofs.Common.{◌≡◌, ◌∙◌, ℕ, length, arith, subst}
+use Rattle.std.proofs.lemmas.Result.{err_from_is_err_and}
+use Rattle.paged_read.specs.Failures.{none_failed_start}
 use Rattle.paged_read.specs.Tail.{tail_at}
 use Rattle.journal.specs.Costs.{RangeCosts}
 use Rattle.journal.specs.Reader.{ViewLeaves}
@@ -12,6 +14,11 @@ use Rattle.journal.proofs.lookup.read_bytes.Goals.{After-read_into}
 views : (g : Over) (c : After-read_into g) → ViewLeaves g.H.Sum.sum_of (tail_at c.args.view.page_size c.args.view.id c.args.view.tip.now) c.args.cache.now c.read_into.new.cache (g.B.Blob.life c.args.blob.now) (g.B.Blob.life c.read_into.new.blob)
 views g c =
     read_views g.H.Sum.sum_of (tail_at c.args.view.page_size c.args.view.id c.args.view.tip.now) c.args.cache.now c.read_into.new.cache (g.B.Blob.life c.args.blob.now) (g.B.Blob.life c.read_into.new.blob) c.requires.opened c.read_into.ensures.leaves
+
+pub returns-in_err-resize-clause-reads : goal.returns-in_err-resize-clause-reads
+returns-in_err-resize-clause-reads g c =
+    let error = err_from_is_err_and c.from_residual.result c.from_residual.ensures.1 in
+    rw (error.1, error.2) (none_failed_start (g.B.Blob.life c.args.blob.now).present)
 
 pub returns-in_err-resize-clause-leaves : goal.returns-in_err-resize-clause-leaves
 returns-in_err-resize-clause-leaves g c = views_start g.H.Sum.sum_of (tail_at c.args.view.page_size c.args.view.id c.args.view.tip.now) c.args.cache.now (g.B.Blob.life c.args.blob.now) c.requires.opened

@@ -34,4 +34,4 @@ returns-clause-costs g c =
     let new = g.B.Blob.life c.read_bytes.new.blob in
     let held = logical_bytes t old.present.readable in
     frame_costs t held c.args.offset c.args.rest c.args.cache.now c.frame_len_at.new.cache c.read_bytes.new.cache old mid new (c.requires.within ∙ c.requires.opened.size) c.requires.some c.frame_len_at.ensures.costs
-    (subst (λ (n : ℕ). RangeCosts t (c.args.offset, n) c.frame_len_at.new.cache c.read_bytes.new.cache mid new) c.in_ok-len.ensures.measures c.read_bytes.ensures.costs)
+    (subst (λ (n : ℕ). RangeCosts t (c.args.offset, n) c.frame_len_at.new.cache c.read_bytes.new.cache mid new) c.in_ok-len.ensures.measures.0 c.read_bytes.ensures.costs)

@@ -3,13 +3,14 @@ use Rattle.std.specs.Int.NonZero.{non_zero_usize_get}
 use Rattle.std.proofs.lemmas.Bool.{leb-true}
 use Rattle.std.proofs.lemmas.Result.{err_from_is_err_and}
 use Rattle.std.proofs.Math.Nat.{min-eq_left}
+use Rattle.disk.specs.declared.error.Error.TheVariants.{OutOfMemory}
 use Rattle.paged_read.specs.Replay.{IsReplayOf, ReplayState}
 use Rattle.paged_read.specs.Tail.{tail_size}
 use Rattle.items.specs.State.{ItemsReplayState}
 use Rattle.items.specs.Standing.{IsItemsReplay, ReplayReadLeaves, ReplaysItems, bytes_along, items_left}
 use Rattle.items.specs.Readers.{HoldsAlong, NextItemGoes}
 use Rattle.items.proofs.Standing.{along, only_reads_on}
-use Rattle.items.proofs.Readers.{copy_refused, fill_refused, holds_along, gave, had_none, not_there, stays_there}
+use Rattle.items.proofs.Readers.{copy_refused, copy_unasked, fill_refused, holds_along, gave, had_none, not_there, stays_there}
 use Rattle.items.proofs.replay.ItemsReplay.next.Given.{Over}
 use Rattle.items.proofs.replay.ItemsReplay.next.Goals as goal
 use Rattle.items.proofs.replay.ItemsReplay.next.Goals.{After-ensure}
@@ -60,7 +61,7 @@ returns-in_err-ensure-clause-goes g c =
     let fetches = c.in_err-ensure.ensures.goes.answers in
     let error = err_from_is_err_and c.from_residual.result c.from_residual.ensures.1 in
     rw (error.1, error.2) (subst (λ (v : ItemsReplayState). NextItemGoes v now old new (Err e)) c.self.view_is
-    ((still g at fetches.0.tail fetches.0.position).1, fill_refused g.H.Sum.sum_of (inside g at) old new (was g at) e fetches.1))
+    ((still g at fetches.0.tail fetches.0.position).1, fill_refused g.H.Sum.sum_of (inside g at) old new (was g at) now e fetches.1 fetches.5))
 
 pub returns-in_err-ensure-clause-ready : goal.returns-in_err-ensure-clause-ready
 returns-in_err-ensure-clause-ready g c =
@@ -98,6 +99,21 @@ pub returns-then-not-branch-clause-leaves : goal.returns-then-not-branch-clause-
 returns-then-not-branch-clause-leaves g c = left g (goal.at.returns-then-not-branch-clause-leaves g c).After-ensure
 
 -- ---- memory for the item is refused
+
+pub returns-in_err-item-clause-goes : goal.returns-in_err-item-clause-goes
+returns-in_err-item-clause-goes g c =
+    let at = (goal.at.returns-in_err-item-clause-goes g c).After-ensure in
+    let old = g.B.Blob.life c.args.blob.now in
+    let new = g.B.Blob.life c.ensure.new.blob in
+    let size = non_zero_usize_get c.self.inside.size in
+    let fetches = c.in_ok-ensure.ensures.goes.answers in
+    let refused = copy_refused c.ensure.new.self c.copy_to_bytes.new.self c.get-size.result c.in_err-item.field-0.0 c.in_err-item.ensures.goes in
+    let mid : ItemsReplayState = record { replay = c.ensure.new.self; size = size } in
+    let is : NextItemGoes (inside g at) mid old new (Err OutOfMemory) =
+    ((still g at fetches.0.tail fetches.0.position).1, copy_unasked (inside g at) mid c.get-size.result old new (fetches.2 c.if-not-branch.false) c.in_ok-ensure.ensures.costs.idle) in
+    let error = err_from_is_err_and c.from_residual-in_err-item.result c.from_residual-in_err-item.ensures.1 in
+    rw (error.1, error.2, refused.0) (subst (λ (v : ItemsReplayState). NextItemGoes v (record { replay = c.copy_to_bytes.new.self; size = size }) old new (Err OutOfMemory)) c.self.view_is
+    (subst (λ (x : ReplayState). NextItemGoes (inside g at) (record { replay = x; size = size }) old new (Err OutOfMemory)) (sym refused.1) is))
 
 pub returns-in_err-item-clause-ready : goal.returns-in_err-item-clause-ready
 returns-in_err-item-clause-ready g c =
