@@ -3,7 +3,8 @@ use Rattle.std.proofs.Common.{◌≡◌, true, false, [], ◌∷◌, refl}
 use Rattle.std.specs.Prelude.{Some, None}
 use Rattle.disk.specs.declared.error.Error.TheVariants.{ReadFailed, SyncFailed, OutOfMemory}
 use Rattle.session.specs.declared.steps.Reply.TheVariants.{Done, Fault}
-use Rattle.protocol.specs.Serve.{reply_error, fault_in, later_fault}
+use Rattle.protocol.specs.Answer.{reply_error, fault_in}
+use Rattle.protocol.specs.Serve.{later_fault}
 
 pub a_reply_with_an_error : reply_error (Fault SyncFailed) ≡ Some SyncFailed
 a_reply_with_an_error = refl
@@ -13,6 +14,9 @@ a_reply_without_one = refl
 
 pub the_only_reply : fault_in (Fault SyncFailed ∷ []) ≡ Some SyncFailed
 the_only_reply = refl
+
+pub the_first_of_two : fault_in (Fault ReadFailed ∷ Fault SyncFailed ∷ []) ≡ Some ReadFailed
+the_first_of_two = refl
 
 -- a read failed, and then a sync, which ended the writer: that is why it is gone
 pub the_last_one : later_fault (Some ReadFailed) (Some SyncFailed) true ≡ Some SyncFailed

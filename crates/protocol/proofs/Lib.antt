@@ -1,6 +1,11 @@
 pub mod Bytes
 pub mod Frames
+pub mod Lengths
+pub mod Spans
 pub mod Requests
 pub mod Serving
+pub mod Appended
+pub mod Taken
+pub mod Requested
 pub mod Beginning
 mod FaultExamples

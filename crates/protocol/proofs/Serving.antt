@@ -1,8 +1,8 @@
 -- Steps are taken and answered, one after another.
-use Rattle.std.proofs.Common.{◌≡◌, ◌⊎◌, ◌≤◌, ◌<◌, Bool, true, false, slice_index_or, ℕ, ◌+◌, ◌*◌, take, arith, List, [], ◌∷◌, ◌++◌, length, refl, sym, ap, ◌∙◌, subst, append-nil, append_assoc, length-append, inl, inr}
-use Rattle.std.specs.Prelude.{Option, Some, None, Result, Ok, Err, IfSome, IfErr, IsErrAnd, OnErr, OnOk, is_err, is_some, ◌&&◌, ◌≢◌}
+use Rattle.std.proofs.Common.{◌≡◌, ◌⊎◌, Bool, true, false, ℕ, ◌+◌, ◌*◌, take, arith, List, [], ◌∷◌, ◌++◌, length, refl, sym, ap, ◌∙◌, subst, append-nil, append_assoc, length-append, inl, inr}
+use Rattle.std.specs.Prelude.{Option, Some, None, Result, Ok, Err, IfSome, IfErr, IsErrAnd, is_err, is_some, ◌&&◌, ◌≢◌}
 use Rattle.std.specs.List.{Contains, flat_map}
-use Rattle.std.proofs.lemmas.List.Elements.{All-nil, All-push, Contains-append_left, Contains-push}
+use Rattle.std.proofs.lemmas.List.Elements.{All-nil, All-cons, All-append, Contains-append_left, Contains-append_right, Contains-push}
 use Rattle.std.specs.Io.KnownBytes.{Appends, Consumes, IsAtEnd, Keeps}
 use Rattle.std.proofs.KnownBytes.{Appends-nil, Appends-trans, Consumes-nil, Consumes-trans}
 use Rattle.disk.specs.Disk.{Life}
@@ -12,24 +12,27 @@ use Rattle.session.specs.declared.steps.Step.{Step}
 use Rattle.session.specs.declared.steps.Step.TheVariants.{Size}
 use Rattle.session.specs.declared.steps.Reply.{Reply}
 use Rattle.session.specs.declared.steps.Reply.TheVariants.{Fault}
-use Rattle.session.specs.Run.{SessionState, RunsAlways, TookNone}
+use Rattle.session.specs.Run.{SessionState, TookNone}
 use Rattle.session.specs.Calls.{RunGoes}
 use Rattle.session.proofs.Joined.{runs_join, runs_none, promised}
 use Rattle.protocol.specs.declared.request.Request.{Request}
-use Rattle.protocol.specs.declared.request.Request.TheVariants.{Step as StepOf, Close}
+use Rattle.protocol.specs.declared.request.Request.TheVariants.{Step as StepOf, Records, Ranges, SyncSize, Look, Flush, Close}
 use Rattle.protocol.specs.declared.setting.Setting.{Setting}
+use Rattle.protocol.specs.declared.version.Version.{Version as ProtocolVersion}
+use Rattle.protocol.specs.declared.version.Version.TheVariants.{One}
 use Rattle.protocol.specs.declared.stop.ReadError.{ReadError}
 use Rattle.protocol.specs.declared.stop.ReadError.TheVariants.{Malformed as IsMalformed, Failed as HasFailed, OutOfMemory as NoMemory}
 use Rattle.protocol.specs.declared.stop.Stop.{Stop}
 use Rattle.protocol.specs.declared.stop.Stop.TheVariants.{Malformed, Version, WouldCut, Refused, Lost, LongAnswer, Failed, OutOfMemory}
-use Rattle.protocol.specs.Answer.{answer_bytes, reply_payload, refusal_bytes, status_byte, IsLong, IsTooLong, IsWriteError}
+use Rattle.protocol.specs.Answer.{fault_in, reply_error, IsTooLong, IsWriteError}
+use Rattle.protocol.specs.Taking.{Finishes, TellsStop, Writes}
 use Rattle.protocol.specs.Input.{IsBroken}
 use Rattle.protocol.specs.Stop.{stop_at}
 use Rattle.protocol.specs.Request.{IsRequest, request_bytes, number_bytes, length_bytes, frame_bytes}
-use Rattle.protocol.proofs.Bytes.{length-number_bytes, length-length_bytes}
+use Rattle.protocol.proofs.Bytes.{length-number_bytes}
 use Rattle.protocol.specs.Serve.AreServed.{no_more, one_more}
-use Rattle.protocol.specs.Serve.Served.{taken, refused}
-use Rattle.protocol.specs.Serve.{requests_bytes, Served, reply_error, fault_in, later_fault, WritesReply, AnsweredAll, EndsSession, IsFaultAmong, IsAny, Took, TookFor, TookNext, Answered, TakesRequest, ReadsNext, ReadsVersion, Serves, HasBegun, IsNotBegun, Greets, Greeted, EndsEarly, ServedAfter, ServesFile, changes, version_byte}
+use Rattle.protocol.specs.Serve.Served.{taken}
+use Rattle.protocol.specs.Serve.{requests_bytes, AreSteps, IsAnswer, asks_change, is_close, later_fault, AnsweredAll, EndsSession, IsFaultAmong, IsAny, Took, TookFor, TookNext, Answered, TakesRequest, ReadsNext, ReadsVersion, Serves, HasBegun, IsNotBegun, Greets, Greeted, EndsEarly, ServedAfter, ServesFile, version_byte}
 
 -- ---- lists of bytes
 
@@ -74,8 +77,8 @@ took_both sum steps more replies others was mid now old between new first second
 -- ---- requests and their answers
 
 -- none was read
-pub answered_none : (sum : List ℕ → ℕ) (setting : Setting) (was : SessionState) (life : Life) (input out : Option (List ℕ)) → Answered sum setting was was life life input input out out
-answered_none sum setting was life input out = record {
+pub answered_none : (sum : List ℕ → ℕ) (setting : Setting) (version : ProtocolVersion) (was : SessionState) (life : Life) (input out : Option (List ℕ)) → Answered sum setting version was was life life input input out out
+answered_none sum setting version was life input out = record {
   requests = [];
   steps = [];
   replies = [];
@@ -87,60 +90,47 @@ answered_none sum setting was life input out = record {
 }
 
 -- one more was read, taken and answered
-pub answered_more : (sum : List ℕ → ℕ) (setting : Setting) (request : Request) (was mid now : SessionState) (old between new : Life) (input rest last out written kept all : Option (List ℕ))
-    → Answered sum setting was mid old between input rest out written → Keeps written kept → IsRequest request → Consumes rest last (request_bytes request) → TookFor sum setting (Appends kept all) request mid now between new
-    → Answered sum setting was now old new input last out all
-answered_more sum setting request was mid now old between new input rest last out written kept all before stays is takes (more, others, answer, served, took, answers) = record {
+pub answered_more : (sum : List ℕ → ℕ) (setting : Setting) (version : ProtocolVersion) (request : Request) (was mid now : SessionState) (old between new : Life) (input rest last out written kept all : Option (List ℕ))
+    → Answered sum setting version was mid old between input rest out written → Keeps written kept → IsRequest version request → Consumes rest last (request_bytes request) → TookFor sum setting version (Appends kept all) request mid now between new
+    → Answered sum setting version was now old new input last out all
+answered_more sum setting version request was mid now old between new input rest last out written kept all before stays is takes (more, others, answer, served, took, answers) = record {
   requests = before.requests ++ request ∷ [];
   steps = before.steps ++ more;
   replies = before.replies ++ others;
   bytes = before.bytes ++ answer;
-  served = one_more before.requests before.steps before.replies before.bytes request more others answer before.served is served;
+  served = one_more before.requests before.steps before.replies before.bytes mid between request more others answer now new before.served is served took;
   took = took_both sum before.steps more before.replies others was mid now old between new before.took took;
   takes = subst (Consumes input last) (sym (flat_map_snoc request_bytes before.requests request))
       (Consumes-trans input rest last (requests_bytes before.requests) (request_bytes request) before.takes takes);
   answers = Appends-trans out written all before.bytes answer before.answers (kept_then written kept all answer stays answers);
 }
 
--- ---- how a step ends
+-- ---- how a request ends
 
--- no room for its reply
+-- no room for its replies
 pub none_was_run : (was now : SessionState) (cache after : CacheState) (old new : Life) (earlier replies : List Reply) (result : Result (Unit {0}) Error) → is_err result ≡ true → IfErr result (λ e. TookNone e was now cache after old new earlier replies)
     → (now ≡ was) × (new ≡ old)
 none_was_run was now cache after old new earlier replies (Ok done) is none = absurd (cc is)
 none_was_run was now cache after old new earlier replies (Err error) is none = (none.session, none.life)
 
--- a list of one
-pub one_of : {X : Type 0} (xs : List X) (x : X) → 1 ≤ length xs → length xs < 2 → x ≡ slice_index_or xs 0 x → xs ≡ x ∷ []
-one_of [] x some few is = absurd (omega (arith, some))
-one_of (y ∷ []) x some few is = ap (λ (z : _). z ∷ []) (sym is)
-one_of (y ∷ z ∷ zs) x some few is = absurd (omega (arith, few))
+-- its steps were run, and their replies are the only ones
+pub took_of : (sum : List ℕ → ℕ) (steps : List Step) (was now : SessionState) (cache after : CacheState) (old new : Life) (replies : List Reply) → RunGoes sum steps was now cache after old new [] replies → Took sum steps replies was now old new
+took_of sum steps was now cache after old new replies runs =
+    record { runs = runs.always; promises = promised sum steps was now old new [] replies runs.always }
 
--- an answer with a long payload is too long
-too_long : (reply : Reply) → IsLong (length (reply_payload reply)) → IsTooLong (answer_bytes reply)
-too_long reply long =
-    let body = status_byte reply ∷ reply_payload reply in
-    omega (arith, long, length-append (length_bytes (length body)) body, length-length_bytes (length body))
-
--- both hold
-pub both : (a b : Bool) → a ≡ true → b ≡ true → (a && b) ≡ true
-both true b one other = other
-both false b one other = absurd (cc one)
-
--- it is refused: no step is taken
-pub step_refused : (sum : List ℕ → ℕ) (setting : Setting) (step : Step) (was : SessionState) (life : Life) (out written : Option (List ℕ)) → (setting.read_only && changes step) ≡ true → Appends out written refusal_bytes
-    → TakesRequest sum setting (StepOf step) was was life life out written (Ok None)
-step_refused sum setting step was life out written is answers = ([], [], refusal_bytes, refused step is, took_none sum was life, (answers, refl))
-
--- nor is one where that can't be written
-pub refusal_unwritten : (sum : List ℕ → ℕ) (setting : Setting) (step : Step) (was : SessionState) (life : Life) (out written : Option (List ℕ)) (stop : Stop) (result : Result (Option Error) Stop) → IsErrAnd result (λ x. x ≡ stop) → (setting.read_only && changes step) ≡ true
-    → IsWriteError 0 stop → TakesRequest sum setting (StepOf step) was was life life out written result
-refusal_unwritten sum setting step was life out written stop (Ok fault) same is why = absurd same
-refusal_unwritten sum setting step was life out written stop (Err error) same is why = by_cause error (subst (IsWriteError 0) (sym same) why)
+-- an answer to a request was written, or it wasn't; this is so of those that it may have
+pub taken_request : (sum : List ℕ → ℕ) (setting : Setting) (version : ProtocolVersion) (request : Request) (steps : List Step) (replies : List Reply) (was now : SessionState) (old new : Life) (out written : Option (List ℕ)) (wrote : Result (Unit {0}) Stop) (result : Result (Option Error) Stop)
+    → (setting.read_only && asks_change request) ≡ false → AreSteps setting request steps → Took sum steps replies was now old new → (some : List ℕ) → IsAnswer version request replies now some → Writes (IsAnswer version request replies now) out written wrote → Finishes replies wrote result
+    → TakesRequest sum setting version request was now old new out written result
+taken_request sum setting version request steps replies was now old new out written (Ok done) result may are took some is (answer, answers, appends) told =
+    subst (λ (r : Result (Option Error) Stop). TakesRequest sum setting version request was now old new out written r) (sym told)
+    (steps, replies, answer, taken request steps replies now answer may are answers, took, (appends, refl))
+taken_request sum setting version request steps replies was now old new out written (Err stop) result may are took some is wrote told =
+    subst (λ (r : Result (Option Error) Stop). TakesRequest sum setting version request was now old new out written r) (sym told) (by_cause stop wrote)
   where
-    by_cause : (x : Stop) → IsWriteError 0 x → TakesRequest sum setting (StepOf step) was was life life out written (Err x)
-    by_cause LongAnswer long = absurd (omega (arith, long))
-    by_cause Failed failed = ([], [], refusal_bytes, refused step is, took_none sum was life, tt)
+    by_cause : (x : Stop) → Writes (IsAnswer version request replies now) out written (Err x) → TakesRequest sum setting version request was now old new out written (Err x)
+    by_cause LongAnswer (answer, answers, long) = (steps, replies, answer, taken request steps replies now answer may are answers, took, long)
+    by_cause Failed none = (steps, replies, some, taken request steps replies now some may are is, took, tt)
     by_cause OutOfMemory none = absurd none
     by_cause (Malformed number flaw) none = absurd none
     by_cause (Version byte) none = absurd none
@@ -148,82 +138,64 @@ refusal_unwritten sum setting step was life out written stop (Err error) same is
     by_cause (Refused error) none = absurd none
     by_cause (Lost error) none = absurd none
 
--- its reply is the only one, and was written
-pub takes_step : (sum : List ℕ → ℕ) (setting : Setting) (step : Step) (reply : Reply) (was now : SessionState) (cache after : CacheState) (old new : Life) (earlier replies : List Reply) (out written : Option (List ℕ)) (ran : Result (Unit {0}) Error)
-    (result : Result (Option Error) Stop) → (setting.read_only && changes step) ≡ false → is_err ran ≡ false → OnOk ran (RunGoes sum (step ∷ []) was now cache after old new earlier replies) → earlier ≡ [] → replies ≡ reply ∷ []
-    → WritesReply out written reply result → TakesRequest sum setting (StepOf step) was now old new out written result
-takes_step sum setting step reply was now cache after old new earlier replies out written (Err error) result may is runs none one answers = absurd (cc is)
-takes_step sum setting step reply was now cache after old new earlier replies out written (Ok done) result may is runs none one answers = by_answer result answers
-  where
-    alone : RunsAlways sum (step ∷ []) was now old new [] (reply ∷ [])
-    alone = subst (λ (rs : List Reply). RunsAlways sum (step ∷ []) was now old new [] rs) one (subst (λ (rs : List Reply). RunsAlways sum (step ∷ []) was now old new rs replies) none runs.always)
-
-    took : Took sum (step ∷ []) (reply ∷ []) was now old new
-    took = record { runs = alone; promises = promised sum (step ∷ []) was now old new [] (reply ∷ []) alone }
-
-    with_answer : (Is : List ℕ → Type 0) → Is (answer_bytes reply) → TookFor sum setting Is (StepOf step) was now old new
-    with_answer Is is = (step ∷ [], reply ∷ [], answer_bytes reply, taken step reply may, took, is)
-
-    by_answer : (r : Result (Option Error) Stop) → WritesReply out written reply r → TakesRequest sum setting (StepOf step) was now old new out written r
-    by_answer (Ok fault) (answers, told) = (step ∷ [], reply ∷ [], answer_bytes reply, taken step reply may, took, (answers, told))
-    by_answer (Err LongAnswer) why = with_answer IsTooLong (too_long reply why)
-    by_answer (Err Failed) why = with_answer IsAny tt
-    by_answer (Err OutOfMemory) why = absurd why
-    by_answer (Err (Malformed number flaw)) why = absurd why
-    by_answer (Err (Version byte)) why = absurd why
-    by_answer (Err (WouldCut cut)) why = absurd why
-    by_answer (Err (Refused error)) why = absurd why
-    by_answer (Err (Lost error)) why = absurd why
-
 -- ---- the errors of requests
 
 is_fault : (reply : Reply) (error : Error) → reply_error reply ≡ Some error → reply ≡ Fault error
 is_fault (Fault other) error is = cc is
 is_fault _ error is = absurd (cc is)
 
--- one reply more
-reply_more : (earlier next : Option Error) (replies : List Reply) (reply : Reply) (had_writer : Bool) → reply_error reply ≡ next → IsFaultAmong earlier replies → IsFaultAmong (later_fault earlier next had_writer) (replies ++ reply ∷ [])
-reply_more None None replies reply had_writer is all = All-push (λ r. reply_error r ≡ None) replies reply all is
-reply_more None (Some error) replies reply true is all = subst (λ (r : Reply). Contains (replies ++ r ∷ []) (Fault error)) (sym (is_fault reply error is)) (Contains-push replies (Fault error))
-reply_more None (Some error) replies reply false is all = subst (λ (r : Reply). Contains (replies ++ r ∷ []) (Fault error)) (sym (is_fault reply error is)) (Contains-push replies (Fault error))
-reply_more (Some error) None replies reply had_writer is there = Contains-append_left replies (reply ∷ []) (Fault error) there
-reply_more (Some error) (Some next) replies reply true is there = subst (λ (r : Reply). Contains (replies ++ r ∷ []) (Fault next)) (sym (is_fault reply next is)) (Contains-push replies (Fault next))
-reply_more (Some error) (Some next) replies reply false is there = Contains-append_left replies (reply ∷ []) (Fault error) there
+-- an error of later replies is among all
+among_later : (reply : Reply) (replies : List Reply) (fault : Option Error) → reply_error reply ≡ None → IsFaultAmong fault replies → IsFaultAmong fault (reply ∷ replies)
+among_later reply replies None is all = All-cons (λ r. reply_error r ≡ None) reply replies is all
+among_later reply replies (Some error) is there = Contains-append_right (reply ∷ []) replies (Fault error) there
 
--- one request more
-fault_more : (fault : Option Error) (setting : Setting) (request : Request) (steps : List Step) (replies others : List Reply) (answer : List ℕ) (had_writer : Bool) → Served setting request steps others answer → IsFaultAmong fault replies
-    → IsFaultAmong (later_fault fault (fault_in others) had_writer) (replies ++ others)
-fault_more fault setting request steps replies others answer had_writer (refused step is) among = subst (IsFaultAmong fault) (sym (append-nil replies)) among
-fault_more fault setting request steps replies others answer had_writer (taken step reply may) among = reply_more fault (reply_error reply) replies reply had_writer refl among
+-- that of the first reply, or of later ones
+among_first : (reply : Reply) (replies : List Reply) (own later : Option Error) → reply_error reply ≡ own → IsFaultAmong later replies → IsFaultAmong (elim own [ Some error ↦ Some error | None ↦ later ]) (reply ∷ replies)
+among_first reply replies (Some error) later is among = subst (λ (r : Reply). Contains (r ∷ replies) (Fault error)) (sym (is_fault reply error is)) (Contains-append_left (Fault error ∷ []) replies (Fault error) (Contains-push [] (Fault error)))
+among_first reply replies None later is among = among_later reply replies later is among
+
+-- the first error of some replies is among them, or none tells one
+fault_among : (replies : List Reply) → IsFaultAmong (fault_in replies) replies
+fault_among [] = All-nil (λ r. reply_error r ≡ None)
+fault_among (reply ∷ replies) = among_first reply replies (reply_error reply) (fault_in replies) refl (fault_among replies)
+
+-- more replies
+pub fault_more : (fault next : Option Error) (replies others : List Reply) (had_writer : Bool) → IsFaultAmong fault replies → IsFaultAmong next others → IsFaultAmong (later_fault fault next had_writer) (replies ++ others)
+fault_more None None replies others had_writer all more = All-append (λ r. reply_error r ≡ None) replies others all more
+fault_more None (Some error) replies others true all there = Contains-append_right replies others (Fault error) there
+fault_more None (Some error) replies others false all there = Contains-append_right replies others (Fault error) there
+fault_more (Some error) None replies others had_writer there more = Contains-append_left replies others (Fault error) there
+fault_more (Some error) (Some next) replies others true there more = Contains-append_right replies others (Fault next) more
+fault_more (Some error) (Some next) replies others false there more = Contains-append_left replies others (Fault error) there
 
 -- ---- request after request
 
 -- the requests before that of this number were answered, with this error last
-pub record Serving (sum : List ℕ → ℕ) (setting : Setting) (was now : SessionState) (old new : Life) (input rest out written : Option (List ℕ)) (fault : Option Error) (number : ℕ) : Type 0 where
-  pub answered : Answered sum setting was now old new input rest out written
+pub record Serving (sum : List ℕ → ℕ) (setting : Setting) (version : ProtocolVersion) (was now : SessionState) (old new : Life) (input rest out written : Option (List ℕ)) (fault : Option Error) (number : ℕ) : Type 0 where
+  pub answered : Answered sum setting version was now old new input rest out written
   pub among : IsFaultAmong fault answered.replies
   pub counts : number ≡ length answered.requests + 1
 
 -- none is before the first
-pub serving_begins : (sum : List ℕ → ℕ) (setting : Setting) (was : SessionState) (life : Life) (input out : Option (List ℕ)) → Serving sum setting was was life life input input out out None 1
+pub serving_begins : (sum : List ℕ → ℕ) (setting : Setting) (version : ProtocolVersion) (was : SessionState) (life : Life) (input out : Option (List ℕ)) → Serving sum setting version was was life life input input out out None 1
 unfolding answered_none
-serving_begins sum setting was life input out = record { answered = answered_none sum setting was life input out; among = All-nil (λ r. reply_error r ≡ None); counts = refl }
+serving_begins sum setting version was life input out = record { answered = answered_none sum setting version was life input out; among = All-nil (λ r. reply_error r ≡ None); counts = refl }
 
 -- one more
-pub serving_more : (sum : List ℕ → ℕ) (setting : Setting) (request : Request) (was mid now : SessionState) (old between new : Life) (input rest last out written kept all : Option (List ℕ)) (fault next after : Option Error) (had_writer : Bool) (number : ℕ)
-    → after ≡ later_fault fault next had_writer → Serving sum setting was mid old between input rest out written fault number → Keeps written kept → ReadsNext number rest last (Ok (Some request)) → TakesRequest sum setting request mid now between new kept all (Ok next)
-    → Serving sum setting was now old new input last out all after (number + 1)
+pub serving_more : (sum : List ℕ → ℕ) (setting : Setting) (version : ProtocolVersion) (request : Request) (was mid now : SessionState) (old between new : Life) (input rest last out written kept all : Option (List ℕ)) (fault next after : Option Error) (had_writer : Bool) (number : ℕ)
+    → after ≡ later_fault fault next had_writer → Serving sum setting version was mid old between input rest out written fault number → Keeps written kept → ReadsNext version number rest last (Ok (Some request)) → TakesRequest sum setting version request mid now between new kept all (Ok next)
+    → Serving sum setting version was now old new input last out all after (number + 1)
 unfolding answered_more
-serving_more sum setting request was mid now old between new input rest last out written kept all fault next after had_writer number later before keeps (is, takes) (more, others, answer, served, took, (answers, told)) = record {
-  answered = answered_more sum setting request was mid now old between new input rest last out written kept all before.answered keeps is takes (more, others, answer, served, took, answers);
-  among = subst (λ (f : Option Error). IsFaultAmong f (before.answered.replies ++ others)) (sym (later ∙ ap (λ (f : Option Error). later_fault fault f had_writer) told)) (fault_more fault setting request more before.answered.replies others answer had_writer served before.among);
+serving_more sum setting version request was mid now old between new input rest last out written kept all fault next after had_writer number later before keeps (is, takes) (more, others, answer, served, took, (answers, told)) = record {
+  answered = answered_more sum setting version request was mid now old between new input rest last out written kept all before.answered keeps is takes (more, others, answer, served, took, answers);
+  among = subst (λ (f : Option Error). IsFaultAmong f (before.answered.replies ++ others)) (sym (later ∙ ap (λ (f : Option Error). later_fault fault f had_writer) told)) (fault_more fault (fault_in others) before.answered.replies others had_writer before.among (fault_among others));
   counts = omega (arith, before.counts, length-append before.answered.requests (request ∷ []));
 }
 
 -- what was kept since was written
-unmoved : (sum : List ℕ → ℕ) (setting : Setting) (was now : SessionState) (old new : Life) (input rest out written kept : Option (List ℕ)) → Answered sum setting was now old new input rest out written → Keeps written kept
-    → Answered sum setting was now old new input rest out kept
-unmoved sum setting was now old new input rest out written kept a keeps = record {
+unmoved : (sum : List ℕ → ℕ) (setting : Setting) (version : ProtocolVersion) (was now : SessionState) (old new : Life) (input rest out written kept : Option (List ℕ)) → Answered sum setting version was now old new input rest out written → Keeps written kept
+    → Answered sum setting version was now old new input rest out kept
+unmoved sum setting version was now old new input rest out written kept a keeps = record {
   requests = a.requests;
   steps = a.steps;
   replies = a.replies;
@@ -235,34 +207,40 @@ unmoved sum setting was now old new input rest out written kept a keeps = record
 }
 
 -- no further request was read
-pub serving_stops : (sum : List ℕ → ℕ) (setting : Setting) (was now : SessionState) (old new : Life) (input rest last out written kept : Option (List ℕ)) (fault : Option Error) (number : ℕ) (stop : Stop) (result : Result (Unit {0}) Stop) → IsErrAnd result (λ x. x ≡ stop)
-    → Serving sum setting was now old new input rest out written fault number → Keeps written kept → ReadsNext number rest last (Err stop) → Serves sum setting was now old new input last out kept result
+pub serving_stops : (sum : List ℕ → ℕ) (setting : Setting) (version : ProtocolVersion) (was now : SessionState) (old new : Life) (input rest last out written kept all : Option (List ℕ)) (fault : Option Error) (number : ℕ) (stop why : Stop)
+    → Serving sum setting version was now old new input rest out written fault number → Keeps written kept → ReadsNext version number rest last (Err stop) → TellsStop version stop kept all why → Serves sum setting version was now old new input last out all (Err why)
 unfolding unmoved
-serving_stops sum setting was now old new input rest last out written kept fault number stop (Ok done) is before keeps reads = absurd is
-serving_stops sum setting was now old new input rest last out written kept fault number stop (Err why) is before keeps reads = by_cause why (subst (λ (x : Stop). ReadsNext number rest last (Err x)) (sym is) reads)
+serving_stops sum setting version was now old new input rest last out written kept all fault number stop why before keeps reads tells = by_cause stop reads tells
   where
-    by_cause : (x : Stop) → ReadsNext number rest last (Err x) → Serves sum setting was now old new input last out kept (Err x)
-    by_cause (Malformed which flaw) (this, none) = (rest, unmoved sum setting was now old new input rest out written kept before.answered keeps, this ∙ before.counts, none)
-    by_cause (Version byte) none = absurd none
-    by_cause (WouldCut cut) none = absurd none
-    by_cause (Refused error) none = absurd none
-    by_cause (Lost error) none = absurd none
-    by_cause LongAnswer none = absurd none
-    by_cause Failed none = (now, new, rest, written, before.answered, inl (refl, refl))
-    by_cause OutOfMemory none = (now, new, rest, written, before.answered, inl (refl, refl))
+    broken : (x : Stop) → x ≡ Failed → Serves sum setting version was now old new input last out all (Err x)
+    broken x is = subst (λ (y : Stop). Serves sum setting version was now old new input last out all (Err y)) (sym is) (now, new, rest, written, before.answered, inl (refl, refl))
+
+    by_cause : (x : Stop) → ReadsNext version number rest last (Err x) → TellsStop version x kept all why → Serves sum setting version was now old new input last out all (Err why)
+    by_cause (Malformed which flaw) (this, none) (inl (is, told)) =
+        subst (λ (y : Stop). Serves sum setting version was now old new input last out all (Err y)) (sym is)
+        (rest, kept, unmoved sum setting version was now old new input rest out written kept before.answered keeps, this ∙ before.counts, none, told)
+    by_cause (Malformed which flaw) none (inr is) = broken why is
+    by_cause (Version byte) none tells = absurd none
+    by_cause (WouldCut cut) none tells = absurd none
+    by_cause (Refused error) none tells = absurd none
+    by_cause (Lost error) none tells = absurd none
+    by_cause LongAnswer none tells = absurd none
+    by_cause Failed none (is, same) = broken why is
+    by_cause OutOfMemory none (is, same) =
+        subst (λ (y : Stop). Serves sum setting version was now old new input last out all (Err y)) (sym is) (now, new, rest, written, before.answered, inl (refl, refl))
 
 -- a request wasn't answered
-pub serving_fails : (sum : List ℕ → ℕ) (setting : Setting) (request : Request) (was mid now : SessionState) (old between new : Life) (input rest last out written kept all : Option (List ℕ)) (fault : Option Error) (number : ℕ) (stop : Stop) (result : Result (Unit {0}) Stop)
-    → IsErrAnd result (λ x. x ≡ stop) → Serving sum setting was mid old between input rest out written fault number → ReadsNext number rest last (Ok (Some request)) → TakesRequest sum setting request mid now between new kept all (Err stop)
-    → Serves sum setting was now old new input last out all result
-serving_fails sum setting request was mid now old between new input rest last out written kept all fault number stop (Ok done) is before reads takes = absurd is
-serving_fails sum setting request was mid now old between new input rest last out written kept all fault number stop (Err why) is before reads takes =
-    by_cause why (subst (λ (x : Stop). TakesRequest sum setting request mid now between new kept all (Err x)) (sym is) takes)
+pub serving_fails : (sum : List ℕ → ℕ) (setting : Setting) (version : ProtocolVersion) (request : Request) (was mid now : SessionState) (old between new : Life) (input rest last out written kept all : Option (List ℕ)) (fault : Option Error) (number : ℕ) (stop : Stop) (result : Result (Unit {0}) Stop)
+    → IsErrAnd result (λ x. x ≡ stop) → Serving sum setting version was mid old between input rest out written fault number → ReadsNext version number rest last (Ok (Some request)) → TakesRequest sum setting version request mid now between new kept all (Err stop)
+    → Serves sum setting version was now old new input last out all result
+serving_fails sum setting version request was mid now old between new input rest last out written kept all fault number stop (Ok done) is before reads takes = absurd is
+serving_fails sum setting version request was mid now old between new input rest last out written kept all fault number stop (Err why) is before reads takes =
+    by_cause why (subst (λ (x : Stop). TakesRequest sum setting version request mid now between new kept all (Err x)) (sym is) takes)
   where
-    more : (Is : List ℕ → Type 0) → TookFor sum setting Is request mid now between new → TookNext sum setting Is mid now between new rest
+    more : (Is : List ℕ → Type 0) → TookFor sum setting version Is request mid now between new → TookNext sum setting version Is mid now between new rest
     more Is this = (request, last, reads.0, reads.1, this)
 
-    by_cause : (x : Stop) → TakesRequest sum setting request mid now between new kept all (Err x) → Serves sum setting was now old new input last out all (Err x)
+    by_cause : (x : Stop) → TakesRequest sum setting version request mid now between new kept all (Err x) → Serves sum setting version was now old new input last out all (Err x)
     by_cause (Malformed which flaw) none = absurd none
     by_cause (Version byte) none = absurd none
     by_cause (WouldCut cut) none = absurd none
@@ -273,15 +251,15 @@ serving_fails sum setting request was mid now old between new input rest last ou
     by_cause OutOfMemory same = (mid, between, rest, written, before.answered, inl same)
 
 -- a close, or the end of the input
-pub serving_ends : (sum : List ℕ → ℕ) (setting : Setting) (was now : SessionState) (old new : Life) (input rest last out written kept : Option (List ℕ)) (fault : Option Error) (number : ℕ) (result : Result (Unit {0}) Stop)
-    → Serving sum setting was now old new input rest out written fault number → Keeps written kept → IsAtEnd rest ⊎ Consumes rest last (request_bytes Close) → EndsSession now fault result → Serves sum setting was now old new input last out kept result
+pub serving_ends : (sum : List ℕ → ℕ) (setting : Setting) (version : ProtocolVersion) (was now : SessionState) (old new : Life) (input rest last out written kept : Option (List ℕ)) (fault : Option Error) (number : ℕ) (result : Result (Unit {0}) Stop)
+    → Serving sum setting version was now old new input rest out written fault number → Keeps written kept → IsAtEnd rest ⊎ Consumes rest last (request_bytes Close) → EndsSession now fault result → Serves sum setting version was now old new input last out kept result
 unfolding unmoved
-serving_ends sum setting was now old new input rest last out written kept fault number result before keeps at_end ends = by_answer result ends
+serving_ends sum setting version was now old new input rest last out written kept fault number result before keeps at_end ends = by_answer result ends
   where
-    all : (Are : List Reply → Type 0) → Are before.answered.replies → AnsweredAll sum setting Are was now old new input last out kept
-    all Are are = (rest, unmoved sum setting was now old new input rest out written kept before.answered keeps, at_end, are)
+    all : (Are : List Reply → Type 0) → Are before.answered.replies → AnsweredAll sum setting version Are was now old new input last out kept
+    all Are are = (rest, unmoved sum setting version was now old new input rest out written kept before.answered keeps, at_end, are)
 
-    by_answer : (r : Result (Unit {0}) Stop) → EndsSession now fault r → Serves sum setting was now old new input last out kept r
+    by_answer : (r : Result (Unit {0}) Stop) → EndsSession now fault r → Serves sum setting version was now old new input last out kept r
     by_answer (Ok done) (inl has) = all (λ replies. (is_some now.writer ≡ true) ⊎ IsFaultAmong None replies) (inl has)
     by_answer (Ok done) (inr none) = all (λ replies. (is_some now.writer ≡ true) ⊎ IsFaultAmong None replies) (inr (subst (λ (f : Option Error). IsFaultAmong f before.answered.replies) none before.among))
     by_answer (Err (Lost error)) (gone, told) = all (λ replies. (now.writer ≡ None) × IsFaultAmong (Some error) replies) (gone, subst (λ (f : Option Error). IsFaultAmong f before.answered.replies) told before.among)
@@ -297,6 +275,16 @@ serving_ends sum setting was now old new input rest last out written kept fault 
 pub at_end : (rest : Option (List ℕ)) → IfSome rest (λ bytes. bytes ≡ []) → IsAtEnd rest
 at_end None none = tt
 at_end (Some bytes) none = none
+
+-- a close was read
+pub close_read : (version : ProtocolVersion) (number : ℕ) (request : Request) (rest last : Option (List ℕ)) → is_close request ≡ true → ReadsNext version number rest last (Ok (Some request)) → Consumes rest last (request_bytes Close)
+close_read version number Close rest last is reads = reads.1
+close_read version number (StepOf step) rest last is reads = absurd (cc is)
+close_read version number (Records fields next) rest last is reads = absurd (cc is)
+close_read version number (Ranges fields) rest last is reads = absurd (cc is)
+close_read version number SyncSize rest last is reads = absurd (cc is)
+close_read version number Look rest last is reads = absurd (cc is)
+close_read version number Flush rest last is reads = absurd (cc is)
 
 -- ---- how a session begins
 
@@ -319,12 +307,12 @@ version_unread input rest NoMemory stop broken is = subst (λ (x : Stop). ReadsV
 
 -- the size isn't answered
 pub greeting_fails : (sum : List ℕ → ℕ) (setting : Setting) (was now : SessionState) (old mid new : Life) (out after written : Option (List ℕ)) (stop : Stop) (result : Result (SessionState × CacheState) Stop) → IsErrAnd result (λ x. x ≡ stop)
-    → HasBegun sum setting old mid was → TakesRequest sum setting (StepOf Size) was now mid new after written (Err stop) → Greets sum setting old new out written result
+    → HasBegun sum setting old mid was → TakesRequest sum setting One (StepOf Size) was now mid new after written (Err stop) → Greets sum setting old new out written result
 greeting_fails sum setting was now old mid new out after written stop (Ok begun) is begins takes = absurd is
 greeting_fails sum setting was now old mid new out after written stop (Err why) is begins takes =
-    by_cause why (subst (λ (x : Stop). TakesRequest sum setting (StepOf Size) was now mid new after written (Err x)) (sym is) takes)
+    by_cause why (subst (λ (x : Stop). TakesRequest sum setting One (StepOf Size) was now mid new after written (Err x)) (sym is) takes)
   where
-    by_cause : (x : Stop) → TakesRequest sum setting (StepOf Size) was now mid new after written (Err x) → Greets sum setting old new out written (Err x)
+    by_cause : (x : Stop) → TakesRequest sum setting One (StepOf Size) was now mid new after written (Err x) → Greets sum setting old new out written (Err x)
     by_cause (Malformed which flaw) none = absurd none
     by_cause (Version byte) none = absurd none
     by_cause (WouldCut cut) none = absurd none
@@ -341,13 +329,13 @@ greeting_cut sum setting was old new out written (Err why) is begins = subst (λ
 
 -- or it isn't out
 pub greeting_unsent : (sum : List ℕ → ℕ) (setting : Setting) (was now : SessionState) (old mid new : Life) (out kept written : Option (List ℕ)) (fault : Option Error) (result : Result (SessionState × CacheState) Stop) → IsErrAnd result (λ x. x ≡ Failed)
-    → HasBegun sum setting old mid was → TakesRequest sum setting (StepOf Size) was now mid new kept written (Ok fault) → (last : Option (List ℕ)) → Greets sum setting old new out last result
+    → HasBegun sum setting old mid was → TakesRequest sum setting One (StepOf Size) was now mid new kept written (Ok fault) → (last : Option (List ℕ)) → Greets sum setting old new out last result
 greeting_unsent sum setting was now old mid new out kept written fault result is begins (steps, replies, answer, served, took, (answers, told)) last =
     greeting_fails sum setting was now old mid new out kept last Failed result is begins (steps, replies, answer, served, took, tt)
 
 -- all of it is
 pub greeted : (sum : List ℕ → ℕ) (setting : Setting) (was now : SessionState) (old mid new : Life) (out first second last : Option (List ℕ)) (fault : Option Error) → HasBegun sum setting old mid was → Appends out first (version_byte ∷ [])
-    → TakesRequest sum setting (StepOf Size) was now mid new first second (Ok fault) → Keeps second last → Greeted sum setting old new now out last
+    → TakesRequest sum setting One (StepOf Size) was now mid new first second (Ok fault) → Keeps second last → Greeted sum setting old new now out last
 greeted sum setting was now old mid new out first second last fault begins version (steps, replies, answer, served, took, (answers, told)) keeps = record {
   mid = mid;
   was = was;
@@ -413,13 +401,13 @@ version_none input rest false is reads = reads
 
 -- its requests were served
 pub file_served : (sum : List ℕ → ℕ) (setting : Setting) (old between new : Life) (was now : SessionState) (input after rest out greeting written : Option (List ℕ)) (result : Result (Unit {0}) Stop) → Greeted sum setting old between was out greeting
-    → Consumes input after (version_byte ∷ []) → Serves sum setting was now between new after rest greeting written result → ServesFile sum setting old new input rest out written result
+    → Consumes input after (version_byte ∷ []) → Serves sum setting One was now between new after rest greeting written result → ServesFile sum setting old new input rest out written result
 file_served sum setting old between new was now input after rest out greeting written result g version serves = by_answer result serves
   where
-    served : (r : Result (Unit {0}) Stop) → Serves sum setting was now between new after rest greeting written r → ServedAfter sum setting old new input rest out written r
+    served : (r : Result (Unit {0}) Stop) → Serves sum setting One was now between new after rest greeting written r → ServedAfter sum setting old new input rest out written r
     served r s = record { between = between; was = was; now = now; greeting = greeting; after = after; greeted = g; version = version; serves = s }
 
-    by_answer : (r : Result (Unit {0}) Stop) → Serves sum setting was now between new after rest greeting written r → ServesFile sum setting old new input rest out written r
+    by_answer : (r : Result (Unit {0}) Stop) → Serves sum setting One was now between new after rest greeting written r → ServesFile sum setting old new input rest out written r
     by_answer (Ok done) s = inr (served (Ok done) s)
     by_answer (Err (Malformed which flaw)) s = served (Err (Malformed which flaw)) s
     by_answer (Err (Version byte)) s = absurd s

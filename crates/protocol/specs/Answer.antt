@@ -1,8 +1,12 @@
 -- How the reply to a step is written.
-use Rattle.std.specs.Prelude.{ℕ, List, [], ◌∷◌, ◌++◌, Bool, if◌then◌else◌}
+use Rattle.std.specs.Prelude.{ℕ, List, [], ◌∷◌, ◌++◌, ◌≡◌, ◌==◌, Bool, if◌then◌else◌}
+use Rattle.std.specs.Prelude.{Option, Some, None}
 use Rattle.std.specs.Prelude.{◌≤◌, ◌+◌, ◌^◌, length}
 use Rattle.std.specs.List.{flat_map}
+use Rattle.std.specs.Io.KnownBytes.{Appends}
 use Rattle.disk.specs.Error.{number_of}
+use Rattle.disk.specs.declared.error.Error.{Error}
+use Rattle.disk.specs.declared.error.Error.TheVariants as error
 use Rattle.disk.specs.declared.started_sync.StartedSync.{StartedSync}
 use Rattle.disk.specs.declared.started_sync.StartedSync.TheVariants.{Done as AllDone, Named}
 use Rattle.session.specs.declared.steps.Reply.{Reply}
@@ -10,6 +14,8 @@ use Rattle.session.specs.declared.steps.Reply.TheVariants.{At, Nothing, Started,
 use Rattle.session.specs.declared.steps.Reply.TheVariants.{Length, Bytes, Fault, Closed, NoSuch}
 use Rattle.session.specs.declared.steps.Reply.TheVariants.{NotRecovering, Served, Missed, BadRanges}
 use Rattle.session.specs.declared.steps.Reply.TheVariants.{Taken, Replaying, Sealed, NotAppending}
+use Rattle.protocol.specs.declared.stop.Flaw.{Flaw}
+use Rattle.protocol.specs.declared.stop.Flaw.TheVariants as flaw
 use Rattle.protocol.specs.declared.stop.Stop.{Stop}
 use Rattle.protocol.specs.declared.stop.Stop.TheVariants.{LongAnswer, Failed}
 use Rattle.protocol.specs.Request.{frame_bytes, number_bytes}
@@ -55,6 +61,82 @@ answer_bytes reply = frame_bytes (status_byte reply ∷ reply_payload reply)
 -- the answer to a request for a change, where the client may only read
 abbrev pub refusal_bytes : List ℕ
 refusal_bytes = frame_bytes (22 ∷ [])
+
+-- ---- refusals of version 2
+
+-- the statuses of requests whose bytes tell no records or no ranges, and of a change where the
+-- client may only read
+abbrev pub unreadable_status : ℕ
+unreadable_status = 23
+
+abbrev pub read_only_status : ℕ
+read_only_status = 22
+
+-- the status of what is no request
+abbrev pub flaw_status : Flaw → ℕ
+flaw_status flaw.Cut = 32
+flaw_status flaw.Empty = 33
+flaw_status (flaw.Kind kind) = 34
+flaw_status flaw.Length = 35
+flaw_status flaw.LongRead = 36
+flaw_status flaw.NoBuffer = 37
+
+-- what a client may do next: 0, ask for something else; 1, ask again; 2, open the file anew; 3,
+-- give it up. The last is for a failed sync. For other errors it depends on whether the writer is
+-- still there
+abbrev pub advice_for : Error → (has_writer : Bool) → ℕ
+advice_for error.SyncFailed has_writer = 3
+advice_for error.ReadFailed has_writer = if has_writer then 1 else 2
+advice_for error.OutOfMemory has_writer = if has_writer then 1 else 2
+advice_for error.BlobInsufficientLength has_writer = 0
+advice_for error.OffsetOverflow has_writer = if has_writer then 0 else 2
+advice_for other has_writer = 2
+
+abbrev pub advice_byte : Reply → (has_writer : Bool) → ℕ
+advice_byte (Fault error) has_writer = advice_for error has_writer
+advice_byte Closed has_writer = 2
+advice_byte reply has_writer = 0
+
+-- a refusal tells its status, what may be done next, how many steps of the request were taken, and
+-- the system's number and words for why the file failed, if it did: else 0 and none
+pub record IsTold (status advice taken : ℕ) (answer : List ℕ) : Type 0 where
+  pub number : ℕ
+  pub words : List ℕ
+  pub is : answer ≡ frame_bytes (status ∷ advice ∷ number_bytes taken ++ number_bytes number
+      ++ words)
+
+-- such a refusal was written
+abbrev pub AppendsTold : (status advice taken : ℕ) → (out written : Option (List ℕ)) → Type 0
+AppendsTold status advice taken out written =
+    (answer : List ℕ) × IsTold status advice taken answer × Appends out written answer
+
+-- the first of these replies that refuses, and how many are before it
+abbrev pub refusal_from : ℕ → List Reply → Option (ℕ × Reply)
+refusal_from taken [] = None
+refusal_from taken (reply ∷ replies) =
+    if status_byte reply == 0 then refusal_from (taken + 1) replies else Some (taken, reply)
+
+abbrev pub first_refusal : List Reply → Option (ℕ × Reply)
+first_refusal replies = refusal_from 0 replies
+
+-- the answer of version 2 to a request with these replies, which gives this if none refuses
+abbrev pub IsAnswerWith : (payload : List ℕ) → List Reply → (has_writer : Bool) → List ℕ → Type 0
+IsAnswerWith payload replies has_writer answer = elim (first_refusal replies) [
+  | Some first ↦ IsTold (status_byte first.1) (advice_byte first.1 has_writer) first.0 answer
+  | None ↦ answer ≡ frame_bytes (0 ∷ payload)
+]
+
+-- the error that a reply tells; and of some replies the first
+abbrev pub reply_error : Reply → Option Error
+reply_error (Fault error) = Some error
+reply_error reply = None
+
+abbrev pub fault_in : List Reply → Option Error
+fault_in [] = None
+fault_in (reply ∷ replies) = elim (reply_error reply) [
+  | Some error ↦ Some error
+  | None ↦ fault_in replies
+]
 
 -- no frame holds this answer: its length has no four bytes
 abbrev pub IsTooLong : List ℕ → Type 0

@@ -3,3 +3,5 @@ pub mod Input
 pub mod Request
 pub mod Serve
 pub mod Stop
+pub mod Taking
+pub mod Together

@@ -1,7 +1,7 @@
 -- How a request is written.
 use Rattle.std.specs.Prelude.{◌≡◌, ◌≢◌, ◌<◌, ◌+◌, ◌^◌, ◌++◌, ◌==◌, ◌*◌, ℕ, List, [], ◌∷◌, length}
 use Rattle.std.specs.Prelude.{Option, Some, None, IfSome, Result, Ok, Err, Vec, Bool}
-use Rattle.std.specs.Prelude.{if◌then◌else◌, ◌⊎◌, true}
+use Rattle.std.specs.Prelude.{if◌then◌else◌, ◌⊎◌, ◌≤◌, true, false}
 use Rattle.std.specs.declared.alloc.Global.{Global}
 use Rattle.std.specs.Int.{w32, w64, to_le_bytes}
 use Rattle.std.specs.Int.NonZero.{non_zero_usize_get}
@@ -10,9 +10,14 @@ use Rattle.std.specs.Io.KnownBytes.{Consumes}
 use Rattle.session.specs.declared.steps.Step.TheVariants.{Append, Sync, StartSync, WaitSync, Size}
 use Rattle.session.specs.declared.steps.Step.TheVariants.{Read, ReadUpTo, Begin, Truncate, Snapshot}
 use Rattle.session.specs.declared.steps.Step.TheVariants.{Snap, Replay, Ensure, Take, Seek}
+use Rattle.session.specs.declared.steps.Step.TheVariants.{DropSnapshot, DropReplay}
 use Rattle.protocol.specs.Input.{AreBytes}
 use Rattle.protocol.specs.declared.request.Request.{Request}
-use Rattle.protocol.specs.declared.request.Request.TheVariants.{Step, Close}
+use Rattle.protocol.specs.declared.request.Request.TheVariants.{Step, Records, Ranges, SyncSize}
+use Rattle.protocol.specs.declared.request.Request.TheVariants.{Look, Flush, Close}
+use Rattle.protocol.specs.declared.request.Then.TheVariants as follow
+use Rattle.protocol.specs.declared.version.Version.{Version}
+use Rattle.protocol.specs.declared.version.Version.TheVariants.{One, Two}
 use Rattle.protocol.specs.declared.stop.Flaw.{Flaw}
 use Rattle.protocol.specs.declared.stop.Flaw.TheVariants.{Cut, Empty, Kind, Length, LongRead}
 use Rattle.protocol.specs.declared.stop.Flaw.TheVariants.{NoBuffer}
@@ -50,6 +55,15 @@ kind_of (Step (Replay buffer_size)) = 12
 kind_of (Step (Ensure index count)) = 13
 kind_of (Step (Take index count)) = 14
 kind_of (Step (Seek index offset)) = 15
+kind_of (Records bytes follow.Nothing) = 17
+kind_of (Records bytes follow.Sync) = 18
+kind_of (Records bytes follow.Start) = 19
+kind_of (Ranges bytes) = 20
+kind_of SyncSize = 21
+kind_of Look = 22
+kind_of (Step (DropSnapshot index)) = 23
+kind_of (Step (DropReplay index)) = 24
+kind_of Flush = 25
 kind_of Close = 16
 kind_of _ = 0
 
@@ -66,6 +80,10 @@ fields_of (Step (Replay buffer_size)) = number_bytes (non_zero_usize_get buffer_
 fields_of (Step (Ensure index count)) = number_bytes index ++ number_bytes count
 fields_of (Step (Take index count)) = number_bytes index ++ number_bytes count
 fields_of (Step (Seek index offset)) = number_bytes index ++ number_bytes offset
+fields_of (Records bytes next) = bytes.items
+fields_of (Ranges bytes) = bytes.items
+fields_of (Step (DropSnapshot index)) = number_bytes index
+fields_of (Step (DropReplay index)) = number_bytes index
 fields_of _ = []
 
 -- a request as it is written
@@ -80,26 +98,47 @@ IsNumber n = n < 2 ^ 64
 abbrev pub FitsAnswer : ℕ → Type 0
 FitsAnswer len = len + 1 < 2 ^ 32
 
+-- these bytes are those of a request: a frame holds them
+abbrev pub AreFields : List ℕ → Type 0
+AreFields bytes = AreBytes bytes × FitsAnswer (length bytes)
+
 -- what a client may ask for: the numbers are of 64 bits, a frame holds the bytes of an append, an
 -- answer those of a read, and a replay has a buffer
-abbrev pub IsRequest : Request → Type 0
-IsRequest (Step (Append bytes)) = AreBytes bytes.items × FitsAnswer (length bytes.items)
-IsRequest (Step Sync) = Unit {0}
-IsRequest (Step StartSync) = Unit {0}
-IsRequest (Step (WaitSync name)) = IsNumber name
-IsRequest (Step Size) = Unit {0}
-IsRequest (Step (Read offset len)) = IsNumber offset × FitsAnswer len
-IsRequest (Step (ReadUpTo offset len)) = IsNumber offset × FitsAnswer len
-IsRequest (Step Begin) = Unit {0}
-IsRequest (Step (Truncate size)) = IsNumber size
-IsRequest (Step Snapshot) = Unit {0}
-IsRequest (Step (Snap index offset len)) = IsNumber index × IsNumber offset × FitsAnswer len
-IsRequest (Step (Replay size)) = (0 < non_zero_usize_get size) × IsNumber (non_zero_usize_get size)
-IsRequest (Step (Ensure index count)) = IsNumber index × IsNumber count
-IsRequest (Step (Take index count)) = IsNumber index × FitsAnswer count
-IsRequest (Step (Seek index offset)) = IsNumber index × IsNumber offset
-IsRequest Close = Unit {0}
-IsRequest _ = ⊥
+abbrev pub CanBeAsked : Request → Type 0
+CanBeAsked (Step (Append bytes)) = AreFields bytes.items
+CanBeAsked (Step Sync) = Unit {0}
+CanBeAsked (Step StartSync) = Unit {0}
+CanBeAsked (Step (WaitSync name)) = IsNumber name
+CanBeAsked (Step Size) = Unit {0}
+CanBeAsked (Step (Read offset len)) = IsNumber offset × FitsAnswer len
+CanBeAsked (Step (ReadUpTo offset len)) = IsNumber offset × FitsAnswer len
+CanBeAsked (Step Begin) = Unit {0}
+CanBeAsked (Step (Truncate size)) = IsNumber size
+CanBeAsked (Step Snapshot) = Unit {0}
+CanBeAsked (Step (Snap index offset len)) = IsNumber index × IsNumber offset × FitsAnswer len
+CanBeAsked (Step (Replay size)) =
+    (0 < non_zero_usize_get size) × IsNumber (non_zero_usize_get size)
+CanBeAsked (Step (Ensure index count)) = IsNumber index × IsNumber count
+CanBeAsked (Step (Take index count)) = IsNumber index × FitsAnswer count
+CanBeAsked (Step (Seek index offset)) = IsNumber index × IsNumber offset
+CanBeAsked (Step (DropSnapshot index)) = IsNumber index
+CanBeAsked (Step (DropReplay index)) = IsNumber index
+CanBeAsked (Step _) = ⊥
+CanBeAsked (Records bytes next) = AreFields bytes.items
+CanBeAsked (Ranges bytes) = AreFields bytes.items
+CanBeAsked SyncSize = Unit {0}
+CanBeAsked Look = Unit {0}
+CanBeAsked Flush = Unit {0}
+CanBeAsked Close = Unit {0}
+
+-- the greatest kind of a version
+abbrev pub last_kind : Version → ℕ
+last_kind One = 16
+last_kind Two = 25
+
+-- a request of this version
+abbrev pub IsRequest : Version → Request → Type 0
+IsRequest version request = CanBeAsked request × (kind_of request ≤ last_kind version)
 
 -- ---- kinds
 
@@ -107,11 +146,16 @@ IsRequest _ = ⊥
 abbrev pub has_kind : List ℕ → ℕ → Bool
 has_kind kinds kind = list_any (λ k. kind == k) kinds
 
--- how many numbers a request of a kind has, except for an append; none where there is no such kind
+-- whether a request of a kind has bytes, as many as its frame holds
+abbrev pub takes_bytes : ℕ → Bool
+takes_bytes kind = has_kind (1 ∷ 17 ∷ 18 ∷ 19 ∷ 20 ∷ []) kind
+
+-- how many numbers a request of a kind has, except for those with bytes; none where there is no
+-- such kind
 abbrev pub field_count : ℕ → Option ℕ
 field_count kind =
-    if has_kind (2 ∷ 3 ∷ 5 ∷ 8 ∷ 10 ∷ 16 ∷ []) kind then Some 0
-    else if has_kind (4 ∷ 9 ∷ 12 ∷ []) kind then Some 1
+    if has_kind (2 ∷ 3 ∷ 5 ∷ 8 ∷ 10 ∷ 16 ∷ 21 ∷ 22 ∷ 25 ∷ []) kind then Some 0
+    else if has_kind (4 ∷ 9 ∷ 12 ∷ 23 ∷ 24 ∷ []) kind then Some 1
     else if has_kind (6 ∷ 7 ∷ 13 ∷ 14 ∷ 15 ∷ []) kind then Some 2
     else if kind == 11 then Some 3 else None
 
@@ -127,16 +171,23 @@ pub record HasFields (kind : ℕ) (fields : List ℕ) : Type 0 where
 abbrev pub IsFramed : (n : ℕ) → (after bytes : List ℕ) → Type 0
 IsFramed n after bytes = (n < 2 ^ 32) × (bytes ≡ length_bytes n ++ after)
 
--- a frame of this length is one of the kind: of an append each but the empty one, of another kind
--- those that hold its numbers
-abbrev pub TakesLength : (kind n : ℕ) → Type 0
-TakesLength kind n =
-    (kind ≡ 1) ⊎ ((count : ℕ) × (field_count kind ≡ Some count) × (n ≡ 8 * count + 1))
+-- a frame of this length is one of the kind, which the version has: of one with bytes each but the
+-- empty one, of another those that hold its numbers
+abbrev pub TakesLength : Version → (kind n : ℕ) → Type 0
+TakesLength version kind n =
+    (kind ≤ last_kind version)
+    × ((takes_bytes kind ≡ true)
+    ⊎ ((count : ℕ) × (field_count kind ≡ Some count) × (n ≡ 8 * count + 1)))
 
 -- fewer bytes came after a length than it tells; the length is one of the kind, where that came
-abbrev pub EndsInside : (n : ℕ) → List ℕ → Type 0
-EndsInside n [] = 0 < n
-EndsInside n (kind ∷ fields) = (length fields + 1 < n) × TakesLength kind n
+abbrev pub EndsInside : Version → (n : ℕ) → List ℕ → Type 0
+EndsInside version n [] = 0 < n
+EndsInside version n (kind ∷ fields) = (length fields + 1 < n) × TakesLength version kind n
+
+-- the version has no such kind
+abbrev pub IsNoKind : Version → ℕ → Type 0
+IsNoKind version kind =
+    (last_kind version < kind) ⊎ ((takes_bytes kind ≡ false) × (field_count kind ≡ None))
 
 -- whether a request of this kind ends with the number of bytes that it asks for
 abbrev pub asks_bytes : ℕ → Bool
@@ -157,28 +208,28 @@ FrameHas flaw bytes =
     × HasFields kind fields × FieldsHave flaw kind fields
 
 -- what is wrong with bytes, by what they are; no two of these are true of the same ones
-abbrev pub HasFlaw : Flaw → List ℕ → Type 0
-HasFlaw Cut bytes =
+abbrev pub HasFlaw : Version → Flaw → List ℕ → Type 0
+HasFlaw version Cut bytes =
     (length bytes < 4)
-    ⊎ ((n : ℕ) × (after : List ℕ) × IsFramed n after bytes × EndsInside n after)
-HasFlaw Empty bytes = (after : List ℕ) × IsFramed 0 after bytes
-HasFlaw (Kind kind) bytes =
-    (n : ℕ) × (after : List ℕ) × IsFramed n (kind ∷ after) bytes
-    × (0 < n) × (kind ≢ 1) × (field_count kind ≡ None)
-HasFlaw Length bytes =
+    ⊎ ((n : ℕ) × (after : List ℕ) × IsFramed n after bytes × EndsInside version n after)
+HasFlaw version Empty bytes = (after : List ℕ) × IsFramed 0 after bytes
+HasFlaw version (Kind kind) bytes =
+    (n : ℕ) × (after : List ℕ) × IsFramed n (kind ∷ after) bytes × (0 < n) × IsNoKind version kind
+HasFlaw version Length bytes =
     (n : ℕ) × (kind : ℕ) × (after : List ℕ) × (count : ℕ) × IsFramed n (kind ∷ after) bytes
-    × (0 < n) × (kind ≢ 1) × (field_count kind ≡ Some count) × (n ≢ 8 * count + 1)
-HasFlaw LongRead bytes = FrameHas LongRead bytes
-HasFlaw NoBuffer bytes = FrameHas NoBuffer bytes
+    × (0 < n) × (kind ≤ last_kind version) × (takes_bytes kind ≡ false)
+    × (field_count kind ≡ Some count) × (n ≢ 8 * count + 1)
+HasFlaw version LongRead bytes = FrameHas LongRead bytes
+HasFlaw version NoBuffer bytes = FrameHas NoBuffer bytes
 
 -- ---- what reading answers
 
 -- the request of a kind with these fields; or none has them, and why
 abbrev pub Builds : ℕ → List ℕ → Result Request Flaw → Type 0
 Builds kind fields (Ok request) =
-    IsRequest request × (kind ≡ kind_of request) × (fields ≡ fields_of request)
+    CanBeAsked request × (kind ≡ kind_of request) × (fields ≡ fields_of request)
 Builds kind fields (Err flaw) =
-    ((request : Request) → IsRequest request → kind ≡ kind_of request
+    ((request : Request) → CanBeAsked request → kind ≡ kind_of request
     → fields ≢ fields_of request) × FieldsHave flaw kind fields
 
 -- bytes of this number, where there are so many
@@ -190,36 +241,37 @@ ReadsFields len old new (Err (Malformed flaw)) =
 ReadsFields len old new (Err Failed) = Unit {0}
 ReadsFields len old new (Err OutOfMemory) = Unit {0}
 
--- no request is written so, whatever stands after
-abbrev pub IsNoRequest : List ℕ → Type 0
-IsNoRequest bytes =
-    (request : Request) (rest : List ℕ) → IsRequest request → bytes ≢ request_bytes request ++ rest
+-- no request of the version is written so, whatever stands after
+abbrev pub IsNoRequest : Version → List ℕ → Type 0
+IsNoRequest version bytes =
+    (request : Request) (rest : List ℕ) → IsRequest version request
+    → bytes ≢ request_bytes request ++ rest
 
--- these bytes begin with no request, and this is wrong with them
-abbrev pub IsFlawed : Flaw → List ℕ → Type 0
-IsFlawed flaw bytes = IsNoRequest bytes × HasFlaw flaw bytes
+-- these bytes begin with no request of the version, and this is wrong with them
+abbrev pub IsFlawed : Version → Flaw → List ℕ → Type 0
+IsFlawed version flaw bytes = IsNoRequest version bytes × HasFlaw version flaw bytes
 
 -- the known bytes after these, its first ones, are no request, and this is wrong with them
-abbrev pub HasNoRequest : Flaw → (front : List ℕ) → Option (List ℕ) → Type 0
-HasNoRequest flaw front old = IfSome old (λ bytes. IsFlawed flaw (front ++ bytes))
+abbrev pub HasNoRequest : Version → Flaw → (front : List ℕ) → Option (List ℕ) → Type 0
+HasNoRequest version flaw front old = IfSome old (λ bytes. IsFlawed version flaw (front ++ bytes))
 
 -- a request was read after these bytes, its first ones
-abbrev pub ReadsAfter : (front : List ℕ) → Option (List ℕ) → Option (List ℕ)
+abbrev pub ReadsAfter : Version → (front : List ℕ) → Option (List ℕ) → Option (List ℕ)
     → Result Request ReadError → Type 0
-ReadsAfter front old new (Ok request) =
-    IsRequest request
+ReadsAfter version front old new (Ok request) =
+    IsRequest version request
     × (after : List ℕ) × (request_bytes request ≡ front ++ after) × Consumes old new after
-ReadsAfter front old new (Err (Malformed flaw)) = HasNoRequest flaw front old
-ReadsAfter front old new (Err Failed) = Unit {0}
-ReadsAfter front old new (Err OutOfMemory) = Unit {0}
+ReadsAfter version front old new (Err (Malformed flaw)) = HasNoRequest version flaw front old
+ReadsAfter version front old new (Err Failed) = Unit {0}
+ReadsAfter version front old new (Err OutOfMemory) = Unit {0}
 
 -- a request was read, or there was none
-abbrev pub ReadsRequest : Option (List ℕ) → Option (List ℕ)
+abbrev pub ReadsRequest : Version → Option (List ℕ) → Option (List ℕ)
     → Result (Option Request) ReadError → Type 0
-ReadsRequest old new (Ok None) = IfSome old (λ bytes. bytes ≡ [])
-ReadsRequest old new (Ok (Some request)) =
-    IsRequest request × Consumes old new (request_bytes request)
-ReadsRequest old new (Err (Malformed flaw)) =
-    IfSome old (λ bytes. (bytes ≢ []) × IsFlawed flaw bytes)
-ReadsRequest old new (Err Failed) = Unit {0}
-ReadsRequest old new (Err OutOfMemory) = Unit {0}
+ReadsRequest version old new (Ok None) = IfSome old (λ bytes. bytes ≡ [])
+ReadsRequest version old new (Ok (Some request)) =
+    IsRequest version request × Consumes old new (request_bytes request)
+ReadsRequest version old new (Err (Malformed flaw)) =
+    IfSome old (λ bytes. (bytes ≢ []) × IsFlawed version flaw bytes)
+ReadsRequest version old new (Err Failed) = Unit {0}
+ReadsRequest version old new (Err OutOfMemory) = Unit {0}

@@ -1,12 +1,14 @@
 -- What serving an input does.
 use Rattle.std.specs.Prelude.{◌≡◌, ◌≢◌, ◌⊎◌, ◌+◌, ◌≤◌, ◌<◌, ◌++◌, ◌&&◌, ℕ, List, [], ◌∷◌, length}
 use Rattle.std.specs.Prelude.{Option, Some, None, Result, Ok, Err, IfSome, Bool, true, false, All}
-use Rattle.std.specs.Prelude.{◌||◌, not, is_some, if◌then◌else◌}
+use Rattle.std.specs.Prelude.{◌||◌, ◌-◌, ◌^◌, not, is_some, if◌then◌else◌, Vec}
+use Rattle.std.specs.declared.alloc.Global.{Global}
 use Rattle.std.specs.Int.NonZero.{non_zero_u16_get}
 use Rattle.std.specs.List.{Contains, flat_map}
 use Rattle.std.specs.Io.KnownBytes.{Appends, Consumes, IsAtEnd}
 use Rattle.disk.specs.Disk.{Life}
 use Rattle.disk.specs.declared.error.Error.{Error}
+use Rattle.disk.specs.declared.started_sync.StartedSync.{StartedSync}
 use Rattle.cache.specs.CacheState.{CacheState}
 use Rattle.crash.specs.Looks.{Looked}
 use Rattle.paged.specs.declared.outlook.Outlook.{Outlook}
@@ -14,21 +16,33 @@ use Rattle.paged.specs.Outlook.{IsOutlook}
 use Rattle.paged.specs.Within.{at_stake}
 use Rattle.session.specs.declared.steps.Step.{Step}
 use Rattle.session.specs.declared.steps.Step.TheVariants.{Append, Sync, StartSync, Begin, Truncate}
-use Rattle.session.specs.declared.steps.Step.TheVariants.{Size}
+use Rattle.session.specs.declared.steps.Step.TheVariants.{Size, ReadRanges, Scan}
 use Rattle.session.specs.declared.steps.Reply.{Reply}
-use Rattle.session.specs.declared.steps.Reply.TheVariants.{Fault}
+use Rattle.session.specs.declared.steps.Reply.TheVariants.{At, Fault, Started}
 use Rattle.session.specs.Run.{SessionState, RunsAlways}
 use Rattle.session.specs.Promise.{Promises, AttemptsThrough, BeginsBy}
 use Rattle.protocol.specs.declared.request.Request.{Request}
-use Rattle.protocol.specs.declared.request.Request.TheVariants.{Step as StepOf, Close}
+use Rattle.protocol.specs.declared.request.Request.TheVariants.{Step as StepOf, Records, Ranges}
+use Rattle.protocol.specs.declared.request.Request.TheVariants.{SyncSize, Look, Flush, Close}
+use Rattle.protocol.specs.declared.request.Then.{Then}
+use Rattle.protocol.specs.declared.request.Then.TheVariants as follow
 use Rattle.protocol.specs.declared.setting.Setting.{Setting}
+use Rattle.protocol.specs.declared.stop.Flaw.{Flaw}
+use Rattle.protocol.specs.declared.version.Version.{Version as ProtocolVersion}
+use Rattle.protocol.specs.declared.version.Version.TheVariants.{One, Two}
 use Rattle.protocol.specs.declared.stop.ReadError.TheVariants.{Malformed as IsMalformed}
 use Rattle.protocol.specs.declared.stop.Stop.{Stop}
 use Rattle.protocol.specs.declared.stop.Stop.TheVariants.{Malformed, Version, WouldCut, Refused}
 use Rattle.protocol.specs.declared.stop.Stop.TheVariants.{Lost, LongAnswer, Failed, OutOfMemory}
 use Rattle.protocol.specs.Answer.{answer_bytes, reply_payload, refusal_bytes, IsTooLong}
-use Rattle.protocol.specs.Answer.{IsWriteError}
+use Rattle.protocol.specs.Answer.{started_bytes, IsTold}
+use Rattle.protocol.specs.Answer.{AppendsTold, IsAnswerWith, flaw_status, read_only_status}
+use Rattle.protocol.specs.Answer.{fault_in, reply_error}
+use Rattle.protocol.specs.Answer.{unreadable_status}
 use Rattle.protocol.specs.Request.{IsFlawed, IsRequest, ReadsRequest, request_bytes}
+use Rattle.protocol.specs.Request.{number_bytes}
+use Rattle.protocol.specs.Together.{are_records, are_ranges, record_bytes, record_lengths}
+use Rattle.protocol.specs.Together.{ranges_in, starts}
 
 -- requests, one after another
 abbrev pub requests_bytes : List Request → List ℕ
@@ -55,118 +69,206 @@ changes Begin = true
 changes (Truncate size) = true
 changes step = false
 
--- how a request is served: its step is taken, and answered by its reply; or none is, where it asks
--- for a change that the client may not make, and it is answered so
-pub data Served (setting : Setting) : Request → List Step → List Reply → List ℕ → Type 0 where
-  taken : (step : Step) (reply : Reply) → (setting.read_only && changes step) ≡ false
-      → Served setting (StepOf step) (step ∷ []) (reply ∷ []) (answer_bytes reply)
-  refused : (step : Step) → (setting.read_only && changes step) ≡ true
-      → Served setting (StepOf step) [] [] refusal_bytes
+-- ---- the steps of a request
 
--- requests, one after another: all their steps, their replies, and the answers
-pub data AreServed (setting : Setting) : List Request → List Step → List Reply → List ℕ
-    → Type 0 where
-  no_more : AreServed setting [] [] [] []
+-- what follows an append of records
+abbrev pub steps_then : Then → List Step
+steps_then follow.Nothing = []
+steps_then follow.Sync = Sync ∷ []
+steps_then follow.Start = StartSync ∷ []
+
+-- the steps of a request: none where its bytes tell no records or no ranges
+abbrev pub AreSteps : Setting → Request → List Step → Type 0
+AreSteps setting (StepOf step) steps = steps ≡ step ∷ []
+AreSteps setting (Records fields next) steps = elim (are_records fields.items) [
+  | true ↦ (bytes : Vec ℕ Global) × (bytes.items ≡ record_bytes fields.items)
+      × (steps ≡ Append bytes ∷ steps_then next)
+  | false ↦ steps ≡ []
+]
+AreSteps setting (Ranges fields) steps = elim (are_ranges fields.items) [
+  | true ↦ (ranges : Vec (ℕ × ℕ) Global) × (ranges.items ≡ ranges_in fields.items)
+      × (steps ≡ ReadRanges ranges ∷ [])
+  | false ↦ steps ≡ []
+]
+AreSteps setting SyncSize steps = steps ≡ Sync ∷ Size ∷ []
+AreSteps setting Look steps = steps ≡ Scan 0 (2 ^ 64 - 1) setting.buffer_size ∷ []
+AreSteps setting Flush steps = steps ≡ []
+AreSteps setting Close steps = ⊥
+
+-- whether a client that may only read is refused this request
+abbrev pub asks_change : Request → Bool
+asks_change (StepOf step) = changes step
+asks_change (Records fields next) = true
+asks_change SyncSize = true
+asks_change request = false
+
+-- ---- answers of version 2
+
+-- what the last of these replies tells
+abbrev pub last_payload : List Reply → List ℕ
+last_payload [] = []
+last_payload (reply ∷ []) = reply_payload reply
+last_payload (reply ∷ next ∷ replies) = last_payload (next ∷ replies)
+
+-- where each record of these lengths begins, and what starting a sync answered, by the replies to
+-- an append of records and to what follows it
+abbrev pub starts_payload : List ℕ → Reply → List ℕ
+starts_payload lengths (At at) = flat_map number_bytes (starts at lengths)
+starts_payload lengths reply = []
+
+abbrev pub started_of : Option StartedSync → List ℕ
+started_of None = []
+started_of (Some started) = started_bytes started
+
+abbrev pub started_payload : List Reply → List ℕ
+started_payload (Started started ∷ []) = started_bytes started
+started_payload replies = []
+
+abbrev pub records_payload : List ℕ → List Reply → List ℕ
+records_payload lengths [] = []
+records_payload lengths (reply ∷ replies) =
+    starts_payload lengths reply ++ started_payload replies
+
+-- what an answer to a request tells whose steps were all accepted: of records, where each begins,
+-- else what the last reply tells
+abbrev pub given_payload : Request → List Reply → List ℕ
+given_payload (Records fields next) replies = records_payload (record_lengths fields.items) replies
+given_payload request replies = last_payload replies
+
+-- whether a request is answered by the last reply
+abbrev pub gives_last : Request → Bool
+gives_last (Ranges fields) = true
+gives_last SyncSize = true
+gives_last Look = true
+gives_last request = false
+
+-- whether the bytes of a request tell what it asks for
+abbrev pub is_readable : Request → Bool
+is_readable (Records fields next) = are_records fields.items
+is_readable (Ranges fields) = are_ranges fields.items
+is_readable request = true
+
+-- the answer to a request with these replies: in version 1 that of its only reply; in version 2 the
+-- first refusal, or what the request gives; or it couldn't be read
+abbrev pub IsAnswer : ProtocolVersion → Request → List Reply → SessionState → List ℕ → Type 0
+IsAnswer One request replies now answer =
+    (reply : Reply) × (replies ≡ reply ∷ []) × (answer ≡ answer_bytes reply)
+IsAnswer Two request replies now answer = elim (is_readable request) [
+  | true ↦ IsAnswerWith (given_payload request replies) replies (is_some now.writer) answer
+  | false ↦ IsTold unreadable_status 0 0 answer
+]
+
+-- the answer to a request for a change, where the client may only read
+abbrev pub IsChangeRefused : ProtocolVersion → List ℕ → Type 0
+IsChangeRefused One answer = answer ≡ refusal_bytes
+IsChangeRefused Two answer = IsTold read_only_status 0 0 answer
+
+-- how a request is served: its steps are taken, and answered by their replies; or none is, where it
+-- asks for a change that the client may not make, and it is answered so
+pub data Served (setting : Setting) (version : ProtocolVersion) : Request → List Step → List Reply
+    → SessionState → List ℕ → Type 0 where
+  taken : (request : Request) (steps : List Step) (replies : List Reply) (now : SessionState)
+      (answer : List ℕ) → (setting.read_only && asks_change request) ≡ false
+      → AreSteps setting request steps → IsAnswer version request replies now answer
+      → Served setting version request steps replies now answer
+  refused : (request : Request) (now : SessionState) (answer : List ℕ)
+      → (setting.read_only && asks_change request) ≡ true → IsChangeRefused version answer
+      → Served setting version request [] [] now answer
+
+-- requests, one after another, from this session on: all their steps, their replies, the answers,
+-- and the session after them
+pub data AreServed (sum : List ℕ → ℕ) (setting : Setting) (version : ProtocolVersion)
+    (was : SessionState) (old : Life) : List Request → List Step → List Reply → List ℕ
+    → SessionState → Life → Type 0 where
+  no_more : AreServed sum setting version was old [] [] [] [] was old
   one_more : (requests : List Request) (steps : List Step) (replies : List Reply) (bytes : List ℕ)
-      (request : Request) (more : List Step) (others : List Reply) (answer : List ℕ)
-      → AreServed setting requests steps replies bytes
-      → IsRequest request → Served setting request more others answer
-      → AreServed setting (requests ++ request ∷ []) (steps ++ more) (replies ++ others)
-      (bytes ++ answer)
+      (mid : SessionState) (between : Life) (request : Request) (more : List Step)
+      (others : List Reply) (answer : List ℕ) (now : SessionState) (new : Life)
+      → AreServed sum setting version was old requests steps replies bytes mid between
+      → IsRequest version request → Served setting version request more others now answer
+      → Took sum more others mid now between new
+      → AreServed sum setting version was old (requests ++ request ∷ []) (steps ++ more)
+      (replies ++ others) (bytes ++ answer) now new
 
 -- the input begins with requests, whose steps were taken; the answers to them were written
-pub record Answered (sum : List ℕ → ℕ) (setting : Setting) (was now : SessionState)
-    (old new : Life) (input rest out written : Option (List ℕ)) : Type 0 where
-  pub requests : List Request
-  pub steps : List Step
-  pub replies : List Reply
-  pub bytes : List ℕ
-  pub served : AreServed setting requests steps replies bytes
-  pub took : Took sum steps replies was now old new
-  pub takes : Consumes input rest (requests_bytes requests)
-  pub answers : Appends out written bytes
-
--- the error that a reply tells; and of some replies that of the only one, and none where there
--- isn't just one
-abbrev pub reply_error : Reply → Option Error
-reply_error (Fault error) = Some error
-reply_error reply = None
-
-abbrev pub fault_in : List Reply → Option Error
-fault_in (reply ∷ []) = reply_error reply
-fault_in replies = None
-
--- a reply was written, by how that ended; where it was, its error is told
-abbrev pub WritesReply : (out written : Option (List ℕ)) → Reply → Result (Option Error) Stop
-    → Type 0
-WritesReply out written reply (Ok fault) =
-    Appends out written (answer_bytes reply) × (fault ≡ reply_error reply)
-WritesReply out written reply (Err stop) = IsWriteError (length (reply_payload reply)) stop
+pub record Answered (sum : List ℕ → ℕ) (setting : Setting) (version : ProtocolVersion)
+    (was now : SessionState) (old new : Life) (input rest out written : Option (List ℕ)) : Type 0
+  where
+    pub requests : List Request
+    pub steps : List Step
+    pub replies : List Reply
+    pub bytes : List ℕ
+    pub served : AreServed sum setting version was old requests steps replies bytes now new
+    pub took : Took sum steps replies was now old new
+    pub takes : Consumes input rest (requests_bytes requests)
+    pub answers : Appends out written bytes
 
 -- the steps of a request were taken, and this is so of their replies and its answer
-abbrev pub TookWith : (List ℕ → ℕ) → Setting → (List Reply → List ℕ → Type 0) → Request
-    → SessionState → SessionState → Life → Life → Type 0
-TookWith sum setting Is request was now old new =
+abbrev pub TookWith : (List ℕ → ℕ) → Setting → ProtocolVersion → (List Reply → List ℕ → Type 0)
+    → Request → SessionState → SessionState → Life → Life → Type 0
+TookWith sum setting version Is request was now old new =
     (steps : List Step) × (replies : List Reply) × (answer : List ℕ)
-    × Served setting request steps replies answer × Took sum steps replies was now old new
-    × Is replies answer
+    × Served setting version request steps replies now answer
+    × Took sum steps replies was now old new × Is replies answer
 
 -- the steps of a request were taken, and this is so of its answer
-abbrev pub TookFor : (List ℕ → ℕ) → Setting → (List ℕ → Type 0) → Request → SessionState
-    → SessionState → Life → Life → Type 0
-TookFor sum setting Is request was now old new =
-    TookWith sum setting (λ replies answer. Is answer) request was now old new
+abbrev pub TookFor : (List ℕ → ℕ) → Setting → ProtocolVersion → (List ℕ → Type 0) → Request
+    → SessionState → SessionState → Life → Life → Type 0
+TookFor sum setting version Is request was now old new =
+    TookWith sum setting version (λ replies answer. Is answer) request was now old new
 
 -- any answer
 abbrev pub IsAny : List ℕ → Type 0
 IsAny answer = Unit {0}
 
 -- a request was served and answered, by how that ended; where it was, its error is told
-abbrev pub TakesRequest : (List ℕ → ℕ) → Setting → Request → SessionState → SessionState → Life
-    → Life → (out written : Option (List ℕ)) → Result (Option Error) Stop → Type 0
-TakesRequest sum setting request was now old new out written (Ok fault) =
-    TookWith sum setting (λ replies answer. Appends out written answer × (fault ≡ fault_in replies))
-    request was now old new
-TakesRequest sum setting request was now old new out written (Err LongAnswer) =
-    TookFor sum setting IsTooLong request was now old new
-TakesRequest sum setting request was now old new out written (Err Failed) =
-    TookFor sum setting IsAny request was now old new
-TakesRequest sum setting request was now old new out written (Err OutOfMemory) =
+abbrev pub TakesRequest : (List ℕ → ℕ) → Setting → ProtocolVersion → Request → SessionState
+    → SessionState → Life → Life → (out written : Option (List ℕ)) → Result (Option Error) Stop
+    → Type 0
+TakesRequest sum setting version request was now old new out written (Ok fault) =
+    TookWith sum setting version (λ replies answer.
+    Appends out written answer × (fault ≡ fault_in replies)) request was now old new
+TakesRequest sum setting version request was now old new out written (Err LongAnswer) =
+    TookFor sum setting version IsTooLong request was now old new
+TakesRequest sum setting version request was now old new out written (Err Failed) =
+    TookFor sum setting version IsAny request was now old new
+TakesRequest sum setting version request was now old new out written (Err OutOfMemory) =
     (now ≡ was) × (new ≡ old)
-TakesRequest sum setting request was now old new out written (Err other) = ⊥
+TakesRequest sum setting version request was now old new out written (Err other) = ⊥
 
 -- the request of this number was read, or there was none
-abbrev pub ReadsNext : (number : ℕ) → Option (List ℕ) → Option (List ℕ)
+abbrev pub ReadsNext : ProtocolVersion → (number : ℕ) → Option (List ℕ) → Option (List ℕ)
     → Result (Option Request) Stop → Type 0
-ReadsNext number input rest (Ok request) = ReadsRequest input rest (Ok request)
-ReadsNext number input rest (Err (Malformed which flaw)) =
-    (which ≡ number) × ReadsRequest input rest (Err (IsMalformed flaw))
-ReadsNext number input rest (Err Failed) = Unit {0}
-ReadsNext number input rest (Err OutOfMemory) = Unit {0}
-ReadsNext number input rest (Err other) = ⊥
+ReadsNext version number input rest (Ok request) = ReadsRequest version input rest (Ok request)
+ReadsNext version number input rest (Err (Malformed which flaw)) =
+    (which ≡ number) × ReadsRequest version input rest (Err (IsMalformed flaw))
+ReadsNext version number input rest (Err Failed) = Unit {0}
+ReadsNext version number input rest (Err OutOfMemory) = Unit {0}
+ReadsNext version number input rest (Err other) = ⊥
 
 -- one more request was read, whose steps were taken, and this is so of its answer
-abbrev pub TookNext : (List ℕ → ℕ) → Setting → (List ℕ → Type 0) → SessionState → SessionState
-    → Life → Life → (input : Option (List ℕ)) → Type 0
-TookNext sum setting Is was now old new input =
-    (request : Request) × (rest : Option (List ℕ)) × IsRequest request
+abbrev pub TookNext : (List ℕ → ℕ) → Setting → ProtocolVersion → (List ℕ → Type 0) → SessionState
+    → SessionState → Life → Life → (input : Option (List ℕ)) → Type 0
+TookNext sum setting version Is was now old new input =
+    (request : Request) × (rest : Option (List ℕ)) × IsRequest version request
     × Consumes input rest (request_bytes request)
-    × TookFor sum setting Is request was now old new
+    × TookFor sum setting version Is request was now old new
 
 -- the input begins with requests whose steps were taken and answered, and then it goes on so
-abbrev pub AnsweredThen : (List ℕ → ℕ) → Setting → SessionState → Life
+abbrev pub AnsweredThen : (List ℕ → ℕ) → Setting → ProtocolVersion → SessionState → Life
     → (input out : Option (List ℕ)) → (SessionState → Life → Option (List ℕ) → Type 0) → Type 0
-AnsweredThen sum setting was old input out Then =
+AnsweredThen sum setting version was old input out Then =
     (mid : SessionState) × (between : Life) × (rest : Option (List ℕ)) × (written : Option (List ℕ))
-    × Answered sum setting was mid old between input rest out written × Then mid between rest
+    × Answered sum setting version was mid old between input rest out written
+    × Then mid between rest
 
 -- the input begins with requests whose steps were taken and answered, and maybe with one more,
 -- whose steps were taken; nothing else was done
-abbrev pub BreaksOff : (List ℕ → ℕ) → Setting → SessionState → SessionState → Life → Life
-    → (input out : Option (List ℕ)) → Type 0
-BreaksOff sum setting was now old new input out =
-    AnsweredThen sum setting was old input out (λ mid between rest.
-    ((now ≡ mid) × (new ≡ between)) ⊎ TookNext sum setting IsAny mid now between new rest)
+abbrev pub BreaksOff : (List ℕ → ℕ) → Setting → ProtocolVersion → SessionState → SessionState → Life
+    → Life → (input out : Option (List ℕ)) → Type 0
+BreaksOff sum setting version was now old new input out =
+    AnsweredThen sum setting version was old input out (λ mid between rest.
+    ((now ≡ mid) × (new ≡ between)) ⊎ TookNext sum setting version IsAny mid now between new rest)
 
 -- an error that requests were answered with is among these replies; or none of them tells one
 abbrev pub IsFaultAmong : Option Error → List Reply → Type 0
@@ -186,39 +288,51 @@ EndsSession now fault (Ok done) = (is_some now.writer ≡ true) ⊎ (fault ≡ N
 EndsSession now fault (Err (Lost error)) = (now.writer ≡ None) × (fault ≡ Some error)
 EndsSession now fault (Err other) = ⊥
 
+-- what is no request is told in version 2, and in version 1 is not
+abbrev pub TellsFlaw : ProtocolVersion → Flaw → (told written : Option (List ℕ)) → Type 0
+TellsFlaw One flaw told written = Appends told written []
+TellsFlaw Two flaw told written = AppendsTold (flaw_status flaw) 2 0 told written
+
+-- whether a request is a close
+abbrev pub is_close : Request → Bool
+is_close Close = true
+is_close request = false
+
 -- all requests of an input were answered, up to its end or a close, and this is so of the replies
-abbrev pub AnsweredAll : (List ℕ → ℕ) → Setting → (List Reply → Type 0) → SessionState
-    → SessionState → Life → Life → (input rest out written : Option (List ℕ)) → Type 0
-AnsweredAll sum setting Are was now old new input rest out written =
+abbrev pub AnsweredAll : (List ℕ → ℕ) → Setting → ProtocolVersion → (List Reply → Type 0)
+    → SessionState → SessionState → Life → Life → (input rest out written : Option (List ℕ))
+    → Type 0
+AnsweredAll sum setting version Are was now old new input rest out written =
     (mid : Option (List ℕ))
-    × (answered : Answered sum setting was now old new input mid out written)
+    × (answered : Answered sum setting version was now old new input mid out written)
     × (IsAtEnd mid ⊎ Consumes mid rest (request_bytes Close)) × Are answered.replies
 
 -- how the requests of an input were served, by how that ended: all of them up to the end or a
 -- close, and the writer is there, unless no request was answered with an error; or it is gone, and
 -- an error is told that a request was answered with; or those before the first that isn't one,
 -- whose number is told
-abbrev pub Serves : (List ℕ → ℕ) → Setting → SessionState → SessionState → Life → Life
-    → (input rest out written : Option (List ℕ)) → Result (Unit {0}) Stop → Type 0
-Serves sum setting was now old new input rest out written (Ok done) =
-    AnsweredAll sum setting (λ replies. (is_some now.writer ≡ true) ⊎ IsFaultAmong None replies)
-    was now old new input rest out written
-Serves sum setting was now old new input rest out written (Err (Lost error)) =
-    AnsweredAll sum setting (λ replies. (now.writer ≡ None) × IsFaultAmong (Some error) replies)
-    was now old new input rest out written
-Serves sum setting was now old new input rest out written (Err (Malformed number flaw)) =
-    (mid : Option (List ℕ))
-    × (answered : Answered sum setting was now old new input mid out written)
+abbrev pub Serves : (List ℕ → ℕ) → Setting → ProtocolVersion → SessionState → SessionState → Life
+    → Life → (input rest out written : Option (List ℕ)) → Result (Unit {0}) Stop → Type 0
+Serves sum setting version was now old new input rest out written (Ok done) =
+    AnsweredAll sum setting version (λ replies.
+    (is_some now.writer ≡ true) ⊎ IsFaultAmong None replies) was now old new input rest out written
+Serves sum setting version was now old new input rest out written (Err (Lost error)) =
+    AnsweredAll sum setting version (λ replies.
+    (now.writer ≡ None) × IsFaultAmong (Some error) replies) was now old new input rest out written
+Serves sum setting version was now old new input rest out written (Err (Malformed number flaw)) =
+    (mid : Option (List ℕ)) × (told : Option (List ℕ))
+    × (answered : Answered sum setting version was now old new input mid out told)
     × (number ≡ length answered.requests + 1)
-    × IfSome mid (λ bytes. (bytes ≢ []) × IsFlawed flaw bytes)
-Serves sum setting was now old new input rest out written (Err LongAnswer) =
-    AnsweredThen sum setting was old input out (λ mid between after.
-    TookNext sum setting IsTooLong mid now between new after)
-Serves sum setting was now old new input rest out written (Err Failed) =
-    BreaksOff sum setting was now old new input out
-Serves sum setting was now old new input rest out written (Err OutOfMemory) =
-    BreaksOff sum setting was now old new input out
-Serves sum setting was now old new input rest out written (Err other) = ⊥
+    × IfSome mid (λ bytes. (bytes ≢ []) × IsFlawed version flaw bytes)
+    × TellsFlaw version flaw told written
+Serves sum setting version was now old new input rest out written (Err LongAnswer) =
+    AnsweredThen sum setting version was old input out (λ mid between after.
+    TookNext sum setting version IsTooLong mid now between new after)
+Serves sum setting version was now old new input rest out written (Err Failed) =
+    BreaksOff sum setting version was now old new input out
+Serves sum setting version was now old new input rest out written (Err OutOfMemory) =
+    BreaksOff sum setting version was now old new input out
+Serves sum setting version was now old new input rest out written (Err other) = ⊥
 
 -- ---- how a session begins
 
@@ -277,7 +391,7 @@ RecoversSession sum setting old new (Err stop) = IsNotBegun sum setting old new 
 abbrev pub TookSize : (List ℕ → ℕ) → Setting → (List ℕ → Type 0) → Life → Life → Type 0
 TookSize sum setting Is old new =
     (mid : Life) × (was : SessionState) × (now : SessionState) × HasBegun sum setting old mid was
-    × TookFor sum setting Is (StepOf Size) was now mid new
+    × TookFor sum setting One Is (StepOf Size) was now mid new
 
 -- a session began or it didn't; where it did its size was asked for, or not even that
 abbrev pub EndsEarly : (List ℕ → ℕ) → Setting → Life → Life → Type 0
@@ -292,7 +406,7 @@ pub record Greeted (sum : List ℕ → ℕ) (setting : Setting) (old new : Life)
   pub mid : Life
   pub was : SessionState
   pub begun : HasBegun sum setting old mid was
-  pub took : TookFor sum setting (λ answer. Appends out written (version_byte ∷ answer))
+  pub took : TookFor sum setting One (λ answer. Appends out written (version_byte ∷ answer))
       (StepOf Size) was now mid new
 
 -- the recovery was refused, and so answered
@@ -337,7 +451,7 @@ pub record ServedAfter (sum : List ℕ → ℕ) (setting : Setting) (old new : L
   pub after : Option (List ℕ)
   pub greeted : Greeted sum setting old between was out greeting
   pub version : Consumes input after (version_byte ∷ [])
-  pub serves : Serves sum setting was now between new after rest greeting written result
+  pub serves : Serves sum setting One was now between new after rest greeting written result
 
 -- a greeted session had nothing of this to do
 abbrev pub OnlyGreeted : (List ℕ → ℕ) → Setting → Life → Life → (out written : Option (List ℕ))

@@ -90,8 +90,13 @@ fn write_numbers<W: Write>(out: &mut W, numbers: &[usize]) -> Result<(), Stop>
     Ok(())
 }
 
-// An answer with this status and then these bytes.
-fn write_frame<W: Write>(out: &mut W, status: u8, front: &[u8], bytes: &[u8]) -> Result<(), Stop>
+/// Writes an answer with this status and then these bytes.
+pub fn write_frame<W: Write>(
+    out: &mut W,
+    status: u8,
+    front: &[u8],
+    bytes: &[u8],
+) -> Result<(), Stop>
     ensures answers { OnOk result (Appends (W.contents out.old) (W.contents out.new)
         (frame_bytes (status ∷ front.now ++ bytes.now))) }
     ensures err { IfErr result (IsWriteError (length (front.now ++ bytes.now))) }
@@ -106,9 +111,9 @@ fn write_frame<W: Write>(out: &mut W, status: u8, front: &[u8], bytes: &[u8]) ->
     Ok(())
 }
 
-// The length and the status of an answer with so many bytes after them.
+/// Writes the length and the status of an answer with so many bytes after them.
 #[tactic(auto, unfolding(crate::specs::Request::length_bytes))]
-fn write_head<W: Write>(out: &mut W, status: u8, len: usize) -> Result<(), Stop>
+pub fn write_head<W: Write>(out: &mut W, status: u8, len: usize) -> Result<(), Stop>
     ensures answers { OnOk result (Appends (W.contents out.old) (W.contents out.new)
         (length_bytes (len + 1) ++ status ∷ [])) }
     ensures err { IfErr result (IsWriteError len) }

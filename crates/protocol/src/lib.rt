@@ -5,12 +5,17 @@
 mod answer;
 mod cause;
 mod input;
+mod refusal;
 mod request;
 mod server;
 mod setting;
 mod stop;
+mod taking;
+mod together;
+mod version;
 
 pub use cause::Cause;
 pub use server::{serve, serve_file};
 pub use setting::Setting;
 pub use stop::{Flaw, Stop};
+pub use version::Version;

@@ -3,10 +3,14 @@ ghost use Rattle.std.specs.Prelude.{◌≡◌, ◌+◌, ◌*◌, ◌≤◌, ◌^
 ghost use Rattle.std.specs.Prelude.{◌++◌, ◌∷◌, [], Some, Ok, IfErr};
 ghost use Rattle.protocol.specs.Input.{AreBytes};
 ghost use Rattle.protocol.specs.Request.{Builds, HasFields, field_count, length_bytes};
-ghost use Rattle.protocol.specs.Request.{FitsAnswer, number_bytes, ReadsAfter, ReadsFields, ReadsRequest};
+ghost use Rattle.protocol.specs.Request.{FitsAnswer, number_bytes, ReadsAfter, ReadsFields};
+ghost use Rattle.protocol.specs.Request.{ReadsRequest};
+ghost use Rattle.protocol.specs.Request.{takes_bytes};
+ghost use Rattle.std.specs.Prelude.{true};
 
 use crate::input::{read_front, read_some};
 use crate::stop::{Flaw, ReadError};
+use crate::version::Version;
 use session::Step;
 use std::alloc::Global;
 use std::io::BufRead;
@@ -19,18 +23,43 @@ pub const MOST_BYTES: u64 = 0xFFFF_FFFE;
 /// numbers.
 const MOST_FIELDS: usize = 24;
 
+/// What follows an append of records.
+#[derive(Clone, Copy, Debug, PartialEq, Eq)]
+pub enum Then {
+    /// Nothing.
+    Nothing,
+    /// A sync.
+    Sync,
+    /// The start of a sync.
+    Start,
+}
+
 /// What a client asks for.
 #[derive(Drop)]
 pub enum Request {
     /// A step of the session.
     Step(Step),
+    /// To append the records that these bytes tell, together.
+    Records(Vec<u8>, Then),
+    /// To read the ranges that these bytes tell.
+    Ranges(Vec<u8>),
+    /// A sync, and then the size.
+    SyncSize,
+    /// How many bytes a recovery would keep now.
+    Look,
+    /// That all answers are out.
+    Flush,
     /// The end.
     Close,
 }
 
 /// Reads a request; none at the end of the input.
-pub fn read_request<R: BufRead>(alloc: Global, input: &mut R) -> Result<Option<Request>, ReadError>
-    ensures request { ReadsRequest (R.remaining input.old) (R.remaining input.new) result }
+pub fn read_request<R: BufRead>(
+    alloc: Global,
+    version: Version,
+    input: &mut R,
+) -> Result<Option<Request>, ReadError>
+    ensures request { ReadsRequest version (R.remaining input.old) (R.remaining input.new) result }
 {
     let mut head = [0; 4];
     let count = read_front(input, &mut head)?;
@@ -41,7 +70,7 @@ pub fn read_request<R: BufRead>(alloc: Global, input: &mut R) -> Result<Option<R
         return Err(ReadError::Malformed(Flaw::Cut));
     }
     let length = length_of(&head);
-    let request = read_frame(alloc, input, length)?;
+    let request = read_frame(alloc, version, input, length)?;
     Ok(Some(request))
 }
 
@@ -54,10 +83,15 @@ fn length_of(bytes: &[u8; 4]) -> u32
 }
 
 // Reads the rest of a request whose frame has so many bytes after their number.
-fn read_frame<R: BufRead>(alloc: Global, input: &mut R, length: u32) -> Result<Request, ReadError>
+fn read_frame<R: BufRead>(
+    alloc: Global,
+    version: Version,
+    input: &mut R,
+    length: u32,
+) -> Result<Request, ReadError>
     requires { length < 2 ^ 32 }
     ensures reads { let old = R.remaining input.old in let new = R.remaining input.new in
-        ReadsAfter (length_bytes length) old new result }
+        ReadsAfter version (length_bytes length) old new result }
 {
     if length == 0 {
         return Err(ReadError::Malformed(Flaw::Empty));
@@ -66,24 +100,28 @@ fn read_frame<R: BufRead>(alloc: Global, input: &mut R, length: u32) -> Result<R
     if read_front(input, &mut kind)? == 0 {
         return Err(ReadError::Malformed(Flaw::Cut));
     }
-    read_body(alloc, input, kind[0], length as usize - 1)
+    read_body(alloc, version, input, kind[0], length as usize - 1)
 }
 
 // Reads what stands after the kind of a request: so many bytes. A wrong length is told before they
 // are awaited.
 fn read_body<R: BufRead>(
     alloc: Global,
+    version: Version,
     input: &mut R,
     kind: u8,
     len: usize,
 ) -> Result<Request, ReadError>
     requires { len + 1 < 2 ^ 32 }
     ensures reads { let old = R.remaining input.old in let new = R.remaining input.new in
-        ReadsAfter (length_bytes (len + 1) ++ kind ∷ []) old new result }
+        ReadsAfter version (length_bytes (len + 1) ++ kind ∷ []) old new result }
 {
-    if kind == 1 {
+    if kind > version.last_kind() {
+        return Err(ReadError::Malformed(Flaw::Kind(kind)));
+    }
+    if has_bytes(kind) {
         let bytes = read_bytes(alloc, input, len)?;
-        return Ok(Request::Step(Step::Append(bytes)));
+        return Ok(build_of_bytes(kind, bytes));
     }
     let Some(count) = fields_of_kind(kind) else {
         return Err(ReadError::Malformed(Flaw::Kind(kind)));
@@ -114,14 +152,36 @@ fn read_bytes<R: BufRead>(alloc: Global, input: &mut R, len: usize) -> Result<Ve
     Ok(bytes)
 }
 
-// How many numbers a request of this kind has, except for an append; none where there is no such
-// kind.
+// Whether a request of this kind has bytes, as many as its frame holds.
+fn has_bytes(kind: u8) -> bool
+    ensures { result ≡ takes_bytes kind }
+{
+    matches!(kind, 1 | 17 | 18 | 19 | 20)
+}
+
+// The request of a kind with these bytes.
+fn build_of_bytes(kind: u8, bytes: Vec<u8>) -> Request
+    requires kind { takes_bytes kind ≡ true }
+    requires bytes { AreBytes bytes.items × FitsAnswer (length bytes.items) }
+    ensures { Builds kind bytes.items (Ok result) }
+{
+    match kind {
+        1 => Request::Step(Step::Append(bytes)),
+        17 => Request::Records(bytes, Then::Nothing),
+        18 => Request::Records(bytes, Then::Sync),
+        19 => Request::Records(bytes, Then::Start),
+        _ => Request::Ranges(bytes),
+    }
+}
+
+// How many numbers a request of this kind has, except for those with bytes; none where there is no
+// such kind.
 fn fields_of_kind(kind: u8) -> Option<usize>
     ensures { result ≡ field_count kind }
 {
     match kind {
-        2 | 3 | 5 | 8 | 10 | 16 => Some(0),
-        4 | 9 | 12 => Some(1),
+        2 | 3 | 5 | 8 | 10 | 16 | 21 | 22 | 25 => Some(0),
+        4 | 9 | 12 | 23 | 24 => Some(1),
         6 | 7 | 13 | 14 | 15 => Some(2),
         11 => Some(3),
         _ => None,
@@ -170,7 +230,10 @@ fn build_bare(kind: u8) -> Request
         5 => Request::Step(Step::Size),
         8 => Request::Step(Step::Begin),
         10 => Request::Step(Step::Snapshot),
-        _ => Request::Close,
+        16 => Request::Close,
+        21 => Request::SyncSize,
+        22 => Request::Look,
+        _ => Request::Flush,
     }
 }
 
@@ -182,6 +245,8 @@ fn build_one(kind: u8, number: u64) -> Result<Request, Flaw>
     let step = match kind {
         4 => Step::WaitSync(number),
         9 => Step::Truncate(number),
+        23 => Step::DropSnapshot(number as usize),
+        24 => Step::DropReplay(number as usize),
         _ => Step::Replay(NonZeroUsize::new(number as usize).ok_or(Flaw::NoBuffer)?),
     };
     Ok(Request::Step(step))

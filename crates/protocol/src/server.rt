@@ -6,18 +6,21 @@ ghost use Rattle.std.specs.Io.KnownBytes.{Keeps};
 ghost use Rattle.session.specs.Run.{IsSessionReady};
 ghost use Rattle.protocol.specs.Input.{IsSent, has_frame};
 ghost use Rattle.protocol.specs.Serve.{EndsSession, Greets, ReadsNext, ReadsVersion};
-ghost use Rattle.protocol.specs.Serve.{RecoversSession, Serves, ServesFile, TakesRequest};
-ghost use Rattle.protocol.specs.Serve.{WritesReply, changes, later_fault};
+ghost use Rattle.protocol.specs.Serve.{RecoversSession, Serves, ServesFile, is_close, later_fault};
+ghost use Rattle.protocol.specs.Taking.{TellsStop};
 
-use crate::answer::{write_answer, write_refusal};
+use crate::answer::write_answer;
 use crate::input::read_front;
+use crate::refusal::{status_of_flaw, write_told};
 use crate::request::{Request, read_request};
 use crate::stop::Stop;
+use crate::taking::take_request;
+use crate::version::Version;
 use crate::{Cause, Setting};
 use cache::CacheRef;
 use disk::{Blob, Error};
 use page::Sum;
-use session::{Reply, Session, Step, run};
+use session::{Reply, Session, Step};
 use std::alloc::Global;
 use std::io::{BufReader, BufWriter, Read, Write};
 
@@ -50,11 +53,21 @@ pub fn serve_file<B: Blob + Cause, H: Sum, R: Read, W: Write + Drop>(
     if !read_version(input, out)? {
         return Ok(());
     }
-    serve(alloc, &mut session, blob, &mut cache, setting, input, out)
+    let version = Version::One;
+    serve(
+        alloc,
+        version,
+        &mut session,
+        blob,
+        &mut cache,
+        setting,
+        input,
+        out,
+    )
 }
 
 // Begins a session, and writes the version and the size, which are out then.
-fn greet<B: Blob, H: Sum, W: Write + Drop>(
+fn greet<B: Blob + Cause, H: Sum, W: Write + Drop>(
     alloc: Global,
     blob: &mut B,
     setting: &Setting,
@@ -79,13 +92,15 @@ fn greet<B: Blob, H: Sum, W: Write + Drop>(
     };
     out.write_all(&[VERSION])?;
     let mut replies = Vec::new(alloc);
-    take_step(
+    take_request(
+        alloc,
+        Version::One,
         &mut replies,
         &mut session,
         blob,
         &mut cache,
         setting,
-        Step::Size,
+        Request::Step(Step::Size),
         out,
     )?;
     out.flush()?;
@@ -136,14 +151,16 @@ fn read_version<R: Read, W: Write + Drop>(input: &mut R, _out: &BufWriter<W>) ->
 }
 
 /// Takes the requests of the input as steps of the session, one after another, and writes an
-/// answer to each after its step, up to a close or the end of the input; where the client may only
+/// answer to each after its steps, up to a close or the end of the input; where the client may only
 /// read, a request for a change is refused, and no step taken. What was answered is out before the
-/// program reads a request that hasn't come whole.
+/// program reads a request that hasn't come whole. In the second version what is no request is
+/// answered too, and is the last.
 ///
 /// [`Stop::Lost`] at the end, where the writer is gone then, with the last error that a request was
 /// answered with while there was one.
-pub fn serve<B: Blob, H: Sum, R: Read, W: Write + Drop>(
+pub fn serve<B: Blob + Cause, H: Sum, R: Read, W: Write + Drop>(
     alloc: Global,
+    version: Version,
     session: &mut Session<B, H>,
     blob: &mut B,
     cache: &mut CacheRef,
@@ -160,22 +177,57 @@ pub fn serve<B: Blob, H: Sum, R: Read, W: Write + Drop>(
         let input_new = reader_remaining R.remaining input.new in
         let out_old = writer_contents W.contents out.old in
         let out_new = writer_contents W.contents out.new in
-        Serves H.sum_of setting.now session.old session.new old new input_old input_new out_old
-        out_new result }
+        Serves H.sum_of setting.now version session.old session.new old new input_old input_new
+        out_old out_new result }
 {
     let mut replies = Vec::new(alloc);
     let mut fault = None;
     for number in 1..u64::MAX {
-        match next_request(alloc, number, input, out)? {
-            Some(Request::Step(step)) => {
-                let had_writer = session.size().is_some();
-                let next = take_step(&mut replies, session, blob, cache, setting, step, out)?;
-                fault = later(fault, next, had_writer);
-            }
-            Some(Request::Close) | None => return end(session, fault),
+        let request = match next_request(alloc, version, number, input, out) {
+            Ok(Some(request)) => request,
+            Ok(None) => return end(session, fault),
+            Err(stop) => return Err(tell_flaw(alloc, version, stop, out)),
+        };
+        if is_close(&request) {
+            return end(session, fault);
         }
+        let had_writer = session.size().is_some();
+        let next = take_request(
+            alloc,
+            version,
+            &mut replies,
+            session,
+            blob,
+            cache,
+            setting,
+            request,
+            out,
+        )?;
+        fault = later(fault, next, had_writer);
     }
     Err(Stop::Failed)
+}
+
+// Tells a client of the second version what is no request, and answers why the session stops.
+fn tell_flaw<W: Write>(alloc: Global, version: Version, stop: Stop, out: &mut W) -> Stop
+    ensures { TellsStop version stop (W.contents out.old) (W.contents out.new) result }
+{
+    match (version, stop) {
+        (Version::Two, Stop::Malformed(_, flaw)) => {
+            match write_told(alloc, out, status_of_flaw(flaw), 2, 0, None) {
+                Ok(()) => stop,
+                Err(other) => other,
+            }
+        }
+        _ => stop,
+    }
+}
+
+// Whether a request is a close.
+fn is_close(request: &Request) -> bool
+    ensures { result ≡ is_close request.now }
+{
+    matches!(request, Request::Close)
 }
 
 // The later of two errors, where there was a writer as its request was taken, or no error before;
@@ -204,6 +256,7 @@ fn end<B: Blob, H: Sum>(session: &Session<B, H>, fault: Option<Error>) -> Result
 // of it is waited for.
 fn next_request<R: Read, W: Write + Drop>(
     alloc: Global,
+    version: Version,
     number: u64,
     input: &mut BufReader<R>,
     out: &mut BufWriter<W>,
@@ -213,12 +266,12 @@ fn next_request<R: Read, W: Write + Drop>(
     ensures sent { OnOk result (IsSent (reader_buffer input.old) (writer_buffer out.new)) }
     ensures reads { let input_old = reader_remaining R.remaining input.old in
         let input_new = reader_remaining R.remaining input.new in
-        ReadsNext number input_old input_new result }
+        ReadsNext version number input_old input_new result }
 {
     if !holds_frame(input.buffer()) {
         out.flush()?;
     }
-    read_sent(alloc, number, input, out)
+    read_sent(alloc, version, number, input, out)
 }
 
 // Whether these bytes begin with a whole frame: then its request is read without waiting.
@@ -234,6 +287,7 @@ fn holds_frame(bytes: &[u8]) -> bool
 // Reads the request of this number. It has come whole, or what was answered is out.
 fn read_sent<R: Read, W: Write + Drop>(
     alloc: Global,
+    version: Version,
     number: u64,
     input: &mut BufReader<R>,
     _out: &BufWriter<W>,
@@ -241,68 +295,10 @@ fn read_sent<R: Read, W: Write + Drop>(
     requires sent { IsSent (reader_buffer input.old) (writer_buffer _out.now) }
     ensures reads { let input_old = reader_remaining R.remaining input.old in
         let input_new = reader_remaining R.remaining input.new in
-        ReadsNext number input_old input_new result }
+        ReadsNext version number input_old input_new result }
 {
-    match read_request(alloc, input) {
+    match read_request(alloc, version, input) {
         Ok(request) => Ok(request),
         Err(error) => Err(Stop::at(number, error)),
     }
-}
-
-// Takes one step, unless it is refused, and writes its answer after it. Returns the error of its
-// reply, if that is one. The room for its reply is kept from step to step, and the reply is not.
-fn take_step<B: Blob, H: Sum, W: Write>(
-    replies: &mut Vec<Reply>,
-    session: &mut Session<B, H>,
-    blob: &mut B,
-    cache: &mut CacheRef,
-    setting: &Setting,
-    step: Step,
-    out: &mut W,
-) -> Result<Option<Error>, Stop>
-    requires none { replies.old.items ≡ [] }
-    requires ready { let old = (B.life blob.old).present in
-        IsSessionReady H.sum_of session.old cache.old old }
-    ensures none { OnOk result (replies.new.items ≡ []) }
-    ensures ready { let new = (B.life blob.new).present in
-        IsSessionReady H.sum_of session.new cache.new new }
-    ensures takes { let old = B.life blob.old in let new = B.life blob.new in
-        TakesRequest H.sum_of setting.now (Request.Step step) session.old session.new old new
-        (W.contents out.old) (W.contents out.new) result }
-{
-    if setting.read_only && is_change(&step) {
-        write_refusal(out)?;
-        return Ok(None);
-    }
-    if run(session, blob, cache, &[step], replies).is_err() {
-        return Err(Stop::OutOfMemory);
-    }
-    let written = match replies.as_slice() {
-        [reply] => write_reply(out, reply),
-        _ => unreachable!(),
-    };
-    replies.clear();
-    written
-}
-
-// Writes the answer to a step with this reply, and returns the reply's error, if it is one.
-fn write_reply<W: Write>(out: &mut W, reply: &Reply) -> Result<Option<Error>, Stop>
-    ensures { let out_old = W.contents out.old in
-        WritesReply out_old (W.contents out.new) reply.now result }
-{
-    write_answer(out, reply)?;
-    match reply {
-        Reply::Fault(error) => Ok(Some(*error)),
-        _ => Ok(None),
-    }
-}
-
-// Whether a client that may only read is refused this step.
-fn is_change(step: &Step) -> bool
-    ensures { result ≡ changes step.now }
-{
-    matches!(
-        step,
-        Step::Append(_) | Step::Sync | Step::StartSync | Step::Begin | Step::Truncate(_)
-    )
 }

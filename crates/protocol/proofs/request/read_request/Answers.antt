@@ -10,7 +10,7 @@ returns-then-count-lt4 g c =
     let long : length head ≡ c.in_ok-count.count = length-take-le c.in_ok-count.count c.read_front.new.room read.count in
     let short : length head < 4 = omega (arith, long, c.if-count-lt4.true) in
     record {
-      request = request_cut (g.R.Read.remaining c.args.input.now) (g.R.Read.remaining c.read_front.new.input) head
+      request = request_cut c.args.version (g.R.Read.remaining c.args.input.now) (g.R.Read.remaining c.read_front.new.input) head
           short (omega (arith, long, c.if-count-eq0.false)) read.came.takes (read.came.ends short);
     }
 
@@ -22,7 +22,7 @@ returns-in_err-request g c =
     let all : head ≡ room = take_all c.in_ok-count.count room (omega (arith, read.size, c.if-count-lt4.false)) in
     let four : length head ≡ 4 = omega (arith, length-take-le c.in_ok-count.count room read.count, read.count, read.size, c.if-count-lt4.false) in
     record {
-      request = request_refused c.length_of-length.result head
+      request = request_refused c.args.version c.length_of-length.result head
           (g.R.Read.remaining c.args.input.now) (g.R.Read.remaining c.read_front.new.input) (g.R.Read.remaining c.read_frame.new.input)
           c.in_err-request.field-0.0 c.from_residual-in_err-request.result four (c.length_of-length.ensures.told ∙ sym all)
           read.came.takes c.from_residual-in_err-request.ensures.1 c.in_err-request.ensures.reads;

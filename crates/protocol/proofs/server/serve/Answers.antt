@@ -1,49 +1,61 @@
-use Rattle.std.proofs.Common.{rules}
+use Rattle.std.proofs.Common.{◌≡◌, ◌∙◌, [], inl, inr, subst, sym}
+use Rattle.std.specs.Prelude.{Option, Some, Ok, IfSome}
 use Rattle.std.specs.Io.Buffered.{reader_remaining, writer_contents}
-use Rattle.protocol.specs.declared.request.Request.TheVariants.{Step}
-use Rattle.protocol.proofs.Serving.{serving_begins, serving_ends, serving_more, serving_stops, serving_fails}
+use Rattle.protocol.specs.Serve.{ReadsNext}
+use Rattle.protocol.specs.declared.request.Request.{Request}
+use Rattle.protocol.proofs.Serving.{at_end, close_read, serving_begins, serving_ends, serving_more, serving_stops, serving_fails}
 use Rattle.protocol.proofs.server.serve.Goals as goal
-use Rattle.protocol.proofs.server.serve.Goals.{in-Some+in-Close-1, in-None-1}
 
 pub loop-number-init : goal.loop-number-init
 loop-number-init g c = record {
   none = c.new-replies.ensures.items;
   ready = c.requires.ready;
-  serving = serving_begins g.H.Sum.sum_of c.args.setting.now c.args.session.now (g.B.Blob.life c.args.blob.now) (reader_remaining g.R.Read.remaining c.args.input.now) (writer_contents g.W.Write.contents c.args.out.now);
+  serving = serving_begins g.H.Sum.sum_of c.args.setting.now c.args.version c.args.session.now (g.B.Blob.life c.args.blob.now) (reader_remaining g.R.Read.remaining c.args.input.now) (writer_contents g.W.Write.contents c.args.out.now);
 }
 
-pub returns-in_err-step-clause-serves : goal.returns-in_err-step-clause-serves
-returns-in_err-step-clause-serves g c =
-    serving_stops g.H.Sum.sum_of c.args.setting.now c.args.session.now c.loop-number.session (g.B.Blob.life c.args.blob.now) (g.B.Blob.life c.loop-number.blob) (reader_remaining g.R.Read.remaining c.args.input.now)
-    (reader_remaining g.R.Read.remaining c.loop-number.input) (reader_remaining g.R.Read.remaining c.next_request.new.input) (writer_contents g.W.Write.contents c.args.out.now) (writer_contents g.W.Write.contents c.loop-number.out) (writer_contents g.W.Write.contents c.next_request.new.out)
-    c.loop-number.fault c.loop-number.number c.in_err-step.field-0.0 c.from_residual.result c.from_residual.ensures.1 c.loop-number.invariant.serving c.next_request.ensures.keeps c.in_err-step.ensures.reads
+pub returns-in-Ok-None-clause-serves : goal.returns-in-Ok-None-clause-serves
+returns-in-Ok-None-clause-serves g c =
+    let rest = reader_remaining g.R.Read.remaining c.loop-number.input in
+    let last = reader_remaining g.R.Read.remaining c.next_request.new.input in
+    let none : IfSome rest (λ bytes. bytes ≡ []) = subst (λ (o : Option Request). ReadsNext c.args.version c.loop-number.number rest last (Ok o)) c.in-Ok-None.field-0-is c.in-Ok-None.ensures.reads in
+    serving_ends g.H.Sum.sum_of c.args.setting.now c.args.version c.args.session.now c.loop-number.session (g.B.Blob.life c.args.blob.now) (g.B.Blob.life c.loop-number.blob) (reader_remaining g.R.Read.remaining c.args.input.now)
+    rest last (writer_contents g.W.Write.contents c.args.out.now) (writer_contents g.W.Write.contents c.loop-number.out) (writer_contents g.W.Write.contents c.next_request.new.out)
+    c.loop-number.fault c.loop-number.number c.end.result c.loop-number.invariant.serving c.next_request.ensures.keeps (inl (at_end rest none)) c.end.ensures
 
-pub returns-in_err-next-in-Some-Step-clause-serves :
-    goal.returns-in_err-next-in-Some-Step-clause-serves
-returns-in_err-next-in-Some-Step-clause-serves g c =
-    serving_fails g.H.Sum.sum_of c.args.setting.now (Step c.in-Some-Step.step) c.args.session.now c.loop-number.session c.take_step.new.session (g.B.Blob.life c.args.blob.now) (g.B.Blob.life c.loop-number.blob) (g.B.Blob.life c.take_step.new.blob)
-    (reader_remaining g.R.Read.remaining c.args.input.now) (reader_remaining g.R.Read.remaining c.loop-number.input) (reader_remaining g.R.Read.remaining c.next_request.new.input)
-    (writer_contents g.W.Write.contents c.args.out.now) (writer_contents g.W.Write.contents c.loop-number.out) (writer_contents g.W.Write.contents c.next_request.new.out) (writer_contents g.W.Write.contents c.take_step.new.out)
-    c.loop-number.fault c.loop-number.number c.in_err-next-in-Some-Step.field-0.0 c.from_residual-in_err-next-in-Some-Step.result c.from_residual-in_err-next-in-Some-Step.ensures.1 c.loop-number.invariant.serving
-    (search rules) c.in_err-next-in-Some-Step.ensures.takes
+pub returns-in-Err-clause-serves : goal.returns-in-Err-clause-serves
+returns-in-Err-clause-serves g c =
+    serving_stops g.H.Sum.sum_of c.args.setting.now c.args.version c.args.session.now c.loop-number.session (g.B.Blob.life c.args.blob.now) (g.B.Blob.life c.loop-number.blob) (reader_remaining g.R.Read.remaining c.args.input.now)
+    (reader_remaining g.R.Read.remaining c.loop-number.input) (reader_remaining g.R.Read.remaining c.next_request.new.input) (writer_contents g.W.Write.contents c.args.out.now) (writer_contents g.W.Write.contents c.loop-number.out) (writer_contents g.W.Write.contents c.next_request.new.out)
+    (writer_contents g.W.Write.contents c.tell_flaw.new.out) c.loop-number.fault c.loop-number.number c.in-Err.stop c.tell_flaw.result c.loop-number.invariant.serving c.next_request.ensures.keeps c.in-Err.ensures.reads c.tell_flaw.ensures
+
+pub returns-then-is_close-clause-serves : goal.returns-then-is_close-clause-serves
+returns-then-is_close-clause-serves g c =
+    let rest = reader_remaining g.R.Read.remaining c.loop-number.input in
+    let last = reader_remaining g.R.Read.remaining c.next_request.new.input in
+    let reads : ReadsNext c.args.version c.loop-number.number rest last (Ok (Some c.in-Ok-Some.request)) = subst (λ (o : Option Request). ReadsNext c.args.version c.loop-number.number rest last (Ok o)) c.in-Ok-Some.field-0-is c.in-Ok-Some.ensures.reads in
+    serving_ends g.H.Sum.sum_of c.args.setting.now c.args.version c.args.session.now c.loop-number.session (g.B.Blob.life c.args.blob.now) (g.B.Blob.life c.loop-number.blob) (reader_remaining g.R.Read.remaining c.args.input.now)
+    rest last (writer_contents g.W.Write.contents c.args.out.now) (writer_contents g.W.Write.contents c.loop-number.out) (writer_contents g.W.Write.contents c.next_request.new.out)
+    c.loop-number.fault c.loop-number.number c.end-then-is_close.result c.loop-number.invariant.serving c.next_request.ensures.keeps
+    (inr (close_read c.args.version c.loop-number.number c.in-Ok-Some.request rest last (sym c.is_close.ensures ∙ c.if-is_close.true) reads)) c.end-then-is_close.ensures
+
+pub returns-in_err-next-clause-serves : goal.returns-in_err-next-clause-serves
+returns-in_err-next-clause-serves g c =
+    let rest = reader_remaining g.R.Read.remaining c.loop-number.input in
+    let last = reader_remaining g.R.Read.remaining c.next_request.new.input in
+    let reads : ReadsNext c.args.version c.loop-number.number rest last (Ok (Some c.in-Ok-Some.request)) = subst (λ (o : Option Request). ReadsNext c.args.version c.loop-number.number rest last (Ok o)) c.in-Ok-Some.field-0-is c.in-Ok-Some.ensures.reads in
+    serving_fails g.H.Sum.sum_of c.args.setting.now c.args.version c.in-Ok-Some.request c.args.session.now c.loop-number.session c.take_request.new.session (g.B.Blob.life c.args.blob.now) (g.B.Blob.life c.loop-number.blob) (g.B.Blob.life c.take_request.new.blob)
+    (reader_remaining g.R.Read.remaining c.args.input.now) rest last (writer_contents g.W.Write.contents c.args.out.now) (writer_contents g.W.Write.contents c.loop-number.out) (writer_contents g.W.Write.contents c.next_request.new.out) (writer_contents g.W.Write.contents c.take_request.new.out)
+    c.loop-number.fault c.loop-number.number c.in_err-next.field-0.0 c.from_residual.result c.from_residual.ensures.1 c.loop-number.invariant.serving reads c.in_err-next.ensures.takes
 
 pub loop-number-preserved : goal.loop-number-preserved
-loop-number-preserved g c = record {
-  none = c.in_ok-next-in-Some-Step.ensures.none;
-  ready = c.take_step.ensures.ready;
-  serving = serving_more g.H.Sum.sum_of c.args.setting.now (Step c.in-Some-Step.step) c.args.session.now c.loop-number.session c.take_step.new.session (g.B.Blob.life c.args.blob.now) (g.B.Blob.life c.loop-number.blob) (g.B.Blob.life c.take_step.new.blob)
-      (reader_remaining g.R.Read.remaining c.args.input.now) (reader_remaining g.R.Read.remaining c.loop-number.input) (reader_remaining g.R.Read.remaining c.next_request.new.input)
-      (writer_contents g.W.Write.contents c.args.out.now) (writer_contents g.W.Write.contents c.loop-number.out) (writer_contents g.W.Write.contents c.next_request.new.out) (writer_contents g.W.Write.contents c.take_step.new.out)
-      c.loop-number.fault c.in_ok-next-in-Some-Step.next c.later-fault.result c.is_some-had_writer.result c.loop-number.number c.later-fault.ensures c.loop-number.invariant.serving c.next_request.ensures.keeps
-      (search rules) c.in_ok-next-in-Some-Step.ensures.takes;
-}
-
-pub returns-in-Some-Close-clause-serves : goal.returns-in-Some-Close-clause-serves
-returns-in-Some-Close-clause-serves g c =
-    serving_ends g.H.Sum.sum_of c.args.setting.now c.args.session.now c.loop-number.session (g.B.Blob.life c.args.blob.now) (g.B.Blob.life c.loop-number.blob) (reader_remaining g.R.Read.remaining c.args.input.now)
-    (reader_remaining g.R.Read.remaining c.loop-number.input) (reader_remaining g.R.Read.remaining c.next_request.new.input) (writer_contents g.W.Write.contents c.args.out.now) (writer_contents g.W.Write.contents c.loop-number.out) (writer_contents g.W.Write.contents c.next_request.new.out)
-    c.loop-number.fault c.loop-number.number c.end.result c.loop-number.invariant.serving c.next_request.ensures.keeps
-    (elim c.in-Some-Close-1.branch [
-      | in-Some+in-Close-1 w ↦ search rules
-      | in-None-1 w ↦ search rules
-    ]) c.end.ensures
+loop-number-preserved g c =
+    let rest = reader_remaining g.R.Read.remaining c.loop-number.input in
+    let last = reader_remaining g.R.Read.remaining c.next_request.new.input in
+    let reads : ReadsNext c.args.version c.loop-number.number rest last (Ok (Some c.in-Ok-Some.request)) = subst (λ (o : Option Request). ReadsNext c.args.version c.loop-number.number rest last (Ok o)) c.in-Ok-Some.field-0-is c.in-Ok-Some.ensures.reads in
+    record {
+      none = c.in_ok-next.ensures.none;
+      ready = c.take_request.ensures.ready;
+      serving = serving_more g.H.Sum.sum_of c.args.setting.now c.args.version c.in-Ok-Some.request c.args.session.now c.loop-number.session c.take_request.new.session (g.B.Blob.life c.args.blob.now) (g.B.Blob.life c.loop-number.blob) (g.B.Blob.life c.take_request.new.blob)
+          (reader_remaining g.R.Read.remaining c.args.input.now) rest last (writer_contents g.W.Write.contents c.args.out.now) (writer_contents g.W.Write.contents c.loop-number.out) (writer_contents g.W.Write.contents c.next_request.new.out) (writer_contents g.W.Write.contents c.take_request.new.out)
+          c.loop-number.fault c.in_ok-next.next c.later-fault.result c.is_some-had_writer.result c.loop-number.number c.later-fault.ensures c.loop-number.invariant.serving c.next_request.ensures.keeps reads c.in_ok-next.ensures.takes;
+    }

@@ -1,0 +1,172 @@
+-- Requests that were taken, from the runs of their steps and what was written.
+use Rattle.std.proofs.Common.{◌≡◌, ◌≤◌, ◌<◌, Bool, true, false, ℕ, List, [], ◌∷◌, ◌++◌, length, refl, sym, ap, ◌∙◌, subst, arith}
+use Rattle.std.specs.Prelude.{Option, Result, Ok, Err, Vec, ◌&&◌, is_some, option_map, IfErr, OnOk}
+use Rattle.std.specs.declared.alloc.Global.{Global}
+use Rattle.std.proofs.lemmas.Bool.{false≢true}
+use Rattle.disk.specs.Disk.{Life}
+use Rattle.disk.specs.declared.error.Error.{Error}
+use Rattle.cache.specs.CacheState.{CacheState}
+use Rattle.paged.specs.Reads.{size_of}
+use Rattle.session.specs.Run.{SessionState}
+use Rattle.session.specs.declared.steps.Step.{Step}
+use Rattle.session.specs.declared.steps.Step.TheVariants.{Append, ReadRanges}
+use Rattle.session.specs.declared.steps.Reply.{Reply}
+use Rattle.protocol.specs.declared.request.Request.{Request}
+use Rattle.protocol.specs.declared.request.Request.TheVariants.{Step as StepOf, Records, Ranges, SyncSize, Look, Flush, Close}
+use Rattle.protocol.specs.declared.setting.Setting.{Setting}
+use Rattle.protocol.specs.declared.stop.Stop.{Stop}
+use Rattle.protocol.specs.declared.stop.Stop.TheVariants.{Malformed, Version, WouldCut, Refused, Lost, LongAnswer, Failed, OutOfMemory}
+use Rattle.protocol.specs.declared.version.Version.{Version as ProtocolVersion}
+use Rattle.protocol.specs.declared.version.Version.TheVariants.{One, Two}
+use Rattle.std.specs.Io.KnownBytes.{Appends}
+use Rattle.protocol.specs.Answer.{IsAnswerWith, IsTold, IsWriteError, answer_bytes, refusal_bytes, read_only_status, unreadable_status}
+use Rattle.protocol.specs.Request.{frame_bytes, last_kind, number_bytes}
+use Rattle.protocol.specs.Serve.{AreSteps, IsAnswer, IsChangeRefused, Served, TakesRequest, asks_change, given_payload, gives_last, is_readable, last_payload, records_payload, steps_then}
+use Rattle.protocol.specs.Serve.Served.{taken, refused}
+use Rattle.protocol.specs.Taking.{Finishes, IsStepAnswer, RunsSteps, TellsUnreadable, Writes}
+use Rattle.protocol.specs.declared.request.Then.{Then}
+use Rattle.protocol.specs.Together.{are_ranges, are_records, ranges_in, record_bytes, record_lengths}
+use Rattle.protocol.proofs.Serving.{taken_request, took_none, took_of}
+use Rattle.protocol.proofs.Taken.{is_some_mapped, some_with, writes}
+
+-- the steps of ranges, and an answer, by whether the bytes of the request could be read
+abbrev pub StepsBy : List ℕ → List Step → Bool → Type 0
+StepsBy fields steps readable = elim readable [
+  | true ↦ (ranges : Vec (ℕ × ℕ) Global) × (ranges.items ≡ ranges_in fields) × (steps ≡ ReadRanges ranges ∷ [])
+  | false ↦ steps ≡ []
+]
+
+abbrev AnswerBy : (payload : List ℕ) → List Reply → (has_writer : Bool) → List ℕ → Bool → Type 0
+AnswerBy payload replies has_writer answer readable = elim readable [
+  | true ↦ IsAnswerWith payload replies has_writer answer
+  | false ↦ IsTold unreadable_status 0 0 answer
+]
+
+-- where they can't be read there are none
+pub no_steps : (setting : Setting) (fields : Vec ℕ Global) → are_ranges fields.items ≡ false → AreSteps setting (Ranges fields) []
+no_steps setting fields none = subst (StepsBy fields.items []) (sym none) refl
+
+-- and else they are read
+pub reads_ranges : (setting : Setting) (fields : Vec ℕ Global) (ranges : Vec (ℕ × ℕ) Global) → are_ranges fields.items ≡ true → ranges.items ≡ ranges_in fields.items → AreSteps setting (Ranges fields) (ReadRanges ranges ∷ [])
+reads_ranges setting fields ranges are is = subst (StepsBy fields.items (ReadRanges ranges ∷ [])) (sym are) (ranges, is, refl)
+
+-- ---- requests that were taken
+
+-- their steps were run, and an answer to them was written or not
+pub runs_request : (sum : List ℕ → ℕ) (setting : Setting) (version : ProtocolVersion) (request : Request) (steps : List Step) (was now : SessionState) (cache after : CacheState) (old new : Life) (replies : List Reply) (out written : Option (List ℕ)) (wrote : Result (Unit {0}) Stop) (result : Result (Option Error) Stop)
+    → (setting.read_only && asks_change request) ≡ false → AreSteps setting request steps → RunsSteps sum steps was now cache after old new replies (Ok tt) → ((answer : List ℕ) × IsAnswer version request replies now answer)
+    → Writes (IsAnswer version request replies now) out written wrote → Finishes replies wrote result → TakesRequest sum setting version request was now old new out written result
+runs_request sum setting version request steps was now cache after old new replies out written wrote result may are runs (some, is) writes told =
+    taken_request sum setting version request steps replies was now old new out written wrote result may are (took_of sum steps was now cache after old new replies runs) some is writes told
+
+-- there is an answer to one step
+pub some_answer : (version : ProtocolVersion) (step : Step) (replies : List Reply) (now : SessionState) → length replies ≡ 1 → (answer : List ℕ) × IsAnswer version (StepOf step) replies now answer
+some_answer One step [] now one = absurd (omega (arith, one))
+some_answer One step (reply ∷ []) now one = (answer_bytes reply, (reply, refl, refl))
+some_answer One step (reply ∷ next ∷ replies) now one = absurd (omega (arith, one))
+some_answer Two step replies now one = some_with (given_payload (StepOf step) replies) replies (is_some now.writer)
+
+-- the answer to one step is that to its request
+pub step_answers : (version : ProtocolVersion) (step : Step) (replies : List Reply) (now : SessionState) (answer : List ℕ) → IsStepAnswer version replies (is_some now.writer) answer → IsAnswer version (StepOf step) replies now answer
+step_answers One step replies now answer is = is
+step_answers Two step replies now answer is = is
+
+-- the answer to a request that is answered by the last reply
+pub last_answers : (setting : Setting) (request : Request) (steps : List Step) (replies : List Reply) (now : SessionState) (answer : List ℕ) → gives_last request ≡ true → AreSteps setting request steps → 0 < length steps
+    → IsAnswerWith (last_payload replies) replies (is_some now.writer) answer → IsAnswer Two request replies now answer
+last_answers setting (Ranges fields) steps replies now answer last are some is = by_flag (are_ranges fields.items) are
+  where
+    by_flag : (b : Bool) → StepsBy fields.items steps b → AnswerBy (last_payload replies) replies (is_some now.writer) answer b
+    by_flag true given = is
+    by_flag false none = absurd (omega (arith, some, ap length none))
+last_answers setting SyncSize steps replies now answer last are some is = is
+last_answers setting Look steps replies now answer last are some is = is
+last_answers setting (StepOf step) steps replies now answer last are some is = absurd (false≢true last)
+last_answers setting (Records fields next) steps replies now answer last are some is = absurd (false≢true last)
+last_answers setting Flush steps replies now answer last are some is = absurd (false≢true last)
+last_answers setting Close steps replies now answer last are some is = absurd (false≢true last)
+
+-- the writer is there as its size is
+pub writer_there : (b : Bool) (size : Option ℕ) (now : SessionState) → b ≡ is_some size → size ≡ option_map size_of now.writer → b ≡ is_some now.writer
+writer_there b size now is of = is ∙ ap is_some of ∙ is_some_mapped size_of now.writer
+
+-- a request whose bytes can't be read was answered so
+pub unreadable : (sum : List ℕ → ℕ) (setting : Setting) (request : Request) (was : SessionState) (life : Life) (out written : Option (List ℕ)) (result : Result (Option Error) Stop)
+    → (setting.read_only && asks_change request) ≡ false → AreSteps setting request [] → is_readable request ≡ false → TellsUnreadable out written result → TakesRequest sum setting Two request was was life life out written result
+unreadable sum setting request was life out written result may are none tells = by_answer result tells
+  where
+    answered : (answer : List ℕ) → IsTold unreadable_status 0 0 answer → IsAnswer Two request [] was answer
+    answered answer told = subst (AnswerBy (given_payload request []) [] (is_some was.writer) answer) (sym none) told
+
+    served : (answer : List ℕ) → IsTold unreadable_status 0 0 answer → Served setting Two request [] [] was answer
+    served answer told = taken request [] [] was answer may are (answered answer told)
+
+    by_answer : (r : Result (Option Error) Stop) → TellsUnreadable out written r → TakesRequest sum setting Two request was was life life out written r
+    by_answer (Ok fault) ((answer, told, appends), is) = ([], [], answer, served answer told, took_none sum was life, (appends, is))
+    by_answer (Err stop) is =
+        subst (λ (x : Stop). TakesRequest sum setting Two request was was life life out written (Err x)) (sym is)
+        ([], [], frame_bytes (unreadable_status ∷ 0 ∷ number_bytes 0 ++ number_bytes 0 ++ []), served _ (record { number = 0; words = []; is = refl }), took_none sum was life, tt)
+
+-- both hold
+pub both : (a b : Bool) → a ≡ true → b ≡ true → (a && b) ≡ true
+both true b one other = other
+both false b one other = absurd (cc one)
+
+-- what is false with anything
+pub and_false : (a : Bool) → (a && false) ≡ false
+and_false true = refl
+and_false false = refl
+
+-- a change is refused, and so answered
+pub change_refused : (sum : List ℕ → ℕ) (setting : Setting) (version : ProtocolVersion) (request : Request) (was : SessionState) (life : Life) (out written : Option (List ℕ)) (wrote : Result (Unit {0}) Stop) (result : Result (Option Error) Stop)
+    → (setting.read_only && asks_change request) ≡ true → Writes (IsChangeRefused version) out written wrote → Finishes [] wrote result → TakesRequest sum setting version request was was life life out written result
+change_refused sum setting version request was life out written (Ok done) result may (answer, is, appends) told =
+    subst (λ (r : Result (Option Error) Stop). TakesRequest sum setting version request was was life life out written r) (sym told)
+    ([], [], answer, refused request was answer may is, took_none sum was life, (appends, refl))
+change_refused sum setting version request was life out written (Err stop) result may wrote told =
+    subst (λ (r : Result (Option Error) Stop). TakesRequest sum setting version request was was life life out written r) (sym told) (by_cause stop wrote)
+  where
+    some : (v : ProtocolVersion) → (answer : List ℕ) × IsChangeRefused v answer
+    some One = (refusal_bytes, refl)
+    some Two = (frame_bytes (read_only_status ∷ 0 ∷ number_bytes 0 ++ number_bytes 0 ++ []), record { number = 0; words = []; is = refl })
+
+    by_cause : (x : Stop) → Writes (IsChangeRefused version) out written (Err x) → TakesRequest sum setting version request was was life life out written (Err x)
+    by_cause LongAnswer (answer, is, long) = ([], [], answer, refused request was answer may is, took_none sum was life, long)
+    by_cause Failed none = ([], [], (some version).0, refused request was (some version).0 may (some version).1, took_none sum was life, tt)
+    by_cause OutOfMemory none = absurd none
+    by_cause (Malformed number flaw) none = absurd none
+    by_cause (Version byte) none = absurd none
+    by_cause (WouldCut cut) none = absurd none
+    by_cause (Refused error) none = absurd none
+    by_cause (Lost error) none = absurd none
+
+-- ---- records
+
+-- their steps, by whether they could be read
+abbrev RecordsBy : List ℕ → Then → List Step → Bool → Type 0
+RecordsBy fields next steps readable = elim readable [
+  | true ↦ (bytes : Vec ℕ Global) × (bytes.items ≡ record_bytes fields) × (steps ≡ Append bytes ∷ steps_then next)
+  | false ↦ steps ≡ []
+]
+
+pub no_record_steps : (setting : Setting) (fields : Vec ℕ Global) (next : Then) → are_records fields.items ≡ false → AreSteps setting (Records fields next) []
+no_record_steps setting fields next none = subst (RecordsBy fields.items next []) (sym none) refl
+
+pub record_steps : (setting : Setting) (fields bytes : Vec ℕ Global) (next : Then) → are_records fields.items ≡ true → bytes.items ≡ record_bytes fields.items → AreSteps setting (Records fields next) (Append bytes ∷ steps_then next)
+record_steps setting fields bytes next are is = subst (RecordsBy fields.items next (Append bytes ∷ steps_then next)) (sym are) (bytes, is, refl)
+
+-- the answer to records that could be read
+pub record_answers : (fields : Vec ℕ Global) (next : Then) (replies : List Reply) (now : SessionState) (answer : List ℕ) → are_records fields.items ≡ true
+    → IsAnswerWith (records_payload (record_lengths fields.items) replies) replies (is_some now.writer) answer → IsAnswer Two (Records fields next) replies now answer
+record_answers fields next replies now answer are is =
+    subst (AnswerBy (records_payload (record_lengths fields.items) replies) replies (is_some now.writer) answer) (sym are) is
+
+-- ---- a flush
+
+-- its answer was written, or not
+pub flush_taken : (sum : List ℕ → ℕ) (setting : Setting) (version : ProtocolVersion) (was : SessionState) (life : Life) (out written : Option (List ℕ)) (wrote : Result (Unit {0}) Stop) (result : Result (Option Error) Stop) → 25 ≤ last_kind version
+    → OnOk wrote (Appends out written (frame_bytes (0 ∷ []))) → IfErr wrote (IsWriteError 0) → Finishes [] wrote result → TakesRequest sum setting version Flush was was life life out written result
+flush_taken sum setting One was life out written wrote result within answers why told = absurd (omega (arith, within))
+flush_taken sum setting Two was life out written wrote result within answers why told =
+    taken_request sum setting Two Flush [] [] was was life life out written wrote result (and_false setting.read_only) refl (took_none sum was life) (frame_bytes (0 ∷ [])) refl
+    (writes (IsAnswer Two Flush [] was) 0 [] out written wrote refl answers why) told

@@ -1,0 +1,185 @@
+-- Answers to requests, from the replies to their steps.
+use Rattle.std.proofs.Common.{◌≡◌, ◌≢◌, ◌≤◌, ◌<◌, ◌+◌, ◌-◌, ◌*◌, suc, slice_index_or, Bool, true, false, ℕ, List, [], ◌∷◌, ◌++◌, length, refl, sym, ap, ◌∙◌, subst, append_assoc, arith}
+use Rattle.std.proofs.lemmas.List.{length-append}
+use Rattle.std.specs.Prelude.{Option, Some, None, Result, Ok, Err, IfErr, OnOk, is_some, option_map, ◌==◌, if◌then◌else◌, slice_get}
+use Rattle.std.proofs.lemmas.Bool.{eqb-true, ne_eqb}
+use Rattle.std.specs.Int.{w32, from_le_bytes}
+use Rattle.std.specs.List.{flat_map}
+use Rattle.std.proofs.KnownBytes.{Appends-nil, Appends-trans}
+use Rattle.std.specs.Io.KnownBytes.{Appends}
+use Rattle.session.specs.declared.steps.Reply.{Reply}
+use Rattle.protocol.specs.declared.stop.Stop.{Stop}
+use Rattle.protocol.specs.declared.stop.Stop.TheVariants.{Malformed, Version, WouldCut, Refused, Lost, LongAnswer, Failed, OutOfMemory}
+use Rattle.protocol.specs.declared.version.Version.{Version as ProtocolVersion}
+use Rattle.protocol.specs.declared.version.Version.TheVariants.{One, Two}
+use Rattle.protocol.specs.Answer.{AppendsTold, IsAnswerWith, IsLong, IsTold, IsTooLong, IsWriteError, answer_bytes, advice_byte, first_refusal, refusal_from, reply_payload, status_byte}
+use Rattle.protocol.specs.Request.{frame_bytes, length_bytes, number_bytes, last_kind}
+use Rattle.protocol.specs.Serve.{last_payload}
+use Rattle.protocol.specs.Taking.{IsGiven, TellsRefusal, Writes}
+use Rattle.protocol.specs.Together.{lengths_in, starts}
+use Rattle.protocol.proofs.Bytes.{length-length_bytes, length-number_bytes}
+
+-- a list of one
+pub one_of : {X : Type 0} (xs : List X) (x : X) → 1 ≤ length xs → length xs < 2 → x ≡ slice_index_or xs 0 x → xs ≡ x ∷ []
+one_of [] x some few is = absurd (omega (arith, some))
+one_of (y ∷ []) x some few is = ap (λ (z : _). z ∷ []) (sym is)
+one_of (y ∷ z ∷ zs) x some few is = absurd (omega (arith, few))
+
+-- a kind above those of the first version is one of the second
+pub is_two : (version : ProtocolVersion) (kind : ℕ) → 16 < kind → kind ≤ last_kind version → version ≡ Two
+is_two One kind above within = absurd (omega (arith, above, within))
+is_two Two kind above within = refl
+
+-- an answer with a long payload is too long
+pub long_frame : (status : ℕ) (payload : List ℕ) → IsLong (length payload) → IsTooLong (frame_bytes (status ∷ payload))
+long_frame status payload long =
+    let body = status ∷ payload in
+    omega (arith, long, length-append (length_bytes (length body)) body, length-length_bytes (length body))
+
+-- an answer was written, or it was too long
+pub writes : (Is : List ℕ → Type 0) (status : ℕ) (payload : List ℕ) (out written : Option (List ℕ)) (result : Result (Unit {0}) Stop) → Is (frame_bytes (status ∷ payload))
+    → OnOk result (Appends out written (frame_bytes (status ∷ payload))) → IfErr result (IsWriteError (length payload)) → Writes Is out written result
+writes Is status payload out written (Ok done) is answers why = (frame_bytes (status ∷ payload), is, answers)
+writes Is status payload out written (Err LongAnswer) is answers why = (frame_bytes (status ∷ payload), is, long_frame status payload why)
+writes Is status payload out written (Err Failed) is answers why = tt
+writes Is status payload out written (Err OutOfMemory) is answers why = absurd why
+writes Is status payload out written (Err (Malformed number flaw)) is answers why = absurd why
+writes Is status payload out written (Err (Version byte)) is answers why = absurd why
+writes Is status payload out written (Err (WouldCut cut)) is answers why = absurd why
+writes Is status payload out written (Err (Refused error)) is answers why = absurd why
+writes Is status payload out written (Err (Lost error)) is answers why = absurd why
+
+-- a refusal was written
+pub writes_told : (Is : List ℕ → Type 0) (status advice taken : ℕ) (out written : Option (List ℕ)) (result : Result (Unit {0}) Stop) → ((answer : List ℕ) → IsTold status advice taken answer → Is answer)
+    → OnOk result (AppendsTold status advice taken out written) → IfErr result (λ stop. stop ≡ Failed) → Writes Is out written result
+writes_told Is status advice taken out written (Ok done) is (answer, told, answers) why = (answer, is answer told, answers)
+writes_told Is status advice taken out written (Err stop) is none why = subst (λ (x : Stop). Writes Is out written (Err x)) (sym why) tt
+
+-- ---- the first refusal, or what is given
+
+-- an answer of one kind is one of another
+pub writes_as : (Is Are : List ℕ → Type 0) (out written : Option (List ℕ)) (result : Result (Unit {0}) Stop) → ((answer : List ℕ) → Is answer → Are answer) → Writes Is out written result → Writes Are out written result
+writes_as Is Are out written (Ok done) turn (answer, is, answers) = (answer, turn answer is, answers)
+writes_as Is Are out written (Err LongAnswer) turn (answer, is, long) = (answer, turn answer is, long)
+writes_as Is Are out written (Err Failed) turn none = tt
+writes_as Is Are out written (Err OutOfMemory) turn none = absurd none
+writes_as Is Are out written (Err (Malformed number flaw)) turn none = absurd none
+writes_as Is Are out written (Err (Version byte)) turn none = absurd none
+writes_as Is Are out written (Err (WouldCut cut)) turn none = absurd none
+writes_as Is Are out written (Err (Refused error)) turn none = absurd none
+writes_as Is Are out written (Err (Lost error)) turn none = absurd none
+
+-- by the first refusal of the replies
+abbrev AnswerOf : (payload : List ℕ) → Bool → List ℕ → Option (ℕ × Reply) → Type 0
+AnswerOf payload has_writer answer first = elim first [
+  | Some first ↦ IsTold (status_byte first.1) (advice_byte first.1 has_writer) first.0 answer
+  | None ↦ answer ≡ frame_bytes (0 ∷ payload)
+]
+
+-- there is an answer
+pub some_with : (payload : List ℕ) (replies : List Reply) (has_writer : Bool) → (answer : List ℕ) × IsAnswerWith payload replies has_writer answer
+some_with payload replies has_writer = by_first (first_refusal replies)
+  where
+    by_first : (first : Option (ℕ × Reply)) → (answer : List ℕ) × AnswerOf payload has_writer answer first
+    by_first (Some first) = (
+      frame_bytes (status_byte first.1 ∷ advice_byte first.1 has_writer ∷ number_bytes first.0 ++ number_bytes 0 ++ []),
+      record { number = 0; words = []; is = refl },
+    )
+    by_first None = (frame_bytes (0 ∷ payload), refl)
+
+-- the first refusal was told
+pub told_with : (payload : List ℕ) (replies : List Reply) (has_writer : Bool) (out written : Option (List ℕ)) → TellsRefusal replies has_writer out written (Ok true) → Writes (IsAnswerWith payload replies has_writer) out written (Ok tt)
+told_with payload replies has_writer out written (taken, reply, is, (answer, told, answers)) =
+    (answer, subst (λ (first : Option (ℕ × Reply)). AnswerOf payload has_writer answer first) (sym is) told, answers)
+
+-- or it couldn't be
+pub untold_with : (payload : List ℕ) (replies : List Reply) (has_writer : Bool) (out written : Option (List ℕ)) (stop : Stop) → stop ≡ Failed → Writes (IsAnswerWith payload replies has_writer) out written (Err stop)
+untold_with payload replies has_writer out written stop is = subst (λ (x : Stop). Writes (IsAnswerWith payload replies has_writer) out written (Err x)) (sym is) tt
+
+-- none refuses, and this is given
+pub given_with : (payload : List ℕ) (replies : List Reply) (has_writer : Bool) (out mid written : Option (List ℕ)) (result : Result (Unit {0}) Stop) → first_refusal replies ≡ None → mid ≡ out → Writes (IsGiven payload) mid written result
+    → Writes (IsAnswerWith payload replies has_writer) out written result
+given_with payload replies has_writer out mid written result none same wrote =
+    subst (λ (o : Option (List ℕ)). Writes (IsAnswerWith payload replies has_writer) o written result) same
+    (writes_as (IsGiven payload) (IsAnswerWith payload replies has_writer) mid written result
+    (λ answer is. subst (λ (first : Option (ℕ × Reply)). AnswerOf payload has_writer answer first) (sym none) is) wrote)
+
+-- ---- the last reply
+
+-- the last of some is that of the others
+last_more : (reply next : Reply) (replies : List Reply) → slice_get (reply ∷ next ∷ replies) (length (reply ∷ next ∷ replies) - 1) ≡ slice_get (next ∷ replies) (length (next ∷ replies) - 1)
+last_more reply next replies =
+    let same : length (reply ∷ next ∷ replies) - 1 ≡ suc (length (next ∷ replies) - 1) = omega arith in
+    ap (λ (i : ℕ). slice_get (reply ∷ next ∷ replies) i) same
+
+either_none : {X : Type 0} (b : Bool) (x : Option X) (y : X) → (if b then x else Some y) ≡ None → (b ≡ true) × (x ≡ None)
+either_none true x y none = (refl, none)
+either_none false x y none = absurd (cc none)
+
+-- a reply that doesn't refuse, and what is after it
+accepted : (taken : ℕ) (reply : Reply) (replies : List Reply) → refusal_from taken (reply ∷ replies) ≡ None → (status_byte reply ≡ 0) × (refusal_from (taken + 1) replies ≡ None)
+accepted taken reply replies none =
+    let both = either_none (status_byte reply == 0) (refusal_from (taken + 1) replies) (taken, reply) none in
+    (eqb-true (status_byte reply) 0 both.0, both.1)
+
+-- the answer to the last reply gives what that tells
+pub last_answer : (taken : ℕ) (replies : List Reply) (last : Reply) → refusal_from taken replies ≡ None → Some last ≡ slice_get replies (length replies - 1) → answer_bytes last ≡ frame_bytes (0 ∷ last_payload replies)
+last_answer taken [] last none is = absurd (cc is)
+last_answer taken (reply ∷ []) last none is =
+    let zero : status_byte reply ≡ 0 = (accepted taken reply [] none).0 in
+    let same : last ≡ reply = cc is in
+    ap answer_bytes same ∙ ap (λ (n : ℕ). frame_bytes (n ∷ reply_payload reply)) zero
+last_answer taken (reply ∷ next ∷ replies) last none is = last_answer (taken + 1) (next ∷ replies) last (accepted taken reply (next ∷ replies) none).1 (is ∙ last_more reply next replies)
+
+-- ---- a refusal among replies
+
+-- a reply that refuses is the first, where those before it don't
+pub refusal_here : (taken : ℕ) (reply : Reply) (rest more replies : List Reply) → rest ≡ reply ∷ more → status_byte reply ≢ 0 → refusal_from taken rest ≡ first_refusal replies → first_refusal replies ≡ Some (taken, reply)
+refusal_here taken reply rest more replies is refuses same =
+    let here : refusal_from taken (reply ∷ more) ≡ Some (taken, reply) = ap (λ (b : Bool). if b then refusal_from (taken + 1) more else Some (taken, reply)) (ne_eqb (status_byte reply) 0 refuses) in
+    sym same ∙ ap (refusal_from taken) is ∙ here
+
+-- where all were passed none refuses
+pub no_refusal : (taken : ℕ) (rest replies : List Reply) → length rest ≡ 0 → refusal_from taken rest ≡ first_refusal replies → first_refusal replies ≡ None
+no_refusal taken [] replies none same = sym same
+no_refusal taken (reply ∷ rest) replies none same = absurd (omega (arith, none))
+
+-- a refusal, as it is written
+pub told_of : (status advice taken number : ℕ) (words : List ℕ) (out written : Option (List ℕ)) (result : Result (Unit {0}) Stop) → OnOk result (Appends out written (frame_bytes (status ∷ advice ∷ number_bytes taken ++ number_bytes number ++ words)))
+    → OnOk result (AppendsTold status advice taken out written)
+told_of status advice taken number words out written (Ok done) answers =
+    (frame_bytes (status ∷ advice ∷ number_bytes taken ++ number_bytes number ++ words), record { number = number; words = words; is = refl }, answers)
+told_of status advice taken number words out written (Err stop) none = tt
+
+-- ---- records
+
+-- each length has eight bytes in place of its four
+pub starts_size : (lengths : List ℕ) (at count : ℕ) → length lengths ≡ 4 * count → length (flat_map number_bytes (starts at (lengths_in lengths))) ≡ 2 * length lengths
+starts_size [] at count whole = refl
+starts_size (a ∷ []) at count whole = absurd (omega (arith, whole))
+starts_size (a ∷ b ∷ []) at count whole = absurd (omega (arith, whole))
+starts_size (a ∷ b ∷ c ∷ []) at count whole = absurd (omega (arith, whole))
+starts_size (a ∷ b ∷ c ∷ d ∷ rest) at count whole =
+    let first = from_le_bytes w32 (a ∷ b ∷ c ∷ d ∷ []) in
+    let more = starts_size rest (at + first) (count - 1) (omega (arith, whole)) in
+    length-append (number_bytes at) (flat_map number_bytes (starts (at + first) (lengths_in rest))) ∙ omega (arith, more, length-number_bytes at)
+
+-- a head, and what it is of, are an answer
+pub whole_answer : (payload front more : List ℕ) (len : ℕ) (out first second written : Option (List ℕ)) → payload ≡ front ++ more → length front + length more ≡ len → Appends out first (length_bytes (len + 1) ++ 0 ∷ []) → Appends first second front
+    → Appends second written more → (answer : List ℕ) × IsGiven payload answer × Appends out written answer
+whole_answer payload front more len out first second written is long head middle last =
+    let all = Appends-trans out second written ((length_bytes (len + 1) ++ 0 ∷ []) ++ front) more (Appends-trans out first second (length_bytes (len + 1) ++ 0 ∷ []) front head middle) last in
+    let size : len + 1 ≡ length (0 ∷ payload) = omega (arith, long, ap length is, length-append front more) in
+    let same : ((length_bytes (len + 1) ++ 0 ∷ []) ++ front) ++ more ≡ frame_bytes (0 ∷ payload) =
+    append_assoc (length_bytes (len + 1) ++ 0 ∷ []) front more ∙ append_assoc (length_bytes (len + 1)) (0 ∷ []) (front ++ more)
+    ∙ ap (λ (xs : List ℕ). length_bytes (len + 1) ++ 0 ∷ xs) (sym is) ∙ ap (λ (n : ℕ). length_bytes n ++ 0 ∷ payload) size in
+    (frame_bytes (0 ∷ payload), refl, subst (λ (xs : List ℕ). Appends out written xs) same all)
+
+-- nothing more
+pub append_none : (a b : Option (List ℕ)) → a ≡ b → Appends a b []
+append_none a b same = subst (λ (x : Option (List ℕ)). Appends a x []) same (Appends-nil a)
+
+-- what is mapped is there as before
+pub is_some_mapped : {X Y : Type 0} (f : X → Y) (o : Option X) → is_some (option_map f o) ≡ is_some o
+is_some_mapped f None = refl
+is_some_mapped f (Some x) = refl

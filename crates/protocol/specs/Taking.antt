@@ -1,0 +1,86 @@
+-- How a request is taken, and its answer written.
+use Rattle.std.specs.Prelude.{◌≡◌, ◌≢◌, ◌⊎◌, ◌<◌, ◌+◌, ◌^◌, ℕ, List, [], ◌∷◌, Option, Some, None}
+use Rattle.std.specs.Prelude.{Result, Ok, Err}
+use Rattle.std.specs.Prelude.{Bool, true, false}
+use Rattle.std.specs.Io.KnownBytes.{Appends}
+use Rattle.disk.specs.declared.error.Error.{Error}
+use Rattle.disk.specs.Disk.{Life}
+use Rattle.cache.specs.CacheState.{CacheState}
+use Rattle.session.specs.declared.steps.Step.{Step}
+use Rattle.session.specs.declared.steps.Reply.{Reply}
+use Rattle.session.specs.declared.steps.Reply.TheVariants.{At}
+use Rattle.session.specs.Run.{SessionState}
+use Rattle.session.specs.Calls.{RunGoes}
+use Rattle.protocol.specs.declared.stop.Stop.{Stop}
+use Rattle.protocol.specs.declared.stop.Stop.TheVariants.{LongAnswer, Failed, Malformed}
+use Rattle.protocol.specs.declared.stop.Stop.TheVariants.{OutOfMemory}
+use Rattle.protocol.specs.declared.version.Version.{Version as ProtocolVersion}
+use Rattle.protocol.specs.declared.version.Version.TheVariants.{One, Two}
+use Rattle.protocol.specs.Answer.{AppendsTold, IsAnswerWith, IsTooLong, advice_byte, fault_in}
+use Rattle.protocol.specs.Answer.{answer_bytes, first_refusal, status_byte, unreadable_status}
+use Rattle.protocol.specs.Request.{frame_bytes}
+use Rattle.protocol.specs.Serve.{TellsFlaw, last_payload}
+
+-- an answer that is so was written, or it was too long, or the output failed
+abbrev pub Writes : (List ℕ → Type 0) → (out written : Option (List ℕ)) → Result (Unit {0}) Stop
+    → Type 0
+Writes Is out written (Ok done) = (answer : List ℕ) × Is answer × Appends out written answer
+Writes Is out written (Err LongAnswer) = (answer : List ℕ) × Is answer × IsTooLong answer
+Writes Is out written (Err Failed) = Unit {0}
+Writes Is out written (Err other) = ⊥
+
+-- the first reply that refuses was told, or none does, and nothing was written
+abbrev pub TellsRefusal : List Reply → (has_writer : Bool) → (out written : Option (List ℕ))
+    → Result Bool Stop → Type 0
+TellsRefusal replies has_writer out written (Ok true) =
+    (taken : ℕ) × (reply : Reply) × (first_refusal replies ≡ Some (taken, reply))
+    × AppendsTold (status_byte reply) (advice_byte reply has_writer) taken out written
+TellsRefusal replies has_writer out written (Ok false) =
+    (first_refusal replies ≡ None) × (written ≡ out)
+TellsRefusal replies has_writer out written (Err stop) = stop ≡ Failed
+
+-- what became of an answer, with the first error of the replies
+abbrev pub Finishes : List Reply → Result (Unit {0}) Stop → Result (Option Error) Stop → Type 0
+Finishes replies (Ok done) result = result ≡ Ok (fault_in replies)
+Finishes replies (Err stop) result = result ≡ Err stop
+
+-- the answer to the only one of these replies
+abbrev pub IsOnlyAnswer : List Reply → List ℕ → Type 0
+IsOnlyAnswer replies answer =
+    (reply : Reply) × (replies ≡ reply ∷ []) × (answer ≡ answer_bytes reply)
+
+-- the answer to one step, by its reply
+abbrev pub IsStepAnswer : ProtocolVersion → List Reply → (has_writer : Bool) → List ℕ → Type 0
+IsStepAnswer One replies has_writer answer = IsOnlyAnswer replies answer
+IsStepAnswer Two replies has_writer answer =
+    IsAnswerWith (last_payload replies) replies has_writer answer
+
+-- an answer that gives this
+abbrev pub IsGiven : (payload answer : List ℕ) → Type 0
+IsGiven payload answer = answer ≡ frame_bytes (0 ∷ payload)
+
+-- steps were taken, with these replies and no others before; or none was
+abbrev pub RunsSteps : (List ℕ → ℕ) → List Step → SessionState → SessionState
+    → (cache after : CacheState) → Life → Life → List Reply → Result (Unit {0}) Stop → Type 0
+RunsSteps sum steps was now cache after old new replies (Ok done) =
+    RunGoes sum steps was now cache after old new [] replies
+RunsSteps sum steps was now cache after old new replies (Err stop) =
+    (stop ≡ OutOfMemory) × (now ≡ was) × (new ≡ old)
+
+-- the first of these replies tells where so many bytes were appended, or refuses
+abbrev pub IsAppendReply : (size : ℕ) → List Reply → Type 0
+IsAppendReply size [] = Unit {0}
+IsAppendReply size (At at ∷ replies) = at + size < 2 ^ 64
+IsAppendReply size (reply ∷ replies) = status_byte reply ≢ 0
+
+-- a request whose bytes couldn't be read was answered so
+abbrev pub TellsUnreadable : (out written : Option (List ℕ)) → Result (Option Error) Stop → Type 0
+TellsUnreadable out written (Ok fault) =
+    AppendsTold unreadable_status 0 0 out written × (fault ≡ None)
+TellsUnreadable out written (Err stop) = stop ≡ Failed
+
+-- why a session stops, after a client of the second version was told what is no request
+abbrev pub TellsStop : ProtocolVersion → Stop → (out written : Option (List ℕ)) → Stop → Type 0
+TellsStop version (Malformed number flaw) out written stop =
+    ((stop ≡ Malformed number flaw) × TellsFlaw version flaw out written) ⊎ (stop ≡ Failed)
+TellsStop version other out written stop = (stop ≡ other) × (written ≡ out)

@@ -1,0 +1,24 @@
+// The versions of the protocol.
+ghost use Rattle.std.specs.Prelude.{◌≡◌};
+ghost use Rattle.protocol.specs.Request.{last_kind};
+
+/// A version of the protocol.
+#[derive(Clone, Copy, Debug, PartialEq, Eq)]
+pub enum Version {
+    /// Each request is one step, and a refusal tells only its status.
+    One,
+    /// Requests that belong together are one, and a refusal tells its cause.
+    Two,
+}
+
+impl Version {
+    /// The greatest kind of a request.
+    pub(crate) fn last_kind(self) -> u8
+        ensures { result ≡ last_kind self }
+    {
+        match self {
+            Version::One => 16,
+            Version::Two => 25,
+        }
+    }
+}
