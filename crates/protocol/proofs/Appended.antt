@@ -24,7 +24,7 @@ use Rattle.session.specs.declared.steps.Step.TheVariants.{Append}
 use Rattle.session.specs.declared.steps.Reply.{Reply}
 use Rattle.session.specs.declared.steps.Reply.TheVariants.{At, Fault}
 use Rattle.protocol.specs.Taking.{IsAppendReply}
-use Rattle.protocol.specs.Together.{are_records, lengths_in, lengths_size, record_bytes, record_lengths}
+use Rattle.protocol.specs.Together.{tells_records, lengths_in, lengths_size, record_bytes, record_lengths}
 
 -- the end of an append that fits the blob is a number of 64 bits
 append_end : (P full tip len at : ℕ) → 0 < P → at ≡ full * P + tip → physical_blob_size P full (tip + len) < 2 ^ 64 → at + len < 2 ^ 64
@@ -92,24 +92,24 @@ and_first true false c d is = absurd (cc is)
 and_first false b c d is = absurd (cc is)
 
 -- they are as long as their lengths tell
-records_long : (fields : List ℕ) → are_records fields ≡ true → sum (record_lengths fields) ≡ length (record_bytes fields)
+records_long : (fields : List ℕ) → tells_records fields ≡ true → sum (record_lengths fields) ≡ length (record_bytes fields)
 records_long fields are = eqb-true (sum (record_lengths fields)) (length (record_bytes fields))
     (and_last (nat_le 4 (length fields)) (nat_le (lengths_size fields) (length fields - 4)) (nat_lt (2 * lengths_size fields + 10) (2 ^ 32)) (sum (record_lengths fields) == length (record_bytes fields)) are)
 
 -- their lengths are all there
-lengths_there : (fields : List ℕ) → are_records fields ≡ true → length (take (lengths_size fields) (drop 4 fields)) ≡ lengths_size fields
+lengths_there : (fields : List ℕ) → tells_records fields ≡ true → length (take (lengths_size fields) (drop 4 fields)) ≡ lengths_size fields
 lengths_there fields are =
     let both = and_first (nat_le 4 (length fields)) (nat_le (lengths_size fields) (length fields - 4)) (nat_lt (2 * lengths_size fields + 10) (2 ^ 32)) (sum (record_lengths fields) == length (record_bytes fields)) are in
     length-take-le (lengths_size fields) (drop 4 fields) (omega (arith, length-drop 4 fields, leb-true (lengths_size fields) (length fields - 4) both.1))
 
 -- what is after the lengths are the bytes
-pub bytes_after : (fields lengths tail : List ℕ) → are_records fields ≡ true → lengths ≡ take (lengths_size fields) (drop 4 fields) → tail ≡ drop (4 + length lengths) fields → tail ≡ record_bytes fields
+pub bytes_after : (fields lengths tail : List ℕ) → tells_records fields ≡ true → lengths ≡ take (lengths_size fields) (drop 4 fields) → tail ≡ drop (4 + length lengths) fields → tail ≡ record_bytes fields
 bytes_after fields lengths tail are is after =
     let size : length lengths ≡ lengths_size fields = ap length is ∙ lengths_there fields are in
     after ∙ ap (λ (n : ℕ). drop (4 + n) fields) size ∙ sym (drop-drop (lengths_size fields) 4 fields)
 
 -- the first reply tells where the records begin
-pub records_reply : (sum_of : List ℕ → ℕ) (fields lengths : List ℕ) (bytes : Vec ℕ Global) (more : List Step) (replies : List Reply) (was now : SessionState) (cache after : CacheState) (old new : Life) → are_records fields ≡ true
+pub records_reply : (sum_of : List ℕ → ℕ) (fields lengths : List ℕ) (bytes : Vec ℕ Global) (more : List Step) (replies : List Reply) (was now : SessionState) (cache after : CacheState) (old new : Life) → tells_records fields ≡ true
     → lengths ≡ take (lengths_size fields) (drop 4 fields) → bytes.items ≡ record_bytes fields → RunGoes sum_of (Append bytes ∷ more) was now cache after old new [] replies → IsAppendReply (sum (lengths_in lengths)) replies
 records_reply sum_of fields lengths bytes more replies was now cache after old new are is content runs =
     let size : length bytes.items ≡ sum (lengths_in lengths) = ap length content ∙ sym (records_long fields are) ∙ ap (λ (xs : List ℕ). sum (lengths_in xs)) (sym is) in

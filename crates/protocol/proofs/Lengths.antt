@@ -6,7 +6,7 @@ use Rattle.std.specs.List.{flat_map}
 use Rattle.std.specs.Io.KnownBytes.{Appends}
 use Rattle.std.proofs.KnownBytes.{Appends-nil, Appends-trans}
 use Rattle.protocol.specs.Request.{number_bytes}
-use Rattle.protocol.specs.Together.{lengths_in, starts}
+use Rattle.protocol.specs.Together.{lengths_in, record_starts}
 
 -- the first four bytes tell a length
 pub lengths_first : (bytes : List ℕ) → 4 ≤ length bytes → lengths_in bytes ≡ from_le_bytes w32 (take 4 bytes) ∷ lengths_in (drop 4 bytes)
@@ -28,7 +28,7 @@ no_lengths (a ∷ b ∷ c ∷ d ∷ rest) few = absurd (omega (arith, few))
 pub record Writing (first : ℕ) (lengths : List ℕ) (at : ℕ) (rest : List ℕ) (out written : Option (List ℕ)) : Type 0 where
   pub front : List ℕ
   pub answers : Appends out written front
-  pub all : front ++ flat_map number_bytes (starts at (lengths_in rest)) ≡ flat_map number_bytes (starts first (lengths_in lengths))
+  pub all : front ++ flat_map number_bytes (record_starts at (lengths_in rest)) ≡ flat_map number_bytes (record_starts first (lengths_in lengths))
 
 pub writing_none : (first : ℕ) (lengths : List ℕ) (out : Option (List ℕ)) → Writing first lengths first lengths out out
 writing_none first lengths out = record { front = []; answers = Appends-nil out; all = refl }
@@ -45,18 +45,18 @@ first_length rest four after n is then long told =
 pub writing_more : (first : ℕ) (lengths : List ℕ) (at n : ℕ) (rest after : List ℕ) (out mid written : Option (List ℕ)) → lengths_in rest ≡ n ∷ lengths_in after → Writing first lengths at rest out mid
     → Appends mid written (number_bytes at) → Writing first lengths (at + n) after out written
 writing_more first lengths at n rest after out mid written is before answers =
-    let tail = flat_map number_bytes (starts (at + n) (lengths_in after)) in
+    let tail = flat_map number_bytes (record_starts (at + n) (lengths_in after)) in
     record {
       front = before.front ++ number_bytes at;
       answers = Appends-trans out mid written before.front (number_bytes at) before.answers answers;
       all = append_assoc before.front (number_bytes at) tail
-          ∙ ap (λ (ls : List ℕ). before.front ++ flat_map number_bytes (starts at ls)) (sym is)
+          ∙ ap (λ (ls : List ℕ). before.front ++ flat_map number_bytes (record_starts at ls)) (sym is)
           ∙ before.all;
     }
 
 -- all were
-pub written_all : (first : ℕ) (lengths : List ℕ) (at : ℕ) (rest : List ℕ) (out written : Option (List ℕ)) → length rest < 4 → Writing first lengths at rest out written → Appends out written (flat_map number_bytes (starts first (lengths_in lengths)))
+pub written_all : (first : ℕ) (lengths : List ℕ) (at : ℕ) (rest : List ℕ) (out written : Option (List ℕ)) → length rest < 4 → Writing first lengths at rest out written → Appends out written (flat_map number_bytes (record_starts first (lengths_in lengths)))
 written_all first lengths at rest out written few w =
-    let none : flat_map number_bytes (starts at (lengths_in rest)) ≡ [] = ap (λ (ls : List ℕ). flat_map number_bytes (starts at ls)) (no_lengths rest few) in
-    let all : w.front ≡ flat_map number_bytes (starts first (lengths_in lengths)) = sym (append-nil w.front) ∙ ap (λ (xs : List ℕ). w.front ++ xs) (sym none) ∙ w.all in
+    let none : flat_map number_bytes (record_starts at (lengths_in rest)) ≡ [] = ap (λ (ls : List ℕ). flat_map number_bytes (record_starts at ls)) (no_lengths rest few) in
+    let all : w.front ≡ flat_map number_bytes (record_starts first (lengths_in lengths)) = sym (append-nil w.front) ∙ ap (λ (xs : List ℕ). w.front ++ xs) (sym none) ∙ w.all in
     subst (λ (xs : List ℕ). Appends out written xs) all w.answers

@@ -19,13 +19,13 @@ use Rattle.protocol.specs.declared.stop.Stop.TheVariants.{Malformed, Version, Wo
 use Rattle.protocol.specs.declared.version.Version.{Version as ProtocolVersion}
 use Rattle.protocol.specs.declared.version.Version.TheVariants.{One, Two}
 use Rattle.std.specs.Io.KnownBytes.{Appends}
-use Rattle.protocol.specs.Answer.{IsAnswerWith, IsTold, IsWriteError, answer_bytes, refusal_bytes, read_only_status, unreadable_status}
+use Rattle.protocol.specs.Answer.{IsAnswerWith, IsRefusalAnswer, IsWriteError, answer_bytes, refusal_bytes, read_only_status, unreadable_status}
 use Rattle.protocol.specs.Request.{frame_bytes, last_kind, number_bytes}
-use Rattle.protocol.specs.Serve.{AreSteps, IsAnswer, IsChangeRefused, Served, TakesRequest, asks_change, given_payload, gives_last, is_readable, last_payload, records_payload, steps_then}
+use Rattle.protocol.specs.Serve.{AreSteps, IsAnswer, IsChangeRefused, Served, TakesRequest, asks_change, given_payload, gives_last, can_be_read, last_payload, records_payload, steps_then}
 use Rattle.protocol.specs.Serve.Served.{taken, refused}
-use Rattle.protocol.specs.Taking.{Finishes, IsStepAnswer, RunsSteps, TellsUnreadable, Writes}
+use Rattle.protocol.specs.Taking.{Finishes, IsStepAnswer, RunsSteps, TellsUnreadable, WritesAnswer}
 use Rattle.protocol.specs.declared.request.Then.{Then}
-use Rattle.protocol.specs.Together.{are_ranges, are_records, ranges_in, record_bytes, record_lengths}
+use Rattle.protocol.specs.Together.{tells_ranges, tells_records, ranges_in, record_bytes, record_lengths}
 use Rattle.protocol.proofs.Serving.{taken_request, took_none, took_of}
 use Rattle.protocol.proofs.Taken.{is_some_mapped, some_with, writes}
 
@@ -39,15 +39,15 @@ StepsBy fields steps readable = elim readable [
 abbrev AnswerBy : (payload : List ℕ) → List Reply → (has_writer : Bool) → List ℕ → Bool → Type 0
 AnswerBy payload replies has_writer answer readable = elim readable [
   | true ↦ IsAnswerWith payload replies has_writer answer
-  | false ↦ IsTold unreadable_status 0 0 answer
+  | false ↦ IsRefusalAnswer unreadable_status 0 0 answer
 ]
 
 -- where they can't be read there are none
-pub no_steps : (setting : Setting) (fields : Vec ℕ Global) → are_ranges fields.items ≡ false → AreSteps setting (Ranges fields) []
+pub no_steps : (setting : Setting) (fields : Vec ℕ Global) → tells_ranges fields.items ≡ false → AreSteps setting (Ranges fields) []
 no_steps setting fields none = subst (StepsBy fields.items []) (sym none) refl
 
 -- and else they are read
-pub reads_ranges : (setting : Setting) (fields : Vec ℕ Global) (ranges : Vec (ℕ × ℕ) Global) → are_ranges fields.items ≡ true → ranges.items ≡ ranges_in fields.items → AreSteps setting (Ranges fields) (ReadRanges ranges ∷ [])
+pub reads_ranges : (setting : Setting) (fields : Vec ℕ Global) (ranges : Vec (ℕ × ℕ) Global) → tells_ranges fields.items ≡ true → ranges.items ≡ ranges_in fields.items → AreSteps setting (Ranges fields) (ReadRanges ranges ∷ [])
 reads_ranges setting fields ranges are is = subst (StepsBy fields.items (ReadRanges ranges ∷ [])) (sym are) (ranges, is, refl)
 
 -- ---- requests that were taken
@@ -55,7 +55,7 @@ reads_ranges setting fields ranges are is = subst (StepsBy fields.items (ReadRan
 -- their steps were run, and an answer to them was written or not
 pub runs_request : (sum : List ℕ → ℕ) (setting : Setting) (version : ProtocolVersion) (request : Request) (steps : List Step) (was now : SessionState) (cache after : CacheState) (old new : Life) (replies : List Reply) (out written : Option (List ℕ)) (wrote : Result (Unit {0}) Stop) (result : Result (Option Error) Stop)
     → (setting.read_only && asks_change request) ≡ false → AreSteps setting request steps → RunsSteps sum steps was now cache after old new replies (Ok tt) → ((answer : List ℕ) × IsAnswer version request replies now answer)
-    → Writes (IsAnswer version request replies now) out written wrote → Finishes replies wrote result → TakesRequest sum setting version request was now old new out written result
+    → WritesAnswer (IsAnswer version request replies now) out written wrote → Finishes replies wrote result → TakesRequest sum setting version request was now old new out written result
 runs_request sum setting version request steps was now cache after old new replies out written wrote result may are runs (some, is) writes told =
     taken_request sum setting version request steps replies was now old new out written wrote result may are (took_of sum steps was now cache after old new replies runs) some is writes told
 
@@ -74,7 +74,7 @@ step_answers Two step replies now answer is = is
 -- the answer to a request that is answered by the last reply
 pub last_answers : (setting : Setting) (request : Request) (steps : List Step) (replies : List Reply) (now : SessionState) (answer : List ℕ) → gives_last request ≡ true → AreSteps setting request steps → 0 < length steps
     → IsAnswerWith (last_payload replies) replies (is_some now.writer) answer → IsAnswer Two request replies now answer
-last_answers setting (Ranges fields) steps replies now answer last are some is = by_flag (are_ranges fields.items) are
+last_answers setting (Ranges fields) steps replies now answer last are some is = by_flag (tells_ranges fields.items) are
   where
     by_flag : (b : Bool) → StepsBy fields.items steps b → AnswerBy (last_payload replies) replies (is_some now.writer) answer b
     by_flag true given = is
@@ -92,13 +92,13 @@ writer_there b size now is of = is ∙ ap is_some of ∙ is_some_mapped size_of 
 
 -- a request whose bytes can't be read was answered so
 pub unreadable : (sum : List ℕ → ℕ) (setting : Setting) (request : Request) (was : SessionState) (life : Life) (out written : Option (List ℕ)) (result : Result (Option Error) Stop)
-    → (setting.read_only && asks_change request) ≡ false → AreSteps setting request [] → is_readable request ≡ false → TellsUnreadable out written result → TakesRequest sum setting Two request was was life life out written result
+    → (setting.read_only && asks_change request) ≡ false → AreSteps setting request [] → can_be_read request ≡ false → TellsUnreadable out written result → TakesRequest sum setting Two request was was life life out written result
 unreadable sum setting request was life out written result may are none tells = by_answer result tells
   where
-    answered : (answer : List ℕ) → IsTold unreadable_status 0 0 answer → IsAnswer Two request [] was answer
+    answered : (answer : List ℕ) → IsRefusalAnswer unreadable_status 0 0 answer → IsAnswer Two request [] was answer
     answered answer told = subst (AnswerBy (given_payload request []) [] (is_some was.writer) answer) (sym none) told
 
-    served : (answer : List ℕ) → IsTold unreadable_status 0 0 answer → Served setting Two request [] [] was answer
+    served : (answer : List ℕ) → IsRefusalAnswer unreadable_status 0 0 answer → Served setting Two request [] [] was answer
     served answer told = taken request [] [] was answer may are (answered answer told)
 
     by_answer : (r : Result (Option Error) Stop) → TellsUnreadable out written r → TakesRequest sum setting Two request was was life life out written r
@@ -119,7 +119,7 @@ and_false false = refl
 
 -- a change is refused, and so answered
 pub change_refused : (sum : List ℕ → ℕ) (setting : Setting) (version : ProtocolVersion) (request : Request) (was : SessionState) (life : Life) (out written : Option (List ℕ)) (wrote : Result (Unit {0}) Stop) (result : Result (Option Error) Stop)
-    → (setting.read_only && asks_change request) ≡ true → Writes (IsChangeRefused version) out written wrote → Finishes [] wrote result → TakesRequest sum setting version request was was life life out written result
+    → (setting.read_only && asks_change request) ≡ true → WritesAnswer (IsChangeRefused version) out written wrote → Finishes [] wrote result → TakesRequest sum setting version request was was life life out written result
 change_refused sum setting version request was life out written (Ok done) result may (answer, is, appends) told =
     subst (λ (r : Result (Option Error) Stop). TakesRequest sum setting version request was was life life out written r) (sym told)
     ([], [], answer, refused request was answer may is, took_none sum was life, (appends, refl))
@@ -130,7 +130,7 @@ change_refused sum setting version request was life out written (Err stop) resul
     some One = (refusal_bytes, refl)
     some Two = (frame_bytes (read_only_status ∷ 0 ∷ number_bytes 0 ++ number_bytes 0 ++ []), record { number = 0; words = []; is = refl })
 
-    by_cause : (x : Stop) → Writes (IsChangeRefused version) out written (Err x) → TakesRequest sum setting version request was was life life out written (Err x)
+    by_cause : (x : Stop) → WritesAnswer (IsChangeRefused version) out written (Err x) → TakesRequest sum setting version request was was life life out written (Err x)
     by_cause LongAnswer (answer, is, long) = ([], [], answer, refused request was answer may is, took_none sum was life, long)
     by_cause Failed none = ([], [], (some version).0, refused request was (some version).0 may (some version).1, took_none sum was life, tt)
     by_cause OutOfMemory none = absurd none
@@ -149,14 +149,14 @@ RecordsBy fields next steps readable = elim readable [
   | false ↦ steps ≡ []
 ]
 
-pub no_record_steps : (setting : Setting) (fields : Vec ℕ Global) (next : Then) → are_records fields.items ≡ false → AreSteps setting (Records fields next) []
+pub no_record_steps : (setting : Setting) (fields : Vec ℕ Global) (next : Then) → tells_records fields.items ≡ false → AreSteps setting (Records fields next) []
 no_record_steps setting fields next none = subst (RecordsBy fields.items next []) (sym none) refl
 
-pub record_steps : (setting : Setting) (fields bytes : Vec ℕ Global) (next : Then) → are_records fields.items ≡ true → bytes.items ≡ record_bytes fields.items → AreSteps setting (Records fields next) (Append bytes ∷ steps_then next)
+pub record_steps : (setting : Setting) (fields bytes : Vec ℕ Global) (next : Then) → tells_records fields.items ≡ true → bytes.items ≡ record_bytes fields.items → AreSteps setting (Records fields next) (Append bytes ∷ steps_then next)
 record_steps setting fields bytes next are is = subst (RecordsBy fields.items next (Append bytes ∷ steps_then next)) (sym are) (bytes, is, refl)
 
 -- the answer to records that could be read
-pub record_answers : (fields : Vec ℕ Global) (next : Then) (replies : List Reply) (now : SessionState) (answer : List ℕ) → are_records fields.items ≡ true
+pub record_answers : (fields : Vec ℕ Global) (next : Then) (replies : List Reply) (now : SessionState) (answer : List ℕ) → tells_records fields.items ≡ true
     → IsAnswerWith (records_payload (record_lengths fields.items) replies) replies (is_some now.writer) answer → IsAnswer Two (Records fields next) replies now answer
 record_answers fields next replies now answer are is =
     subst (AnswerBy (records_payload (record_lengths fields.items) replies) replies (is_some now.writer) answer) (sym are) is

@@ -25,7 +25,7 @@ use Rattle.protocol.specs.declared.stop.ReadError.TheVariants.{Malformed as IsMa
 use Rattle.protocol.specs.declared.stop.Stop.{Stop}
 use Rattle.protocol.specs.declared.stop.Stop.TheVariants.{Malformed, Version, WouldCut, Refused, Lost, LongAnswer, Failed, OutOfMemory}
 use Rattle.protocol.specs.Answer.{fault_in, reply_error, IsTooLong, IsWriteError}
-use Rattle.protocol.specs.Taking.{Finishes, TellsStop, Writes}
+use Rattle.protocol.specs.Taking.{Finishes, TellsStop, WritesAnswer}
 use Rattle.protocol.specs.Input.{IsBroken}
 use Rattle.protocol.specs.Stop.{stop_at}
 use Rattle.protocol.specs.Request.{IsRequest, request_bytes, number_bytes, length_bytes, frame_bytes}
@@ -120,7 +120,7 @@ took_of sum steps was now cache after old new replies runs =
 
 -- an answer to a request was written, or it wasn't; this is so of those that it may have
 pub taken_request : (sum : List ℕ → ℕ) (setting : Setting) (version : ProtocolVersion) (request : Request) (steps : List Step) (replies : List Reply) (was now : SessionState) (old new : Life) (out written : Option (List ℕ)) (wrote : Result (Unit {0}) Stop) (result : Result (Option Error) Stop)
-    → (setting.read_only && asks_change request) ≡ false → AreSteps setting request steps → Took sum steps replies was now old new → (some : List ℕ) → IsAnswer version request replies now some → Writes (IsAnswer version request replies now) out written wrote → Finishes replies wrote result
+    → (setting.read_only && asks_change request) ≡ false → AreSteps setting request steps → Took sum steps replies was now old new → (some : List ℕ) → IsAnswer version request replies now some → WritesAnswer (IsAnswer version request replies now) out written wrote → Finishes replies wrote result
     → TakesRequest sum setting version request was now old new out written result
 taken_request sum setting version request steps replies was now old new out written (Ok done) result may are took some is (answer, answers, appends) told =
     subst (λ (r : Result (Option Error) Stop). TakesRequest sum setting version request was now old new out written r) (sym told)
@@ -128,7 +128,7 @@ taken_request sum setting version request steps replies was now old new out writ
 taken_request sum setting version request steps replies was now old new out written (Err stop) result may are took some is wrote told =
     subst (λ (r : Result (Option Error) Stop). TakesRequest sum setting version request was now old new out written r) (sym told) (by_cause stop wrote)
   where
-    by_cause : (x : Stop) → Writes (IsAnswer version request replies now) out written (Err x) → TakesRequest sum setting version request was now old new out written (Err x)
+    by_cause : (x : Stop) → WritesAnswer (IsAnswer version request replies now) out written (Err x) → TakesRequest sum setting version request was now old new out written (Err x)
     by_cause LongAnswer (answer, answers, long) = (steps, replies, answer, taken request steps replies now answer may are answers, took, long)
     by_cause Failed none = (steps, replies, some, taken request steps replies now some may are is, took, tt)
     by_cause OutOfMemory none = absurd none

@@ -12,11 +12,11 @@ use Rattle.protocol.specs.declared.stop.Stop.{Stop}
 use Rattle.protocol.specs.declared.stop.Stop.TheVariants.{Malformed, Version, WouldCut, Refused, Lost, LongAnswer, Failed, OutOfMemory}
 use Rattle.protocol.specs.declared.version.Version.{Version as ProtocolVersion}
 use Rattle.protocol.specs.declared.version.Version.TheVariants.{One, Two}
-use Rattle.protocol.specs.Answer.{AppendsTold, IsAnswerWith, IsLong, IsTold, IsTooLong, IsWriteError, answer_bytes, advice_byte, first_refusal, refusal_from, reply_payload, status_byte}
+use Rattle.protocol.specs.Answer.{AppendsRefusal, IsAnswerWith, IsLong, IsRefusalAnswer, IsTooLong, IsWriteError, answer_bytes, advice_byte, first_refusal, refusal_from, reply_payload, status_byte}
 use Rattle.protocol.specs.Request.{frame_bytes, length_bytes, number_bytes, last_kind}
 use Rattle.protocol.specs.Serve.{last_payload}
-use Rattle.protocol.specs.Taking.{IsGiven, TellsRefusal, Writes}
-use Rattle.protocol.specs.Together.{lengths_in, starts}
+use Rattle.protocol.specs.Taking.{GivesPayload, TellsRefusal, WritesAnswer}
+use Rattle.protocol.specs.Together.{lengths_in, record_starts}
 use Rattle.protocol.proofs.Bytes.{length-length_bytes, length-number_bytes}
 
 -- a list of one
@@ -38,7 +38,7 @@ long_frame status payload long =
 
 -- an answer was written, or it was too long
 pub writes : (Is : List ℕ → Type 0) (status : ℕ) (payload : List ℕ) (out written : Option (List ℕ)) (result : Result (Unit {0}) Stop) → Is (frame_bytes (status ∷ payload))
-    → OnOk result (Appends out written (frame_bytes (status ∷ payload))) → IfErr result (IsWriteError (length payload)) → Writes Is out written result
+    → OnOk result (Appends out written (frame_bytes (status ∷ payload))) → IfErr result (IsWriteError (length payload)) → WritesAnswer Is out written result
 writes Is status payload out written (Ok done) is answers why = (frame_bytes (status ∷ payload), is, answers)
 writes Is status payload out written (Err LongAnswer) is answers why = (frame_bytes (status ∷ payload), is, long_frame status payload why)
 writes Is status payload out written (Err Failed) is answers why = tt
@@ -50,15 +50,15 @@ writes Is status payload out written (Err (Refused error)) is answers why = absu
 writes Is status payload out written (Err (Lost error)) is answers why = absurd why
 
 -- a refusal was written
-pub writes_told : (Is : List ℕ → Type 0) (status advice taken : ℕ) (out written : Option (List ℕ)) (result : Result (Unit {0}) Stop) → ((answer : List ℕ) → IsTold status advice taken answer → Is answer)
-    → OnOk result (AppendsTold status advice taken out written) → IfErr result (λ stop. stop ≡ Failed) → Writes Is out written result
+pub writes_told : (Is : List ℕ → Type 0) (status advice taken : ℕ) (out written : Option (List ℕ)) (result : Result (Unit {0}) Stop) → ((answer : List ℕ) → IsRefusalAnswer status advice taken answer → Is answer)
+    → OnOk result (AppendsRefusal status advice taken out written) → IfErr result (λ stop. stop ≡ Failed) → WritesAnswer Is out written result
 writes_told Is status advice taken out written (Ok done) is (answer, told, answers) why = (answer, is answer told, answers)
-writes_told Is status advice taken out written (Err stop) is none why = subst (λ (x : Stop). Writes Is out written (Err x)) (sym why) tt
+writes_told Is status advice taken out written (Err stop) is none why = subst (λ (x : Stop). WritesAnswer Is out written (Err x)) (sym why) tt
 
 -- ---- the first refusal, or what is given
 
 -- an answer of one kind is one of another
-pub writes_as : (Is Are : List ℕ → Type 0) (out written : Option (List ℕ)) (result : Result (Unit {0}) Stop) → ((answer : List ℕ) → Is answer → Are answer) → Writes Is out written result → Writes Are out written result
+pub writes_as : (Is Are : List ℕ → Type 0) (out written : Option (List ℕ)) (result : Result (Unit {0}) Stop) → ((answer : List ℕ) → Is answer → Are answer) → WritesAnswer Is out written result → WritesAnswer Are out written result
 writes_as Is Are out written (Ok done) turn (answer, is, answers) = (answer, turn answer is, answers)
 writes_as Is Are out written (Err LongAnswer) turn (answer, is, long) = (answer, turn answer is, long)
 writes_as Is Are out written (Err Failed) turn none = tt
@@ -72,7 +72,7 @@ writes_as Is Are out written (Err (Lost error)) turn none = absurd none
 -- by the first refusal of the replies
 abbrev AnswerOf : (payload : List ℕ) → Bool → List ℕ → Option (ℕ × Reply) → Type 0
 AnswerOf payload has_writer answer first = elim first [
-  | Some first ↦ IsTold (status_byte first.1) (advice_byte first.1 has_writer) first.0 answer
+  | Some first ↦ IsRefusalAnswer (status_byte first.1) (advice_byte first.1 has_writer) first.0 answer
   | None ↦ answer ≡ frame_bytes (0 ∷ payload)
 ]
 
@@ -88,20 +88,20 @@ some_with payload replies has_writer = by_first (first_refusal replies)
     by_first None = (frame_bytes (0 ∷ payload), refl)
 
 -- the first refusal was told
-pub told_with : (payload : List ℕ) (replies : List Reply) (has_writer : Bool) (out written : Option (List ℕ)) → TellsRefusal replies has_writer out written (Ok true) → Writes (IsAnswerWith payload replies has_writer) out written (Ok tt)
+pub told_with : (payload : List ℕ) (replies : List Reply) (has_writer : Bool) (out written : Option (List ℕ)) → TellsRefusal replies has_writer out written (Ok true) → WritesAnswer (IsAnswerWith payload replies has_writer) out written (Ok tt)
 told_with payload replies has_writer out written (taken, reply, is, (answer, told, answers)) =
     (answer, subst (λ (first : Option (ℕ × Reply)). AnswerOf payload has_writer answer first) (sym is) told, answers)
 
 -- or it couldn't be
-pub untold_with : (payload : List ℕ) (replies : List Reply) (has_writer : Bool) (out written : Option (List ℕ)) (stop : Stop) → stop ≡ Failed → Writes (IsAnswerWith payload replies has_writer) out written (Err stop)
-untold_with payload replies has_writer out written stop is = subst (λ (x : Stop). Writes (IsAnswerWith payload replies has_writer) out written (Err x)) (sym is) tt
+pub untold_with : (payload : List ℕ) (replies : List Reply) (has_writer : Bool) (out written : Option (List ℕ)) (stop : Stop) → stop ≡ Failed → WritesAnswer (IsAnswerWith payload replies has_writer) out written (Err stop)
+untold_with payload replies has_writer out written stop is = subst (λ (x : Stop). WritesAnswer (IsAnswerWith payload replies has_writer) out written (Err x)) (sym is) tt
 
 -- none refuses, and this is given
-pub given_with : (payload : List ℕ) (replies : List Reply) (has_writer : Bool) (out mid written : Option (List ℕ)) (result : Result (Unit {0}) Stop) → first_refusal replies ≡ None → mid ≡ out → Writes (IsGiven payload) mid written result
-    → Writes (IsAnswerWith payload replies has_writer) out written result
+pub given_with : (payload : List ℕ) (replies : List Reply) (has_writer : Bool) (out mid written : Option (List ℕ)) (result : Result (Unit {0}) Stop) → first_refusal replies ≡ None → mid ≡ out → WritesAnswer (GivesPayload payload) mid written result
+    → WritesAnswer (IsAnswerWith payload replies has_writer) out written result
 given_with payload replies has_writer out mid written result none same wrote =
-    subst (λ (o : Option (List ℕ)). Writes (IsAnswerWith payload replies has_writer) o written result) same
-    (writes_as (IsGiven payload) (IsAnswerWith payload replies has_writer) mid written result
+    subst (λ (o : Option (List ℕ)). WritesAnswer (IsAnswerWith payload replies has_writer) o written result) same
+    (writes_as (GivesPayload payload) (IsAnswerWith payload replies has_writer) mid written result
     (λ answer is. subst (λ (first : Option (ℕ × Reply)). AnswerOf payload has_writer answer first) (sym none) is) wrote)
 
 -- ---- the last reply
@@ -146,7 +146,7 @@ no_refusal taken (reply ∷ rest) replies none same = absurd (omega (arith, none
 
 -- a refusal, as it is written
 pub told_of : (status advice taken number : ℕ) (words : List ℕ) (out written : Option (List ℕ)) (result : Result (Unit {0}) Stop) → OnOk result (Appends out written (frame_bytes (status ∷ advice ∷ number_bytes taken ++ number_bytes number ++ words)))
-    → OnOk result (AppendsTold status advice taken out written)
+    → OnOk result (AppendsRefusal status advice taken out written)
 told_of status advice taken number words out written (Ok done) answers =
     (frame_bytes (status ∷ advice ∷ number_bytes taken ++ number_bytes number ++ words), record { number = number; words = words; is = refl }, answers)
 told_of status advice taken number words out written (Err stop) none = tt
@@ -154,7 +154,7 @@ told_of status advice taken number words out written (Err stop) none = tt
 -- ---- records
 
 -- each length has eight bytes in place of its four
-pub starts_size : (lengths : List ℕ) (at count : ℕ) → length lengths ≡ 4 * count → length (flat_map number_bytes (starts at (lengths_in lengths))) ≡ 2 * length lengths
+pub starts_size : (lengths : List ℕ) (at count : ℕ) → length lengths ≡ 4 * count → length (flat_map number_bytes (record_starts at (lengths_in lengths))) ≡ 2 * length lengths
 starts_size [] at count whole = refl
 starts_size (a ∷ []) at count whole = absurd (omega (arith, whole))
 starts_size (a ∷ b ∷ []) at count whole = absurd (omega (arith, whole))
@@ -162,11 +162,11 @@ starts_size (a ∷ b ∷ c ∷ []) at count whole = absurd (omega (arith, whole)
 starts_size (a ∷ b ∷ c ∷ d ∷ rest) at count whole =
     let first = from_le_bytes w32 (a ∷ b ∷ c ∷ d ∷ []) in
     let more = starts_size rest (at + first) (count - 1) (omega (arith, whole)) in
-    length-append (number_bytes at) (flat_map number_bytes (starts (at + first) (lengths_in rest))) ∙ omega (arith, more, length-number_bytes at)
+    length-append (number_bytes at) (flat_map number_bytes (record_starts (at + first) (lengths_in rest))) ∙ omega (arith, more, length-number_bytes at)
 
 -- a head, and what it is of, are an answer
 pub whole_answer : (payload front more : List ℕ) (len : ℕ) (out first second written : Option (List ℕ)) → payload ≡ front ++ more → length front + length more ≡ len → Appends out first (length_bytes (len + 1) ++ 0 ∷ []) → Appends first second front
-    → Appends second written more → (answer : List ℕ) × IsGiven payload answer × Appends out written answer
+    → Appends second written more → (answer : List ℕ) × GivesPayload payload answer × Appends out written answer
 whole_answer payload front more len out first second written is long head middle last =
     let all = Appends-trans out second written ((length_bytes (len + 1) ++ 0 ∷ []) ++ front) more (Appends-trans out first second (length_bytes (len + 1) ++ 0 ∷ []) front head middle) last in
     let size : len + 1 ≡ length (0 ∷ payload) = omega (arith, long, ap length is, length-append front more) in

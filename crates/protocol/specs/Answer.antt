@@ -99,16 +99,16 @@ advice_byte reply has_writer = 0
 
 -- a refusal tells its status, what may be done next, how many steps of the request were taken, and
 -- the system's number and words for why the file failed, if it did: else 0 and none
-pub record IsTold (status advice taken : ℕ) (answer : List ℕ) : Type 0 where
+pub record IsRefusalAnswer (status advice taken : ℕ) (answer : List ℕ) : Type 0 where
   pub number : ℕ
   pub words : List ℕ
   pub is : answer ≡ frame_bytes (status ∷ advice ∷ number_bytes taken ++ number_bytes number
       ++ words)
 
 -- such a refusal was written
-abbrev pub AppendsTold : (status advice taken : ℕ) → (out written : Option (List ℕ)) → Type 0
-AppendsTold status advice taken out written =
-    (answer : List ℕ) × IsTold status advice taken answer × Appends out written answer
+abbrev pub AppendsRefusal : (status advice taken : ℕ) → (out written : Option (List ℕ)) → Type 0
+AppendsRefusal status advice taken out written =
+    (answer : List ℕ) × IsRefusalAnswer status advice taken answer × Appends out written answer
 
 -- the first of these replies that refuses, and how many are before it
 abbrev pub refusal_from : ℕ → List Reply → Option (ℕ × Reply)
@@ -122,7 +122,8 @@ first_refusal replies = refusal_from 0 replies
 -- the answer of version 2 to a request with these replies, which gives this if none refuses
 abbrev pub IsAnswerWith : (payload : List ℕ) → List Reply → (has_writer : Bool) → List ℕ → Type 0
 IsAnswerWith payload replies has_writer answer = elim (first_refusal replies) [
-  | Some first ↦ IsTold (status_byte first.1) (advice_byte first.1 has_writer) first.0 answer
+  | Some first ↦ IsRefusalAnswer (status_byte first.1) (advice_byte first.1 has_writer) first.0
+      answer
   | None ↦ answer ≡ frame_bytes (0 ∷ payload)
 ]
 

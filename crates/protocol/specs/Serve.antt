@@ -35,14 +35,14 @@ use Rattle.protocol.specs.declared.stop.Stop.{Stop}
 use Rattle.protocol.specs.declared.stop.Stop.TheVariants.{Malformed, Version, WouldCut, Refused}
 use Rattle.protocol.specs.declared.stop.Stop.TheVariants.{Lost, LongAnswer, Failed, OutOfMemory}
 use Rattle.protocol.specs.Answer.{answer_bytes, reply_payload, refusal_bytes, IsTooLong}
-use Rattle.protocol.specs.Answer.{started_bytes, IsTold}
-use Rattle.protocol.specs.Answer.{AppendsTold, IsAnswerWith, flaw_status, read_only_status}
+use Rattle.protocol.specs.Answer.{started_bytes, IsRefusalAnswer}
+use Rattle.protocol.specs.Answer.{AppendsRefusal, IsAnswerWith, flaw_status, read_only_status}
 use Rattle.protocol.specs.Answer.{fault_in, reply_error}
 use Rattle.protocol.specs.Answer.{unreadable_status}
 use Rattle.protocol.specs.Request.{IsFlawed, IsRequest, ReadsRequest, request_bytes}
 use Rattle.protocol.specs.Request.{number_bytes}
-use Rattle.protocol.specs.Together.{are_records, are_ranges, record_bytes, record_lengths}
-use Rattle.protocol.specs.Together.{ranges_in, starts}
+use Rattle.protocol.specs.Together.{tells_records, tells_ranges, record_bytes, record_lengths}
+use Rattle.protocol.specs.Together.{ranges_in, record_starts}
 
 -- requests, one after another
 abbrev pub requests_bytes : List Request → List ℕ
@@ -80,12 +80,12 @@ steps_then follow.Start = StartSync ∷ []
 -- the steps of a request: none where its bytes tell no records or no ranges
 abbrev pub AreSteps : Setting → Request → List Step → Type 0
 AreSteps setting (StepOf step) steps = steps ≡ step ∷ []
-AreSteps setting (Records fields next) steps = elim (are_records fields.items) [
+AreSteps setting (Records fields next) steps = elim (tells_records fields.items) [
   | true ↦ (bytes : Vec ℕ Global) × (bytes.items ≡ record_bytes fields.items)
       × (steps ≡ Append bytes ∷ steps_then next)
   | false ↦ steps ≡ []
 ]
-AreSteps setting (Ranges fields) steps = elim (are_ranges fields.items) [
+AreSteps setting (Ranges fields) steps = elim (tells_ranges fields.items) [
   | true ↦ (ranges : Vec (ℕ × ℕ) Global) × (ranges.items ≡ ranges_in fields.items)
       × (steps ≡ ReadRanges ranges ∷ [])
   | false ↦ steps ≡ []
@@ -113,7 +113,7 @@ last_payload (reply ∷ next ∷ replies) = last_payload (next ∷ replies)
 -- where each record of these lengths begins, and what starting a sync answered, by the replies to
 -- an append of records and to what follows it
 abbrev pub starts_payload : List ℕ → Reply → List ℕ
-starts_payload lengths (At at) = flat_map number_bytes (starts at lengths)
+starts_payload lengths (At at) = flat_map number_bytes (record_starts at lengths)
 starts_payload lengths reply = []
 
 abbrev pub started_of : Option StartedSync → List ℕ
@@ -143,25 +143,25 @@ gives_last Look = true
 gives_last request = false
 
 -- whether the bytes of a request tell what it asks for
-abbrev pub is_readable : Request → Bool
-is_readable (Records fields next) = are_records fields.items
-is_readable (Ranges fields) = are_ranges fields.items
-is_readable request = true
+abbrev pub can_be_read : Request → Bool
+can_be_read (Records fields next) = tells_records fields.items
+can_be_read (Ranges fields) = tells_ranges fields.items
+can_be_read request = true
 
 -- the answer to a request with these replies: in version 1 that of its only reply; in version 2 the
 -- first refusal, or what the request gives; or it couldn't be read
 abbrev pub IsAnswer : ProtocolVersion → Request → List Reply → SessionState → List ℕ → Type 0
 IsAnswer One request replies now answer =
     (reply : Reply) × (replies ≡ reply ∷ []) × (answer ≡ answer_bytes reply)
-IsAnswer Two request replies now answer = elim (is_readable request) [
+IsAnswer Two request replies now answer = elim (can_be_read request) [
   | true ↦ IsAnswerWith (given_payload request replies) replies (is_some now.writer) answer
-  | false ↦ IsTold unreadable_status 0 0 answer
+  | false ↦ IsRefusalAnswer unreadable_status 0 0 answer
 ]
 
 -- the answer to a request for a change, where the client may only read
 abbrev pub IsChangeRefused : ProtocolVersion → List ℕ → Type 0
 IsChangeRefused One answer = answer ≡ refusal_bytes
-IsChangeRefused Two answer = IsTold read_only_status 0 0 answer
+IsChangeRefused Two answer = IsRefusalAnswer read_only_status 0 0 answer
 
 -- how a request is served: its steps are taken, and answered by their replies; or none is, where it
 -- asks for a change that the client may not make, and it is answered so
@@ -291,7 +291,7 @@ EndsSession now fault (Err other) = ⊥
 -- what is no request is told in version 2, and in version 1 is not
 abbrev pub TellsFlaw : ProtocolVersion → Flaw → (told written : Option (List ℕ)) → Type 0
 TellsFlaw One flaw told written = Appends told written []
-TellsFlaw Two flaw told written = AppendsTold (flaw_status flaw) 2 0 told written
+TellsFlaw Two flaw told written = AppendsRefusal (flaw_status flaw) 2 0 told written
 
 -- whether a request is a close
 abbrev pub is_close : Request → Bool

@@ -16,25 +16,25 @@ use Rattle.protocol.specs.declared.stop.Stop.TheVariants.{LongAnswer, Failed, Ma
 use Rattle.protocol.specs.declared.stop.Stop.TheVariants.{OutOfMemory}
 use Rattle.protocol.specs.declared.version.Version.{Version as ProtocolVersion}
 use Rattle.protocol.specs.declared.version.Version.TheVariants.{One, Two}
-use Rattle.protocol.specs.Answer.{AppendsTold, IsAnswerWith, IsTooLong, advice_byte, fault_in}
+use Rattle.protocol.specs.Answer.{AppendsRefusal, IsAnswerWith, IsTooLong, advice_byte, fault_in}
 use Rattle.protocol.specs.Answer.{answer_bytes, first_refusal, status_byte, unreadable_status}
 use Rattle.protocol.specs.Request.{frame_bytes}
 use Rattle.protocol.specs.Serve.{TellsFlaw, last_payload}
 
 -- an answer that is so was written, or it was too long, or the output failed
-abbrev pub Writes : (List ℕ → Type 0) → (out written : Option (List ℕ)) → Result (Unit {0}) Stop
-    → Type 0
-Writes Is out written (Ok done) = (answer : List ℕ) × Is answer × Appends out written answer
-Writes Is out written (Err LongAnswer) = (answer : List ℕ) × Is answer × IsTooLong answer
-Writes Is out written (Err Failed) = Unit {0}
-Writes Is out written (Err other) = ⊥
+abbrev pub WritesAnswer : (List ℕ → Type 0) → (out written : Option (List ℕ))
+    → Result (Unit {0}) Stop → Type 0
+WritesAnswer Is out written (Ok done) = (answer : List ℕ) × Is answer × Appends out written answer
+WritesAnswer Is out written (Err LongAnswer) = (answer : List ℕ) × Is answer × IsTooLong answer
+WritesAnswer Is out written (Err Failed) = Unit {0}
+WritesAnswer Is out written (Err other) = ⊥
 
 -- the first reply that refuses was told, or none does, and nothing was written
 abbrev pub TellsRefusal : List Reply → (has_writer : Bool) → (out written : Option (List ℕ))
     → Result Bool Stop → Type 0
 TellsRefusal replies has_writer out written (Ok true) =
     (taken : ℕ) × (reply : Reply) × (first_refusal replies ≡ Some (taken, reply))
-    × AppendsTold (status_byte reply) (advice_byte reply has_writer) taken out written
+    × AppendsRefusal (status_byte reply) (advice_byte reply has_writer) taken out written
 TellsRefusal replies has_writer out written (Ok false) =
     (first_refusal replies ≡ None) × (written ≡ out)
 TellsRefusal replies has_writer out written (Err stop) = stop ≡ Failed
@@ -56,8 +56,8 @@ IsStepAnswer Two replies has_writer answer =
     IsAnswerWith (last_payload replies) replies has_writer answer
 
 -- an answer that gives this
-abbrev pub IsGiven : (payload answer : List ℕ) → Type 0
-IsGiven payload answer = answer ≡ frame_bytes (0 ∷ payload)
+abbrev pub GivesPayload : (payload answer : List ℕ) → Type 0
+GivesPayload payload answer = answer ≡ frame_bytes (0 ∷ payload)
 
 -- steps were taken, with these replies and no others before; or none was
 abbrev pub RunsSteps : (List ℕ → ℕ) → List Step → SessionState → SessionState
@@ -76,7 +76,7 @@ IsAppendReply size (reply ∷ replies) = status_byte reply ≢ 0
 -- a request whose bytes couldn't be read was answered so
 abbrev pub TellsUnreadable : (out written : Option (List ℕ)) → Result (Option Error) Stop → Type 0
 TellsUnreadable out written (Ok fault) =
-    AppendsTold unreadable_status 0 0 out written × (fault ≡ None)
+    AppendsRefusal unreadable_status 0 0 out written × (fault ≡ None)
 TellsUnreadable out written (Err stop) = stop ≡ Failed
 
 -- why a session stops, after a client of the second version was told what is no request

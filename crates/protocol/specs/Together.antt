@@ -26,16 +26,16 @@ record_bytes fields = drop (lengths_size fields) (drop 4 fields)
 
 -- whether bytes tell records: each length is there, what follows is as long as all of them, and an
 -- answer holds their offsets and what starting a sync answers
-abbrev pub are_records : List ℕ → Bool
-are_records fields =
+abbrev pub tells_records : List ℕ → Bool
+tells_records fields =
     nat_le 4 (length fields) && nat_le (lengths_size fields) (length fields - 4)
     && nat_lt (2 * lengths_size fields + 10) (2 ^ 32)
     && (sum (record_lengths fields) == length (record_bytes fields))
 
 -- where each record begins, if the first one begins here
-abbrev pub starts : ℕ → List ℕ → List ℕ
-starts at [] = []
-starts at (length ∷ lengths) = at ∷ starts (at + length) lengths
+abbrev pub record_starts : ℕ → List ℕ → List ℕ
+record_starts at [] = []
+record_starts at (length ∷ lengths) = at ∷ record_starts (at + length) lengths
 
 -- ---- ranges: the offset and the length of each, eight bytes each
 
@@ -52,5 +52,5 @@ abbrev pub ranges_size : List ℕ → ℕ
 ranges_size fields = sum_by (λ range. range.1) (ranges_in fields)
 
 -- whether bytes tell ranges, and an answer holds how many were served and their bytes
-abbrev pub are_ranges : List ℕ → Bool
-are_ranges fields = (length fields % 16 == 0) && nat_lt (ranges_size fields + 9) (2 ^ 32)
+abbrev pub tells_ranges : List ℕ → Bool
+tells_ranges fields = (length fields % 16 == 0) && nat_lt (ranges_size fields + 9) (2 ^ 32)

@@ -1,7 +1,7 @@
 // Refusals of the second version: what was refused, why, and what may be done next.
 ghost use Rattle.std.specs.Prelude.{◌≡◌, ◌≤◌, ◌∷◌, ◌++◌, length, IfErr, OnOk};
 ghost use Rattle.std.specs.Io.KnownBytes.{Appends};
-ghost use Rattle.protocol.specs.Answer.{AppendsTold, advice_byte, advice_for, fault_in};
+ghost use Rattle.protocol.specs.Answer.{AppendsRefusal, advice_byte, advice_for, fault_in};
 ghost use Rattle.protocol.specs.Answer.{flaw_status};
 ghost use Rattle.protocol.specs.Answer.{status_byte};
 ghost use Rattle.protocol.specs.Request.{frame_bytes, number_bytes};
@@ -127,9 +127,9 @@ pub fn write_told<W: Write>(
     taken: u64,
     cause: Option<&io::Error>,
 ) -> Result<(), Stop>
-    ensures answers { OnOk result
-        (AppendsTold status advice taken (W.contents out.old) (W.contents out.new)) }
-    ensures err { IfErr result (λ stop. stop ≡ Stop.Failed) }
+    ensures tells { OnOk result
+        (AppendsRefusal status advice taken (W.contents out.old) (W.contents out.new)) }
+    ensures failed { IfErr result (λ stop. stop ≡ Stop.Failed) }
 {
     let Some(error) = cause else {
         return write_cause(out, status, advice, taken, 0, &[]);
@@ -156,10 +156,10 @@ fn write_cause<W: Write>(
     words: &[u8],
 ) -> Result<(), Stop>
     requires { length words.now ≤ 255 }
-    ensures answers { let told = number_bytes taken ++ number_bytes number ++ words.now in
+    ensures tells { let told = number_bytes taken ++ number_bytes number ++ words.now in
         OnOk result (Appends (W.contents out.old) (W.contents out.new)
         (frame_bytes (status ∷ advice ∷ told))) }
-    ensures err { IfErr result (λ stop. stop ≡ Stop.Failed) }
+    ensures failed { IfErr result (λ stop. stop ≡ Stop.Failed) }
 {
     let [a, b, c, d, e, f, g, h] = taken.to_le_bytes();
     let [i, j, k, l, m, n, o, p] = number.to_le_bytes();

@@ -8,9 +8,9 @@ ghost use Rattle.protocol.specs.Request.{IsRequest, number_bytes};
 ghost use Rattle.protocol.specs.Serve.{AreSteps, asks_change, gives_last};
 ghost use Rattle.protocol.specs.Serve.{is_close, IsChangeRefused, last_payload, records_payload};
 ghost use Rattle.protocol.specs.Serve.{started_of, started_payload, steps_then, TakesRequest};
-ghost use Rattle.protocol.specs.Taking.{Finishes, IsAppendReply, IsGiven, IsOnlyAnswer};
-ghost use Rattle.protocol.specs.Taking.{IsStepAnswer, RunsSteps, TellsUnreadable, Writes};
-ghost use Rattle.protocol.specs.Together.{lengths_in, starts};
+ghost use Rattle.protocol.specs.Taking.{Finishes, IsAppendReply, GivesPayload, IsOnlyAnswer};
+ghost use Rattle.protocol.specs.Taking.{IsStepAnswer, RunsSteps, TellsUnreadable, WritesAnswer};
+ghost use Rattle.protocol.specs.Together.{lengths_in, record_starts};
 ghost use Rattle.protocol.specs.declared.version.Version.TheVariants.{Two};
 
 use crate::answer::{write_answer, write_frame, write_head, write_refusal};
@@ -124,7 +124,7 @@ fn is_change(request: &Request) -> bool
 // Answers a request for a change, where the client may only read.
 fn refuse_change<W: Write>(alloc: Global, version: Version, out: &mut W) -> Result<(), Stop>
     ensures { let out_old = W.contents out.old in
-        Writes (IsChangeRefused version) out_old (W.contents out.new) result }
+        WritesAnswer (IsChangeRefused version) out_old (W.contents out.new) result }
 {
     match version {
         Version::One => write_refusal(out),
@@ -207,7 +207,8 @@ fn answer<W: Write>(
 ) -> Result<(), Stop>
     requires { length replies.now ≡ 1 }
     ensures { let out_old = W.contents out.old in
-        Writes (IsStepAnswer version replies.now has_writer) out_old (W.contents out.new) result }
+        WritesAnswer (IsStepAnswer version replies.now has_writer) out_old (W.contents out.new)
+        result }
 {
     match version {
         Version::One => answer_one(out, replies),
@@ -219,7 +220,7 @@ fn answer<W: Write>(
 fn answer_one<W: Write>(out: &mut W, replies: &[Reply]) -> Result<(), Stop>
     requires { length replies.now ≡ 1 }
     ensures { let out_old = W.contents out.old in
-        Writes (IsOnlyAnswer replies.now) out_old (W.contents out.new) result }
+        WritesAnswer (IsOnlyAnswer replies.now) out_old (W.contents out.new) result }
 {
     match replies {
         [reply] => write_answer(out, reply),
@@ -232,7 +233,7 @@ fn write_last<W: Write>(out: &mut W, replies: &[Reply]) -> Result<(), Stop>
     requires some { 0 < length replies.now }
     requires none { first_refusal replies.now ≡ None }
     ensures { let out_old = W.contents out.old in
-        Writes (IsGiven (last_payload replies.now)) out_old (W.contents out.new) result }
+        WritesAnswer (GivesPayload (last_payload replies.now)) out_old (W.contents out.new) result }
 {
     match replies.last() {
         Some(reply) => write_answer(out, reply),
@@ -281,7 +282,7 @@ fn answer_last<W: Write>(
 ) -> Result<(), Stop>
     requires some { 0 < length replies.now }
     ensures { let out_old = W.contents out.old in
-        Writes (IsAnswerWith (last_payload replies.now) replies.now has_writer) out_old
+        WritesAnswer (IsAnswerWith (last_payload replies.now) replies.now has_writer) out_old
         (W.contents out.new) result }
 {
     if tell_refusal(alloc, out, replies, has_writer, cause)? {
@@ -415,7 +416,8 @@ fn answer_records<W: Write>(
     requires at { IsAppendReply (sum (lengths_in lengths.now)) replies.now }
     ensures { let out_old = W.contents out.old in
         let payload = records_payload (lengths_in lengths.now) replies.now in
-        Writes (IsAnswerWith payload replies.now has_writer) out_old (W.contents out.new) result }
+        WritesAnswer (IsAnswerWith payload replies.now has_writer) out_old (W.contents out.new)
+        result }
 {
     if tell_refusal(alloc, out, replies, has_writer, cause)? {
         return Ok(());
@@ -450,8 +452,9 @@ fn write_records<W: Write>(
     requires fits { 2 * length lengths.now + 10 < 2 ^ 32 }
     requires at { first + sum (lengths_in lengths.now) < 2 ^ 64 }
     ensures { let out_old = W.contents out.old in
-        let all = flat_map number_bytes (starts first (lengths_in lengths.now)) in
-        Writes (IsGiven (all ++ started_of started)) out_old (W.contents out.new) result }
+        let all = flat_map number_bytes (record_starts first (lengths_in lengths.now)) in
+        WritesAnswer (GivesPayload (all ++ started_of started)) out_old (W.contents out.new)
+        result }
 {
     match started {
         None => write_starts_and(out, first, lengths, &[]),
@@ -474,8 +477,8 @@ fn write_starts_and<W: Write>(
     requires fits { 2 * length lengths.now + length more.now + 1 < 2 ^ 32 }
     requires at { first + sum (lengths_in lengths.now) < 2 ^ 64 }
     ensures { let out_old = W.contents out.old in
-        let all = flat_map number_bytes (starts first (lengths_in lengths.now)) in
-        Writes (IsGiven (all ++ more.now)) out_old (W.contents out.new) result }
+        let all = flat_map number_bytes (record_starts first (lengths_in lengths.now)) in
+        WritesAnswer (GivesPayload (all ++ more.now)) out_old (W.contents out.new) result }
 {
     write_head(out, 0, 2 * lengths.len() + more.len())?;
     write_starts(out, first, lengths)?;

@@ -4,8 +4,8 @@ ghost use Rattle.std.specs.Prelude.{IfOk, OnOk};
 ghost use Rattle.std.specs.List.{flat_map, sum};
 ghost use Rattle.std.specs.Io.KnownBytes.{Appends};
 ghost use Rattle.protocol.specs.Request.{number_bytes};
-ghost use Rattle.protocol.specs.Together.{are_ranges, are_records, lengths_in, lengths_size};
-ghost use Rattle.protocol.specs.Together.{ranges_in, starts};
+ghost use Rattle.protocol.specs.Together.{tells_ranges, tells_records, lengths_in, lengths_size};
+ghost use Rattle.protocol.specs.Together.{ranges_in, record_starts};
 
 use crate::request::MOST_BYTES;
 use crate::stop::Stop;
@@ -19,7 +19,7 @@ const RANGE: usize = 16;
 /// tell records.
 pub fn record_lengths(fields: &[u8]) -> Option<&[u8]>
     requires { length fields.now < 2 ^ 32 }
-    ensures tells { is_some result ≡ are_records fields.now }
+    ensures tells { is_some result ≡ tells_records fields.now }
     ensures lengths { IfSome result (λ lengths.
         lengths.now ≡ take (lengths_size fields.now) (drop 4 fields.now)) }
 {
@@ -54,8 +54,8 @@ fn total(lengths: &[u8]) -> u64
 pub fn write_starts<W: Write>(out: &mut W, first: u64, lengths: &[u8]) -> Result<(), Stop>
     requires { first + sum (lengths_in lengths.now) < 2 ^ 64 }
     ensures answers { OnOk result (Appends (W.contents out.old) (W.contents out.new)
-        (flat_map number_bytes (starts first (lengths_in lengths.now)))) }
-    ensures err { IfErr result (λ stop. stop ≡ Stop.Failed) }
+        (flat_map number_bytes (record_starts first (lengths_in lengths.now)))) }
+    ensures failed { IfErr result (λ stop. stop ≡ Stop.Failed) }
 {
     let mut at = first;
     let mut rest = lengths;
@@ -71,7 +71,7 @@ pub fn write_starts<W: Write>(out: &mut W, first: u64, lengths: &[u8]) -> Result
 /// ranges, or an answer doesn't hold their bytes.
 pub fn ranges_of(alloc: Global, fields: &[u8]) -> Result<Option<Vec<(u64, usize)>>, AllocError>
     requires { length fields.now < 2 ^ 32 }
-    ensures tells { IfOk result (λ ranges. is_some ranges ≡ are_ranges fields.now) }
+    ensures tells { IfOk result (λ ranges. is_some ranges ≡ tells_ranges fields.now) }
     ensures ranges { IfOk result (λ ranges. IfSome ranges (λ ranges.
         ranges.items ≡ ranges_in fields.now)) }
 {

@@ -3,7 +3,7 @@ use Rattle.std.specs.Prelude.{Bool, is_some}
 use Rattle.session.specs.declared.steps.Reply.{Reply}
 use Rattle.protocol.specs.Answer.{IsAnswerWith}
 use Rattle.protocol.specs.Serve.{IsAnswer, last_payload}
-use Rattle.protocol.specs.Taking.{Writes}
+use Rattle.protocol.specs.Taking.{WritesAnswer}
 use Rattle.protocol.specs.declared.version.Version.TheVariants.{Two}
 use Rattle.protocol.proofs.Requested.{last_answers, runs_request, writer_there}
 use Rattle.protocol.proofs.Taken.{some_with, writes_as}
@@ -16,9 +16,9 @@ returns-clause-takes g c =
     let out = g.W.Write.contents c.args.out.now in
     let written = g.W.Write.contents c.answer_last-written.new.out in
     let there = writer_there c.is_some.result c.size.result now c.is_some.ensures c.size.ensures in
-    let wrote : Writes (IsAnswerWith (last_payload replies) replies (is_some now.writer)) out written c.answer_last-written.result =
-    subst (λ (b : Bool). Writes (IsAnswerWith (last_payload replies) replies b) out written c.answer_last-written.result) there
-    (subst (λ (rs : List Reply). Writes (IsAnswerWith (last_payload rs) rs c.is_some.result) out written c.answer_last-written.result) c.deref.ensures.value c.answer_last-written.ensures) in
+    let wrote : WritesAnswer (IsAnswerWith (last_payload replies) replies (is_some now.writer)) out written c.answer_last-written.result =
+    subst (λ (b : Bool). WritesAnswer (IsAnswerWith (last_payload replies) replies b) out written c.answer_last-written.result) there
+    (subst (λ (rs : List Reply). WritesAnswer (IsAnswerWith (last_payload rs) rs c.is_some.result) out written c.answer_last-written.result) c.deref.ensures.value c.answer_last-written.ensures) in
     let some = some_with (last_payload replies) replies (is_some now.writer) in
     runs_request g.H.Sum.sum_of c.args.setting.now Two c.args.request c.args.steps.now c.args.session.now now c.args.cache.now c.take_steps.new.cache (g.B.Blob.life c.args.blob.now) (g.B.Blob.life c.take_steps.new.blob) replies out written c.answer_last-written.result c.finish.result
     c.requires.may c.requires.steps c.in_ok-take_steps.ensures.runs (some.0, last_answers c.args.setting.now c.args.request c.args.steps.now replies now some.0 c.requires.last c.requires.steps c.requires.some some.1)

@@ -5,8 +5,8 @@ use Rattle.session.specs.declared.steps.Reply.{Reply}
 use Rattle.session.specs.declared.steps.Step.TheVariants.{Append}
 use Rattle.protocol.specs.Answer.{IsAnswerWith}
 use Rattle.protocol.specs.Serve.{IsAnswer, records_payload, steps_then}
-use Rattle.protocol.specs.Taking.{IsAppendReply, Writes}
-use Rattle.protocol.specs.Together.{are_records, lengths_in, lengths_size, record_lengths}
+use Rattle.protocol.specs.Taking.{IsAppendReply, WritesAnswer}
+use Rattle.protocol.specs.Together.{tells_records, lengths_in, lengths_size, record_lengths}
 use Rattle.protocol.specs.declared.request.Request.TheVariants.{Records}
 use Rattle.protocol.specs.declared.version.Version.TheVariants.{Two}
 use Rattle.protocol.proofs.Appended.{bytes_after, records_reply}
@@ -16,7 +16,7 @@ use Rattle.protocol.proofs.taking.take_records.Goals as goal
 
 pub returns-in_default-clause-takes : goal.returns-in_default-clause-takes
 returns-in_default-clause-takes g c =
-    let none : are_records c.args.fields.items ≡ false = ap are_records (sym c.deref.ensures.value) ∙ sym c.record_lengths.ensures.tells ∙ ap is_some c.in_default.is in
+    let none : tells_records c.args.fields.items ≡ false = ap tells_records (sym c.deref.ensures.value) ∙ sym c.record_lengths.ensures.tells ∙ ap is_some c.in_default.is in
     unreadable g.H.Sum.sum_of c.args.setting.now (Records c.args.fields c.args.then) c.args.session.now (g.B.Blob.life c.args.blob.now) (g.W.Write.contents c.args.out.now) (g.W.Write.contents c.tell_unreadable.new.out) c.tell_unreadable.result
     (ap (λ (b : Bool). b && true) c.requires.may) (no_record_steps c.args.setting.now c.args.fields c.args.then none) none c.tell_unreadable.ensures
 
@@ -24,7 +24,7 @@ pub answer_records-written-requires-clause-at : goal.answer_records-written-requ
 answer_records-written-requires-clause-at g c =
     let fields = c.args.fields.items in
     let lengths = c.in-Some.lengths.now in
-    let are : are_records fields ≡ true = ap are_records (sym c.deref.ensures.value) ∙ sym c.record_lengths.ensures.tells ∙ ap is_some c.in-Some.is in
+    let are : tells_records fields ≡ true = ap tells_records (sym c.deref.ensures.value) ∙ sym c.record_lengths.ensures.tells ∙ ap is_some c.in-Some.is in
     let is : lengths ≡ take (lengths_size fields) (drop 4 fields) = search rules in
     let tail : c.in_ok-bytes.bytes.items ≡ drop (4 + length lengths) fields = search rules in
     let all : IsAppendReply (sum (lengths_in lengths)) c.append_then.new.replies.items =
@@ -41,16 +41,16 @@ returns-clause-takes g c =
     let now = c.append_then.new.session in
     let out = g.W.Write.contents c.args.out.now in
     let written = g.W.Write.contents c.answer_records-written.new.out in
-    let are : are_records fields ≡ true = ap are_records (sym c.deref.ensures.value) ∙ sym c.record_lengths.ensures.tells ∙ ap is_some c.in-Some.is in
+    let are : tells_records fields ≡ true = ap tells_records (sym c.deref.ensures.value) ∙ sym c.record_lengths.ensures.tells ∙ ap is_some c.in-Some.is in
     let is : lengths ≡ take (lengths_size fields) (drop 4 fields) = search rules in
     let tail : bytes.items ≡ drop (4 + length lengths) fields = search rules in
     let content = bytes_after fields lengths bytes.items are is tail in
     let there = writer_there c.is_some-has_writer.result c.size.result now c.is_some-has_writer.ensures c.size.ensures in
     let payload = records_payload (record_lengths fields) replies in
-    let wrote : Writes (IsAnswerWith payload replies (is_some now.writer)) out written c.answer_records-written.result =
-    subst (λ (b : Bool). Writes (IsAnswerWith payload replies b) out written c.answer_records-written.result) there
-    (subst (λ (rs : List Reply). Writes (IsAnswerWith (records_payload (record_lengths fields) rs) rs c.is_some-has_writer.result) out written c.answer_records-written.result) c.deref-3.ensures.value
-    (subst (λ (ls : List ℕ). Writes (IsAnswerWith (records_payload (lengths_in ls) c.deref-3.result.now) c.deref-3.result.now c.is_some-has_writer.result) out written c.answer_records-written.result) is c.answer_records-written.ensures)) in
+    let wrote : WritesAnswer (IsAnswerWith payload replies (is_some now.writer)) out written c.answer_records-written.result =
+    subst (λ (b : Bool). WritesAnswer (IsAnswerWith payload replies b) out written c.answer_records-written.result) there
+    (subst (λ (rs : List Reply). WritesAnswer (IsAnswerWith (records_payload (record_lengths fields) rs) rs c.is_some-has_writer.result) out written c.answer_records-written.result) c.deref-3.ensures.value
+    (subst (λ (ls : List ℕ). WritesAnswer (IsAnswerWith (records_payload (lengths_in ls) c.deref-3.result.now) c.deref-3.result.now c.is_some-has_writer.result) out written c.answer_records-written.result) is c.answer_records-written.ensures)) in
     let some = some_with payload replies (is_some now.writer) in
     runs_request g.H.Sum.sum_of c.args.setting.now Two (Records c.args.fields c.args.then) (Append bytes ∷ steps_then c.args.then) c.args.session.now now c.args.cache.now c.append_then.new.cache (g.B.Blob.life c.args.blob.now) (g.B.Blob.life c.append_then.new.blob) replies out written c.answer_records-written.result c.finish.result
     (ap (λ (b : Bool). b && true) c.requires.may) (record_steps c.args.setting.now c.args.fields bytes c.args.then are content) c.in_ok-append_then.ensures.runs (some.0, record_answers c.args.fields c.args.then replies now some.0 are some.1)

@@ -2,7 +2,7 @@ use Rattle.std.proofs.Common.{◌≡◌, ◌∷◌, [], List, length, refl, subs
 use Rattle.std.specs.Prelude.{Bool, is_some}
 use Rattle.session.specs.declared.steps.Reply.{Reply}
 use Rattle.protocol.specs.Serve.{IsAnswer}
-use Rattle.protocol.specs.Taking.{IsStepAnswer, Writes}
+use Rattle.protocol.specs.Taking.{IsStepAnswer, WritesAnswer}
 use Rattle.protocol.specs.declared.request.Request.TheVariants.{Step}
 use Rattle.protocol.proofs.Requested.{runs_request, some_answer, step_answers, writer_there}
 use Rattle.protocol.proofs.Taken.{writes_as}
@@ -16,9 +16,9 @@ returns-clause-takes g c =
     let written = g.W.Write.contents c.answer-written.new.out in
     let one : length replies ≡ 1 = search rules in
     let there = writer_there c.is_some-has_writer.result c.size.result now c.is_some-has_writer.ensures c.size.ensures in
-    let wrote : Writes (IsStepAnswer c.args.version replies (is_some now.writer)) out written c.answer-written.result =
-    subst (λ (b : Bool). Writes (IsStepAnswer c.args.version replies b) out written c.answer-written.result) there
-    (subst (λ (rs : List Reply). Writes (IsStepAnswer c.args.version rs c.is_some-has_writer.result) out written c.answer-written.result) c.deref.ensures.value c.answer-written.ensures) in
+    let wrote : WritesAnswer (IsStepAnswer c.args.version replies (is_some now.writer)) out written c.answer-written.result =
+    subst (λ (b : Bool). WritesAnswer (IsStepAnswer c.args.version replies b) out written c.answer-written.result) there
+    (subst (λ (rs : List Reply). WritesAnswer (IsStepAnswer c.args.version rs c.is_some-has_writer.result) out written c.answer-written.result) c.deref.ensures.value c.answer-written.ensures) in
     runs_request g.H.Sum.sum_of c.args.setting.now c.args.version (Step c.args.step) (c.args.step ∷ []) c.args.session.now now c.args.cache.now c.take_steps.new.cache (g.B.Blob.life c.args.blob.now) (g.B.Blob.life c.take_steps.new.blob) replies out written c.answer-written.result c.finish.result
     c.requires.may refl c.in_ok-take_steps.ensures.runs (some_answer c.args.version c.args.step replies now one)
     (writes_as (IsStepAnswer c.args.version replies (is_some now.writer)) (IsAnswer c.args.version (Step c.args.step) replies now) out written c.answer-written.result (λ answer is. step_answers c.args.version c.args.step replies now answer is) wrote) c.finish.ensures.told
