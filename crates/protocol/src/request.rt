@@ -47,7 +47,7 @@ pub enum Request {
     SyncSize,
     /// How many bytes a recovery would keep now.
     Look,
-    /// That all answers are out.
+    /// To send all answers.
     Flush,
     /// The end.
     Close,

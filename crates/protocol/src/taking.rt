@@ -1,10 +1,12 @@
 // Requests are taken as steps of a session, and answered.
 ghost use Rattle.std.specs.Prelude.{◌≡◌, ◌<◌, ◌+◌, ◌*◌, ◌%◌, ◌^◌, ◌&&◌, ◌++◌, ◌∷◌, []};
-ghost use Rattle.std.specs.Prelude.{◌≤◌, drop, false, true, None, is_some, length, IfOk, OnOk};
+ghost use Rattle.std.specs.Prelude.{◌≤◌, drop, false, true, None, is_some, length};
+ghost use Rattle.std.specs.Prelude.{IfErr, IfOk, OnOk};
 ghost use Rattle.std.specs.List.{flat_map, sum};
 ghost use Rattle.session.specs.Run.{IsSessionReady};
-ghost use Rattle.protocol.specs.Answer.{first_refusal, IsAnswerWith};
-ghost use Rattle.protocol.specs.Request.{IsRequest, number_bytes};
+ghost use Rattle.std.specs.Io.KnownBytes.{Appends};
+ghost use Rattle.protocol.specs.Answer.{first_refusal, IsAnswerWith, IsWriteError};
+ghost use Rattle.protocol.specs.Request.{IsRequest, frame_bytes, number_bytes};
 ghost use Rattle.protocol.specs.Serve.{AreSteps, asks_change, gives_last};
 ghost use Rattle.protocol.specs.Serve.{is_close, IsChangeRefused, last_payload, records_payload};
 ghost use Rattle.protocol.specs.Serve.{started_of, started_payload, steps_then, TakesRequest};
@@ -100,11 +102,22 @@ pub fn take_request<B: Blob + Cause, H: Sum, W: Write>(
             )
         }
         Request::Flush => {
-            let written = write_frame(out, 0, &[], &[]);
+            let written = write_flushed(out);
             finish(replies, written)
         }
         Request::Close => unreachable!(),
     }
+}
+
+// Writes an answer that gives nothing, and sends all answers.
+fn write_flushed<W: Write>(out: &mut W) -> Result<(), Stop>
+    ensures answers { OnOk result
+        (Appends (W.contents out.old) (W.contents out.new) (frame_bytes (0 ∷ []))) }
+    ensures err { IfErr result (IsWriteError 0) }
+{
+    write_frame(out, 0, &[], &[])?;
+    out.flush()?;
+    Ok(())
 }
 
 // Whether a client that may only read is refused this request.

@@ -17,6 +17,6 @@ returns-then-is_change-clause-takes g c =
 pub returns-in-Flush-clause-takes : goal.returns-in-Flush-clause-takes
 returns-in-Flush-clause-takes g c =
     let kind : 25 ≤ last_kind c.args.version = subst (λ (r : Request). kind_of r ≤ last_kind c.args.version) c.in-Flush.is c.requires.asked.1 in
-    subst (λ (r : Request). TakesRequest g.H.Sum.sum_of c.args.setting.now c.args.version r c.args.session.now c.args.session.now (g.B.Blob.life c.args.blob.now) (g.B.Blob.life c.args.blob.now) (g.W.Write.contents c.args.out.now) (g.W.Write.contents c.write_frame-written.new.out) c.finish-in-Flush.result) (sym c.in-Flush.is)
-    (flush_taken g.H.Sum.sum_of c.args.setting.now c.args.version c.args.session.now (g.B.Blob.life c.args.blob.now) (g.W.Write.contents c.args.out.now) (g.W.Write.contents c.write_frame-written.new.out) c.write_frame-written.result c.finish-in-Flush.result
-    kind c.write_frame-written.ensures.answers c.write_frame-written.ensures.err (subst (λ (rs : List Reply). Finishes rs c.write_frame-written.result c.finish-in-Flush.result) c.requires.none c.finish-in-Flush.ensures.told))
+    subst (λ (r : Request). TakesRequest g.H.Sum.sum_of c.args.setting.now c.args.version r c.args.session.now c.args.session.now (g.B.Blob.life c.args.blob.now) (g.B.Blob.life c.args.blob.now) (g.W.Write.contents c.args.out.now) (g.W.Write.contents c.write_flushed-written.new.out) c.finish-in-Flush.result) (sym c.in-Flush.is)
+    (flush_taken g.H.Sum.sum_of c.args.setting.now c.args.version c.args.session.now (g.B.Blob.life c.args.blob.now) (g.W.Write.contents c.args.out.now) (g.W.Write.contents c.write_flushed-written.new.out) c.write_flushed-written.result c.finish-in-Flush.result
+    kind c.write_flushed-written.ensures.answers c.write_flushed-written.ensures.err (subst (λ (rs : List Reply). Finishes rs c.write_flushed-written.result c.finish-in-Flush.result) c.requires.none c.finish-in-Flush.ensures.told))
