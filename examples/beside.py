@@ -9,6 +9,10 @@ page faults.
 
   sync    appends of 100 B, each with a sync, one after the other by a pipe; SQLite: a commit of a row each, with a
           write-ahead log and synchronous=FULL
+  batch   100,000 appends of 100 B by batches of 100, each a request of version 2 with its sync, one after the other by
+          a pipe; SQLite: a transaction of 100 rows each; for the plain side the script itself writes each 10,000 B and
+          calls fdatasync, since plain.c does that for each 100 B alone. Below the table stands what a record takes so
+          and what one takes alone, with a sync of its own in version 1: of these 1,000 are timed in each run
   bulk    1,024 appends of 64 KiB and one sync, from a file of requests; the plain program copies a file of the same
           bytes by 64 KiB; SQLite: a row each, in one transaction
   small   the same with 600,000 appends of 100 B
@@ -32,7 +36,7 @@ import time
 from collections import namedtuple
 
 import usage
-from client import APPEND, CLOSE, READ, SYNC
+from client import APPEND, APPEND_RECORDS_SYNC, CLOSE, READ, SYNC, VERSION, batch
 
 try:
     import sqlite3
@@ -43,10 +47,12 @@ HERE = os.path.dirname(os.path.abspath(__file__))
 KIB, MIB, GIB = 1 << 10, 1 << 20, 1 << 30
 PIECE, RECORD = 64 * KIB, 100
 SYNCS = 1000
-# The version, and how long the answer to it is: the version, and a frame of 4 and 9 bytes.
-VERSION, HELLO = b"\x01", 14
-# How long the answers to an append and to a sync are.
-APPENDED, SYNCED = 13, 5
+# How many records a batch has.
+GROUP = 100
+# How a client begins that wants version 2 and no other.
+OFFER = b"\x02\x01\x02"
+# How long the greeting is, a byte and a frame of 4 and 9 bytes, and the answers to an append, to a sync and to a batch.
+GREETING, APPENDED, SYNCED, BATCHED = 14, 13, 5, 5 + 8 * GROUP
 
 # What a run took: the seconds of each operation that was timed, the most memory in bytes, and the page faults.
 Run = namedtuple("Run", "times memory faults")
@@ -70,6 +76,17 @@ def receive(stream, count, framed=False):
         if not piece:
             raise SystemExit("beside: a program ended early")
         count -= len(piece)
+
+
+def meet(stream, first):
+    """Takes what a program writes before its first answer, by what it was sent first: nothing, or a version."""
+    if first:
+        receive(stream, GREETING)
+    if first == OFFER:
+        head = stream.read(5)
+        if head[4:] != b"\x00":
+            raise SystemExit("beside: this program has no version 2: name the other jobs by --only")
+        receive(stream, struct.unpack("<I", head[:4])[0] - 1)
 
 
 class Room:
@@ -129,30 +146,30 @@ class Room:
             raise SystemExit(f"beside: {command[0]} didn't answer each request")
         return self.run()
 
-    def by_pipe(self, request, answer, hello, *command):
-        """Sends a request and waits for its answer, one after the other; answers what each took."""
+    def by_pipe(self, request, answer, first, *command):
+        """Sends a request and waits for its answer, one after the other; answers what each took. Before them goes what
+        a program wants first."""
         took = []
         with self.started(*command, stdin=subprocess.PIPE, stdout=subprocess.PIPE) as process:
-            # A program that says hello wants the version first.
-            process.stdin.write(VERSION if hello else b"")
+            process.stdin.write(first)
             process.stdin.flush()
-            receive(process.stdout, hello)
+            meet(process.stdout, first)
             for _ in range(SYNCS):
                 begun = time.perf_counter()
                 process.stdin.write(request)
                 process.stdin.flush()
-                receive(process.stdout, answer, framed=hello > 0)
+                receive(process.stdout, answer, framed=first != b"")
                 took.append(time.perf_counter() - begun)
             process.stdin.close()
         return self.run(took)
 
-    def to_pipe(self, given, hello, answered, *command):
+    def to_pipe(self, given, greeting, answered, *command):
         """Takes so many bytes from a program, and answers how long that took after its first ones."""
         with open(self.path(given), "rb") as requests:
             with self.started(*command, stdin=requests, stdout=subprocess.PIPE) as process:
-                receive(process.stdout, hello)
+                receive(process.stdout, greeting)
                 begun = time.perf_counter()
-                receive(process.stdout, answered - hello)
+                receive(process.stdout, answered - greeting)
                 took = time.perf_counter() - begun
         return self.run([took])
 
@@ -189,6 +206,10 @@ class Job:
         """A time as the table has it."""
         return f"{seconds * 1e3:,.1f} ms, {self.count * self.length / seconds / 1e6:,.0f} MB/s"
 
+    def more(self, _):
+        """Lines below the table."""
+        return []
+
 
 class Sync(Job):
     does = "append 100 B and sync, by a pipe"
@@ -196,10 +217,10 @@ class Sync(Job):
     def pagedd(self):
         request = frame(APPEND, data=bytes(self.length)) + frame(SYNC)
         blob = self.room.fresh("blob")
-        return self.room.by_pipe(request, APPENDED + SYNCED, HELLO, self.room.pagedd, "serve", blob)
+        return self.room.by_pipe(request, APPENDED + SYNCED, VERSION, self.room.pagedd, "serve", blob)
 
     def plain(self):
-        return self.room.by_pipe(bytes(self.length), 1, 0, self.room.plain, "each", self.room.fresh("file"))
+        return self.room.by_pipe(bytes(self.length), 1, b"", self.room.plain, "each", self.room.fresh("file"))
 
     def sqlite(self):
         took, data = [], bytes(self.length)
@@ -212,6 +233,58 @@ class Sync(Job):
 
     def said(self, seconds):
         return f"{seconds * 1e6:,.0f} us, {1 / seconds:,.0f} a second"
+
+    def more(self, found):
+        """What the slowest operations took."""
+        for side, runs in found.items():
+            cuts = statistics.quantiles(times(runs), n=1000)
+            yield f"{side}: half within {cuts[499] * 1e6:,.0f} us, 99 % within {cuts[989] * 1e6:,.0f} us, 99.9 % " \
+                  f"within {cuts[998] * 1e6:,.0f} us"
+
+
+class Batch(Sync):
+    does = "append a batch of {group:,} times {length:,} B and sync, by a pipe"
+
+    def pagedd(self):
+        request = frame(APPEND_RECORDS_SYNC, data=batch([bytes(self.length)] * GROUP))
+        blob = self.room.fresh("blob")
+        return self.room.by_pipe(request, BATCHED, OFFER, self.room.pagedd, "serve", blob)
+
+    def plain(self):
+        took, data = [], bytes(GROUP * self.length)
+        with open(self.room.fresh("file"), "wb", buffering=0) as file:
+            for _ in range(self.count):
+                begun = time.perf_counter()
+                file.write(data)
+                os.fdatasync(file.fileno())
+                took.append(time.perf_counter() - begun)
+        return Run(took, None, None)
+
+    def sqlite(self):
+        took, rows = [], [(bytes(self.length),)] * GROUP
+        with self.tables() as base:
+            for _ in range(self.count):
+                begun = time.perf_counter()
+                base.execute("BEGIN")
+                base.executemany("INSERT INTO log (data) VALUES (?)", rows)
+                base.execute("COMMIT")
+                took.append(time.perf_counter() - begun)
+        return Run(took, None, None)
+
+    def sides(self):
+        # (it has no column: `more` tells it)
+        return super().sides() | {"alone": super().pagedd}
+
+    def said(self, seconds):
+        return f"{seconds * 1e6:,.0f} us, {GROUP / seconds:,.0f} records a second"
+
+    def more(self, found):
+        """What a record takes in a batch, and alone."""
+        each, alone = statistics.median(times(found["pagedd"])) / GROUP, statistics.median(times(found["alone"]))
+        yield f"pagedd: a record of a batch takes {each * 1e6:,.1f} us, and one alone {alone * 1e6:,.1f} us, " \
+              f"{alone / each:,.0f} times as long"
+        count = self.count * GROUP
+        yield f"so {count:,} records take {count * each:,.2f} s by batches, and {count * alone:,.2f} s one by one"
 
 
 class Bulk(Job):
@@ -227,7 +300,7 @@ class Bulk(Job):
         self.room.fill("requests", itertools.chain([VERSION], appends, [frame(SYNC)]))
 
     def pagedd(self):
-        answered = HELLO + self.count * APPENDED + SYNCED
+        answered = GREETING + self.count * APPENDED + SYNCED
         return self.room.from_file("requests", answered, self.room.pagedd, "serve", self.room.fresh("blob"))
 
     def plain(self):
@@ -260,7 +333,7 @@ class Open(Stored):
     does = "opening {mib:,} MiB"
 
     def pagedd(self):
-        return self.room.from_file("close", HELLO, self.room.pagedd, "serve", self.room.path("blob"))
+        return self.room.from_file("close", GREETING, self.room.pagedd, "serve", self.room.path("blob"))
 
     def plain(self):
         return self.room.from_file("close", None, self.room.plain, "load", self.room.path("file"))
@@ -278,8 +351,8 @@ class Read(Stored):
         self.room.fill("reads", itertools.chain([VERSION], reads, [frame(CLOSE)]))
 
     def pagedd(self):
-        answered = HELLO + self.count * (5 + self.length)
-        return self.room.to_pipe("reads", HELLO, answered, self.room.pagedd, "serve", self.room.path("blob"))
+        answered = GREETING + self.count * (5 + self.length)
+        return self.room.to_pipe("reads", GREETING, answered, self.room.pagedd, "serve", self.room.path("blob"))
 
     def plain(self):
         answered = self.count * self.length
@@ -289,6 +362,7 @@ class Read(Stored):
 # The jobs by name, each with how many operations it has, and of how many bytes.
 JOBS = {
     "sync": lambda room: Sync(room, SYNCS, RECORD),
+    "batch": lambda room: Batch(room, SYNCS, RECORD),
     "bulk": lambda room: Bulk(room, 1024, PIECE),
     "small": lambda room: Bulk(room, 600_000, RECORD),
     "open": lambda room: Open(room, room.size // PIECE, PIECE),
@@ -318,21 +392,15 @@ def times(runs):
 def row(job, found):
     """A line of the table."""
     middle = {side: statistics.median(times(runs)) for side, runs in found.items()}
-    cells = [job.does.format(count=job.count, length=job.length, mib=job.count * job.length // MIB)]
+    cells = [job.does.format(count=job.count, length=job.length, group=GROUP, mib=job.count * job.length // MIB)]
     cells += [job.said(middle[side]) if side in middle else "" for side in ("pagedd", "plain", "SQLite")]
     cells += [f"{middle['pagedd'] / middle[side]:.2f}" if side in middle else "" for side in ("plain", "SQLite")]
+    # (nothing is counted of a side that is no program)
+    counted = [found[side] for side in ("pagedd", "plain") if found[side][0].memory is not None]
     for what, unit in (("memory", MIB), ("faults", 1)):
-        values = [statistics.median(getattr(run, what) for run in found[side]) / unit for side in ("pagedd", "plain")]
+        values = [statistics.median(getattr(run, what) for run in runs) / unit for runs in counted]
         cells.append(", ".join(f"{value:,.0f}" for value in values))
     return "| " + " | ".join(cells) + " |"
-
-
-def latencies(found):
-    """What the slowest operations took."""
-    for side, runs in found.items():
-        cuts = statistics.quantiles(times(runs), n=1000)
-        yield f"{side}: half within {cuts[499] * 1e6:,.0f} us, 99 % within {cuts[989] * 1e6:,.0f} us, 99.9 % " \
-              f"within {cuts[998] * 1e6:,.0f} us"
 
 
 def machine(folder):
@@ -373,13 +441,13 @@ def main():
         heads = ["Job", "`pagedd`", "plain", "SQLite", "`pagedd` / plain", "`pagedd` / SQLite",
                  "MiB of memory: `pagedd`, plain", "page faults: `pagedd`, plain"]
         print(f"| {' | '.join(heads)} |\n|{'---|' * len(heads)}", flush=True)
-        slow = []
+        more = []
         for name in dict.fromkeys(given.only):
             job = JOBS[name](room)
             found = play(job, name, given.runs)
             print(row(job, found), flush=True)
-            slow += latencies(found) if name == "sync" else []
-        print("".join(f"\n{line}" for line in slow), end="\n" if slow else "")
+            more += job.more(found)
+        print("".join(f"\n{line}" for line in more), end="\n" if more else "")
 
 
 if __name__ == "__main__":

@@ -5,6 +5,7 @@ and what version 0.2.0 did where that was another thing; the first that isn't so
 refused is compared with what it was. Last it plays each command on each kind of file, and compares that
 with the table of README.md, which `--table` prints.
 """
+import errno
 import json
 import os
 import re
@@ -404,6 +405,34 @@ def a_size_limit(program, folder):
            " shell shows as status 153", "the system sends it")
 
 
+def two_records(kind, size):
+    """A request of version 2 for two records of so many bytes each."""
+    fields = struct.pack("<III", 2, size, size) + bytes(2 * size)
+    return struct.pack("<IB", 1 + len(fields), kind) + fields
+
+
+def a_cause(program, folder):
+    path = os.path.join(folder, "cause")
+
+    def limit():
+        # (without the signal a write past the limit is an error of the system, as on a full disk)
+        signal.signal(signal.SIGXFSZ, signal.SIG_IGN)
+        resource.setrlimit(resource.RLIMIT_FSIZE, (8 * PAGE, 8 * PAGE))
+
+    # A batch that the buffer holds, with a sync; and one that it doesn't hold, alone.
+    for kind, size, taken in ((18, 20_000, 1), (17, 40_000, 0)):
+        ended = subprocess.run([program, "serve", path], input=b"\x02\x01\x02" + two_records(kind, size),
+                               capture_output=True, timeout=60, check=False, preexec_fn=limit)
+        hello = 14 + 4 + struct.unpack_from("<I", ended.stdout, 14)[0]
+        length, status, advice, steps, number = struct.unpack_from("<IBBQQ", ended.stdout, hello)
+        words = ended.stdout[hello + 22:hello + 4 + length].decode()
+        expect((status, advice, steps, number) == (2, 2, taken, errno.EFBIG) and "File too large" in words,
+               f"a batch that the file has no room for is refused with the system's number and words, after {taken}"
+               " steps", "the write failed, and the client is to open the file anew")
+        expect(ended.returncode == 1 and ended.stderr.count(b"\n") == 1, "and the program ends with status 1, and a line",
+               "the writer is gone")
+
+
 def appending(program, folder):
     path = os.path.join(folder, "lines")
     status, out, _ = play(program, "append", path, given=b"hello world\n")
@@ -460,7 +489,7 @@ def the_table(program, _):
 
 FAULTS = (a_good_blob, a_wrong_file, a_flipped_bit, a_last_page, a_torn_page, salvage_of_copies, outputs,
           another_page_size, reading_alone, an_empty_file, a_torn_tail, a_part_of_a_request, a_lost_writer,
-          mistyped_commands, names, permissions, a_size_limit, appending, for_programs, the_table)
+          mistyped_commands, names, permissions, a_size_limit, a_cause, appending, for_programs, the_table)
 
 
 def main():

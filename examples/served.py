@@ -14,16 +14,16 @@ class Refused(Exception):
 
 
 class Served(Blob):
-    """A blob that is served with these options."""
+    """A blob that is served with these options, in version 2 where the program knows it. `ask` takes the requests of
+    both versions. What the hello told is in `size`, `page_size`, `checksum`, `read_only`, `cut`, `copy` and `limits`;
+    in version 1 `size` alone is known."""
 
     def __init__(self, program, path, *options):
-        self.process = subprocess.Popen([program, "serve", *options, path], stdin=subprocess.PIPE,
-                                        stdout=subprocess.PIPE, stderr=subprocess.PIPE)
-        self.process.stdin.write(b"\x01")
-        if self.process.stdout.read(1) != b"\x01":
+        try:
+            self.open([program, "serve", *options, path], stderr=subprocess.PIPE)
+        except EOFError:
             words = self.process.stderr.read().decode()
-            raise Refused(self.process.wait(), words)
-        self.size = int.from_bytes(self.answer()[:8], "little")
+            raise Refused(self.process.wait(), words) from None
 
     def ended(self):
         """The program is gone."""

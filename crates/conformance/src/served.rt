@@ -13,6 +13,7 @@ use scripts::Hex;
 use std::alloc::Global;
 use std::io;
 use std::io::{BufReader, BufWriter, Write};
+use std::num::NonZeroU16;
 
 // The most bytes of memory that a server may ask for at once, with the settings and the bytes of
 // these cases.
@@ -26,6 +27,7 @@ enum Verb {
     ServeAllowing,
     ServePieces,
     ServeFailing,
+    ServeSmall,
     ServeEnding,
     ServeBroken,
     ServeInterrupted,
@@ -35,12 +37,13 @@ enum Verb {
     Len,
 }
 
-const STEPS: [Form<Verb>; 12] = [
+const STEPS: [Form<Verb>; 13] = [
     (b"serve", &[], Verb::Serve),
     (b"serve-reading", &[], Verb::ServeReading),
     (b"serve-allowing", &[Number], Verb::ServeAllowing),
     (b"serve-pieces", &[], Verb::ServePieces),
     (b"serve-failing", &[Number], Verb::ServeFailing),
+    (b"serve-small", &[Number], Verb::ServeSmall),
     (b"serve-ending", &[Number, Number], Verb::ServeEnding),
     (b"serve-broken", &[Number, Number], Verb::ServeBroken),
     (b"serve-interrupted", &[], Verb::ServeInterrupted),
@@ -103,7 +106,9 @@ fn serve<B: Blob + Cause>(
     };
     let mut out = BufWriter::new(alloc, flushed)?;
     asked_for_more(alloc, MOST_AT_ONCE);
-    let ended = serve_file::<B, Crc32c, _, _>(alloc, blob, setting, "", &mut input, &mut out);
+    let ended = serve_file::<B, Crc32c, _, _>(
+        alloc, blob, setting, "crc32c", "", &mut input, &mut out,
+    );
     let greedy = asked_for_more(alloc, MOST_AT_ONCE);
     say_end(ended, said)?;
     out.flush()?;
@@ -122,11 +127,17 @@ fn serve<B: Blob + Cause>(
 }
 
 // Over an empty blob whose device call of this number fails.
-fn serve_failing(alloc: Global, number: u64, row: &Row, said: &mut Vec<u8>) -> io::Result<()> {
+fn serve_failing(
+    alloc: Global,
+    setting: &Setting,
+    number: u64,
+    row: &Row,
+    said: &mut Vec<u8>,
+) -> io::Result<()> {
     let mut blob = MemBlob::new(alloc);
     blob.fail_at(number.max(1));
     let input = Pieces::read(alloc, &row.given, Way::Ends)?;
-    serve(alloc, &mut blob, &Setting::default(), input, row, said)?;
+    serve(alloc, &mut blob, setting, input, row, said)?;
     Ok(())
 }
 
@@ -230,7 +241,12 @@ impl Server {
                 self.serve(alloc, setting, Way::Ends, row, said)
             }
             Verb::ServePieces => self.serve_pieces(alloc, row, said),
-            Verb::ServeFailing => serve_failing(alloc, number, row, said),
+            Verb::ServeFailing => serve_failing(alloc, &setting, number, row, said),
+            Verb::ServeSmall => {
+                setting.page_size = NonZeroU16::new(4).unwrap();
+                setting.capacity = 8;
+                serve_failing(alloc, &setting, number, row, said)
+            }
             Verb::ServeEnding => self.serve_each(alloc, Way::Ends, words, row, said),
             Verb::ServeBroken => self.serve_each(alloc, Way::Fails, words, row, said),
             Verb::ServeInterrupted => self.serve(alloc, setting, Way::Interrupted, row, said),

@@ -104,7 +104,7 @@ fn begin<B: Blob + InMemory, H: Sum>(
     let Err(Stop::WouldCut(_)) = begun else {
         return Ok(begun);
     };
-    let allowed = allow::<B, H>(rt, request, blob)?;
+    let allowed = allow::<B, H>(rt, request, blob)?.bytes;
     Ok(begin_within::<B, H>(rt.alloc(), request, blob, allowed))
 }
 

@@ -25,21 +25,31 @@ pub fn fail_blob(rt: &HostRuntime, path: &str, blob: &FileBlob, error: Error) ->
     }
 }
 
-/// How many bytes at the end of a blob may go, where a recovery would give up some, unless the file
-/// is refused. A copy of them is set aside, and a line on standard error says what goes. For reading
+/// What may go in a recovery.
+#[derive(Drop)]
+pub struct Allowed {
+    /// How many bytes at the end.
+    pub bytes: u64,
+    /// The name of the copy that was made of them, if one was.
+    pub copy: Option<String>,
+}
+
+/// What may go at the end of a blob, where a recovery would give up some of it, unless the file is
+/// refused. A copy of it is set aside, and a line on standard error says what goes. For reading
 /// alone nothing is set aside, and the line says what isn't served.
 pub fn allow<B: Blob + InMemory, H: Sum>(
     rt: &HostRuntime,
     request: &Request,
     blob: &mut B,
-) -> Result<u64, Status> {
+) -> Result<Allowed, Status> {
     let look = looked::<B, H>(rt, request, blob)?;
     let file = request.file;
-    match look.verdict(request.cut_limit) {
+    let copy = match look.verdict(request.cut_limit) {
         Verdict::Refuse if !request.cut => return Err(refuse(rt, request, blob.image(), &look)?),
         _ if request.read_only => {
             let lost = look.lost("aren't served");
             tell(rt, format_args!("{file}: {lost}"));
+            None
         }
         _ if look.set_aside_len() == 0 => {
             let lost = look.lost("are cut");
@@ -47,14 +57,19 @@ pub fn allow<B: Blob + InMemory, H: Sum>(
                 rt,
                 format_args!("{file}: {lost}: they are whole pages of zeros, and no copy was made"),
             );
+            None
         }
-        _ => keep(rt, file, blob.image(), &look)?,
-    }
-    Ok(look.at_stake())
+        _ => Some(keep(rt, file, blob.image(), &look)?),
+    };
+    Ok(Allowed {
+        bytes: look.at_stake(),
+        copy,
+    })
 }
 
 // Sets aside what a recovery gives up at the end of a file of these bytes, and says where that is.
-fn keep(rt: &HostRuntime, file: &str, bytes: &[u8], look: &Look) -> Result<(), Status> {
+// Answers the copy's name.
+fn keep(rt: &HostRuntime, file: &str, bytes: &[u8], look: &Look) -> Result<String, Status> {
     let lost = look.lost("are cut");
     let start = look.set_aside_start();
     let given_up = bytes.get(start as usize..).unwrap_or_default();
@@ -64,7 +79,7 @@ fn keep(rt: &HostRuntime, file: &str, bytes: &[u8], look: &Look) -> Result<(), S
                 rt,
                 format_args!("{file}: {lost}; {name} has a copy of the file from byte {start} on"),
             );
-            Ok(())
+            Ok(name)
         }
         Err(error) => {
             let why = "no copy could be made of what a recovery would give up, so nothing was cut";

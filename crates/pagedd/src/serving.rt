@@ -72,12 +72,19 @@ fn serve_streams<B: Blob + Cause + InMemory, H: Sum>(
         read_only: request.read_only,
         allowed: 0,
     };
-    let served = serve_file::<B, H, _, _>(rt.alloc(), blob, &setting, "", input, out);
+    let alloc = rt.alloc();
+    let name = request.shape.checksum.name();
+    let served = serve_file::<B, H, _, _>(alloc, blob, &setting, name, "", input, out);
     let Err(Stop::WouldCut(_)) = served else {
         return Ok(served);
     };
-    setting.allowed = allow::<B, H>(rt, request, blob)?;
-    Ok(serve_file::<B, H, _, _>(rt.alloc(), blob, &setting, "", input, out))
+    let allowed = allow::<B, H>(rt, request, blob)?;
+    setting.allowed = allowed.bytes;
+    let copy = match &allowed.copy {
+        Some(copy) => copy.as_str(),
+        None => "",
+    };
+    Ok(serve_file::<B, H, _, _>(alloc, blob, &setting, name, copy, input, out))
 }
 
 // Says in a line why a session ended.

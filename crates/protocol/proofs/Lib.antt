@@ -8,4 +8,6 @@ pub mod Appended
 pub mod Taken
 pub mod Requested
 pub mod Beginning
+pub mod Opened
 mod FaultExamples
+mod VersionExamples

@@ -7,25 +7,26 @@ use Rattle.disk.specs.Disk.{Life}
 use Rattle.disk.specs.declared.error.Error.{Error}
 use Rattle.cache.specs.CacheState.{CacheState}
 use Rattle.paged.specs.Reads.{size_of}
-use Rattle.session.specs.Run.{SessionState}
+use Rattle.session.specs.Run.{SessionState, count_open}
 use Rattle.session.specs.declared.steps.Step.{Step}
 use Rattle.session.specs.declared.steps.Step.TheVariants.{Append, ReadRanges}
 use Rattle.session.specs.declared.steps.Reply.{Reply}
 use Rattle.protocol.specs.declared.request.Request.{Request}
-use Rattle.protocol.specs.declared.request.Request.TheVariants.{Step as StepOf, Records, Ranges, SyncSize, Look, Flush, Close}
+use Rattle.protocol.specs.declared.request.Request.TheVariants.{Step as StepOf, Records, Ranges, SyncSize, Look, Flush, CountOpen, Close}
 use Rattle.protocol.specs.declared.setting.Setting.{Setting}
 use Rattle.protocol.specs.declared.stop.Stop.{Stop}
-use Rattle.protocol.specs.declared.stop.Stop.TheVariants.{Malformed, Version, WouldCut, Refused, Lost, LongAnswer, Failed, OutOfMemory}
+use Rattle.protocol.specs.declared.stop.Stop.TheVariants.{Malformed, Version, WouldCut, Refused, Lost, LongAnswer, Failed, OutOfMemory, NoVersion}
 use Rattle.protocol.specs.declared.version.Version.{Version as ProtocolVersion}
 use Rattle.protocol.specs.declared.version.Version.TheVariants.{One, Two}
 use Rattle.std.specs.Io.KnownBytes.{Appends}
 use Rattle.protocol.specs.Answer.{IsAnswerWith, IsRefusalAnswer, IsWriteError, answer_bytes, refusal_bytes, read_only_status, unreadable_status}
 use Rattle.protocol.specs.Request.{frame_bytes, last_kind, number_bytes}
-use Rattle.protocol.specs.Serve.{AreSteps, IsAnswer, IsChangeRefused, Served, TakesRequest, asks_change, given_payload, gives_last, can_be_read, last_payload, records_payload, steps_then}
+use Rattle.protocol.specs.Serve.{AreSteps, IsAnswer, IsChangeRefused, Served, TakesRequest, asks_change, given_payload, gives_last, open_payload, can_be_read, last_payload, records_payload, steps_then}
 use Rattle.protocol.specs.Serve.Served.{taken, refused}
 use Rattle.protocol.specs.Taking.{Finishes, IsStepAnswer, RunsSteps, TellsUnreadable, WritesAnswer}
 use Rattle.protocol.specs.declared.request.Then.{Then}
 use Rattle.protocol.specs.Together.{tells_ranges, tells_records, ranges_in, record_bytes, record_lengths}
+use Rattle.protocol.proofs.Requests.{two_numbers}
 use Rattle.protocol.proofs.Serving.{taken_request, took_none, took_of}
 use Rattle.protocol.proofs.Taken.{is_some_mapped, some_with, writes}
 
@@ -64,7 +65,7 @@ pub some_answer : (version : ProtocolVersion) (step : Step) (replies : List Repl
 some_answer One step [] now one = absurd (omega (arith, one))
 some_answer One step (reply ∷ []) now one = (answer_bytes reply, (reply, refl, refl))
 some_answer One step (reply ∷ next ∷ replies) now one = absurd (omega (arith, one))
-some_answer Two step replies now one = some_with (given_payload (StepOf step) replies) replies (is_some now.writer)
+some_answer Two step replies now one = some_with (given_payload (StepOf step) replies now) replies (is_some now.writer)
 
 -- the answer to one step is that to its request
 pub step_answers : (version : ProtocolVersion) (step : Step) (replies : List Reply) (now : SessionState) (answer : List ℕ) → IsStepAnswer version replies (is_some now.writer) answer → IsAnswer version (StepOf step) replies now answer
@@ -84,6 +85,7 @@ last_answers setting Look steps replies now answer last are some is = is
 last_answers setting (StepOf step) steps replies now answer last are some is = absurd (false≢true last)
 last_answers setting (Records fields next) steps replies now answer last are some is = absurd (false≢true last)
 last_answers setting Flush steps replies now answer last are some is = absurd (false≢true last)
+last_answers setting CountOpen steps replies now answer last are some is = absurd (false≢true last)
 last_answers setting Close steps replies now answer last are some is = absurd (false≢true last)
 
 -- the writer is there as its size is
@@ -96,7 +98,7 @@ pub unreadable : (sum : List ℕ → ℕ) (setting : Setting) (request : Request
 unreadable sum setting request was life out written result may are none tells = by_answer result tells
   where
     answered : (answer : List ℕ) → IsRefusalAnswer unreadable_status 0 0 answer → IsAnswer Two request [] was answer
-    answered answer told = subst (AnswerBy (given_payload request []) [] (is_some was.writer) answer) (sym none) told
+    answered answer told = subst (AnswerBy (given_payload request [] was) [] (is_some was.writer) answer) (sym none) told
 
     served : (answer : List ℕ) → IsRefusalAnswer unreadable_status 0 0 answer → Served setting Two request [] [] was answer
     served answer told = taken request [] [] was answer may are (answered answer told)
@@ -136,6 +138,7 @@ change_refused sum setting version request was life out written (Err stop) resul
     by_cause OutOfMemory none = absurd none
     by_cause (Malformed number flaw) none = absurd none
     by_cause (Version byte) none = absurd none
+    by_cause NoVersion none = absurd none
     by_cause (WouldCut cut) none = absurd none
     by_cause (Refused error) none = absurd none
     by_cause (Lost error) none = absurd none
@@ -170,3 +173,14 @@ flush_taken sum setting One was life out written wrote result within answers why
 flush_taken sum setting Two was life out written wrote result within answers why told =
     taken_request sum setting Two Flush [] [] was was life life out written wrote result (and_false setting.read_only) refl (took_none sum was life) (frame_bytes (0 ∷ [])) refl
     (writes (IsAnswer Two Flush [] was) 0 [] out written wrote refl answers why) told
+
+-- ---- what is open
+
+-- how many were counted, and the answer was written, or not
+pub open_taken : (sum : List ℕ → ℕ) (setting : Setting) (version : ProtocolVersion) (was : SessionState) (life : Life) (out written : Option (List ℕ)) (wrote : Result (Unit {0}) Stop) (result : Result (Option Error) Stop) → 26 ≤ last_kind version
+    → OnOk wrote (Appends out written (frame_bytes (0 ∷ open_payload was))) → IfErr wrote (IsWriteError 16) → Finishes [] wrote result → TakesRequest sum setting version CountOpen was was life life out written result
+open_taken sum setting One was life out written wrote result within answers why told = absurd (omega (arith, within))
+open_taken sum setting Two was life out written wrote result within answers why told =
+    let long : 16 ≡ length (open_payload was) = sym (two_numbers (count_open was.snapshots) (count_open was.replays)) in
+    taken_request sum setting Two CountOpen [] [] was was life life out written wrote result (and_false setting.read_only) refl (took_none sum was life) (frame_bytes (0 ∷ open_payload was)) refl
+    (writes (IsAnswer Two CountOpen [] was) 0 (open_payload was) out written wrote refl answers (subst (λ (n : ℕ). IfErr wrote (IsWriteError n)) long why)) told

@@ -6,7 +6,7 @@ use Rattle.std.proofs.lemmas.Bool.{false≢true, eqb-true}
 use Rattle.std.specs.Int.NonZero.{non_zero_usize_get}
 use Rattle.session.specs.declared.steps.Step.TheVariants as step
 use Rattle.protocol.specs.declared.request.Request.{Request}
-use Rattle.protocol.specs.declared.request.Request.TheVariants.{Step, Records, Ranges, SyncSize, Look, Flush, Close}
+use Rattle.protocol.specs.declared.request.Request.TheVariants.{Step, Records, Ranges, SyncSize, Look, Flush, CountOpen, Close}
 use Rattle.protocol.specs.declared.request.Then.TheVariants as follow
 use Rattle.protocol.specs.declared.version.Version.{Version}
 use Rattle.protocol.specs.declared.stop.Flaw.{Flaw}
@@ -29,7 +29,7 @@ same_fronts (a ∷ xs) (b ∷ bs) cs ds long same =
 
 -- ---- the lengths of fields
 
-two_numbers : (m n : ℕ) → length (number_bytes m ++ number_bytes n) ≡ 16
+pub two_numbers : (m n : ℕ) → length (number_bytes m ++ number_bytes n) ≡ 16
 two_numbers m n = omega (arith, length-append (number_bytes m) (number_bytes n), length-number_bytes m, length-number_bytes n)
 
 three_numbers : (l m n : ℕ) → length (number_bytes l ++ number_bytes m ++ number_bytes n) ≡ 24
@@ -76,6 +76,7 @@ shaped (Ranges bytes) is = bytes_of refl
 shaped SyncSize is = counts 0 refl refl (omega arith)
 shaped Look is = counts 0 refl refl (omega arith)
 shaped Flush is = counts 0 refl refl (omega arith)
+shaped CountOpen is = counts 0 refl refl (omega arith)
 
 -- bytes fit an answer, too
 bytes_fit : (request : Request) → CanBeAsked request → takes_bytes (kind_of request) ≡ true → FitsAnswer (length (fields_of request))
@@ -185,7 +186,7 @@ few_in false false false false count is = absurd (cc is)
 -- there are three at most
 pub few_numbers : (kind count : ℕ) → field_count kind ≡ Some count → count ≤ 3
 few_numbers kind count is =
-    few_in (has_kind (2 ∷ 3 ∷ 5 ∷ 8 ∷ 10 ∷ 16 ∷ 21 ∷ 22 ∷ 25 ∷ []) kind) (has_kind (4 ∷ 9 ∷ 12 ∷ 23 ∷ 24 ∷ []) kind) (has_kind (6 ∷ 7 ∷ 13 ∷ 14 ∷ 15 ∷ []) kind) (kind == 11) count is
+    few_in (has_kind (2 ∷ 3 ∷ 5 ∷ 8 ∷ 10 ∷ 16 ∷ 21 ∷ 22 ∷ 25 ∷ 26 ∷ []) kind) (has_kind (4 ∷ 9 ∷ 12 ∷ 23 ∷ 24 ∷ []) kind) (has_kind (6 ∷ 7 ∷ 13 ∷ 14 ∷ 15 ∷ []) kind) (kind == 11) count is
 
 three_in : (none one two three : Bool) (count : ℕ) → count_in none one two three ≡ Some count → count ≡ 3 → three ≡ true
 three_in true one two three count is three_of = let e : 0 ≡ count = cc is in absurd (omega arith)
@@ -197,7 +198,7 @@ three_in false false false false count is three_of = absurd (cc is)
 -- one kind has three
 pub snap_kind : (kind : ℕ) → field_count kind ≡ Some 3 → kind ≡ 11
 snap_kind kind is =
-    eqb-true kind 11 (three_in (has_kind (2 ∷ 3 ∷ 5 ∷ 8 ∷ 10 ∷ 16 ∷ 21 ∷ 22 ∷ 25 ∷ []) kind) (has_kind (4 ∷ 9 ∷ 12 ∷ 23 ∷ 24 ∷ []) kind) (has_kind (6 ∷ 7 ∷ 13 ∷ 14 ∷ 15 ∷ []) kind) (kind == 11) 3 is refl)
+    eqb-true kind 11 (three_in (has_kind (2 ∷ 3 ∷ 5 ∷ 8 ∷ 10 ∷ 16 ∷ 21 ∷ 22 ∷ 25 ∷ 26 ∷ []) kind) (has_kind (4 ∷ 9 ∷ 12 ∷ 23 ∷ 24 ∷ []) kind) (has_kind (6 ∷ 7 ∷ 13 ∷ 14 ∷ 15 ∷ []) kind) (kind == 11) 3 is refl)
 
 -- ---- fields that no request has
 
@@ -291,7 +292,7 @@ pub no_empty_buffer : (kind number : ℕ) (flaw : Flaw) → kind ≢ 4 → kind 
 no_empty_buffer kind number flaw no_wait no_truncate no_snapshot no_replay one none is =
     let same : kind ≡ 12 = eqb-true kind 12 (third_in (kind == 4) (kind == 9) (kind == 12) (kind == 23) (kind == 24)
     (λ e. no_wait (eqb-true kind 4 e)) (λ e. no_truncate (eqb-true kind 9 e)) (λ e. no_snapshot (eqb-true kind 23 e)) (λ e. no_replay (eqb-true kind 24 e))
-    (one_in (has_kind (2 ∷ 3 ∷ 5 ∷ 8 ∷ 10 ∷ 16 ∷ 21 ∷ 22 ∷ 25 ∷ []) kind) (has_kind (4 ∷ 9 ∷ 12 ∷ 23 ∷ 24 ∷ []) kind) (has_kind (6 ∷ 7 ∷ 13 ∷ 14 ∷ 15 ∷ []) kind) (kind == 11) 1 one refl)) in (
+    (one_in (has_kind (2 ∷ 3 ∷ 5 ∷ 8 ∷ 10 ∷ 16 ∷ 21 ∷ 22 ∷ 25 ∷ 26 ∷ []) kind) (has_kind (4 ∷ 9 ∷ 12 ∷ 23 ∷ 24 ∷ []) kind) (has_kind (6 ∷ 7 ∷ 13 ∷ 14 ∷ 15 ∷ []) kind) (kind == 11) 1 one refl)) in (
       no_buffer kind number same none,
       subst (λ (f : Flaw). FieldsHave f kind (number_bytes number)) (sym is) (same, ap number_bytes none),
     )

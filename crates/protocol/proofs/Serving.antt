@@ -1,6 +1,6 @@
 -- Steps are taken and answered, one after another.
-use Rattle.std.proofs.Common.{◌≡◌, ◌⊎◌, Bool, true, false, ℕ, ◌+◌, ◌*◌, take, arith, List, [], ◌∷◌, ◌++◌, length, refl, sym, ap, ◌∙◌, subst, append-nil, append_assoc, length-append, inl, inr}
-use Rattle.std.specs.Prelude.{Option, Some, None, Result, Ok, Err, IfSome, IfErr, IsErrAnd, is_err, is_some, ◌&&◌, ◌≢◌}
+use Rattle.std.proofs.Common.{◌≡◌, ◌⊎◌, Bool, true, false, ℕ, ◌+◌, ◌*◌, take, arith, ◌-◌, List, [], ◌∷◌, ◌++◌, length, refl, sym, ap, ◌∙◌, subst, append-nil, append_assoc, length-append, inl, inr}
+use Rattle.std.specs.Prelude.{Option, Some, None, Result, Ok, Err, IfSome, IfErr, IsErrAnd, is_err, is_some, option_map, unwrap_or, ◌&&◌, ◌≢◌}
 use Rattle.std.specs.List.{Contains, flat_map}
 use Rattle.std.proofs.lemmas.List.Elements.{All-nil, All-cons, All-append, Contains-append_left, Contains-append_right, Contains-push}
 use Rattle.std.specs.Io.KnownBytes.{Appends, Consumes, IsAtEnd, Keeps}
@@ -8,6 +8,7 @@ use Rattle.std.proofs.KnownBytes.{Appends-nil, Appends-trans, Consumes-nil, Cons
 use Rattle.disk.specs.Disk.{Life}
 use Rattle.disk.specs.declared.error.Error.{Error}
 use Rattle.cache.specs.CacheState.{CacheState}
+use Rattle.paged.specs.Reads.{size_of}
 use Rattle.session.specs.declared.steps.Step.{Step}
 use Rattle.session.specs.declared.steps.Step.TheVariants.{Size}
 use Rattle.session.specs.declared.steps.Reply.{Reply}
@@ -16,23 +17,24 @@ use Rattle.session.specs.Run.{SessionState, TookNone}
 use Rattle.session.specs.Calls.{RunGoes}
 use Rattle.session.proofs.Joined.{runs_join, runs_none, promised}
 use Rattle.protocol.specs.declared.request.Request.{Request}
-use Rattle.protocol.specs.declared.request.Request.TheVariants.{Step as StepOf, Records, Ranges, SyncSize, Look, Flush, Close}
+use Rattle.protocol.specs.declared.request.Request.TheVariants.{Step as StepOf, Records, Ranges, SyncSize, Look, Flush, CountOpen, Close}
 use Rattle.protocol.specs.declared.setting.Setting.{Setting}
 use Rattle.protocol.specs.declared.version.Version.{Version as ProtocolVersion}
-use Rattle.protocol.specs.declared.version.Version.TheVariants.{One}
+use Rattle.protocol.specs.declared.version.Version.TheVariants.{One, Two}
+use Rattle.protocol.specs.declared.opening.Opening.{Opening}
+use Rattle.protocol.specs.Opening.{ReadsOpening, TellsOpening, hello_bytes, version_byte}
 use Rattle.protocol.specs.declared.stop.ReadError.{ReadError}
 use Rattle.protocol.specs.declared.stop.ReadError.TheVariants.{Malformed as IsMalformed, Failed as HasFailed, OutOfMemory as NoMemory}
 use Rattle.protocol.specs.declared.stop.Stop.{Stop}
-use Rattle.protocol.specs.declared.stop.Stop.TheVariants.{Malformed, Version, WouldCut, Refused, Lost, LongAnswer, Failed, OutOfMemory}
+use Rattle.protocol.specs.declared.stop.Stop.TheVariants.{Malformed, Version, WouldCut, Refused, Lost, LongAnswer, Failed, OutOfMemory, NoVersion}
 use Rattle.protocol.specs.Answer.{fault_in, reply_error, IsTooLong, IsWriteError}
 use Rattle.protocol.specs.Taking.{Finishes, TellsStop, WritesAnswer}
-use Rattle.protocol.specs.Input.{IsBroken}
 use Rattle.protocol.specs.Stop.{stop_at}
 use Rattle.protocol.specs.Request.{IsRequest, request_bytes, number_bytes, length_bytes, frame_bytes}
 use Rattle.protocol.proofs.Bytes.{length-number_bytes}
 use Rattle.protocol.specs.Serve.AreServed.{no_more, one_more}
 use Rattle.protocol.specs.Serve.Served.{taken}
-use Rattle.protocol.specs.Serve.{requests_bytes, AreSteps, IsAnswer, asks_change, is_close, later_fault, AnsweredAll, EndsSession, IsFaultAmong, IsAny, Took, TookFor, TookNext, Answered, TakesRequest, ReadsNext, ReadsVersion, Serves, HasBegun, IsNotBegun, Greets, Greeted, EndsEarly, ServedAfter, ServesFile, version_byte}
+use Rattle.protocol.specs.Serve.{requests_bytes, AreSteps, IsAnswer, asks_change, is_close, later_fault, AnsweredAll, EndsSession, IsFaultAmong, IsAny, Took, TookFor, TookNext, Answered, TakesRequest, ReadsNext, Serves, HasBegun, IsNotBegun, Greets, Greeted, EndsEarly, Opens, Named, hello_for, names_of, size_in, ServedAfter, ServesFile}
 
 -- ---- lists of bytes
 
@@ -134,6 +136,7 @@ taken_request sum setting version request steps replies was now old new out writ
     by_cause OutOfMemory none = absurd none
     by_cause (Malformed number flaw) none = absurd none
     by_cause (Version byte) none = absurd none
+    by_cause NoVersion none = absurd none
     by_cause (WouldCut cut) none = absurd none
     by_cause (Refused error) none = absurd none
     by_cause (Lost error) none = absurd none
@@ -221,6 +224,7 @@ serving_stops sum setting version was now old new input rest last out written ke
         (rest, kept, unmoved sum setting version was now old new input rest out written kept before.answered keeps, this ∙ before.counts, none, told)
     by_cause (Malformed which flaw) none (inr is) = broken why is
     by_cause (Version byte) none tells = absurd none
+    by_cause NoVersion none tells = absurd none
     by_cause (WouldCut cut) none tells = absurd none
     by_cause (Refused error) none tells = absurd none
     by_cause (Lost error) none tells = absurd none
@@ -243,6 +247,7 @@ serving_fails sum setting version request was mid now old between new input rest
     by_cause : (x : Stop) → TakesRequest sum setting version request mid now between new kept all (Err x) → Serves sum setting version was now old new input last out all (Err x)
     by_cause (Malformed which flaw) none = absurd none
     by_cause (Version byte) none = absurd none
+    by_cause NoVersion none = absurd none
     by_cause (WouldCut cut) none = absurd none
     by_cause (Refused error) none = absurd none
     by_cause (Lost error) none = absurd none
@@ -265,6 +270,7 @@ serving_ends sum setting version was now old new input rest last out written kep
     by_answer (Err (Lost error)) (gone, told) = all (λ replies. (now.writer ≡ None) × IsFaultAmong (Some error) replies) (gone, subst (λ (f : Option Error). IsFaultAmong f before.answered.replies) told before.among)
     by_answer (Err (Malformed number flaw)) none = absurd none
     by_answer (Err (Version byte)) none = absurd none
+    by_answer (Err NoVersion) none = absurd none
     by_answer (Err (WouldCut cut)) none = absurd none
     by_answer (Err (Refused error)) none = absurd none
     by_answer (Err LongAnswer) none = absurd none
@@ -285,6 +291,7 @@ close_read version number (Ranges fields) rest last is reads = absurd (cc is)
 close_read version number SyncSize rest last is reads = absurd (cc is)
 close_read version number Look rest last is reads = absurd (cc is)
 close_read version number Flush rest last is reads = absurd (cc is)
+close_read version number CountOpen rest last is reads = absurd (cc is)
 
 -- ---- how a session begins
 
@@ -292,18 +299,13 @@ close_read version number Flush rest last is reads = absurd (cc is)
 pub would_cut : (sum : List ℕ → ℕ) (setting : Setting) (old new : Life) (out written : Option (List ℕ)) (stop : Stop) → IsNotBegun sum setting old new stop → ((error : Error) → stop ≢ Refused error) → written ≡ out → Greets sum setting old new out written (Err stop)
 would_cut sum setting old new out written (Malformed number flaw) none other same = absurd none
 would_cut sum setting old new out written (Version byte) none other same = absurd none
+would_cut sum setting old new out written NoVersion none other same = absurd none
 would_cut sum setting old new out written (WouldCut cut) more other same = (more, same)
 would_cut sum setting old new out written (Refused error) had other same = absurd (other error refl)
 would_cut sum setting old new out written (Lost error) none other same = absurd none
 would_cut sum setting old new out written LongAnswer none other same = absurd none
 would_cut sum setting old new out written Failed none other same = absurd none
 would_cut sum setting old new out written OutOfMemory none other same = absurd none
-
--- the version isn't read
-pub version_unread : (input rest : Option (List ℕ)) (error : ReadError) (stop : Stop) → IsBroken error → stop ≡ stop_at 0 error → ReadsVersion input rest (Err stop)
-version_unread input rest (IsMalformed flaw) stop broken is = absurd broken
-version_unread input rest HasFailed stop broken is = subst (λ (x : Stop). ReadsVersion input rest (Err x)) (sym is) tt
-version_unread input rest NoMemory stop broken is = subst (λ (x : Stop). ReadsVersion input rest (Err x)) (sym is) tt
 
 -- the size isn't answered
 pub greeting_fails : (sum : List ℕ → ℕ) (setting : Setting) (was now : SessionState) (old mid new : Life) (out after written : Option (List ℕ)) (stop : Stop) (result : Result (SessionState × CacheState) Stop) → IsErrAnd result (λ x. x ≡ stop)
@@ -315,6 +317,7 @@ greeting_fails sum setting was now old mid new out after written stop (Err why) 
     by_cause : (x : Stop) → TakesRequest sum setting One (StepOf Size) was now mid new after written (Err x) → Greets sum setting old new out written (Err x)
     by_cause (Malformed which flaw) none = absurd none
     by_cause (Version byte) none = absurd none
+    by_cause NoVersion none = absurd none
     by_cause (WouldCut cut) none = absurd none
     by_cause (Refused error) none = absurd none
     by_cause (Lost error) none = absurd none
@@ -358,14 +361,15 @@ only_greeted sum setting old new was out written g =
     inr (inr (g.mid, g.was, was, g.begun, (g.took.0, g.took.1, g.took.2, g.took.3, g.took.4, tt)))
 
 -- no session was greeted
-pub file_not_greeted : (sum : List ℕ → ℕ) (setting : Setting) (old new : Life) (input out written : Option (List ℕ)) (stop : Stop) (result : Result (Unit {0}) Stop) → IsErrAnd result (λ x. x ≡ stop) → Greets sum setting old new out written (Err stop)
-    → ServesFile sum setting old new input input out written result
-file_not_greeted sum setting old new input out written stop (Ok done) is greets = absurd is
-file_not_greeted sum setting old new input out written stop (Err why) is greets = by_cause why (subst (λ (x : Stop). Greets sum setting old new out written (Err x)) (sym is) greets)
+pub file_not_greeted : (sum : List ℕ → ℕ) (setting : Setting) (named : Named) (old new : Life) (input out written : Option (List ℕ)) (stop : Stop) (result : Result (Unit {0}) Stop) → IsErrAnd result (λ x. x ≡ stop) → Greets sum setting old new out written (Err stop)
+    → ServesFile sum setting named old new input input out written result
+file_not_greeted sum setting named old new input out written stop (Ok done) is greets = absurd is
+file_not_greeted sum setting named old new input out written stop (Err why) is greets = by_cause why (subst (λ (x : Stop). Greets sum setting old new out written (Err x)) (sym is) greets)
   where
-    by_cause : (x : Stop) → Greets sum setting old new out written (Err x) → ServesFile sum setting old new input input out written (Err x)
+    by_cause : (x : Stop) → Greets sum setting old new out written (Err x) → ServesFile sum setting named old new input input out written (Err x)
     by_cause (Malformed which flaw) none = absurd none
     by_cause (Version byte) none = absurd none
+    by_cause NoVersion none = absurd none
     by_cause (WouldCut cut) (more, same) = (more, same, refl)
     by_cause (Refused error) had = had
     by_cause (Lost error) none = absurd none
@@ -373,50 +377,79 @@ file_not_greeted sum setting old new input out written stop (Err why) is greets 
     by_cause Failed ends = inl ends
     by_cause OutOfMemory ends = inl ends
 
--- its version wasn't read
-pub file_not_begun : (sum : List ℕ → ℕ) (setting : Setting) (old new : Life) (was : SessionState) (input rest out written : Option (List ℕ)) (stop : Stop) (result : Result (Unit {0}) Stop) → IsErrAnd result (λ x. x ≡ stop)
-    → Greeted sum setting old new was out written → ReadsVersion input rest (Err stop) → ServesFile sum setting old new input rest out written result
-file_not_begun sum setting old new was input rest out written stop (Ok done) is g reads = absurd is
-file_not_begun sum setting old new was input rest out written stop (Err why) is g reads = by_cause why (subst (λ (x : Stop). ReadsVersion input rest (Err x)) (sym is) reads)
+-- what the hello tells
+pub hello_is : (setting : Setting) (checksum set_aside : List ℕ) (old between : Life) (was : SessionState) (len left size cut : ℕ) (told : Option ℕ) → len ≡ length old.present.readable → left ≡ length between.present.readable → told ≡ option_map size_of was.writer
+    → size ≡ unwrap_or told 0 → cut ≡ len - left → hello_bytes setting checksum set_aside size cut ≡ hello_for setting (names_of checksum set_aside) old between was
+hello_is setting checksum set_aside old between was len left size cut told first then_left has is goes =
+    ap (λ (n : ℕ). hello_bytes setting checksum set_aside n cut) (is ∙ ap (λ (o : Option ℕ). unwrap_or o 0) has)
+    ∙ ap (λ (n : ℕ). hello_bytes setting checksum set_aside (size_in was) n) (goes ∙ ap (λ (n : ℕ). n - left) first ∙ ap (λ (n : ℕ). length old.present.readable - n) then_left)
+
+-- what the client begins with wasn't read
+pub file_unread : (sum : List ℕ → ℕ) (setting : Setting) (named : Named) (old new : Life) (was : SessionState) (input rest out greeting written : Option (List ℕ)) (error : ReadError) (at stop : Stop) → Greeted sum setting old new was out greeting → ReadsOpening input rest (Err error)
+    → at ≡ stop_at 0 error → TellsStop Two at greeting written stop → ServesFile sum setting named old new input rest out written (Err stop)
+file_unread sum setting named old new was input rest out greeting written error at stop g reads is told = by_error error reads (subst (λ (x : Stop). TellsStop Two x greeting written stop) is told)
   where
-    by_cause : (x : Stop) → ReadsVersion input rest (Err x) → ServesFile sum setting old new input rest out written (Err x)
-    by_cause (Malformed which flaw) none = absurd none
-    by_cause (Version byte) (other, takes) = (other, takes, (was, g))
-    by_cause (WouldCut cut) none = absurd none
-    by_cause (Refused error) none = absurd none
-    by_cause (Lost error) none = absurd none
-    by_cause LongAnswer none = absurd none
-    by_cause Failed none = inl (only_greeted sum setting old new was out written g)
-    by_cause OutOfMemory none = inl (only_greeted sum setting old new was out written g)
+    early : EndsEarly sum setting old new
+    early = only_greeted sum setting old new was out greeting g
 
--- the version was read
-pub version_read : (input rest : Option (List ℕ)) (right : Bool) → right ≡ true → ReadsVersion input rest (Ok right) → Consumes input rest (version_byte ∷ [])
-version_read input rest true is reads = reads
-version_read input rest false is reads = absurd (cc is)
+    turned : (x : Stop) → stop ≡ x → ServesFile sum setting named old new input rest out written (Err x) → ServesFile sum setting named old new input rest out written (Err stop)
+    turned x same served = subst (λ (y : Stop). ServesFile sum setting named old new input rest out written (Err y)) (sym same) served
 
--- without it the input had no byte
-pub version_none : (input rest : Option (List ℕ)) (right : Bool) → right ≡ false → ReadsVersion input rest (Ok right) → IsAtEnd input
-version_none input rest true is reads = absurd (cc is)
-version_none input rest false is reads = reads
+    by_error : (e : ReadError) → ReadsOpening input rest (Err e) → TellsStop Two (stop_at 0 e) greeting written stop → ServesFile sum setting named old new input rest out written (Err stop)
+    by_error (IsMalformed flaw) (cut, ends) (inl (same, tells)) =
+        turned (Malformed 0 flaw) same (inl (record { was = was; greeting = greeting; greeted = g; first = refl; cut = cut; ends = ends; tells = tells }))
+    by_error (IsMalformed flaw) (cut, ends) (inr failed) = turned Failed failed (inl early)
+    by_error HasFailed none (same, kept) = turned Failed same (inl early)
+    by_error NoMemory none (same, kept) = turned OutOfMemory same (inl early)
 
--- its requests were served
-pub file_served : (sum : List ℕ → ℕ) (setting : Setting) (old between new : Life) (was now : SessionState) (input after rest out greeting written : Option (List ℕ)) (result : Result (Unit {0}) Stop) → Greeted sum setting old between was out greeting
-    → Consumes input after (version_byte ∷ []) → Serves sum setting One was now between new after rest greeting written result → ServesFile sum setting old new input rest out written result
-file_served sum setting old between new was now input after rest out greeting written result g version serves = by_answer result serves
-  where
-    served : (r : Result (Unit {0}) Stop) → Serves sum setting One was now between new after rest greeting written r → ServedAfter sum setting old new input rest out written r
-    served r s = record { between = between; was = was; now = now; greeting = greeting; after = after; greeted = g; version = version; serves = s }
+module _ (sum : List ℕ → ℕ) (setting : Setting) (named : Named) (old between : Life) (was : SessionState) (input after out greeting told : Option (List ℕ)) (opening : Opening) where
+  -- it was read, and answered
+  opens : (result : Result (Option ProtocolVersion) Stop) → Greeted sum setting old between was out greeting → ReadsOpening input after (Ok opening) → TellsOpening opening (hello_for setting named old between was) greeting told result
+      → Opens sum setting named old between was input after out told result
+  opens result g reads tells = record { greeting = greeting; opening = opening; greeted = g; reads = reads; tells = tells }
 
-    by_answer : (r : Result (Unit {0}) Stop) → Serves sum setting One was now between new after rest greeting written r → ServesFile sum setting old new input rest out written r
-    by_answer (Ok done) s = inr (served (Ok done) s)
-    by_answer (Err (Malformed which flaw)) s = served (Err (Malformed which flaw)) s
-    by_answer (Err (Version byte)) s = absurd s
-    by_answer (Err (WouldCut cut)) s = absurd s
-    by_answer (Err (Refused error)) s = absurd s
-    by_answer (Err (Lost error)) s = served (Err (Lost error)) s
-    by_answer (Err LongAnswer) s = inr (served (Err LongAnswer) s)
-    by_answer (Err Failed) s = inr (served (Err Failed) s)
-    by_answer (Err OutOfMemory) s = inr (served (Err OutOfMemory) s)
+  -- there was nothing to go on with
+  pub file_over : Greeted sum setting old between was out greeting → ReadsOpening input after (Ok opening) → (version : Option ProtocolVersion) → version ≡ None → TellsOpening opening (hello_for setting named old between was) greeting told (Ok version)
+      → ServesFile sum setting named old between input after out told (Ok tt)
+  file_over g reads version none tells =
+      inl (was, opens (Ok None) g reads (subst (λ (v : Option ProtocolVersion). TellsOpening opening (hello_for setting named old between was) greeting told (Ok v)) none tells))
+
+  -- no version was told, or it couldn't be
+  pub file_not_opened : (stop : Stop) (result : Result (Unit {0}) Stop) → IsErrAnd result (λ x. x ≡ stop) → Greeted sum setting old between was out greeting → ReadsOpening input after (Ok opening)
+      → TellsOpening opening (hello_for setting named old between was) greeting told (Err stop) → ServesFile sum setting named old between input after out told result
+  file_not_opened stop (Ok done) is g reads tells = absurd is
+  file_not_opened stop (Err why) is g reads tells = by_cause why (subst (λ (x : Stop). TellsOpening opening (hello_for setting named old between was) greeting told (Err x)) (sym is) tells)
+    where
+      by_cause : (x : Stop) → TellsOpening opening (hello_for setting named old between was) greeting told (Err x) → ServesFile sum setting named old between input after out told (Err x)
+      by_cause (Version byte) other = (was, opens (Err (Version byte)) g reads other)
+      by_cause NoVersion none = (was, opens (Err NoVersion) g reads none)
+      by_cause LongAnswer long = inr (inl (was, opens (Err LongAnswer) g reads long))
+      by_cause Failed none = inl (only_greeted sum setting old between was out greeting g)
+      by_cause (Malformed which flaw) none = absurd none
+      by_cause (WouldCut cut) none = absurd none
+      by_cause (Refused error) none = absurd none
+      by_cause (Lost error) none = absurd none
+      by_cause OutOfMemory none = absurd none
+
+  -- its requests were served
+  pub file_served : (new : Life) (now : SessionState) (rest written : Option (List ℕ)) (version : ProtocolVersion) (result : Result (Unit {0}) Stop) → Greeted sum setting old between was out greeting → ReadsOpening input after (Ok opening)
+      → TellsOpening opening (hello_for setting named old between was) greeting told (Ok (Some version)) → Serves sum setting version was now between new after rest told written result → ServesFile sum setting named old new input rest out written result
+  file_served new now rest written version result g reads tells serves = by_answer result serves
+    where
+      served : (r : Result (Unit {0}) Stop) → Serves sum setting version was now between new after rest told written r → ServedAfter sum setting named old new input rest out written r
+      served r s = record { between = between; was = was; now = now; after = after; told = told; version = version; opens = opens (Ok (Some version)) g reads tells; serves = s }
+
+      by_answer : (r : Result (Unit {0}) Stop) → Serves sum setting version was now between new after rest told written r → ServesFile sum setting named old new input rest out written r
+      by_answer (Ok done) s = inr (served (Ok done) s)
+      by_answer (Err (Malformed which flaw)) s = inr (served (Err (Malformed which flaw)) s)
+      by_answer (Err (Version byte)) s = absurd s
+      by_answer (Err NoVersion) s = absurd s
+      by_answer (Err (WouldCut cut)) s = absurd s
+      by_answer (Err (Refused error)) s = absurd s
+      by_answer (Err (Lost error)) s = served (Err (Lost error)) s
+      by_answer (Err LongAnswer) s = inr (inr (served (Err LongAnswer) s))
+      by_answer (Err Failed) s = inr (served (Err Failed) s)
+      by_answer (Err OutOfMemory) s = inr (served (Err OutOfMemory) s)
 
 -- ---- numbers in an answer
 
@@ -428,7 +461,7 @@ numbers_more head numbers i n more =
     ∙ ap (λ (l : List ℕ). head ++ l) (sym (flat_map_snoc number_bytes (take i numbers) n) ∙ ap (λ (l : List ℕ). flat_map number_bytes l) (sym more))
 
 -- they have eight bytes each
-length_of_numbers : (numbers : List ℕ) → length (flat_map number_bytes numbers) ≡ 8 * length numbers
+pub length_of_numbers : (numbers : List ℕ) → length (flat_map number_bytes numbers) ≡ 8 * length numbers
 length_of_numbers [] = refl
 length_of_numbers (n ∷ ns) =
     let rest = length_of_numbers ns in

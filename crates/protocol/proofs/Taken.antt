@@ -9,7 +9,7 @@ use Rattle.std.proofs.KnownBytes.{Appends-nil, Appends-trans}
 use Rattle.std.specs.Io.KnownBytes.{Appends}
 use Rattle.session.specs.declared.steps.Reply.{Reply}
 use Rattle.protocol.specs.declared.stop.Stop.{Stop}
-use Rattle.protocol.specs.declared.stop.Stop.TheVariants.{Malformed, Version, WouldCut, Refused, Lost, LongAnswer, Failed, OutOfMemory}
+use Rattle.protocol.specs.declared.stop.Stop.TheVariants.{Malformed, Version, WouldCut, Refused, Lost, LongAnswer, Failed, OutOfMemory, NoVersion}
 use Rattle.protocol.specs.declared.version.Version.{Version as ProtocolVersion}
 use Rattle.protocol.specs.declared.version.Version.TheVariants.{One, Two}
 use Rattle.protocol.specs.Answer.{AppendsRefusal, IsAnswerWith, IsLong, IsRefusalAnswer, IsTooLong, IsWriteError, answer_bytes, advice_byte, first_refusal, refusal_from, reply_payload, status_byte}
@@ -45,6 +45,7 @@ writes Is status payload out written (Err Failed) is answers why = tt
 writes Is status payload out written (Err OutOfMemory) is answers why = absurd why
 writes Is status payload out written (Err (Malformed number flaw)) is answers why = absurd why
 writes Is status payload out written (Err (Version byte)) is answers why = absurd why
+writes Is status payload out written (Err NoVersion) is answers why = absurd why
 writes Is status payload out written (Err (WouldCut cut)) is answers why = absurd why
 writes Is status payload out written (Err (Refused error)) is answers why = absurd why
 writes Is status payload out written (Err (Lost error)) is answers why = absurd why
@@ -65,6 +66,7 @@ writes_as Is Are out written (Err Failed) turn none = tt
 writes_as Is Are out written (Err OutOfMemory) turn none = absurd none
 writes_as Is Are out written (Err (Malformed number flaw)) turn none = absurd none
 writes_as Is Are out written (Err (Version byte)) turn none = absurd none
+writes_as Is Are out written (Err NoVersion) turn none = absurd none
 writes_as Is Are out written (Err (WouldCut cut)) turn none = absurd none
 writes_as Is Are out written (Err (Refused error)) turn none = absurd none
 writes_as Is Are out written (Err (Lost error)) turn none = absurd none

@@ -1,5 +1,6 @@
 pub mod Answer
 pub mod Input
+pub mod Opening
 pub mod Request
 pub mod Serve
 pub mod Stop

@@ -15,6 +15,7 @@ use Rattle.protocol.specs.Input.{AreBytes}
 use Rattle.protocol.specs.declared.request.Request.{Request}
 use Rattle.protocol.specs.declared.request.Request.TheVariants.{Step, Records, Ranges, SyncSize}
 use Rattle.protocol.specs.declared.request.Request.TheVariants.{Look, Flush, Close}
+use Rattle.protocol.specs.declared.request.Request.TheVariants.{CountOpen}
 use Rattle.protocol.specs.declared.request.Then.TheVariants as follow
 use Rattle.protocol.specs.declared.version.Version.{Version}
 use Rattle.protocol.specs.declared.version.Version.TheVariants.{One, Two}
@@ -64,6 +65,7 @@ kind_of Look = 22
 kind_of (Step (DropSnapshot index)) = 23
 kind_of (Step (DropReplay index)) = 24
 kind_of Flush = 25
+kind_of CountOpen = 26
 kind_of Close = 16
 kind_of _ = 0
 
@@ -129,12 +131,13 @@ CanBeAsked (Ranges bytes) = AreFields bytes.items
 CanBeAsked SyncSize = Unit {0}
 CanBeAsked Look = Unit {0}
 CanBeAsked Flush = Unit {0}
+CanBeAsked CountOpen = Unit {0}
 CanBeAsked Close = Unit {0}
 
 -- the greatest kind of a version
 abbrev pub last_kind : Version → ℕ
 last_kind One = 16
-last_kind Two = 25
+last_kind Two = 26
 
 -- a request of this version
 abbrev pub IsRequest : Version → Request → Type 0
@@ -154,7 +157,7 @@ takes_bytes kind = has_kind (1 ∷ 17 ∷ 18 ∷ 19 ∷ 20 ∷ []) kind
 -- such kind
 abbrev pub field_count : ℕ → Option ℕ
 field_count kind =
-    if has_kind (2 ∷ 3 ∷ 5 ∷ 8 ∷ 10 ∷ 16 ∷ 21 ∷ 22 ∷ 25 ∷ []) kind then Some 0
+    if has_kind (2 ∷ 3 ∷ 5 ∷ 8 ∷ 10 ∷ 16 ∷ 21 ∷ 22 ∷ 25 ∷ 26 ∷ []) kind then Some 0
     else if has_kind (4 ∷ 9 ∷ 12 ∷ 23 ∷ 24 ∷ []) kind then Some 1
     else if has_kind (6 ∷ 7 ∷ 13 ∷ 14 ∷ 15 ∷ []) kind then Some 2
     else if kind == 11 then Some 3 else None

@@ -2,6 +2,7 @@
 use Rattle.std.specs.Prelude.{◌≡◌, ◌≢◌, ◌⊎◌, ◌+◌, ◌≤◌, ◌<◌, ◌++◌, ◌&&◌, ℕ, List, [], ◌∷◌, length}
 use Rattle.std.specs.Prelude.{Option, Some, None, Result, Ok, Err, IfSome, Bool, true, false, All}
 use Rattle.std.specs.Prelude.{◌||◌, ◌-◌, ◌^◌, not, is_some, if◌then◌else◌, Vec}
+use Rattle.std.specs.Prelude.{option_map, unwrap_or}
 use Rattle.std.specs.declared.alloc.Global.{Global}
 use Rattle.std.specs.Int.NonZero.{non_zero_u16_get}
 use Rattle.std.specs.List.{Contains, flat_map}
@@ -19,18 +20,23 @@ use Rattle.session.specs.declared.steps.Step.TheVariants.{Append, Sync, StartSyn
 use Rattle.session.specs.declared.steps.Step.TheVariants.{Size, ReadRanges, Scan}
 use Rattle.session.specs.declared.steps.Reply.{Reply}
 use Rattle.session.specs.declared.steps.Reply.TheVariants.{At, Fault, Started}
-use Rattle.session.specs.Run.{SessionState, RunsAlways}
+use Rattle.paged.specs.Reads.{size_of}
+use Rattle.session.specs.Run.{SessionState, RunsAlways, count_open}
 use Rattle.session.specs.Promise.{Promises, AttemptsThrough, BeginsBy}
 use Rattle.protocol.specs.declared.request.Request.{Request}
 use Rattle.protocol.specs.declared.request.Request.TheVariants.{Step as StepOf, Records, Ranges}
 use Rattle.protocol.specs.declared.request.Request.TheVariants.{SyncSize, Look, Flush, Close}
+use Rattle.protocol.specs.declared.request.Request.TheVariants.{CountOpen}
 use Rattle.protocol.specs.declared.request.Then.{Then}
 use Rattle.protocol.specs.declared.request.Then.TheVariants as follow
+use Rattle.protocol.specs.declared.opening.Opening.{Opening}
 use Rattle.protocol.specs.declared.setting.Setting.{Setting}
 use Rattle.protocol.specs.declared.stop.Flaw.{Flaw}
+use Rattle.protocol.specs.declared.stop.Flaw.TheVariants.{Cut}
 use Rattle.protocol.specs.declared.version.Version.{Version as ProtocolVersion}
 use Rattle.protocol.specs.declared.version.Version.TheVariants.{One, Two}
 use Rattle.protocol.specs.declared.stop.ReadError.TheVariants.{Malformed as IsMalformed}
+use Rattle.protocol.specs.declared.stop.Stop.TheVariants.{NoVersion}
 use Rattle.protocol.specs.declared.stop.Stop.{Stop}
 use Rattle.protocol.specs.declared.stop.Stop.TheVariants.{Malformed, Version, WouldCut, Refused}
 use Rattle.protocol.specs.declared.stop.Stop.TheVariants.{Lost, LongAnswer, Failed, OutOfMemory}
@@ -39,6 +45,8 @@ use Rattle.protocol.specs.Answer.{started_bytes, IsRefusalAnswer}
 use Rattle.protocol.specs.Answer.{AppendsRefusal, IsAnswerWith, flaw_status, read_only_status}
 use Rattle.protocol.specs.Answer.{fault_in, reply_error}
 use Rattle.protocol.specs.Answer.{unreadable_status}
+use Rattle.protocol.specs.Opening.{hello_bytes, IsCutOffer, ReadsOpening, TellsOpening}
+use Rattle.protocol.specs.Opening.{version_byte}
 use Rattle.protocol.specs.Request.{IsFlawed, IsRequest, ReadsRequest, request_bytes}
 use Rattle.protocol.specs.Request.{number_bytes}
 use Rattle.protocol.specs.Together.{tells_records, tells_ranges, record_bytes, record_lengths}
@@ -93,6 +101,7 @@ AreSteps setting (Ranges fields) steps = elim (tells_ranges fields.items) [
 AreSteps setting SyncSize steps = steps ≡ Sync ∷ Size ∷ []
 AreSteps setting Look steps = steps ≡ Scan 0 (2 ^ 64 - 1) setting.buffer_size ∷ []
 AreSteps setting Flush steps = steps ≡ []
+AreSteps setting CountOpen steps = steps ≡ []
 AreSteps setting Close steps = ⊥
 
 -- whether a client that may only read is refused this request
@@ -129,11 +138,18 @@ records_payload lengths [] = []
 records_payload lengths (reply ∷ replies) =
     starts_payload lengths reply ++ started_payload replies
 
--- what an answer to a request tells whose steps were all accepted: of records, where each begins,
--- else what the last reply tells
-abbrev pub given_payload : Request → List Reply → List ℕ
-given_payload (Records fields next) replies = records_payload (record_lengths fields.items) replies
-given_payload request replies = last_payload replies
+-- how many snapshots a session has open, and how many replays
+abbrev pub open_payload : SessionState → List ℕ
+open_payload now =
+    number_bytes (count_open now.snapshots) ++ number_bytes (count_open now.replays)
+
+-- what an answer to a request tells whose steps were all accepted: of records, where each begins;
+-- of what is open, how many; else what the last reply tells
+abbrev pub given_payload : Request → List Reply → SessionState → List ℕ
+given_payload (Records fields next) replies now =
+    records_payload (record_lengths fields.items) replies
+given_payload CountOpen replies now = open_payload now
+given_payload request replies now = last_payload replies
 
 -- whether a request is answered by the last reply
 abbrev pub gives_last : Request → Bool
@@ -154,7 +170,7 @@ abbrev pub IsAnswer : ProtocolVersion → Request → List Reply → SessionStat
 IsAnswer One request replies now answer =
     (reply : Reply) × (replies ≡ reply ∷ []) × (answer ≡ answer_bytes reply)
 IsAnswer Two request replies now answer = elim (can_be_read request) [
-  | true ↦ IsAnswerWith (given_payload request replies) replies (is_some now.writer) answer
+  | true ↦ IsAnswerWith (given_payload request replies now) replies (is_some now.writer) answer
   | false ↦ IsRefusalAnswer unreadable_status 0 0 answer
 ]
 
@@ -336,10 +352,6 @@ Serves sum setting version was now old new input rest out written (Err other) = 
 
 -- ---- how a session begins
 
--- what is written first
-abbrev pub version_byte : ℕ
-version_byte = 1
-
 -- the blob was only looked at, which told that in a recovery of it so many bytes at its end would
 -- go: those that it would cut, and those of a torn last page
 pub record LookedAt (sum : List ℕ → ℕ) (setting : Setting) (old new : Life)
@@ -431,57 +443,93 @@ Greets sum setting old new out written (Err other) = ⊥
 
 -- ---- a whole session
 
--- the input begins with the version, or has no byte
-abbrev pub ReadsVersion : Option (List ℕ) → Option (List ℕ) → Result Bool Stop → Type 0
-ReadsVersion input rest (Ok true) = Consumes input rest (version_byte ∷ [])
-ReadsVersion input rest (Ok false) = IsAtEnd input
-ReadsVersion input rest (Err (Version byte)) =
-    (byte ≢ version_byte) × Consumes input rest (byte ∷ [])
-ReadsVersion input rest (Err Failed) = Unit {0}
-ReadsVersion input rest (Err OutOfMemory) = Unit {0}
-ReadsVersion input rest (Err other) = ⊥
+-- the logical bytes of its content; none where there is no writer
+abbrev pub size_in : SessionState → ℕ
+size_in now = unwrap_or (option_map size_of now.writer) 0
 
--- a greeted session was served the requests after the version, and it ended so
-pub record ServedAfter (sum : List ℕ → ℕ) (setting : Setting) (old new : Life)
+-- how many physical bytes a recovery cut
+abbrev pub cut_by : Life → Life → ℕ
+cut_by old new = length old.present.readable - length new.present.readable
+
+-- the checksum and the copy that the hello names
+pub record Named : Type 0 where
+  pub checksum : List ℕ
+  pub set_aside : List ℕ
+
+abbrev pub names_of : (checksum set_aside : List ℕ) → Named
+names_of checksum set_aside = record { checksum = checksum; set_aside = set_aside }
+
+-- the hello for a session that began so
+abbrev pub hello_for : Setting → Named → Life → Life → SessionState → List ℕ
+hello_for setting named old new was =
+    hello_bytes setting named.checksum named.set_aside (size_in was) (cut_by old new)
+
+-- a session was greeted, what the client begins with was read, and it was answered; this is the
+-- version to go on with, or why there is none
+pub record Opens (sum : List ℕ → ℕ) (setting : Setting) (named : Named) (old new : Life)
+    (was : SessionState) (input rest out written : Option (List ℕ))
+    (result : Result (Option ProtocolVersion) Stop) : Type 0 where
+  pub greeting : Option (List ℕ)
+  pub opening : Opening
+  pub greeted : Greeted sum setting old new was out greeting
+  pub reads : ReadsOpening input rest (Ok opening)
+  pub tells : TellsOpening opening (hello_for setting named old new was) greeting written result
+
+-- so it is of some session
+abbrev pub HasOpened : (List ℕ → ℕ) → Setting → Named → Life → Life
+    → (input rest out written : Option (List ℕ)) → Result (Option ProtocolVersion) Stop → Type 0
+HasOpened sum setting named old new input rest out written result =
+    (was : SessionState) × Opens sum setting named old new was input rest out written result
+
+-- a session was greeted, and the client's offer ends before all its versions, which it was told
+pub record OffersTooLittle (sum : List ℕ → ℕ) (setting : Setting) (old new : Life)
+    (input out written : Option (List ℕ)) (number : ℕ) (flaw : Flaw) : Type 0 where
+  pub was : SessionState
+  pub greeting : Option (List ℕ)
+  pub greeted : Greeted sum setting old new was out greeting
+  pub first : number ≡ 0
+  pub cut : flaw ≡ Cut
+  pub ends : IfSome input IsCutOffer
+  pub tells : TellsFlaw Two flaw greeting written
+
+-- a greeted session was served the requests after its opening, in its version, and it ended so
+pub record ServedAfter (sum : List ℕ → ℕ) (setting : Setting) (named : Named) (old new : Life)
     (input rest out written : Option (List ℕ)) (result : Result (Unit {0}) Stop) : Type 0 where
   pub between : Life
   pub was : SessionState
   pub now : SessionState
-  pub greeting : Option (List ℕ)
   pub after : Option (List ℕ)
-  pub greeted : Greeted sum setting old between was out greeting
-  pub version : Consumes input after (version_byte ∷ [])
-  pub serves : Serves sum setting One was now between new after rest greeting written result
-
--- a greeted session had nothing of this to do
-abbrev pub OnlyGreeted : (List ℕ → ℕ) → Setting → Life → Life → (out written : Option (List ℕ))
-    → Type 0
-OnlyGreeted sum setting old new out written =
-    (was : SessionState) × Greeted sum setting old new was out written
+  pub told : Option (List ℕ)
+  pub version : ProtocolVersion
+  pub opens : Opens sum setting named old between was input after out told (Ok (Some version))
+  pub serves : Serves sum setting version was now between new after rest told written result
 
 -- how a whole input was served over a file, by how that ended
-abbrev pub ServesFile : (List ℕ → ℕ) → Setting → Life → Life
+abbrev pub ServesFile : (List ℕ → ℕ) → Setting → Named → Life → Life
     → (input rest out written : Option (List ℕ)) → Result (Unit {0}) Stop → Type 0
-ServesFile sum setting old new input rest out written (Ok done) =
-    (IsAtEnd input × OnlyGreeted sum setting old new out written)
-    ⊎ ServedAfter sum setting old new input rest out written (Ok done)
-ServesFile sum setting old new input rest out written (Err (Malformed number flaw)) =
-    ServedAfter sum setting old new input rest out written (Err (Malformed number flaw))
-ServesFile sum setting old new input rest out written (Err (Version byte)) =
-    (byte ≢ version_byte) × Consumes input rest (byte ∷ [])
-    × OnlyGreeted sum setting old new out written
-ServesFile sum setting old new input rest out written (Err (WouldCut cut)) =
+ServesFile sum setting named old new input rest out written (Ok done) =
+    HasOpened sum setting named old new input rest out written (Ok None)
+    ⊎ ServedAfter sum setting named old new input rest out written (Ok done)
+ServesFile sum setting named old new input rest out written (Err (Malformed number flaw)) =
+    OffersTooLittle sum setting old new input out written number flaw
+    ⊎ ServedAfter sum setting named old new input rest out written (Err (Malformed number flaw))
+ServesFile sum setting named old new input rest out written (Err (Version byte)) =
+    HasOpened sum setting named old new input rest out written (Err (Version byte))
+ServesFile sum setting named old new input rest out written (Err NoVersion) =
+    HasOpened sum setting named old new input rest out written (Err NoVersion)
+ServesFile sum setting named old new input rest out written (Err (WouldCut cut)) =
     WouldCutMore sum setting old new cut × (written ≡ out) × (rest ≡ input)
-ServesFile sum setting old new input rest out written (Err (Refused error)) =
+ServesFile sum setting named old new input rest out written (Err (Refused error)) =
     IsRecoveryRefused sum setting old new out written error
-ServesFile sum setting old new input rest out written (Err (Lost error)) =
-    ServedAfter sum setting old new input rest out written (Err (Lost error))
-ServesFile sum setting old new input rest out written (Err LongAnswer) =
+ServesFile sum setting named old new input rest out written (Err (Lost error)) =
+    ServedAfter sum setting named old new input rest out written (Err (Lost error))
+ServesFile sum setting named old new input rest out written (Err LongAnswer) =
     TookSize sum setting IsTooLong old new
-    ⊎ ServedAfter sum setting old new input rest out written (Err LongAnswer)
-ServesFile sum setting old new input rest out written (Err Failed) =
+    ⊎ HasOpened sum setting named old new input rest out written (Err LongAnswer)
+    ⊎ ServedAfter sum setting named old new input rest out written (Err LongAnswer)
+ServesFile sum setting named old new input rest out written (Err Failed) =
     EndsEarly sum setting old new
-    ⊎ ServedAfter sum setting old new input rest out written (Err Failed)
-ServesFile sum setting old new input rest out written (Err OutOfMemory) =
+    ⊎ ServedAfter sum setting named old new input rest out written (Err Failed)
+ServesFile sum setting named old new input rest out written (Err OutOfMemory) =
     EndsEarly sum setting old new
-    ⊎ ServedAfter sum setting old new input rest out written (Err OutOfMemory)
+    ⊎ ServedAfter sum setting named old new input rest out written (Err OutOfMemory)

@@ -12,6 +12,7 @@ use Rattle.protocol.specs.declared.stop.ReadError.TheVariants as read
 use Rattle.protocol.specs.declared.stop.Stop.{Stop}
 use Rattle.protocol.specs.declared.stop.Stop.TheVariants.{Malformed, Version, WouldCut, Refused}
 use Rattle.protocol.specs.declared.stop.Stop.TheVariants.{Lost, LongAnswer, Failed, OutOfMemory}
+use Rattle.protocol.specs.declared.stop.Stop.TheVariants.{NoVersion}
 
 -- where the request of this number isn't read
 abbrev pub stop_at : ℕ → ReadError → Stop
@@ -28,6 +29,7 @@ stop_for (refusal.Failed error) = Refused error
 abbrev pub status_of : Stop → ℕ
 status_of (Malformed number flaw) = 2
 status_of (Version byte) = 2
+status_of NoVersion = 2
 status_of (WouldCut cut) = 3
 status_of (Refused error) = 1
 status_of (Lost error) = 1
@@ -49,7 +51,9 @@ abbrev pub stop_text : Stop → List ℕ
 stop_text (Malformed number flaw) =
     codes "pagedd: request " ++ decimal number ++ codes ": " ++ flaw_text flaw
 stop_text (Version byte) =
-    codes "pagedd: version " ++ decimal byte ++ codes " of the protocol is not 1"
+    codes "pagedd: the input begins with " ++ decimal byte
+    ++ codes ": version 1 begins with 1, an offer with 2"
+stop_text NoVersion = codes "pagedd: the client offers no version that is known: 1 and 2 are"
 stop_text (WouldCut cut) =
     codes "pagedd: nothing was done: a recovery would give up the last " ++ decimal cut
     ++ codes " bytes"

@@ -6,6 +6,7 @@ ghost use Rattle.protocol.specs.Answer.{answer_bytes, refusal_bytes, reply_paylo
 ghost use Rattle.protocol.specs.Answer.{IsWriteError};
 ghost use Rattle.protocol.specs.Request.{frame_bytes, length_bytes, number_bytes};
 
+use crate::refusal::{READ_ONLY, status};
 use crate::request::MOST_BYTES;
 use crate::stop::Stop;
 use disk::StartedSync;
@@ -31,13 +32,13 @@ pub fn write_answer<W: Write>(out: &mut W, reply: &Reply) -> Result<(), Stop>
         Reply::Sealed(index, started) => {
             write_started(out, &(*index as u64).to_le_bytes(), *started)
         }
-        Reply::Fault(error) => write_frame(out, error.number(), &[], &[]),
-        Reply::Nothing => write_frame(out, 16, &[], &[]),
-        Reply::Closed => write_frame(out, 17, &[], &[]),
-        Reply::NotRecovering => write_frame(out, 18, &[], &[]),
-        Reply::BadRanges => write_frame(out, 19, &[], &[]),
-        Reply::NoSuch => write_frame(out, 20, &[], &[]),
-        Reply::NotAppending => write_frame(out, 21, &[], &[]),
+        Reply::Fault(_)
+        | Reply::Nothing
+        | Reply::Closed
+        | Reply::NotRecovering
+        | Reply::BadRanges
+        | Reply::NoSuch
+        | Reply::NotAppending => write_frame(out, status(reply), &[], &[]),
     }
 }
 
@@ -47,7 +48,7 @@ pub fn write_refusal<W: Write>(out: &mut W) -> Result<(), Stop>
         (Appends (W.contents out.old) (W.contents out.new) refusal_bytes) }
     ensures err { IfErr result (IsWriteError 0) }
 {
-    write_frame(out, 22, &[], &[])
+    write_frame(out, READ_ONLY, &[], &[])
 }
 
 // An answer with one number.

@@ -5,6 +5,7 @@
 mod answer;
 mod cause;
 mod input;
+mod opening;
 mod refusal;
 mod request;
 mod server;

@@ -49,6 +49,8 @@ pub enum Request {
     Look,
     /// To send all answers.
     Flush,
+    /// How many snapshots and replays are open.
+    CountOpen,
     /// The end.
     Close,
 }
@@ -180,7 +182,7 @@ fn fields_of_kind(kind: u8) -> Option<usize>
     ensures { result ≡ field_count kind }
 {
     match kind {
-        2 | 3 | 5 | 8 | 10 | 16 | 21 | 22 | 25 => Some(0),
+        2 | 3 | 5 | 8 | 10 | 16 | 21 | 22 | 25 | 26 => Some(0),
         4 | 9 | 12 | 23 | 24 => Some(1),
         6 | 7 | 13 | 14 | 15 => Some(2),
         11 => Some(3),
@@ -233,7 +235,8 @@ fn build_bare(kind: u8) -> Request
         16 => Request::Close,
         21 => Request::SyncSize,
         22 => Request::Look,
-        _ => Request::Flush,
+        25 => Request::Flush,
+        _ => Request::CountOpen,
     }
 }
 

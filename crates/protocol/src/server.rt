@@ -1,19 +1,22 @@
 // Serving: requests are read, taken as steps of a session, and answered.
-ghost use Rattle.std.specs.Prelude.{◌≡◌, [], IfOk, OnOk};
+ghost use Rattle.std.specs.Prelude.{◌≡◌, ℕ, List, Option, [], IfOk, OnOk, length};
 ghost use Rattle.std.specs.Io.Buffered.{reader_buffer, reader_remaining};
 ghost use Rattle.std.specs.Io.Buffered.{writer_buffer, writer_contents};
 ghost use Rattle.std.specs.Io.KnownBytes.{Keeps};
+ghost use Rattle.disk.specs.Disk.{Life};
 ghost use Rattle.session.specs.Run.{IsSessionReady};
 ghost use Rattle.protocol.specs.Input.{IsSent, has_frame};
-ghost use Rattle.protocol.specs.Serve.{EndsSession, Greets, ReadsNext, ReadsVersion};
+ghost use Rattle.protocol.specs.Opening.{ReadsOpening};
+ghost use Rattle.protocol.specs.Serve.{EndsSession, Greeted, Greets, ReadsNext};
 ghost use Rattle.protocol.specs.Serve.{RecoversSession, Serves, ServesFile, is_close, later_fault};
+ghost use Rattle.protocol.specs.Serve.{names_of};
 ghost use Rattle.protocol.specs.Taking.{TellsStop};
 
 use crate::answer::write_answer;
-use crate::input::read_front;
+use crate::opening::{Opening, read_opening, tell_opening};
 use crate::refusal::{status_of_flaw, write_told};
 use crate::request::{Request, read_request};
-use crate::stop::Stop;
+use crate::stop::{ReadError, Stop};
 use crate::taking::take_request;
 use crate::version::Version;
 use crate::{Cause, Setting};
@@ -24,46 +27,87 @@ use session::{Reply, Session, Step};
 use std::alloc::Global;
 use std::io::{BufReader, BufWriter, Read, Write};
 
-/// The version of the protocol.
+/// The first version of the protocol.
 pub const VERSION: u8 = 1;
 
-/// Recovers a blob, and serves it: the input is a client's whole session, from its version on, and
-/// the output gets all that it is answered. Whenever the program may have to wait for input, what
-/// was answered is out. What is answered last may be held back by the output: the caller flushes
-/// it.
+/// Recovers a blob, and serves it: the input is a client's whole session, from its version or its
+/// offer of versions on, and the output gets all that it is answered. Whenever the program may have
+/// to wait for input, what was answered is out. What is answered last may be held back by the
+/// output: the caller flushes it.
 ///
 /// In the recovery no more goes than the setting allows: [`Stop::WouldCut`] where more would go.
-/// Then the blob was only looked at, and nothing is read or written.
+/// Then the blob was only looked at, and nothing is read or written. A client of version 2 is told
+/// how many bytes went, and these two names: of the checksum, and of the copy that the caller made
+/// of what may go, or an empty one.
 pub fn serve_file<B: Blob + Cause, H: Sum, R: Read, W: Write + Drop>(
     alloc: Global,
     blob: &mut B,
     setting: &Setting,
-    _set_aside: &str,
+    checksum: &str,
+    set_aside: &str,
     input: &mut BufReader<R>,
     out: &mut BufWriter<W>,
 ) -> Result<(), Stop>
     ensures { let old = B.life blob.old in let new = B.life blob.new in
+        let named = names_of checksum.now set_aside.now in
         let input_old = reader_remaining R.remaining input.old in
         let input_new = reader_remaining R.remaining input.new in
         let out_old = writer_contents W.contents out.old in
         let out_new = writer_contents W.contents out.new in
-        ServesFile H.sum_of setting.now old new input_old input_new out_old out_new result }
+        ServesFile H.sum_of setting.now named old new input_old input_new out_old out_new result }
 {
+    let len = blob.len();
     let (mut session, mut cache) = greet::<B, H, W>(alloc, blob, setting, out)?;
-    if !read_version(input, out)? {
-        return Ok(());
-    }
-    let version = Version::One;
-    serve(
+    serve_greeted(
         alloc,
-        version,
+        len,
         &mut session,
         blob,
         &mut cache,
         setting,
+        checksum,
+        set_aside,
         input,
         out,
     )
+}
+
+// Serves a client that was greeted, over a blob that had so many bytes before its recovery.
+fn serve_greeted<B: Blob + Cause, H: Sum, R: Read, W: Write + Drop>(
+    alloc: Global,
+    len: u64,
+    session: &mut Session<B, H>,
+    blob: &mut B,
+    cache: &mut CacheRef,
+    setting: &Setting,
+    checksum: &str,
+    set_aside: &str,
+    input: &mut BufReader<R>,
+    out: &mut BufWriter<W>,
+) -> Result<(), Stop>
+    requires sent { writer_buffer out.old ≡ [] }
+    requires ready { let old = (B.life blob.old).present in
+        IsSessionReady H.sum_of session.old cache.old old }
+    ensures { let between = B.life blob.old in let new = B.life blob.new in
+        let named = names_of checksum.now set_aside.now in
+        let input_old = reader_remaining R.remaining input.old in
+        let input_new = reader_remaining R.remaining input.new in
+        let greeting = writer_contents W.contents out.old in
+        let out_new = writer_contents W.contents out.new in
+        (old : Life) (out_old : Option (List ℕ)) → len ≡ length old.present.readable
+        → Greeted H.sum_of setting.now old between session.old out_old greeting
+        → ServesFile H.sum_of setting.now named old new input_old input_new out_old out_new result }
+{
+    let opening = match read_begun(input, out) {
+        Ok(opening) => opening,
+        Err(error) => return Err(tell_flaw(alloc, Version::Two, Stop::at(0, error), out)),
+    };
+    let size = session.size().unwrap_or(0);
+    let cut = len.saturating_sub(blob.len());
+    match tell_opening(opening, setting, checksum, set_aside, size, cut, out)? {
+        Some(version) => serve(alloc, version, session, blob, cache, setting, input, out),
+        None => Ok(()),
+    }
 }
 
 // Begins a session, and writes the version and the size, which are out then.
@@ -132,22 +176,15 @@ fn recover<B: Blob, H: Sum>(
     Ok((session, cache))
 }
 
-// Reads the version with which a client begins; false where its input has no byte. What was written
-// is out.
-fn read_version<R: Read, W: Write + Drop>(input: &mut R, _out: &BufWriter<W>) -> Result<bool, Stop>
+// Reads what a client begins with. What was written is out.
+fn read_begun<R: Read, W: Write + Drop>(
+    input: &mut R,
+    _out: &BufWriter<W>,
+) -> Result<Opening, ReadError>
     requires sent { writer_buffer _out.now ≡ [] }
-    ensures { ReadsVersion (R.remaining input.old) (R.remaining input.new) result }
+    ensures { ReadsOpening (R.remaining input.old) (R.remaining input.new) result }
 {
-    let mut first = [0; 1];
-    let count = match read_front(input, &mut first) {
-        Ok(count) => count,
-        Err(error) => return Err(Stop::at(0, error)),
-    };
-    match &first[..count] {
-        [] => Ok(false),
-        [VERSION] => Ok(true),
-        [other, ..] => Err(Stop::Version(*other)),
-    }
+    read_opening(input)
 }
 
 /// Takes the requests of the input as steps of the session, one after another, and writes an

@@ -41,8 +41,10 @@ pub enum Stop {
     /// The request of this number isn't one. The first has the number 1. Each before it was
     /// answered.
     Malformed(u64, Flaw),
-    /// The input begins with this byte in place of the version.
+    /// The input begins with this byte, with which neither version 1 nor an offer of versions does.
     Version(u8),
+    /// The client offered versions, and none of them is known. It was told those that are.
+    NoVersion,
     /// In a recovery of the file so many physical bytes at its end would go, which is more than
     /// may: those that it cuts, and those of a torn last page. The file was only looked at.
     WouldCut(u64),
@@ -77,7 +79,7 @@ impl Stop {
         ensures { result ≡ status_of self }
     {
         match self {
-            Stop::Malformed(_, _) | Stop::Version(_) => 2,
+            Stop::Malformed(_, _) | Stop::Version(_) | Stop::NoVersion => 2,
             Stop::WouldCut(_) => 3,
             Stop::Refused(_) | Stop::Lost(_) => 1,
             Stop::LongAnswer | Stop::Failed | Stop::OutOfMemory => 1,
@@ -106,7 +108,14 @@ impl fmt::Display for Stop {
     fn fmt<W: fmt::Write>(&self, f: &mut fmt::Formatter<W>) -> fmt::Result {
         match self {
             Stop::Malformed(number, flaw) => write!(f, "pagedd: request {number}: {flaw}"),
-            Stop::Version(byte) => write!(f, "pagedd: version {byte} of the protocol is not 1"),
+            Stop::Version(byte) => write!(
+                f,
+                "pagedd: the input begins with {byte}: version 1 begins with 1, an offer with 2"
+            ),
+            Stop::NoVersion => write!(
+                f,
+                "pagedd: the client offers no version that is known: 1 and 2 are"
+            ),
             Stop::WouldCut(cut) => write!(
                 f,
                 "pagedd: nothing was done: a recovery would give up the last {cut} bytes"

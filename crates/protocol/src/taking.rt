@@ -105,6 +105,10 @@ pub fn take_request<B: Blob + Cause, H: Sum, W: Write>(
             let written = write_flushed(out);
             finish(replies, written)
         }
+        Request::CountOpen => {
+            let written = write_open(out, session.open_snapshots(), session.open_replays());
+            finish(replies, written)
+        }
         Request::Close => unreachable!(),
     }
 }
@@ -118,6 +122,18 @@ fn write_flushed<W: Write>(out: &mut W) -> Result<(), Stop>
     write_frame(out, 0, &[], &[])?;
     out.flush()?;
     Ok(())
+}
+
+// Writes an answer that tells how many snapshots and replays are open.
+#[tactic(auto, unfolding(crate::specs::Request::number_bytes))]
+fn write_open<W: Write>(out: &mut W, snapshots: usize, replays: usize) -> Result<(), Stop>
+    ensures answers { let told = number_bytes snapshots ++ number_bytes replays in
+        OnOk result (Appends (W.contents out.old) (W.contents out.new) (frame_bytes (0 ∷ told))) }
+    ensures err { IfErr result (IsWriteError 16) }
+{
+    let snapshots = (snapshots as u64).to_le_bytes();
+    let replays = (replays as u64).to_le_bytes();
+    write_frame(out, 0, &snapshots, &replays)
 }
 
 // Whether a client that may only read is refused this request.

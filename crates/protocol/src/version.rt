@@ -18,7 +18,7 @@ impl Version {
     {
         match self {
             Version::One => 16,
-            Version::Two => 25,
+            Version::Two => 26,
         }
     }
 }

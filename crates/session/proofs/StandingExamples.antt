@@ -14,7 +14,7 @@ use Rattle.paged_read.specs.Tail.{Tail}
 use Rattle.paged_read.specs.Replay.{new_replay}
 use Rattle.session.specs.declared.steps.Step.TheVariants.{Append, Sync, Size, Read, Seek, Truncate}
 use Rattle.session.specs.declared.steps.Reply.TheVariants.{Length, Fault, Closed, NotAppending}
-use Rattle.session.specs.Run.{RunReplay, RunState, fits_buffer, written_after, moved, forgetting, raised_floor, lowered, has_name, numbered, has_snapshot_at, has_replay_at, replay_size, in_order_from, unless_appending, ended}
+use Rattle.session.specs.Run.{RunReplay, RunState, fits_buffer, written_after, moved, forgetting, raised_floor, lowered, has_name, count_open, numbered, has_snapshot_at, has_replay_at, replay_size, in_order_from, unless_appending, ended}
 use Rattle.session.specs.Run.{is_complete, NamesFit, RiseBelow, FaultsComeFirst, StepFaults, HasCause, faults, no_faults, replaying, RefusesStep, TakesStep, AnswersStep}
 use Rattle.session.specs.Run.{IsSlice, SlicesUpTo, SlicesAll, NumbersSome, HasFetched, HasCompleted, AwaitedSyncFailed, HadNoRoom, content_after, other_content, AllCover, pending_in, WriterFits, replay_in_run}
 use Rattle.session.specs.Promise.{fresh}
@@ -103,6 +103,10 @@ the_second_was_let_go = refl
 
 pub there_is_no_third : numbered (Some ab ∷ None ∷ []) 2 ≡ None
 there_is_no_third = refl
+
+-- of three one was let go
+pub two_are_open : count_open (Some ab ∷ None ∷ Some ab ∷ []) ≡ 2
+two_are_open = refl
 
 pub it_has_a_snapshot : has_snapshot_at (record six_stand { snapshots = Some ab ∷ None ∷ [] }) 0 ≡ true
 it_has_a_snapshot = refl

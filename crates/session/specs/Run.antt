@@ -5,7 +5,7 @@ use Rattle.std.specs.Prelude.{nat_le, nat_lt, nat_eq, ◌||◌, ◌&&◌, ◌*�
 use Rattle.std.specs.Prelude.{option_map, slice_set, IfSome, ⊤}
 use Rattle.std.specs.Prelude.{if◌then◌else◌, is_some, slice_get, sum_by, Option, Some, None, Err}
 use Rattle.std.specs.Int.NonZero.{non_zero_usize_get}
-use Rattle.std.specs.List.{Contains, list_any, flat_map, range_with_len}
+use Rattle.std.specs.List.{Contains, filter, list_any, flat_map, range_with_len}
 use Rattle.disk.specs.Disk.{Disk, Life, life_after, HasFailed, coverings, had_failed}
 use Rattle.disk.specs.declared.started_sync.StartedSync.{StartedSync}
 use Rattle.disk.specs.declared.started_sync.StartedSync.TheVariants.{Done as AllDone, Named}
@@ -723,6 +723,10 @@ pub record SessionState : Type 0 where
   pub names : List ℕ
   pub snapshots : List (Option Tail)
   pub replays : List (Option ReplayState)
+
+-- how many of its snapshots, or of its replays, are kept
+abbrev pub count_open : {A : Type 0} → List (Option A) → ℕ
+count_open all = length (filter is_some all)
 
 -- the started sync that a writer in this state waits for
 abbrev pub pending_in : SyncState → Option ℕ

@@ -1,11 +1,28 @@
 // Steps that let go of what a session keeps.
 ghost use Rattle.std.specs.Prelude.{◌≡◌};
 ghost use Rattle.session.specs.Calls.{KeepsAllButReplays, KeepsAllButSnapshots, LetsGo};
+ghost use Rattle.session.specs.Run.{count_open};
 
 use crate::Session;
 use crate::steps::Reply;
 
 impl<B, H> Session<B, H> {
+    /// How many snapshots the session keeps: those that it made, except for those that were let go.
+    /// It goes through the numbers that were given.
+    pub fn open_snapshots(&self) -> usize
+        ensures { result ≡ count_open self.now.snapshots }
+    {
+        count_open(&self.snapshots)
+    }
+
+    /// How many replays the session keeps: those that it began, except for those that were let go
+    /// or that a truncate forgot. It goes through the numbers that were given.
+    pub fn open_replays(&self) -> usize
+        ensures { result ≡ count_open self.now.replays }
+    {
+        count_open(&self.replays)
+    }
+
     pub(crate) fn drop_snapshot(&mut self, index: usize) -> Reply
         ensures goes { LetsGo index self.old.snapshots self.new.snapshots result }
         ensures rest { KeepsAllButSnapshots self.old self.new }
@@ -30,4 +47,11 @@ fn let_go<T: Drop>(all: &mut Vec<Option<T>>, index: usize) -> Reply
     };
     all[index] = None;
     Reply::Done
+}
+
+// How many have something in their place.
+fn count_open<T>(all: &[Option<T>]) -> usize
+    ensures { result ≡ count_open all.now }
+{
+    all.iter().filter(|one| one.is_some()).count()
 }

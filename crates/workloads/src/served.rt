@@ -216,7 +216,7 @@ fn serve_asked<H: Sum, R: Read, W: Write + Drop>(
     out: &mut BufWriter<W>,
     digest: &mut Digest,
 ) -> Result<Result<(), Stop>> {
-    let served = serve_file::<VecBlob, H, R, W>(alloc, blob, setting, "", input, out);
+    let served = serve_file::<VecBlob, H, R, W>(alloc, blob, setting, "add", "", input, out);
     let Err(Stop::WouldCut(allowed)) = served else {
         return Ok(served);
     };
@@ -226,5 +226,5 @@ fn serve_asked<H: Sum, R: Read, W: Write + Drop>(
         allowed,
         ..*setting
     };
-    Ok(serve_file::<VecBlob, H, R, W>(alloc, blob, &setting, "", input, out))
+    Ok(serve_file::<VecBlob, H, R, W>(alloc, blob, &setting, "add", "", input, out))
 }
