@@ -34,7 +34,7 @@ use Rattle.protocol.specs.Request.{IsRequest, request_bytes, number_bytes, lengt
 use Rattle.protocol.proofs.Bytes.{length-number_bytes}
 use Rattle.protocol.specs.Serve.AreServed.{no_more, one_more}
 use Rattle.protocol.specs.Serve.Served.{taken}
-use Rattle.protocol.specs.Serve.{requests_bytes, AreSteps, IsAnswer, asks_change, is_close, later_fault, AnsweredAll, EndsSession, IsFaultAmong, IsAny, Took, TookFor, TookNext, Answered, TakesRequest, ReadsNext, Serves, HasBegun, IsNotBegun, Greets, Greeted, EndsEarly, Opens, Named, hello_for, names_of, size_in, ServedAfter, ServesFile}
+use Rattle.protocol.specs.Serve.{requests_bytes, AreSteps, IsAnswer, asks_change, is_close, later_fault, AnsweredAll, EndsSession, IsFaultAmong, IsAny, Took, TookFor, TookNext, Answered, TakesRequest, ReadsNext, Serves, HasBegun, IsNotBegun, Greets, Greeted, EndsEarly, Agrees, Named, hello_for, names_of, size_in, ServedAfter, ServesFile}
 
 -- ---- lists of bytes
 
@@ -404,15 +404,15 @@ file_unread sum setting named old new was input rest out greeting written error 
 
 module _ (sum : List ℕ → ℕ) (setting : Setting) (named : Named) (old between : Life) (was : SessionState) (input after out greeting told : Option (List ℕ)) (opening : Opening) where
   -- it was read, and answered
-  opens : (result : Result (Option ProtocolVersion) Stop) → Greeted sum setting old between was out greeting → ReadsOpening input after (Ok opening) → TellsOpening opening (hello_for setting named old between was) greeting told result
-      → Opens sum setting named old between was input after out told result
-  opens result g reads tells = record { greeting = greeting; opening = opening; greeted = g; reads = reads; tells = tells }
+  agrees : (result : Result (Option ProtocolVersion) Stop) → Greeted sum setting old between was out greeting → ReadsOpening input after (Ok opening) → TellsOpening opening (hello_for setting named old between was) greeting told result
+      → Agrees sum setting named old between was input after out told result
+  agrees result g reads tells = record { greeting = greeting; opening = opening; greeted = g; reads = reads; tells = tells }
 
   -- there was nothing to go on with
   pub file_over : Greeted sum setting old between was out greeting → ReadsOpening input after (Ok opening) → (version : Option ProtocolVersion) → version ≡ None → TellsOpening opening (hello_for setting named old between was) greeting told (Ok version)
       → ServesFile sum setting named old between input after out told (Ok tt)
   file_over g reads version none tells =
-      inl (was, opens (Ok None) g reads (subst (λ (v : Option ProtocolVersion). TellsOpening opening (hello_for setting named old between was) greeting told (Ok v)) none tells))
+      inl (was, agrees (Ok None) g reads (subst (λ (v : Option ProtocolVersion). TellsOpening opening (hello_for setting named old between was) greeting told (Ok v)) none tells))
 
   -- no version was told, or it couldn't be
   pub file_not_opened : (stop : Stop) (result : Result (Unit {0}) Stop) → IsErrAnd result (λ x. x ≡ stop) → Greeted sum setting old between was out greeting → ReadsOpening input after (Ok opening)
@@ -421,9 +421,9 @@ module _ (sum : List ℕ → ℕ) (setting : Setting) (named : Named) (old betwe
   file_not_opened stop (Err why) is g reads tells = by_cause why (subst (λ (x : Stop). TellsOpening opening (hello_for setting named old between was) greeting told (Err x)) (sym is) tells)
     where
       by_cause : (x : Stop) → TellsOpening opening (hello_for setting named old between was) greeting told (Err x) → ServesFile sum setting named old between input after out told (Err x)
-      by_cause (Version byte) other = (was, opens (Err (Version byte)) g reads other)
-      by_cause NoVersion none = (was, opens (Err NoVersion) g reads none)
-      by_cause LongAnswer long = inr (inl (was, opens (Err LongAnswer) g reads long))
+      by_cause (Version byte) other = (was, agrees (Err (Version byte)) g reads other)
+      by_cause NoVersion none = (was, agrees (Err NoVersion) g reads none)
+      by_cause LongAnswer long = inr (inl (was, agrees (Err LongAnswer) g reads long))
       by_cause Failed none = inl (only_greeted sum setting old between was out greeting g)
       by_cause (Malformed which flaw) none = absurd none
       by_cause (WouldCut cut) none = absurd none
@@ -437,7 +437,7 @@ module _ (sum : List ℕ → ℕ) (setting : Setting) (named : Named) (old betwe
   file_served new now rest written version result g reads tells serves = by_answer result serves
     where
       served : (r : Result (Unit {0}) Stop) → Serves sum setting version was now between new after rest told written r → ServedAfter sum setting named old new input rest out written r
-      served r s = record { between = between; was = was; now = now; after = after; told = told; version = version; opens = opens (Ok (Some version)) g reads tells; serves = s }
+      served r s = record { between = between; was = was; now = now; after = after; told = told; version = version; agrees = agrees (Ok (Some version)) g reads tells; serves = s }
 
       by_answer : (r : Result (Unit {0}) Stop) → Serves sum setting version was now between new after rest told written r → ServesFile sum setting named old new input rest out written r
       by_answer (Ok done) s = inr (served (Ok done) s)

@@ -466,7 +466,7 @@ hello_for setting named old new was =
 
 -- a session was greeted, what the client begins with was read, and it was answered; this is the
 -- version to go on with, or why there is none
-pub record Opens (sum : List ℕ → ℕ) (setting : Setting) (named : Named) (old new : Life)
+pub record Agrees (sum : List ℕ → ℕ) (setting : Setting) (named : Named) (old new : Life)
     (was : SessionState) (input rest out written : Option (List ℕ))
     (result : Result (Option ProtocolVersion) Stop) : Type 0 where
   pub greeting : Option (List ℕ)
@@ -476,10 +476,10 @@ pub record Opens (sum : List ℕ → ℕ) (setting : Setting) (named : Named) (o
   pub tells : TellsOpening opening (hello_for setting named old new was) greeting written result
 
 -- so it is of some session
-abbrev pub HasOpened : (List ℕ → ℕ) → Setting → Named → Life → Life
+abbrev pub HasAgreed : (List ℕ → ℕ) → Setting → Named → Life → Life
     → (input rest out written : Option (List ℕ)) → Result (Option ProtocolVersion) Stop → Type 0
-HasOpened sum setting named old new input rest out written result =
-    (was : SessionState) × Opens sum setting named old new was input rest out written result
+HasAgreed sum setting named old new input rest out written result =
+    (was : SessionState) × Agrees sum setting named old new was input rest out written result
 
 -- a session was greeted, and the client's offer ends before all its versions, which it was told
 pub record OffersTooLittle (sum : List ℕ → ℕ) (setting : Setting) (old new : Life)
@@ -501,22 +501,22 @@ pub record ServedAfter (sum : List ℕ → ℕ) (setting : Setting) (named : Nam
   pub after : Option (List ℕ)
   pub told : Option (List ℕ)
   pub version : ProtocolVersion
-  pub opens : Opens sum setting named old between was input after out told (Ok (Some version))
+  pub agrees : Agrees sum setting named old between was input after out told (Ok (Some version))
   pub serves : Serves sum setting version was now between new after rest told written result
 
 -- how a whole input was served over a file, by how that ended
 abbrev pub ServesFile : (List ℕ → ℕ) → Setting → Named → Life → Life
     → (input rest out written : Option (List ℕ)) → Result (Unit {0}) Stop → Type 0
 ServesFile sum setting named old new input rest out written (Ok done) =
-    HasOpened sum setting named old new input rest out written (Ok None)
+    HasAgreed sum setting named old new input rest out written (Ok None)
     ⊎ ServedAfter sum setting named old new input rest out written (Ok done)
 ServesFile sum setting named old new input rest out written (Err (Malformed number flaw)) =
     OffersTooLittle sum setting old new input out written number flaw
     ⊎ ServedAfter sum setting named old new input rest out written (Err (Malformed number flaw))
 ServesFile sum setting named old new input rest out written (Err (Version byte)) =
-    HasOpened sum setting named old new input rest out written (Err (Version byte))
+    HasAgreed sum setting named old new input rest out written (Err (Version byte))
 ServesFile sum setting named old new input rest out written (Err NoVersion) =
-    HasOpened sum setting named old new input rest out written (Err NoVersion)
+    HasAgreed sum setting named old new input rest out written (Err NoVersion)
 ServesFile sum setting named old new input rest out written (Err (WouldCut cut)) =
     WouldCutMore sum setting old new cut × (written ≡ out) × (rest ≡ input)
 ServesFile sum setting named old new input rest out written (Err (Refused error)) =
@@ -525,7 +525,7 @@ ServesFile sum setting named old new input rest out written (Err (Lost error)) =
     ServedAfter sum setting named old new input rest out written (Err (Lost error))
 ServesFile sum setting named old new input rest out written (Err LongAnswer) =
     TookSize sum setting IsTooLong old new
-    ⊎ HasOpened sum setting named old new input rest out written (Err LongAnswer)
+    ⊎ HasAgreed sum setting named old new input rest out written (Err LongAnswer)
     ⊎ ServedAfter sum setting named old new input rest out written (Err LongAnswer)
 ServesFile sum setting named old new input rest out written (Err Failed) =
     EndsEarly sum setting old new

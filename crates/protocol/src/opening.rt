@@ -10,13 +10,11 @@ ghost use Rattle.protocol.specs.Request.{number_bytes};
 use crate::answer::{write_frame, write_head};
 use crate::input::read_front;
 use crate::request::MOST_BYTES;
+use crate::server::VERSION;
 use crate::setting::Setting;
 use crate::stop::{Flaw, ReadError, Stop};
 use crate::version::Version;
 use std::io::{Read, Write};
-
-/// What a client begins with that knows one version alone.
-const SINGLE: u8 = 1;
 
 /// What an offer of versions begins with.
 const OFFER: u8 = 2;
@@ -24,9 +22,10 @@ const OFFER: u8 = 2;
 /// The status of an offer of which no version is known.
 const NO_VERSION: u8 = 24;
 
-// The most ranges of a request, and the most records.
+// The most ranges of a request.
 const MOST_RANGES: u64 = MOST_BYTES / 16;
 
+// The most records of one: an answer holds an offset for each, and what starting a sync answers.
 const MOST_RECORDS: u64 = (MOST_BYTES - 9) / 8;
 
 // How many bytes of the hello stand after its status, except for those of its texts.
@@ -53,7 +52,7 @@ pub fn read_opening<R: Read>(input: &mut R) -> Result<Opening, ReadError>
     let count = read_front(input, &mut first)?;
     match &first[..count] {
         [] => Ok(Opening::End),
-        [SINGLE] => Ok(Opening::Single),
+        [VERSION] => Ok(Opening::Single),
         [OFFER] => Ok(Opening::Offer(read_versions(input)?)),
         [other, ..] => Ok(Opening::Other(*other)),
     }
