@@ -59,7 +59,7 @@ class Blob:
     """A paged blob, served by a process in version 2, or in version 1 where the program knows no other."""
 
     # What the hello of version 2 tells.
-    page_size = checksum = read_only = cut = copy = limits = None
+    page_size = checksum = read_only = cut = given_up = copy = limits = None
 
     def __init__(self, program, path):
         self.open([program, "serve", path])
@@ -92,9 +92,9 @@ class Blob:
         if self.version == 1:
             return
         self.read_only = hello[1] == 1
-        self.size, self.page_size, *limits, self.cut = struct.unpack_from("<7Q", hello, 2)
+        self.size, self.page_size, *limits, self.cut, self.given_up = struct.unpack_from("<8Q", hello, 2)
         self.limits = Limits(*limits)
-        names, at = [], 58
+        names, at = [], 66
         for _ in range(2):
             (length,) = struct.unpack_from("<Q", hello, at)
             names.append(hello[at + 8:at + 8 + length].decode(errors="replace"))

@@ -2,7 +2,7 @@
 use crate::census::{Census, Numbers};
 use crate::ending::or_end;
 use crate::look::{Look, looked};
-use crate::pages::Page;
+use crate::pages::{Page, Pages};
 use crate::refusing::Causes;
 use crate::report::print_check;
 use crate::request::Request;
@@ -54,8 +54,10 @@ fn tell_outlook(rt: &HostRuntime, request: &Request, causes: &Causes) -> io::Res
     let look = causes.look();
     let outlook = look.survey.outlook;
     println!(rt;
-        "a recovery keeps {} content bytes in {} pages, and cuts {} bytes",
-        outlook.len, outlook.pages, outlook.cut
+        "a recovery keeps {} content bytes in {}, and cuts {} bytes",
+        outlook.len,
+        Pages(outlook.pages),
+        outlook.cut
     )?;
     let verdict = look.verdict(request.cut_limit);
     if verdict != Verdict::Whole {

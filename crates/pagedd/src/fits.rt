@@ -23,7 +23,10 @@ pub struct Fit {
 impl fmt::Display for Fit {
     fn fmt<W: fmt::Write>(&self, f: &mut fmt::Formatter<W>) -> fmt::Result {
         let Fit { shape, pages, .. } = self;
-        write!(f, "its first {pages} pages verify with {shape}")
+        match pages {
+            1 => write!(f, "its first page verifies with {shape}"),
+            _ => write!(f, "its first {pages} pages verify with {shape}"),
+        }
     }
 }
 

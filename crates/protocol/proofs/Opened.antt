@@ -27,21 +27,21 @@ module _ (flag : ℕ) (numbers checksum set_aside : List ℕ) where
   told = 2 ∷ flag ∷ flat_map number_bytes numbers ++ text_bytes checksum ++ text_bytes set_aside
 
   -- how many bytes it has
-  pub length_of_told : length numbers ≡ 7 → length told ≡ length checksum + length set_aside + 74
-  length_of_told seven =
+  pub length_of_told : length numbers ≡ 8 → length told ≡ length checksum + length set_aside + 82
+  length_of_told eight =
       let sizes = flat_map number_bytes numbers in
-      omega (arith, seven, length-append (sizes ++ text_bytes checksum) (text_bytes set_aside), length-append sizes (text_bytes checksum), length_of_numbers numbers, length_of_text checksum, length_of_text set_aside)
+      omega (arith, eight, length-append (sizes ++ text_bytes checksum) (text_bytes set_aside), length-append sizes (text_bytes checksum), length_of_numbers numbers, length_of_text checksum, length_of_text set_aside)
 
   -- written piece by piece it is the whole frame
-  pub pieces_told : (len : ℕ) (a b c d e f : Option (List ℕ)) → length numbers ≡ 7 → len ≡ length checksum + length set_aside + 74
+  pub pieces_told : (len : ℕ) (a b c d e f : Option (List ℕ)) → length numbers ≡ 8 → len ≡ length checksum + length set_aside + 82
       → Appends a b (length_bytes (len + 1) ++ 0 ∷ []) → Appends b c (2 ∷ flag ∷ []) → Appends c d (flat_map number_bytes numbers) → Appends d e (text_bytes checksum) → Appends e f (text_bytes set_aside) → Appends a f (frame_bytes (0 ∷ told))
-  pieces_told len a b c d e f seven long head front sizes first second =
+  pieces_told len a b c d e f eight long head front sizes first second =
       let H = length_bytes (len + 1) ++ 0 ∷ [] in
       let F = 2 ∷ flag ∷ [] in
       let N = flat_map number_bytes numbers in
       let S = text_bytes checksum in
       let T = text_bytes set_aside in
-      let size : len + 1 ≡ length (0 ∷ told) = omega (arith, long, length_of_told seven) in
+      let size : len + 1 ≡ length (0 ∷ told) = omega (arith, long, length_of_told eight) in
       subst (λ (bytes : List ℕ). Appends a f bytes)
       (ap (λ (l : List ℕ). (l ++ S) ++ T) (append_assoc H F N) ∙ ap (λ (l : List ℕ). l ++ T) (append_assoc H (F ++ N) S) ∙ append_assoc H ((F ++ N) ++ S) T
       ∙ append_assoc (length_bytes (len + 1)) (0 ∷ []) told ∙ ap (λ (n : ℕ). length_bytes n ++ 0 ∷ told) size)
@@ -49,13 +49,13 @@ module _ (flag : ℕ) (numbers checksum set_aside : List ℕ) where
       (Appends-trans a d e ((H ++ F) ++ N) S (Appends-trans a c d (H ++ F) N (Appends-trans a b c H F head front) sizes) first) second)
 
   -- it is too long for a frame
-  pub too_long_told : length numbers ≡ 7 → IsLong (length checksum + length set_aside + 74) → IsTooLong (frame_bytes (0 ∷ told))
-  too_long_told seven long =
+  pub too_long_told : length numbers ≡ 8 → IsLong (length checksum + length set_aside + 82) → IsTooLong (frame_bytes (0 ∷ told))
+  too_long_told eight long =
       let body = 0 ∷ told in
-      omega (arith, long, length_of_told seven, length-append (length_bytes (length body)) body, length-length_bytes (length body))
+      omega (arith, long, length_of_told eight, length-append (length_bytes (length body)) body, length-length_bytes (length body))
 
 -- the hello was written
-pub hello_told : (setting : Setting) (checksum set_aside : List ℕ) (size cut len : ℕ) (a b c d e f : Option (List ℕ)) (result : Result (Unit {0}) Stop) → len ≡ length checksum + length set_aside + 74
+pub hello_told : (setting : Setting) (checksum set_aside : List ℕ) (size cut len : ℕ) (a b c d e f : Option (List ℕ)) (result : Result (Unit {0}) Stop) → len ≡ length checksum + length set_aside + 82
     → Appends a b (length_bytes (len + 1) ++ 0 ∷ []) → Appends b c (2 ∷ flag_byte setting.read_only ∷ []) → Appends c d (flat_map number_bytes (hello_numbers setting size cut)) → Appends d e (text_bytes checksum) → OnOk result (Appends e f (text_bytes set_aside))
     → OnOk result (Appends a f (hello_bytes setting checksum set_aside size cut))
 hello_told setting checksum set_aside size cut len a b c d e f (Ok done) long head front sizes first second =
@@ -64,11 +64,11 @@ hello_told setting checksum set_aside size cut len a b c d e f (Err stop) long h
 
 -- or it wasn't
 pub hello_untold : (setting : Setting) (checksum set_aside : List ℕ) (size cut : ℕ) (out written : Option (List ℕ)) (stop : Stop) (result : Result (Option ProtocolVersion) Stop) (opening : Opening) → opening ≡ Offer (Some Two) → IsErrAnd result (λ x. x ≡ stop)
-    → IsWriteError (length checksum + length set_aside + 74) stop → TellsOpening opening (hello_bytes setting checksum set_aside size cut) out written result
+    → IsWriteError (length checksum + length set_aside + 82) stop → TellsOpening opening (hello_bytes setting checksum set_aside size cut) out written result
 hello_untold setting checksum set_aside size cut out written stop (Ok version) opening two is why = absurd is
-hello_untold setting checksum set_aside size cut out written stop (Err other) opening two is why = by_cause other (subst (λ (x : Stop). IsWriteError (length checksum + length set_aside + 74) x) (sym is) why)
+hello_untold setting checksum set_aside size cut out written stop (Err other) opening two is why = by_cause other (subst (λ (x : Stop). IsWriteError (length checksum + length set_aside + 82) x) (sym is) why)
   where
-    by_cause : (x : Stop) → IsWriteError (length checksum + length set_aside + 74) x → TellsOpening opening (hello_bytes setting checksum set_aside size cut) out written (Err x)
+    by_cause : (x : Stop) → IsWriteError (length checksum + length set_aside + 82) x → TellsOpening opening (hello_bytes setting checksum set_aside size cut) out written (Err x)
     by_cause LongAnswer long = (two, too_long_told (flag_byte setting.read_only) (hello_numbers setting size cut) checksum set_aside refl long)
     by_cause Failed none = tt
     by_cause NoVersion none = absurd none

@@ -104,12 +104,12 @@ abbrev pub text_bytes : List ℕ → List ℕ
 text_bytes text = number_bytes (length text) ++ text
 
 -- the numbers of the hello: the size of the content, the page size, the most bytes of an answer and
--- of a request, the most ranges, the most records, and how many physical bytes were cut when the
--- file was opened
+-- of a request, the most ranges, the most records, how many physical bytes were cut when the file
+-- was opened, and how many might go then
 abbrev pub hello_numbers : Setting → (size cut : ℕ) → List ℕ
 hello_numbers setting size cut =
     size ∷ non_zero_u16_get setting.page_size ∷ most_bytes ∷ most_bytes ∷ most_ranges ∷ most_records
-    ∷ cut ∷ []
+    ∷ cut ∷ setting.allowed ∷ []
 
 -- the hello of version 2: the version, whether the client may only read, these numbers, the name of
 -- the checksum, and that of the copy that was made of what was cut, or an empty one

@@ -29,7 +29,7 @@ const MOST_RANGES: u64 = MOST_BYTES / 16;
 const MOST_RECORDS: u64 = (MOST_BYTES - 9) / 8;
 
 // How many bytes of the hello stand after its status, except for those of its texts.
-const FIXED: usize = 74;
+const FIXED: usize = 82;
 
 /// What a client begins with.
 #[derive(Clone, Copy, Debug, PartialEq, Eq)]
@@ -132,7 +132,7 @@ fn write_hello<W: Write>(
 ) -> Result<(), Stop>
     ensures answers { let hello = hello_bytes setting.now checksum.now set_aside.now size cut in
         OnOk result (Appends (W.contents out.old) (W.contents out.new) hello) }
-    ensures err { IfErr result (IsWriteError (length checksum.now + length set_aside.now + 74)) }
+    ensures err { IfErr result (IsWriteError (length checksum.now + length set_aside.now + 82)) }
 {
     let page = u64::from(setting.page_size.get());
     let numbers = [
@@ -143,6 +143,7 @@ fn write_hello<W: Write>(
         MOST_RANGES,
         MOST_RECORDS,
         cut,
+        setting.allowed,
     ];
     let texts = checksum
         .len()
