@@ -239,7 +239,7 @@ static void append_all(char **words, size_t count) {
         at += len + FRAME;
     }
     if (version == 1 || count == 0)
-        do_step(SYNC, NULL, 0);
+        do_step(SYNC, "", 0);
     else if (total > most_fields || count > most_records)
         fail("a request can't hold so many records");
     else
@@ -264,11 +264,11 @@ int main(int count, char **words) {
         put_number(range, end, 8);
         do_step(TRUNCATE, range, 8);
     }
-    do_step(BEGIN, NULL, 0);
+    do_step(BEGIN, "", 0);
     append_all(words + 3, (size_t)count - 3);
     for (int i = 3; i < count; i++)
         printf("%s\n", words[i]);
-    ask(CLOSE, NULL, 0);
+    ask(CLOSE, "", 0);
     int status = wait_for_end();
     if (status < 0)
         fail("the program ended early");

@@ -13,15 +13,15 @@ A case holds what any correct layer must answer that the case itself shows. Ther
             of what was appended. What depends on the buffer or the cache isn't told.
   image     one in five: an image of a blob, with pages cut, joined, repeated, swapped and changed; its
             text is what reader.py finds by docs/FORMAT.md.
-  requests  one in five: what a client of version 1 or 2 sends, in bytes, up to three sessions over one
-            blob, and what docs/PROTOCOL.md says of the answers: records and ranges that fit and that
-            don't, snapshots and replays that are let go of, once or twice, what is refused and why, and
-            a flaw that ends the session. What that page leaves open isn't asked: how many ranges were
-            served without the file is told where they are buffered, or were read before from a file of
-            fewer pages than the cache holds; how much a recovery would keep where nothing is buffered, or
-            less than the buffer holds; and what another session finds where all was synced. Two things
-            are told that it doesn't say: started syncs are named from 0 on over the life of a blob, and
-            the line that says why the input isn't requests.
+  requests  one in five: the bytes of clients of versions 1 and 2, up to three sessions over one blob, and
+            what docs/PROTOCOL.md says of the answers: records and ranges that fit and that don't;
+            snapshots and replays that are let go of, once or twice; what is refused, and what is told
+            then; a flaw that ends a session; and when answers are out, where all requests wait at once.
+            What that page leaves open isn't asked. So a session is told only where all was synced before;
+            ranges that can be read only where they are buffered, or in pages that were read before, of a
+            blob that the cache can hold; and a look only where it is sure what is written. Three things
+            are told that the page doesn't say: that started syncs are named from 0 on over the life of a
+            blob; in which order the known versions are; and the line by which a session ends.
 
 The same SEED and COUNT make the same cases. The exit status is 1 where one fails: it is written with
 as few lines as still fail, and with what the program says of it.
@@ -305,6 +305,8 @@ BATCHES = (RECORDS, RECORDS_SYNC, RECORDS_START)
 # The bytes of a page, of the pages in the cache, and those that surely stay in the buffer, whatever part of a page
 # stands before them; and the most bytes of a payload, and the greatest number.
 PAGE, CACHED, BUFFERED = 4084, 64 * 4084, 65_536 - 4084
+# What a server of these cases may give up when it opens a blob.
+ALLOWED = 4096
 MOST, GREATEST = (1 << 32) - 2, (1 << 64) - 1
 GREETING = 14
 # The statuses of refusals, and of what is no request, with what the program says of it.
@@ -407,7 +409,12 @@ class Asked:
         self.given.append(data)
         if self.version != 1:
             self.answer(status, b"\x02" + bytes(16))
-        self.stopped = f"pagedd: request {self.count + 1}: {FLAWS[status].format(word)}"
+        self.end(f"pagedd: request {self.count + 1}: {FLAWS[status].format(word)}", status == CUT)
+
+    def end(self, why, cut=False):
+        """What follows isn't read, if anything may follow."""
+        self.stopped = why
+        self.given += [] if cut else [frame(SIZE)]
 
     # How a client begins.
     def first_one(self):
@@ -417,13 +424,13 @@ class Asked:
         self.given = [bytes([2, len(versions), *versions])]
         self.version = max((version for version in versions if version in (1, 2)), default=None)
         if self.version == 2:
-            numbers = u64(len(self.content), PAGE, MOST, MOST, 268_435_455, 536_870_910, 0)
+            numbers = u64(len(self.content), PAGE, MOST, MOST, 268_435_455, 536_870_910, 0, ALLOWED)
             self.answer(0, bytes([2, self.reading]) + numbers + u64(6) + b"crc32c" + u64(0))
         elif self.version == 1:
             self.answer(0, b"\x01")
         else:
             self.answer(NO_VERSION, b"\x01\x02")
-            self.stopped = "pagedd: the client offers no version that is known: 1 and 2 are"
+            self.end("pagedd: the client offers no version that is known: 1 and 2 are")
 
     def first_cut(self, keep, *versions):
         """The input ends inside the offer, which counts as request 0."""
@@ -433,14 +440,15 @@ class Asked:
     def first_other(self, byte):
         byte = 3 if byte in (1, 2) else byte
         self.given = [bytes([byte])]
-        self.stopped = f"pagedd: the input begins with {byte}: version 1 begins with 1, an offer with 2"
+        self.end(f"pagedd: the input begins with {byte}: version 1 begins with 1, an offer with 2")
 
     def first_nothing(self):
         """The input has no byte."""
 
     # How the input ends.
-    def end_close(self, rest):
-        self.given += [frame(CLOSE), bytes(rest)]
+    def end_close(self):
+        self.given.append(frame(CLOSE))
+        self.end(None)
 
     def end_nothing(self):
         """Behind a request."""
@@ -452,8 +460,8 @@ class Asked:
         data = frame(kind, b"\x01" * FIELDS[kind] if kind in FIELDS else fields)
         self.stop(CUT, data[:1 + keep % (len(data) - 1)])
 
-    def end_empty(self, rest):
-        self.stop(EMPTY, bytes(4 + rest))
+    def end_empty(self):
+        self.stop(EMPTY, bytes(4))
 
     def end_kind(self, kind, length):
         kind = 0 if 1 <= kind <= self.kinds() else kind
@@ -707,39 +715,45 @@ class Asked:
     def replay(self, buffer):
         self.may_write()
         self.ask(REPLAY, u64(buffer + 1), u64(len(self.replays)))
-        # The content, the place where it stands, and how many bytes are at hand at least.
+        # The content, the place where it stands, if that is sure, and how many bytes are at hand at least.
         self.replays.append([self.content, 0, 0])
 
     def ensure(self, which, count):
         which, replay = self.one_of(self.replays, which)
         if replay is None:
             self.refuse(MISSING, ENSURE, u64(which, count))
-            return
-        content, place, hand = replay
-        rest = len(content) - place
-        replay[2] = max(hand, min(count, rest))
-        self.ask(ENSURE, u64(which, count), bytes([count <= rest]))
+        elif replay[1] is not None:
+            content, place, hand = replay
+            rest = len(content) - place
+            replay[2] = max(hand, min(count, rest))
+            self.ask(ENSURE, u64(which, count), bytes([count <= rest]))
 
     def take(self, which, count):
         which, replay = self.one_of(self.replays, which)
         count = min(count, MOST)
         if replay is None:
             self.refuse(MISSING, TAKE, u64(which, count))
-            return
-        content, place, hand = replay
-        # (more than that may be at hand, unless it is the rest)
-        count = count if place + hand == len(content) else min(count, hand)
-        taken = content[place:place + count]
-        replay[1:] = place + len(taken), hand - len(taken)
-        self.ask(TAKE, u64(which, count), taken)
+        elif replay[1] is not None:
+            content, place, hand = replay
+            # (more than that may be at hand, unless it is the rest)
+            count = count if place + hand == len(content) else min(count, hand)
+            taken = content[place:place + count]
+            replay[1:] = place + len(taken), hand - len(taken)
+            self.ask(TAKE, u64(which, count), taken)
 
     def seek(self, which, place):
         which, replay = self.one_of(self.replays, which)
         if replay is None:
             self.refuse(MISSING, SEEK, u64(which, place))
+            return
+        place %= len(replay[0]) + 3
+        if place > len(replay[0]):
+            # (where it stands then isn't sure)
+            replay[1:] = None, 0
+            self.refuse(PAST_END, SEEK, u64(which, place))
         else:
-            replay[1:] = place % (len(replay[0]) + 1), 0
-            self.ask(SEEK, u64(which, replay[1]))
+            replay[1:] = place, 0
+            self.ask(SEEK, u64(which, place))
 
     def drop(self, kind, some, which):
         which, found = self.one_of(some, which)
@@ -775,7 +789,7 @@ REQUESTS = {"append": "l", "records": "9*", "bad_records": "99*", "sync": "", "s
             "overlap": "plpl", "beyond": "pll", "odd": "99", "long": "nn", "longest": "n", "snapshot": "",
             "snap": "9pl", "replay": "l", "ensure": "9n", "take": "9n", "seek": "9p", "drop_snapshot": "9",
             "drop_replay": "9", "open": "", "look": "", "flush": ""}
-ENDS = {"nothing": "", "close": "9", "cut": "nn", "empty": "9", "kind": "b9", "length": "nn9", "long": "9n",
+ENDS = {"nothing": "", "close": "", "cut": "nn", "empty": "", "kind": "b9", "length": "nn9", "long": "9n",
         "buffer": ""}
 SECOND = {"records", "bad_records", "sync_size", "ranges", "overlap", "beyond", "odd", "long", "longest",
           "drop_snapshot", "drop_replay", "open", "look", "flush"}
@@ -792,6 +806,8 @@ def drawn(numbers, form, bound):
         bounds = {"9": [9], "b": [32, 256], "p": [1 << 20]}.get(what, [1, 2, bound, bound, bound])
         return numbers.randrange(numbers.choice(bounds))
     many = numbers.choice([0, 1, 2, 2, 3, 3, 4, 7]) if form.endswith("*") else 0
+    # (now and then an answer is longer than what is written at once)
+    many = numbers.choice([500, 2000]) if many and bound < 10 and numbers.random() < 0.05 else many
     return [one(what) for what in form.rstrip("*") + "l" * many]
 
 
@@ -821,7 +837,7 @@ def one_of_requests(numbers, bound, first, last):
 
 def requests(numbers):
     """Sessions over one blob."""
-    bound, count = numbers.choice([3, 10, 40, 300, 300, 1000, 3000, 3000, 20_000]), numbers.choice([1, 1, 2, 3])
+    bound, count = numbers.choice([3, 10, 40, 300, 300, 1000, 3000, 3000, 3000, 20_000]), numbers.choice([1, 1, 2, 3])
     return [one_of_requests(numbers, bound, number == 0, number + 1 == count) for number in range(count)]
 
 
@@ -864,18 +880,24 @@ def shorter_image(case):
 
 
 def shorter_requests(case):
-    for index, (way, width, first, asked, ending) in enumerate(case):
-        for it in less(asked) if asked else [None]:
-            yield case[:index] + ([(way, width, first, it, ending)] if asked else []) + case[index + 1:]
-        # (of records and ranges one less)
-        for place, step in enumerate(asked):
-            if "*" in REQUESTS[step[0]] and len(step) > 3:
-                fewer = asked[:place] + [step[:-1]] + asked[place + 1:]
-                yield case[:index] + [(way, width, first, fewer, ending)] + case[index + 1:]
-        for simple in (("serve", width, first, asked, ending), (way, 0, first, asked, ending),
-                       (way, width, ("offer", 2), asked, ending), (way, width, first, asked, ("nothing",))):
-            if simple != (way, width, first, asked, ending):
-                yield case[:index] + [simple] + case[index + 1:]
+    for index, one in enumerate(case):
+        yield case[:index] + case[index + 1:]
+        for it in shorter_session_of_requests(one):
+            yield case[:index] + [it] + case[index + 1:]
+
+
+def shorter_session_of_requests(one):
+    way, width, first, asked, ending = one
+    for place, step in enumerate(asked):
+        # (of records and ranges half, or one less)
+        needed = len(REQUESTS[step[0]].rstrip("*")) + 1
+        for most in ((needed + len(step)) // 2, len(step) - 1) if len(step) > needed else ():
+            yield way, width, first, asked[:place] + [step[:most]] + asked[place + 1:], ending
+    for it in less(asked):
+        yield way, width, first, it, ending
+    for it in (("serve", *one[1:]), (way, 0, *one[2:]), (way, width, ("offer", 2), *one[3:]), (*one[:4], ("nothing",))):
+        if it != one:
+            yield it
 
 
 # How many cases in five are of a kind, what makes one, its text, and what makes it shorter.
