@@ -19,9 +19,10 @@ A case holds what any correct layer must answer that the case itself shows. Ther
             then; a flaw that ends a session; and when answers are out, where all requests wait at once.
             What that page leaves open isn't asked. So a session is told only where all was synced before;
             ranges that can be read only where they are buffered, or in pages that were read before, of a
-            blob that the cache can hold; and a look only where it is sure what is written. Three things
+            blob that the cache can hold; and a look only where it is sure what is written. Four things
             are told that the page doesn't say: that started syncs are named from 0 on over the life of a
-            blob; in which order the known versions are; and the line by which a session ends.
+            blob; in which order the known versions are; how much an opening may give up here, which
+            stands where `pagedd` tells how much it gave up; and the line by which a session ends.
 
 The same SEED and COUNT make the same cases. The exit status is 1 where one fails: it is written with
 as few lines as still fail, and with what the program says of it.
@@ -310,7 +311,8 @@ ALLOWED = 4096
 MOST, GREATEST = (1 << 32) - 2, (1 << 64) - 1
 GREETING = 14
 # The statuses of refusals, and of what is no request, with what the program says of it.
-PAST_END, ENDED, UNORDERED, MISSING, RECOVERING, READING, UNREAD, NO_VERSION = 6, 18, 19, 20, 21, 22, 23, 24
+PAST_END, OVERFLOW = 6, 7
+ENDED, UNORDERED, MISSING, RECOVERING, READING, UNREAD, NO_VERSION = range(18, 25)
 CUT, EMPTY, NO_KIND, BAD_LENGTH, TOO_LONG, NO_BUFFER = range(32, 38)
 FLAWS = {CUT: "the input ends inside it", EMPTY: "it is empty", NO_KIND: "there is no kind {}",
          BAD_LENGTH: "its length is not that of its kind", TOO_LONG: "it reads more than an answer holds",
@@ -348,9 +350,9 @@ class Asked:
             return
         size = len(self.content)
         self.reading, self.begun = way == "serve-reading", False
-        # What is durable, how much is written, where that is sure, and whether a sync would have something to wait for,
-        # where that is; the started syncs by their names, each with the content then.
-        self.floor, self.written, self.waits, self.started = self.content, size, None, {}
+        # What is durable; how much is written, where that is sure; the started syncs by their names, each with the
+        # content then; and what a start answers, where that is sure: nothing stands for a new name.
+        self.floor, self.written, self.started, self.starts = self.content, size, {}, None
         self.snapshots, self.replays = [], []
         # How many bytes were there when the blob was opened, and since: pages of these that were read are in the cache
         # while all pages fit in it.
@@ -506,7 +508,7 @@ class Asked:
         """Appends, and answers where each part begins."""
         places = [len(self.content) + sum(map(len, parts[:index])) for index in range(len(parts))]
         if any(parts):
-            self.content, self.waits = self.content + b"".join(parts), True
+            self.content, self.starts = self.content + b"".join(parts), b""
         self.bytes = max(self.bytes, len(self.content))
         if self.written is not None and len(self.content) - self.written > BUFFERED:
             self.written = None
@@ -514,16 +516,15 @@ class Asked:
 
     def keep(self):
         """All is durable."""
-        self.floor, self.written, self.waits = self.content, len(self.content), False
+        self.floor, self.written, self.starts = self.content, len(self.content), b"\0"
 
     def begin_sync(self):
-        """All is written. Another one may have something to wait for or not, until there is more or a sync."""
+        """All is written. Until there is more, or a sync, another start answers the same."""
         self.written = len(self.content)
-        if not self.waits:
-            return b"\0"
-        self.started[self.names], self.waits = self.content, None
-        self.names += 1
-        return b"\x01" + u64(self.names - 1)
+        if self.starts == b"":
+            self.started[self.names], self.starts = self.content, b"\x01" + u64(self.names)
+            self.names += 1
+        return self.starts
 
     def told_size(self):
         return u64(len(self.content))
@@ -534,15 +535,13 @@ class Asked:
 
     def records(self, which, *lengths):
         parts, kind = [self.some(length) for length in lengths], BATCHES[which % 3]
-        if kind == RECORDS_START and self.waits is None and not any(parts):
+        if kind == RECORDS_START and self.starts is None and not any(parts):
             kind = RECORDS
         after = {RECORDS: [], RECORDS_SYNC: [self.keep], RECORDS_START: [self.begin_sync]}[kind]
         self.change(kind, batch(parts), lambda: self.put(parts), *after)
 
     def bad_records(self, which, how, *lengths):
         """Fields that tell no records."""
-        if self.reading:
-            return
         data, count, how = self.some(sum(lengths)), len(lengths), how % 7
         if how == 0:    # the number is cut off
             fields = struct.pack("<I", count)[:which % 4]
@@ -558,7 +557,7 @@ class Asked:
             fields = struct.pack(f"<{2 + count}I", count + 1, *lengths, 1) + data
         else:           # they would add up in 32 bits
             fields = struct.pack(f"<{3 + count}I", count + 2, 1 << 31, 1 << 31, *lengths) + data
-        self.refuse(UNREAD, BATCHES[which % 3], fields)
+        self.refuse(READING if self.reading else UNREAD, BATCHES[which % 3], fields)
 
     def sync(self):
         self.change(SYNC, b"", self.keep)
@@ -567,7 +566,7 @@ class Asked:
         self.change(SYNC_SIZE, b"", self.keep, self.told_size)
 
     def start(self):
-        if self.reading or self.waits is not None:
+        if self.reading or self.starts is not None:
             self.change(START, b"", self.begin_sync)
 
     def wait(self, which):
@@ -584,7 +583,7 @@ class Asked:
         self.begun = not self.reading
 
     def truncate(self, size):
-        size %= len(self.content) + 1
+        size %= len(self.content) + 3
         if self.reading or self.begun:
             self.refuse(READING if self.reading else ENDED, TRUNCATE, u64(size))
             return
@@ -615,6 +614,13 @@ class Asked:
     def past(self, place, more):
         place %= len(self.content) + 1
         self.refuse(PAST_END, READ, u64(place, min(len(self.content) - place + 1 + more, MOST)))
+
+    def far(self, which, back, count):
+        """From about the greatest number on."""
+        kind, place = (READ, UP_TO, RANGES)[which % (2 if self.version == 1 else 3)], GREATEST - back
+        # (at most so many bytes may be fewer)
+        passes = count >= back and kind != UP_TO
+        self.refuse(OVERFLOW if passes else PAST_END, kind, u64(place, count + 1))
 
     def up_to(self, place, count):
         place, count = place % (len(self.content) + 3), min(count, MOST)
@@ -652,13 +658,11 @@ class Asked:
         self.ask(RANGES, fields, u64(len(found)), *[self.content[at:at + length] for at, length in found])
 
     def overlap(self, place, length, back, other):
-        """The second range begins before the first one's end."""
+        """The second range begins before the first one's end. One may pass the end too."""
         place %= len(self.content) + 1
-        end = min(place + length, len(self.content))
+        end = place + length
         if end > 0:
-            second = end - 1 - back % end
-            fields = u64(place, end - place, second, min(other, len(self.content) - second))
-            self.refuse(UNORDERED, RANGES, fields)
+            self.refuse(UNORDERED, RANGES, u64(place, length, end - 1 - back % end, other))
 
     def beyond(self, place, count, more):
         """The last range passes the end."""
@@ -785,10 +789,10 @@ class Asked:
 # The numbers of each request and each end: 9 is one below 9, l a length, p a place, b a byte, n any number, and * some
 # lengths. Then those that version 2 alone has, and what should come before some.
 REQUESTS = {"append": "l", "records": "9*", "bad_records": "99*", "sync": "", "sync_size": "", "start": "", "wait": "9",
-            "begin": "", "truncate": "p", "size": "", "read": "pl", "past": "pn", "up_to": "pn", "ranges": "*",
-            "overlap": "plpl", "beyond": "pll", "odd": "99", "long": "nn", "longest": "n", "snapshot": "",
-            "snap": "9pl", "replay": "l", "ensure": "9n", "take": "9n", "seek": "9p", "drop_snapshot": "9",
-            "drop_replay": "9", "open": "", "look": "", "flush": ""}
+            "begin": "", "truncate": "p", "size": "", "read": "pl", "past": "pn", "far": "99l", "up_to": "pn",
+            "ranges": "*", "overlap": "plpl", "beyond": "pll", "odd": "99", "long": "nn", "longest": "n",
+            "snapshot": "", "snap": "9pl", "replay": "l", "ensure": "9n", "take": "9n", "seek": "9p",
+            "drop_snapshot": "9", "drop_replay": "9", "open": "", "look": "", "flush": ""}
 ENDS = {"nothing": "", "close": "", "cut": "nn", "empty": "", "kind": "b9", "length": "nn9", "long": "9n",
         "buffer": ""}
 SECOND = {"records", "bad_records", "sync_size", "ranges", "overlap", "beyond", "odd", "long", "longest",
