@@ -15,8 +15,8 @@ class Refused(Exception):
 
 class Served(Blob):
     """A blob that is served with these options, in version 2 where the program knows it. `ask` takes the requests of
-    both versions. What the hello told is in `size`, `page_size`, `checksum`, `read_only`, `cut`, `given_up`, `copy` and `limits`;
-    in version 1 `size` alone is known."""
+    both versions. What the hello told is in `size`, `page_size`, `checksum`, `read_only`, `cut`, `given_up`, `copy` and
+    `limits`; in version 1 `size` alone is known."""
 
     def __init__(self, program, path, *options):
         try:
