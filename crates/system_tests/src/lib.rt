@@ -1,7 +1,9 @@
 //! Tests of what only a system has: a file, its lock and its folder, and an input or an output that
-//! fails. The crate has no code of its own.
+//! fails; and of the checksum as it was built. The crate has no code of its own.
 #![tactic(auto)]
 
+#[cfg(test)]
+mod checksum;
 #[cfg(test)]
 mod files;
 #[cfg(test)]

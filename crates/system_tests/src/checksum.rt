@@ -1,5 +1,5 @@
 // What was built, beside published checks and a sum that goes bit by bit.
-use crate::Crc32c;
+use crc32c::Crc32c;
 use page::Sum;
 
 // The check by its definition, with no table and no folding.
