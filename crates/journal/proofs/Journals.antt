@@ -241,6 +241,7 @@ committed sum own w after old new now sound whole ready goes =
       same = goes.holds.same;
       all = subst (λ (P : ℕ). CommitsAll sum own P (content now new.present.readable) new.present) (sym goes.holds.same.page_size)
           (subst (λ (l : List ℕ). CommitsAll sum own w.page_size l new.present) (sym same) (commits_all sum own w.page_size (content w old.present.readable) new.present (goes.durable sound)));
+      durable = goes.as_opened.durable goes.settled.clean;
     }
 
 pub not_committed : (sum own : List ℕ → ℕ) (w : WriterState) (after : CacheState) (old new : Life) (e : Error) → SyncAllGoes sum w old new (Err e) → CommitGoes sum own w after old new (Err e)

@@ -151,6 +151,8 @@ pub record IsCommitted (sum own : List ℕ → ℕ) (w : WriterState) (after : C
   pub holds : content now new.present.readable ≡ content w old.present.readable
   pub same : IsSameWriter w now
   pub all : CommitsAll sum own now.page_size (content now new.present.readable) new.present
+  -- and so is all that is readable of the blob: it may be copied, or its digest kept
+  pub durable : IsDurable new.present
 
 abbrev pub CommitGoes : (sum own : List ℕ → ℕ) → WriterState → CacheState → Life → Life
     → Result WriterState Error → Type 0

@@ -173,8 +173,8 @@ impl<B: Blob, H: Sum, R: Sum> Journal<B, H, R> {
         }
     }
 
-    /// Commits all records that were appended: whatever crashes from then on, they come back. It
-    /// makes at most two device calls, and none where all is durable.
+    /// Commits all records that were appended: whatever crashes from then on, they come back. All of
+    /// the blob is durable then. It makes at most two device calls, and none where all is durable.
     ///
     /// `WriteFailed` and `SyncFailed` where the device failed, `OutOfMemory`. The journal is gone
     /// then.
