@@ -1,0 +1,109 @@
+-- An entry that is added to a manifest.
+use Rattle.std.specs.Prelude.{◌≡◌, ◌++◌, ℕ, List, [], ◌∷◌, Some, None, Option, IfSome, Result, Ok, Err, Bool, true, false}
+use Rattle.std.proofs.Common.{ap, sym, ◌∙◌, refl, subst, true≢false, inr}
+use Rattle.disk.specs.Disk.{Life}
+use Rattle.crash.specs.Moments.{through_start}
+use Rattle.writer_state.specs.WriterState.{WriterState}
+use Rattle.journal.specs.Journal.{Commits, records_in}
+use Rattle.journal.proofs.Journals.{between_of, leaves_still}
+use Rattle.segments.specs.declared.entry.Entry.{Entry}
+use Rattle.segments.specs.declared.error.Error.{Error}
+use Rattle.segments.specs.declared.error.Error.TheVariants as errors
+use Rattle.segments.specs.Manifest.{ListingState, entry_bytes, entry_in, listed_in, listed_with, TakesIn}
+use Rattle.segments.specs.Owned.{HasJournal, IsAdded, IsOwned, IsOwnedJournal, KeepsJournal, KeepsRecords, OwnedAddGoes, OwnedAddKeeps, OwnedState, records_now, records_of}
+use Rattle.segments.specs.Log.{IsLog, Lists, LogState, Tries}
+use Rattle.segments.proofs.Listings.{listed_more}
+
+lists_by : (sum own : List ℕ → ℕ) (P : ℕ) (entry : Entry) (bytes : List ℕ) (l m : ListingState) (j k : Option WriterState) (old new : Life)
+    → entry_in bytes ≡ Some entry → listed_with P entry l ≡ Some m → IfSome j (λ w. Lists sum own P l w old)
+    → KeepsJournal j k (λ w now. IsAdded sum own P bytes w old now new)
+    → IfSome k (λ w. Lists sum own P m w new)
+lists_by sum own P entry bytes l m None k old new told with lists is = absurd is
+lists_by sum own P entry bytes l m (Some w) None old new told with lists is = tt
+lists_by sum own P entry bytes l m (Some w) (Some now) old new told with lists is = record {
+  told = ap (λ rs. listed_in P rs) is.records ∙ listed_more P (records_in own w old) bytes entry l m lists.told told with;
+  committed = is.committed;
+  durable = is.durable;
+}
+
+lists_if : (sum own : List ℕ → ℕ) (P : ℕ) (m : ListingState) (k : Option WriterState) (new : Life) → k ≡ None → IfSome k (λ w. Lists sum own P m w new)
+lists_if sum own P m k new none = subst (λ (k : Option WriterState). IfSome k (λ w. Lists sum own P m w new)) (sym none) tt
+
+lists_then : (sum own : List ℕ → ℕ) (entry : Entry) (bytes : List ℕ) (l m : ListingState) (s t : OwnedState) (result : Result (Unit {0}) Error)
+    → entry_in bytes ≡ Some entry → listed_with s.page_size entry l ≡ Some m → IfSome s.journal (λ w. Lists sum own s.page_size l w s.life)
+    → OwnedAddGoes sum own bytes s t result → IfSome t.journal (λ w. Lists sum own s.page_size m w t.life)
+lists_then sum own entry bytes l m s t (Ok u) told with lists is = lists_by sum own s.page_size entry bytes l m s.journal t.journal s.life t.life told with lists is
+lists_then sum own entry bytes l m s t (Err (errors.Layer e)) told with lists is = lists_if sum own s.page_size m t.journal t.life (none_of s.journal t.journal is) where
+  none_of : (j k : Option WriterState) → HasJournal j (λ w. k ≡ None) → k ≡ None
+  none_of None k is = absurd is
+  none_of (Some w) k is = is
+lists_then sum own entry bytes l m s t (Err errors.Closed) told with lists is = lists_if sum own s.page_size m t.journal t.life (ap (λ (o : OwnedState). o.journal) is.1 ∙ is.0)
+lists_then sum own entry bytes l m s t (Err (errors.System e)) told with lists is = absurd is
+lists_then sum own entry bytes l m s t (Err (errors.Damaged n)) told with lists is = absurd is
+lists_then sum own entry bytes l m s t (Err (errors.Unlisted n)) told with lists is = absurd is
+lists_then sum own entry bytes l m s t (Err (errors.Missing n)) told with lists is = absurd is
+lists_then sum own entry bytes l m s t (Err errors.Manifest) told with lists is = absurd is
+lists_then sum own entry bytes l m s t (Err (errors.NoSegment n)) told with lists is = absurd is
+lists_then sum own entry bytes l m s t (Err errors.NumbersExhausted) told with lists is = absurd is
+
+-- the log stands, whatever the answer
+pub enter_ready : (sum own : List ℕ → ℕ) (entry : Entry) (bytes : List ℕ) (s : LogState) (m : ListingState) (manifest : OwnedState) (result : Result (Unit {0}) Error)
+    → IsLog sum own s → IsOwned sum own manifest → manifest.page_size ≡ s.manifest.page_size
+    → entry_in bytes ≡ Some entry → listed_with s.page_size entry s.listing ≡ Some m
+    → OwnedAddGoes sum own bytes s.manifest manifest result → IsLog sum own (record s { manifest = manifest; listing = m })
+enter_ready sum own entry bytes s m manifest result log owned pages told with is = record {
+  manifest = owned;
+  current = log.current;
+  manifest_pages = pages ∙ log.manifest_pages;
+  current_pages = log.current_pages;
+  lists = subst (λ P. IfSome manifest.journal (λ w. Lists sum own P m w manifest.life)) log.manifest_pages
+      (lists_then sum own entry bytes s.listing m s.manifest manifest result told
+      (subst (λ P. listed_with P entry s.listing ≡ Some m) (sym log.manifest_pages) with)
+      (subst (λ P. IfSome s.manifest.journal (λ w. Lists sum own P s.listing w s.manifest.life)) (sym log.manifest_pages) log.lists) is);
+  loaded = log.loaded;
+}
+
+keeps_none : (sum own : List ℕ → ℕ) (P : ℕ) (s : OwnedState) (more : List (List ℕ)) (j : Option WriterState) → IfSome j (λ w. IsOwnedJournal sum own s w) → s.page_size ≡ P
+    → IfSome j (λ w. KeepsRecords sum own P (records_of own j s.life ++ more) s.life s.life)
+keeps_none sum own P s more None owned page = tt
+keeps_none sum own P s more (Some w) owned page =
+    subst (λ P. KeepsRecords sum own P (records_in own w s.life ++ more) s.life s.life) (owned.page_size ∙ page) (record {
+      kept = λ held n commits. through_start (Commits sum own w.page_size held n) s.life commits;
+      only = leaves_still sum own w (records_in own w s.life ++ more) s.life (between_of sum w s.cache s.life owned.journal).only (more, refl);
+    })
+
+-- where nothing was done, all is kept
+pub keeps_still : (sum own : List ℕ → ℕ) (P : ℕ) (s : OwnedState) (more : List (List ℕ)) → IsOwned sum own s → s.page_size ≡ P
+    → IfSome s.journal (λ w. KeepsRecords sum own P (records_now own s ++ more) s.life s.life)
+keeps_still sum own P s more owned page = keeps_none sum own P s more s.journal owned.1 page
+
+added_keeps : (sum own : List ℕ → ℕ) (P : ℕ) (bytes : List ℕ) (j : Option WriterState) (old new : Life)
+    → IfSome j (λ w. KeepsRecords sum own P (records_in own w old ++ bytes ∷ []) old new)
+    → IfSome j (λ w. KeepsRecords sum own P (records_of own j old ++ bytes ∷ []) old new)
+added_keeps sum own P bytes None old new keeps = tt
+added_keeps sum own P bytes (Some w) old new keeps = keeps
+
+pub entered_keeps : (sum own : List ℕ → ℕ) (P : ℕ) (bytes these : List ℕ) (s t : OwnedState) → s.page_size ≡ P → bytes ≡ these
+    → IfSome s.journal (λ w. KeepsRecords sum own s.page_size (records_in own w s.life ++ bytes ∷ []) s.life t.life)
+    → IfSome s.journal (λ w. KeepsRecords sum own P (records_now own s ++ these ∷ []) s.life t.life)
+entered_keeps sum own P bytes these s t page same keeps =
+    subst (λ these. IfSome s.journal (λ w. KeepsRecords sum own P (records_now own s ++ these ∷ []) s.life t.life)) same
+    (subst (λ P. IfSome s.journal (λ w. KeepsRecords sum own P (records_now own s ++ bytes ∷ []) s.life t.life)) page
+    (added_keeps sum own s.page_size bytes s.journal s.life t.life keeps))
+
+-- an entry that was taken in
+pub taken : {E : Type 0} (P : ℕ) (entry : Entry) (l m : ListingState) (b : Bool) (result : Result Bool E) → TakesIn P entry l m result → result ≡ Ok b → b ≡ true
+    → listed_with P entry l ≡ Some m
+taken P entry l m true result is ok e = subst (λ r. TakesIn P entry l m r) ok is
+taken P entry l m false result is ok e = absurd (true≢false (sym e))
+
+-- an entry that was asked for
+pub entry_tried : (sum own : List ℕ → ℕ) (entry : Entry) (bytes : List ℕ) (view s t : LogState) (m : ListingState) → view ≡ s → bytes ≡ entry_bytes entry
+    → entry_in bytes ≡ Some entry → listed_with view.page_size entry view.listing ≡ Some m → view.manifest.page_size ≡ view.page_size
+    → OwnedAddKeeps sum own bytes view.manifest t.manifest → Tries sum own entry s t
+entry_tried sum own entry bytes view s t m is same told follows pages keeps = subst (λ s. Tries sum own entry s t) is (inr (record {
+  listing = m;
+  told = subst (λ bytes. entry_in bytes ≡ Some entry) same told;
+  follows = follows;
+  keeps = entered_keeps sum own view.page_size bytes (entry_bytes entry) view.manifest t.manifest pages same keeps;
+}))

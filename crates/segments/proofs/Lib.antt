@@ -1,0 +1,17 @@
+pub mod Durable
+pub mod Entries
+pub mod Counts
+pub mod OwnedLaws
+pub mod Closing
+pub mod Adding
+pub mod Listings
+pub mod Entering
+pub mod Empty
+pub mod Rotating
+pub mod Records
+pub mod Readings
+pub mod Removals
+pub mod Beginning
+pub mod Surviving
+pub mod Opened
+pub mod Turning

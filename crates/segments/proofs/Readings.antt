@@ -1,0 +1,41 @@
+-- A read of the open segment.
+use Rattle.std.specs.Prelude.{◌≡◌, ℕ, List, Some, None, Option, Result, Ok, Err}
+use Rattle.std.proofs.Common.{refl, inl}
+use Rattle.disk.specs.Disk.{Life}
+use Rattle.writer_state.specs.WriterState.{WriterState}
+use Rattle.writer_state.specs.Sound.{content}
+use Rattle.journal.specs.declared.frame.Found.{Found}
+use Rattle.journal.specs.Journal.{ReadRecordGoes}
+use Rattle.segments.specs.declared.error.Error.{Error}
+use Rattle.segments.specs.declared.error.Error.TheVariants as errors
+use Rattle.segments.specs.declared.place.Place.{Place}
+use Rattle.segments.specs.Manifest.{open_in}
+use Rattle.segments.specs.Owned.{HasJournal, OwnedReadGoes}
+use Rattle.segments.specs.Log.{IsReadOf, LogReadGoes, LogState}
+
+read_of : (own : List ℕ → ℕ) (held : List ℕ) (offset : ℕ) (old new : Life) (found : Option Found)
+    → ReadRecordGoes own held offset old new (Ok found) → IsReadOf own held offset found
+read_of own held offset old new None is = is.0
+read_of own held offset old new (Some f) is = is.0
+
+reads_by : (own : List ℕ → ℕ) (j k : Option WriterState) (offset : ℕ) (old new : Life) (found : Option Found)
+    → HasJournal j (λ w. (k ≡ Some w) × ReadRecordGoes own (content w old.present.readable) offset old new (Ok found))
+    → (held : List ℕ) × HasJournal j (λ w. held ≡ content w old.present.readable) × IsReadOf own held offset found
+reads_by own None k offset old new found is = absurd is
+reads_by own (Some w) k offset old new found is =
+    (content w old.present.readable, refl, read_of own (content w old.present.readable) offset old new found is.1)
+
+pub reads_current : (sum own : List ℕ → ℕ) (s t : LogState) (p : Place) (result : Result (Option Found) Error) → p.segment ≡ open_in s.listing
+    → OwnedReadGoes own p.offset s.current t.current result → LogReadGoes sum own s p result
+reads_current sum own s t p (Ok found) at is =
+    let held = reads_by own s.current.journal t.current.journal p.offset s.current.life t.current.life found is in
+    (held.0, inl (at, held.1), held.2)
+reads_current sum own s t p (Err (errors.Layer e)) at is = tt
+reads_current sum own s t p (Err errors.Closed) at is = tt
+reads_current sum own s t p (Err (errors.System e)) at is = tt
+reads_current sum own s t p (Err (errors.Damaged n)) at is = absurd is
+reads_current sum own s t p (Err (errors.Unlisted n)) at is = tt
+reads_current sum own s t p (Err (errors.Missing n)) at is = tt
+reads_current sum own s t p (Err errors.Manifest) at is = tt
+reads_current sum own s t p (Err (errors.NoSegment n)) at is = absurd is
+reads_current sum own s t p (Err errors.NumbersExhausted) at is = tt

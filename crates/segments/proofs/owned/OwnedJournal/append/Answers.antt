@@ -1,0 +1,13 @@
+use Rattle.std.proofs.Common.{sym, subst, ◌∙◌}
+use Rattle.segments.specs.Owned.{IsOwned}
+use Rattle.segments.proofs.Counts.{one_more_fits}
+use Rattle.segments.proofs.OwnedLaws.{owned_of}
+use Rattle.segments.proofs.owned.OwnedJournal.append.Goals as goal
+
+pub overflow_add-self : goal.overflow_add-self
+overflow_add-self g c =
+    let sum = g.H.Sum.sum_of in
+    let own = g.R.Sum.sum_of in
+    let opened = subst (λ s. IsOwned sum own s) (sym c.self.view_is) c.requires.owned in
+    let held = owned_of sum own _ c.in-Some.journal opened (sym c.take.ensures.value ∙ c.in-Some.is) in
+    one_more_fits sum own c.in-Some.journal c.in-Ok.journal c.args.bytes.now _ _ _ c.in-Ok.offset c.self.inside.records c.size-size.result held.counts (c.in-Ok.ensures).goes c.size-size.ensures c.size-size.type_inv

@@ -1,0 +1,115 @@
+-- What a crash leaves of a log, at each moment of a call: the records that a log has that is opened
+-- over what is left.
+use Rattle.std.specs.Prelude.{◌≡◌, ◌⊎◌, ◌≤◌, ◌+◌, ◌++◌, ℕ, List, [], ◌∷◌, length, take}
+use Rattle.std.specs.Prelude.{Option, Some, None, IfSome}
+use Rattle.disk.specs.Disk.{Disk, IsImage, Life}
+use Rattle.crash.specs.Guard.{IsChanceFree}
+use Rattle.crash.specs.Kept.{Through}
+use Rattle.page.specs.Page.{text}
+use Rattle.journal.specs.Frame.{IsPrefix, records}
+use Rattle.journal.specs.Journal.{Commits}
+use Rattle.segments.specs.declared.closed.Closed.{Closed}
+use Rattle.segments.specs.Digests.{IsOf}
+use Rattle.segments.specs.Manifest.{ListingState, listed_in, open_in}
+use Rattle.segments.specs.Log.{HasCollision, LogState, closed_records, log_records}
+
+-- the records of a log whose manifest lists this, and whose files hold these bytes; each closed
+-- segment held what `held` tells
+abbrev pub records_by : (sum own : List ℕ → ℕ) → ℕ → (held file : ℕ → List ℕ) → Option ListingState
+    → Option (List (List ℕ))
+records_by sum own P held file None = None
+records_by sum own P held file (Some l) = Some (closed_records sum own P held l.first l.closed
+    ++ records own (text sum P (file (open_in l))))
+
+-- the same of a log whose manifest holds these bytes; none where the manifest can't be read
+abbrev pub records_left : (sum own : List ℕ → ℕ) → ℕ → (held file : ℕ → List ℕ) → List ℕ
+    → Option (List (List ℕ))
+records_left sum own P held file manifest =
+    records_by sum own P held file (listed_in P (records own (text sum P manifest)))
+
+-- they begin with the first n of these
+abbrev pub BeginWith : ℕ → List (List ℕ) → Option (List (List ℕ)) → Type 0
+BeginWith n all None = ⊥
+BeginWith n all (Some rs) = (n ≤ length rs) × (take n rs ≡ take n all)
+
+-- they are the first of these
+abbrev pub AreFirstOf : List (List ℕ) → Option (List (List ℕ)) → Type 0
+AreFirstOf all None = ⊥
+AreFirstOf all (Some rs) = IsPrefix rs all
+
+-- whatever a crash leaves of the manifest's disk and of those of the segments, no slot of the
+-- manifest verifying by chance: the first n of these records come back
+abbrev pub LogKept : (sum own : List ℕ → ℕ) → ℕ → (held : ℕ → List ℕ) → ℕ → List (List ℕ)
+    → Disk → (ℕ → Disk) → Type 0
+LogKept sum own P held n all m d =
+    (manifest : List ℕ) → IsImage m manifest → IsChanceFree sum P m manifest
+    → (file : ℕ → List ℕ) → ((j : ℕ) → IsImage (d j) (file j))
+    → BeginWith n all (records_left sum own P held file manifest)
+
+-- and chance aside nothing else does
+abbrev pub LogOnly : (sum own : List ℕ → ℕ) → ℕ → (held : ℕ → List ℕ) → List (List ℕ)
+    → Disk → (ℕ → Disk) → Type 0
+LogOnly sum own P held all m d =
+    (manifest : List ℕ) → IsImage m manifest → IsChanceFree sum P m manifest
+    → (file : ℕ → List ℕ) → ((j : ℕ) → IsImage (d j) (file j))
+    → ((j : ℕ) → IsChanceFree sum P (d j) (file j))
+    → AreFirstOf all (records_left sum own P held file manifest)
+
+-- at each moment of a stretch of the open segment's life: the records of the closed segments come
+-- back, and what was committed of the open one; and chance aside only the first of the log's
+-- records and of these more
+pub record KeepsLog (sum own : List ℕ → ℕ) (held : ℕ → List ℕ) (s : LogState)
+    (more : List (List ℕ)) (old new : Life) : Type 0 where
+  pub kept : (content : List ℕ) (n : ℕ) → Commits sum own s.page_size content n old.present
+      → let before = closed_records sum own s.page_size held s.listing.first s.listing.closed in
+      Through (λ d. LogKept sum own s.page_size held (length before + n)
+      (before ++ records own content) s.manifest.life.present (λ j. d)) old new
+  pub only : Through (λ d. LogOnly sum own s.page_size held (log_records sum own held s ++ more)
+      s.manifest.life.present (λ j. d)) old new
+
+-- a call of the open segment, whatever it answers
+abbrev pub CurrentSurvives : (sum own : List ℕ → ℕ) → List (List ℕ) → LogState → LogState → Type 0
+CurrentSurvives sum own more s t = IfSome s.manifest.journal (λ m. IfSome s.current.journal (λ w.
+    (held : ℕ → List ℕ) → KeepsLog sum own held s more s.current.life t.current.life))
+
+-- as the manifest is told of a closed segment, with the number k, and of the next one: whatever a
+-- crash leaves of the manifest's disk and of these two segments', chance aside, all of these
+-- records come back, or two strings of one digest are at hand
+abbrev pub LogTurned : (sum own : List ℕ → ℕ) → ℕ → (held : ℕ → List ℕ) → List (List ℕ)
+    → (k : ℕ) → (d e : Disk) → Disk → Type 0
+LogTurned sum own P held all k d e m =
+    (manifest : List ℕ) → IsImage m manifest → IsChanceFree sum P m manifest
+    → (file : ℕ → List ℕ) → IsImage d (file k) → IsImage e (file (k + 1))
+    → IsChanceFree sum P e (file (k + 1))
+    → (records_left sum own P held file manifest ≡ Some all) ⊎ HasCollision
+
+-- a rotation, at each moment: first the open segment is closed; then the manifest is told of it,
+-- and that leaves all records as they were
+pub record TurnKept (sum own : List ℕ → ℕ) (held : ℕ → List ℕ) (s t : LogState) : Type 0 where
+  pub last : Life
+  pub next : Disk
+  pub kept : Closed
+  pub closing : KeepsLog sum own held s [] s.current.life last
+  pub of : IsOf last.present.readable kept
+  pub turning : IsOf (held (open_in s.listing)) kept
+      → Through (LogTurned sum own s.page_size held (log_records sum own held s)
+      (open_in s.listing) last.present next) s.manifest.life t.manifest.life
+
+-- or it ended before the manifest was told
+abbrev pub IsRotationKept : (sum own : List ℕ → ℕ) → (held : ℕ → List ℕ) → LogState → LogState
+    → Type 0
+IsRotationKept sum own held s t =
+    ((t.manifest ≡ s.manifest) × KeepsLog sum own held s [] s.current.life t.current.life)
+    ⊎ TurnKept sum own held s t
+
+-- a rotation, whatever it answers
+abbrev pub RotationSurvives : (sum own : List ℕ → ℕ) → LogState → LogState → Type 0
+RotationSurvives sum own s t = IfSome s.manifest.journal (λ m. IfSome s.current.journal (λ w.
+    (held : ℕ → List ℕ) → IsRotationKept sum own held s t))
+
+-- an append, whatever it answers: to the open segment; or a rotation that failed; or one, and then
+-- an append to the next segment
+abbrev pub AppendSurvives : (sum own : List ℕ → ℕ) → List ℕ → LogState → LogState → Type 0
+AppendSurvives sum own bytes s t = CurrentSurvives sum own (bytes ∷ []) s t
+    ⊎ RotationSurvives sum own s t
+    ⊎ ((m : LogState) × RotationSurvives sum own s m × CurrentSurvives sum own (bytes ∷ []) m t)

@@ -1,0 +1,419 @@
+-- A log in segments: what it has, and what stands between its calls.
+use Rattle.std.specs.Prelude.{◌≡◌, ◌⊎◌, ℕ, suc, List, [], ◌∷◌, ◌++◌, length}
+use Rattle.std.specs.Prelude.{Option, Some, None, IfSome}
+use Rattle.std.specs.Prelude.{Result, Ok, Err, ◌+◌, ◌-◌, ◌<◌, ◌≤◌, false, true, drop}
+use Rattle.disk.specs.Disk.{Life}
+use Rattle.page.specs.Page.{text}
+use Rattle.paged.specs.Recovery.{IsDurable}
+use Rattle.writer_state.specs.WriterState.{WriterState}
+use Rattle.writer_state.specs.Sound.{content}
+use Rattle.journal.specs.Frame.{records, whole_frames}
+use Rattle.journal.specs.declared.frame.Found.{Found}
+use Rattle.journal.specs.Journal.{CommitsAll, IsFound, OnlyRecords, records_in}
+use Rattle.segments.specs.declared.call.FolderEvent.{FolderEvent}
+use Rattle.segments.specs.declared.call.FolderCall.TheVariants as calls
+use Rattle.segments.specs.declared.closed.Closed.{Closed}
+use Rattle.segments.specs.declared.entry.Entry.{Entry}
+use Rattle.segments.specs.declared.entry.Entry.TheVariants.{Closes}
+use Rattle.segments.specs.declared.error.Error.{Error}
+use Rattle.segments.specs.declared.place.Place.{Place}
+use Rattle.segments.specs.declared.error.Error.TheVariants as errors
+use Rattle.segments.specs.Digests.{Collide, IsOf, SameKept}
+use Rattle.segments.specs.FolderPast.{folder_event}
+use Rattle.segments.specs.Manifest.{ListingState, closed_at, entry_bytes, entry_in, listed_in}
+use Rattle.segments.specs.Manifest.{listed_with, open_in}
+use Rattle.segments.specs.Owned.{HasJournal, IsOwned, IsShut, KeepsRecords, OwnedAppendGoes}
+use Rattle.segments.specs.Owned.{OwnedReadLeaves, OwnedState}
+use Rattle.segments.specs.Owned.{records_now}
+
+-- a closed segment that was read into memory: what was kept of it, and its journal
+pub record LoadedState : Type 0 where
+  pub kept : Closed
+  pub owned : OwnedState
+
+-- a log as contracts see it: the manifest, the open segment, what the manifest lists, what the
+-- folder was asked for, and the closed segment that was read last
+pub record LogState : Type 0 where
+  pub manifest : OwnedState
+  pub current : OwnedState
+  pub listing : ListingState
+  pub asked : List FolderEvent
+  pub loaded : Option LoadedState
+  pub page_size : ℕ
+
+-- a content is the whole frames of bytes of which this was kept
+pub record HoldsClosed (sum : List ℕ → ℕ) (P : ℕ) (kept : Closed) (held : List ℕ) : Type 0 where
+  pub bytes : List ℕ
+  pub of : IsOf bytes kept
+  pub holds : held ≡ whole_frames (text sum P bytes)
+
+abbrev pub IsLoaded : (sum own : List ℕ → ℕ) → ℕ → LoadedState → Type 0
+IsLoaded sum own P l = (l.owned.page_size ≡ P) × IsOwned sum own l.owned
+    × IfSome l.owned.journal (λ w.
+    HoldsClosed sum P l.kept (content w l.owned.life.present.readable))
+
+-- the manifest tells this listing, and all of it is durable
+pub record Lists (sum own : List ℕ → ℕ) (P : ℕ) (listing : ListingState) (w : WriterState)
+    (life : Life) : Type 0 where
+  pub told : listed_in P (records_in own w life) ≡ Some listing
+  pub committed : CommitsAll sum own P (content w life.present.readable) life.present
+  pub durable : IsDurable life.present
+
+-- a log between two calls
+pub record IsLog (sum own : List ℕ → ℕ) (s : LogState) : Type 0 where
+  pub manifest : IsOwned sum own s.manifest
+  pub current : IsOwned sum own s.current
+  pub manifest_pages : s.manifest.page_size ≡ s.page_size
+  pub current_pages : s.current.page_size ≡ s.page_size
+  pub lists : IfSome s.manifest.journal (λ w.
+      Lists sum own s.page_size s.listing w s.manifest.life)
+  pub loaded : IfSome s.loaded (λ l. IsLoaded sum own s.page_size l)
+
+-- ---- an entry
+
+-- the same, except for the manifest and what it lists
+pub record IsSameButManifest (s t : LogState) : Type 0 where
+  pub current : t.current ≡ s.current
+  pub asked : t.asked ≡ s.asked
+  pub loaded : t.loaded ≡ s.loaded
+  pub page_size : t.page_size ≡ s.page_size
+
+-- an entry was added to the manifest, and is durable
+pub record IsEntered (own : List ℕ → ℕ) (entry : Entry) (s t : LogState) : Type 0 where
+  pub listing : listed_with s.page_size entry s.listing ≡ Some t.listing
+  pub there : HasJournal t.manifest.journal (λ w. Unit {0})
+  pub records : records_now own t.manifest
+      ≡ records_now own s.manifest ++ entry_bytes entry ∷ []
+
+-- an entry, by its answer: after an error the manifest is as it was, or has no journal
+abbrev pub EnterGoes : (own : List ℕ → ℕ) → Entry → LogState → LogState → Result (Unit {0}) Error
+    → Type 0
+EnterGoes own entry s t (Ok u) = IsEntered own entry s t
+EnterGoes own entry s t (Err (errors.NoSegment n)) = ⊥
+EnterGoes own entry s t (Err e) = (t ≡ s) ⊎ (t.manifest.journal ≡ None)
+
+-- what was committed of the manifest is so at each moment since, and chance aside a crash at any of
+-- these moments leaves only the first of its entries and of this one
+abbrev pub ManifestKeeps : (sum own : List ℕ → ℕ) → Entry → LogState → LogState → Type 0
+ManifestKeeps sum own entry s t = IfSome s.manifest.journal (λ w.
+    KeepsRecords sum own s.page_size (records_now own s.manifest ++ entry_bytes entry ∷ [])
+    s.manifest.life t.manifest.life)
+
+-- the entry was asked for: it can follow those before it
+pub record IsTried (sum own : List ℕ → ℕ) (entry : Entry) (s t : LogState) : Type 0 where
+  pub listing : ListingState
+  pub told : entry_in (entry_bytes entry) ≡ Some entry
+  pub follows : listed_with s.page_size entry s.listing ≡ Some listing
+  pub keeps : ManifestKeeps sum own entry s t
+
+-- an entry, whatever the answer: nothing was done to the manifest, or the entry was asked for
+abbrev pub Tries : (sum own : List ℕ → ℕ) → Entry → LogState → LogState → Type 0
+Tries sum own entry s t = (t.manifest ≡ s.manifest) ⊎ IsTried sum own entry s t
+
+-- ---- the open segment
+
+-- the same, except for the open segment
+pub record IsSameButCurrent (s t : LogState) : Type 0 where
+  pub manifest : t.manifest ≡ s.manifest
+  pub listing : t.listing ≡ s.listing
+  pub asked : t.asked ≡ s.asked
+  pub loaded : t.loaded ≡ s.loaded
+  pub page_size : t.page_size ≡ s.page_size
+
+-- the open segment was closed: this is what is kept of it, where all of it is durable
+pub record IsClosedWith (sum own : List ℕ → ℕ) (s t : LogState) (kept : Closed) : Type 0 where
+  pub shut : IsShut sum own s.page_size (records_now own s.current) t.current.life
+  pub of : IsOf t.current.life.present.readable kept
+  pub counts : kept.records ≡ length (records_now own s.current)
+
+abbrev pub CloseCurrentGoes : (sum own : List ℕ → ℕ) → LogState → LogState → Result Closed Error
+    → Type 0
+CloseCurrentGoes sum own s t (Ok kept) = IsClosedWith sum own s t kept
+CloseCurrentGoes sum own s t (Err e) = Unit {0}
+
+-- what a call of the open segment's journal leaves: what was committed is so at each moment since,
+-- and chance aside a crash at any of these moments leaves only the first of these records
+abbrev pub CurrentKeeps : (sum own : List ℕ → ℕ) → List (List ℕ) → LogState → LogState → Type 0
+CurrentKeeps sum own all s t = IfSome s.current.journal (λ w.
+    KeepsRecords sum own s.page_size all s.current.life t.current.life)
+
+-- a blob has a journal, of the whole frames of the text that was readable
+pub record HasOpened (sum own : List ℕ → ℕ) (P : ℕ) (old : Life) (o : OwnedState)
+    (answered : List (List ℕ)) : Type 0 where
+  pub owned : IsOwned sum own o
+  pub page_size : o.page_size ≡ P
+  pub holds : HasJournal o.journal (λ w.
+      content w o.life.present.readable ≡ whole_frames (text sum P old.present.readable))
+  pub told : records_now own o ≡ records own (text sum P old.present.readable)
+  pub given : answered ≡ records own (text sum P old.present.readable)
+
+-- what a folder was asked for by the opening of a segment, by its answer
+abbrev pub AsksForSegment : {T E : Type 0} → ℕ → List FolderEvent → List FolderEvent
+    → Result T E → Type 0
+AsksForSegment number old new (Ok _) = new ≡ old ++ folder_event (calls.Opens number) false
+    ∷ folder_event calls.Syncs false ∷ []
+AsksForSegment number old new (Err _) =
+    (new ≡ old ++ folder_event (calls.Opens number) true ∷ [])
+    ⊎ (new ≡ old ++ folder_event (calls.Opens number) false ∷ folder_event calls.Syncs true ∷ [])
+
+-- the next segment was opened: it has no record, and its name is durable
+pub record HasNext (sum own : List ℕ → ℕ) (s t : LogState) (next : OwnedState) : Type 0 where
+  pub owned : IsOwned sum own next
+  pub page_size : next.page_size ≡ s.page_size
+  pub there : HasJournal next.journal (λ w. Unit {0})
+  pub none : records_now own next ≡ []
+  pub leaves : OnlyRecords sum own s.page_size [] next.life.present
+  pub asked : t.asked ≡ s.asked ++ folder_event (calls.Opens (open_in s.listing + 1)) false
+      ∷ folder_event calls.Syncs false ∷ []
+
+abbrev pub OpenNextGoes : (sum own : List ℕ → ℕ) → LogState → LogState → Result OwnedState Error
+    → Type 0
+OpenNextGoes sum own s t (Ok next) = HasNext sum own s t next
+OpenNextGoes sum own s t (Err e) = Unit {0}
+
+-- the same, except for what the folder was asked for
+abbrev pub IsSameButAsked : LogState → LogState → Type 0
+IsSameButAsked s t = t ≡ record s { asked = t.asked }
+
+-- a rotation: the open segment was closed, with all its records, and is listed by what is kept of
+-- its bytes; the next one is open, has no record, and its name is durable
+pub record IsRotated (sum own : List ℕ → ℕ) (s t : LogState) : Type 0 where
+  pub last : Life
+  pub kept : Closed
+  pub shut : IsShut sum own s.page_size (records_now own s.current) last
+  pub of : IsOf last.present.readable kept
+  pub counts : kept.records ≡ length (records_now own s.current)
+  pub listing : t.listing
+      ≡ record { first = s.listing.first; closed = s.listing.closed ++ kept ∷ [] }
+  pub entries : records_now own t.manifest
+      ≡ records_now own s.manifest ++ entry_bytes (Closes kept) ∷ []
+  pub listed : HasJournal t.manifest.journal (λ w. Unit {0})
+  pub there : HasJournal t.current.journal (λ w. Unit {0})
+  pub none : records_now own t.current ≡ []
+  pub asked : t.asked ≡ s.asked ++ folder_event (calls.Opens (open_in s.listing + 1)) false
+      ∷ folder_event calls.Syncs false ∷ []
+  pub loaded : t.loaded ≡ s.loaded
+  pub page_size : t.page_size ≡ s.page_size
+
+abbrev pub RotateGoes : (sum own : List ℕ → ℕ) → LogState → LogState → Result (Unit {0}) Error
+    → Type 0
+RotateGoes sum own s t (Ok u) = IsRotated sum own s t
+RotateGoes sum own s t (Err e) = t.current.journal ≡ None
+
+-- where the blob was durable, chance aside a crash leaves only the first of its records
+abbrev pub LeavesOpened : (sum own : List ℕ → ℕ) → ℕ → Life → OwnedState → Type 0
+LeavesOpened sum own P old o = IsDurable old.present
+    → OnlyRecords sum own P (records own (text sum P old.present.readable)) o.life.present
+
+-- ---- appending and committing
+
+-- a record was appended to the open segment
+abbrev pub AppendHereGoes : (sum own : List ℕ → ℕ) → List ℕ → LogState → LogState
+    → Result Place Error → Type 0
+AppendHereGoes sum own bytes s t (Ok p) = (p.segment ≡ open_in s.listing)
+    × OwnedAppendGoes sum own bytes s.current t.current (Ok p.offset)
+AppendHereGoes sum own bytes s t (Err e) = OwnedAppendGoes sum own bytes s.current t.current (Err e)
+
+-- a record was appended: to the open segment, or to the next one, after a rotation
+pub record IsAppendedTo (sum own : List ℕ → ℕ) (bytes : List ℕ) (s t : LogState) (p : Place)
+    : Type 0 where
+  pub mid : LogState
+  pub before : (mid ≡ s) ⊎ IsRotated sum own s mid
+  pub here : AppendHereGoes sum own bytes mid t (Ok p)
+  pub rest : IsSameButCurrent mid t
+
+-- an append, by its answer: after an error the log has no open segment
+abbrev pub LogAppendGoes : (sum own : List ℕ → ℕ) → List ℕ → LogState → LogState
+    → Result Place Error → Type 0
+LogAppendGoes sum own bytes s t (Ok p) = IsAppendedTo sum own bytes s t p
+LogAppendGoes sum own bytes s t (Err e) = t.current.journal ≡ None
+
+-- ---- the records, by what closed segments held
+
+-- what was kept of closed segments tells what these held
+abbrev pub TellHeld : (held : ℕ → List ℕ) → (first : ℕ) → List Closed → Type 0
+TellHeld held first [] = Unit {0}
+TellHeld held first (c ∷ cs) = IsOf (held first) c × TellHeld held (suc first) cs
+
+-- the records of closed segments that held these bytes, joined
+abbrev pub closed_records : (sum own : List ℕ → ℕ) → ℕ → (held : ℕ → List ℕ) → (first : ℕ)
+    → List Closed → List (List ℕ)
+closed_records sum own P held first [] = []
+closed_records sum own P held first (c ∷ cs) =
+    records own (text sum P (held first)) ++ closed_records sum own P held (suc first) cs
+
+-- all records of a log: those of the closed segments, and then those of the open one
+abbrev pub log_records : (sum own : List ℕ → ℕ) → (held : ℕ → List ℕ) → LogState → List (List ℕ)
+log_records sum own held s =
+    closed_records sum own s.page_size held s.listing.first s.listing.closed
+    ++ records_now own s.current
+
+-- two different strings of one digest are at hand
+abbrev pub HasCollision : Type 0
+HasCollision = (one other : List ℕ) × Collide one other
+
+-- whatever the closed segments held, so long as what was kept tells it: the log has the records
+-- that it had, and then these; or two strings of one digest are at hand
+abbrev pub HasMore : (sum own : List ℕ → ℕ) → List (List ℕ) → LogState → LogState → Type 0
+HasMore sum own more s t = (held : ℕ → List ℕ) → TellHeld held t.listing.first t.listing.closed
+    → (log_records sum own held t ≡ log_records sum own held s ++ more) ⊎ HasCollision
+
+-- ---- reading
+
+-- a read of the frame at an offset of a content
+abbrev pub IsReadOf : (own : List ℕ → ℕ) → List ℕ → ℕ → Option Found → Type 0
+IsReadOf own held offset None = length held ≤ offset
+IsReadOf own held offset (Some f) = IsFound own held offset f.bytes f.end
+
+-- the content of the open segment, where it has a journal
+abbrev pub IsCurrentContent : LogState → List ℕ → Type 0
+IsCurrentContent s held = HasJournal s.current.journal (λ w.
+    held ≡ content w s.current.life.present.readable)
+
+-- the content of a segment: of the open one; or the whole frames of bytes of which this was kept
+abbrev pub IsContentOf : (sum : List ℕ → ℕ) → LogState → ℕ → List ℕ → Type 0
+IsContentOf sum s segment held =
+    ((segment ≡ open_in s.listing) × IsCurrentContent s held)
+    ⊎ ((kept : Closed) × (closed_at s.listing segment ≡ Some kept)
+    × HoldsClosed sum s.page_size kept held)
+
+-- a read at a place, by its answer
+abbrev pub LogReadGoes : (sum own : List ℕ → ℕ) → LogState → Place → Result (Option Found) Error
+    → Type 0
+LogReadGoes sum own s p (Ok found) =
+    (held : List ℕ) × IsContentOf sum s p.segment held × IsReadOf own held p.offset found
+LogReadGoes sum own s p (Err (errors.NoSegment n)) =
+    (n ≡ p.segment) × (closed_at s.listing p.segment ≡ None)
+LogReadGoes sum own s p (Err (errors.Damaged n)) =
+    (n ≡ p.segment) × ((kept : Closed) × (closed_at s.listing p.segment ≡ Some kept))
+LogReadGoes sum own s p (Err e) = Unit {0}
+
+-- what a read leaves: all but what is in memory of the segments
+pub record LeavesReading (sum own : List ℕ → ℕ) (s t : LogState) : Type 0 where
+  pub manifest : t.manifest ≡ s.manifest
+  pub listing : t.listing ≡ s.listing
+  pub asked : t.asked ≡ s.asked
+  pub page_size : t.page_size ≡ s.page_size
+  pub current : (t.current ≡ s.current) ⊎ OwnedReadLeaves sum own s.current t.current
+
+-- a closed segment was read at an offset
+abbrev pub HeldReadGoes : (sum own : List ℕ → ℕ) → ℕ → Closed → ℕ
+    → Result (Option Found) Error → Type 0
+HeldReadGoes sum own P kept offset (Ok found) =
+    (held : List ℕ) × HoldsClosed sum P kept held × IsReadOf own held offset found
+HeldReadGoes sum own P kept offset (Err (errors.Layer e)) = Unit {0}
+HeldReadGoes sum own P kept offset (Err errors.Closed) = Unit {0}
+HeldReadGoes sum own P kept offset (Err _) = ⊥
+
+-- a closed segment is in memory
+pub record HasLoaded (sum own : List ℕ → ℕ) (s : LogState) (number : ℕ) (l : LoadedState)
+    : Type 0 where
+  pub kept : Closed
+  pub listed : closed_at s.listing number ≡ Some kept
+  pub same : SameKept l.kept kept
+  pub loaded : IsLoaded sum own s.page_size l
+
+abbrev pub TakeLoadedGoes : (sum own : List ℕ → ℕ) → LogState → ℕ
+    → Result LoadedState Error → Type 0
+TakeLoadedGoes sum own s number (Ok l) = HasLoaded sum own s number l
+TakeLoadedGoes sum own s number (Err (errors.NoSegment n)) =
+    (n ≡ number) × (closed_at s.listing number ≡ None)
+TakeLoadedGoes sum own s number (Err (errors.Damaged n)) =
+    (n ≡ number) × ((kept : Closed) × (closed_at s.listing number ≡ Some kept))
+TakeLoadedGoes sum own s number (Err e) = Unit {0}
+
+-- the same, except for the closed segment in memory
+pub record IsSameButLoaded (s t : LogState) : Type 0 where
+  pub manifest : t.manifest ≡ s.manifest
+  pub current : t.current ≡ s.current
+  pub listing : t.listing ≡ s.listing
+  pub asked : t.asked ≡ s.asked
+  pub page_size : t.page_size ≡ s.page_size
+
+-- ---- dropping
+
+-- a removal of a segment before this one, or a sync of the names
+abbrev pub IsOfOlder : ℕ → FolderEvent → Type 0
+IsOfOlder first e = ((number : ℕ) × (number < first) × (e.call ≡ calls.Removes number))
+    ⊎ (e.call ≡ calls.Syncs)
+
+-- each of these calls is
+abbrev pub AreOfOlder : ℕ → List FolderEvent → Type 0
+AreOfOlder first [] = Unit {0}
+AreOfOlder first (e ∷ es) = IsOfOlder first e × AreOfOlder first es
+
+-- the folder was asked for nothing but such
+pub record AsksOfOlder (first : ℕ) (old new : List FolderEvent) : Type 0 where
+  pub events : List FolderEvent
+  pub all : new ≡ old ++ events
+  pub below : AreOfOlder first events
+
+-- the last thing that it was asked for was a sync, which was done
+abbrev pub EndsSynced : List FolderEvent → Type 0
+EndsSynced events = (before : List FolderEvent)
+    × (events ≡ before ++ folder_event calls.Syncs false ∷ [])
+
+-- the listing without the segments before one
+abbrev pub listing_from : ℕ → ListingState → ListingState
+listing_from segment l =
+    record { first = segment; closed = drop (segment - l.first) l.closed }
+
+-- the manifest tells that a segment is the first one
+pub record IsStartedFrom (segment : ℕ) (s t : LogState) : Type 0 where
+  pub listing : t.listing ≡ listing_from segment s.listing
+  pub rest : IsSameButManifest s t
+
+abbrev pub StartFromGoes : ℕ → LogState → LogState → Result (Unit {0}) Error → Type 0
+StartFromGoes segment s t (Ok u) = IsStartedFrom segment s t
+StartFromGoes segment s t (Err (errors.NoSegment n)) = ⊥
+StartFromGoes segment s t (Err e) = IsSameButManifest s t
+
+-- segments were dropped: just those before the one, where it wasn't the first
+pub record IsDropped (segment : ℕ) (s t : LogState) : Type 0 where
+  pub within : segment ≤ open_in s.listing
+  pub listing : ((segment ≤ s.listing.first) × (t.listing ≡ s.listing))
+      ⊎ ((s.listing.first < segment) × (t.listing ≡ listing_from segment s.listing))
+  pub current : t.current ≡ s.current
+  pub removed : AsksOfOlder t.listing.first s.asked t.asked
+  pub synced : EndsSynced t.asked
+
+-- a drop, by its answer: nothing is done where there is no such segment yet
+abbrev pub LogDropGoes : ℕ → LogState → LogState → Result (Unit {0}) Error → Type 0
+LogDropGoes segment s t (Ok u) = IsDropped segment s t
+LogDropGoes segment s t (Err (errors.NoSegment n)) =
+    (t ≡ s) × (n ≡ segment) × (open_in s.listing < segment)
+LogDropGoes segment s t (Err e) = t.current ≡ s.current
+
+-- ---- opening
+
+-- a manifest was opened: it lists what the bytes that its file gave tell, and all is durable
+pub record HasManifest (sum own : List ℕ → ℕ) (P : ℕ) (o : OwnedState) (l : ListingState)
+    : Type 0 where
+  pub bytes : List ℕ
+  pub owned : IsOwned sum own o
+  pub page_size : o.page_size ≡ P
+  pub lists : HasJournal o.journal (λ w. Lists sum own P l w o.life)
+  pub told : listed_in P (records own (text sum P bytes)) ≡ Some l
+
+-- the open segment was opened: it has the records that the bytes of its file tell
+pub record HasCurrent (sum own : List ℕ → ℕ) (P : ℕ) (o : OwnedState) : Type 0 where
+  pub bytes : List ℕ
+  pub owned : IsOwned sum own o
+  pub page_size : o.page_size ≡ P
+  pub there : HasJournal o.journal (λ w. Unit {0})
+  pub told : records_now own o ≡ records own (text sum P bytes)
+
+pub record AreParts (sum own : List ℕ → ℕ) (P : ℕ) (manifest current : OwnedState)
+    (l : ListingState) : Type 0 where
+  pub lists : HasManifest sum own P manifest l
+  pub stands : HasCurrent sum own P current
+
+-- the log of a folder was opened: what its files gave, the manifest and the open segment, is what
+-- the log has. An empty manifest gets its first entry, and lists no segment
+pub record IsOpenedLog (sum own : List ℕ → ℕ) (s : LogState) : Type 0 where
+  pub manifest_bytes : List ℕ
+  pub bytes : List ℕ
+  pub listed : listed_in s.page_size (records own (text sum s.page_size manifest_bytes))
+      ≡ Some s.listing
+  pub there : HasJournal s.current.journal (λ w. Unit {0})
+  pub records : records_now own s.current ≡ records own (text sum s.page_size bytes)

@@ -1,0 +1,79 @@
+-- The records of a manifest, and what they list.
+use Rattle.std.specs.Prelude.{◌≡◌, ◌&&◌, ◌||◌, ◌==◌, ℕ, ◌+◌, ◌-◌, List, [], ◌∷◌, ◌++◌}
+use Rattle.std.specs.Prelude.{length, take, drop, Option, Some, None, if◌then◌else◌, slice_index}
+use Rattle.std.specs.Prelude.{slice_get, nat_lt, Bool, true, false, Result, Ok, Err}
+use Rattle.std.specs.Int.{w16, w64, to_be_bytes, from_be_bytes}
+use Rattle.segments.specs.declared.closed.Closed.{Closed}
+use Rattle.segments.specs.declared.entry.Entry.{Entry}
+use Rattle.segments.specs.declared.entry.Entry.TheVariants.{Starts, Closes}
+
+-- an entry as bytes
+abbrev pub entry_bytes : Entry → List ℕ
+entry_bytes (Starts first page_size) = 0 ∷ to_be_bytes w64 first ++ to_be_bytes w16 page_size
+entry_bytes (Closes c) = 1 ∷ to_be_bytes w64 c.records ++ to_be_bytes w64 c.len ++ c.digest
+
+-- the entry that some bytes are: the first of them tells which, and there are just so many
+unfoldable pub entry_in : List ℕ → Option Entry
+entry_in bytes =
+    if (length bytes == 11) && (slice_index bytes 0 == 0) then
+    Some (Starts (from_be_bytes w64 (drop 1 bytes)) (from_be_bytes w16 (drop 9 bytes)))
+    else if (length bytes == 49) && (slice_index bytes 0 == 1) then
+    Some (Closes (record {
+      records = from_be_bytes w64 (drop 1 bytes);
+      len = from_be_bytes w64 (drop 9 bytes);
+      digest = take 32 (drop 17 bytes);
+    }))
+    else None
+
+-- the closed segments that weren't dropped, one after the other, and the number of the first
+pub record ListingState : Type 0 where
+  pub first : ℕ
+  pub closed : List Closed
+
+-- the number of the open segment
+abbrev pub open_in : ListingState → ℕ
+open_in l = l.first + length l.closed
+
+-- what was kept of a closed segment
+abbrev pub closed_at : ListingState → ℕ → Option Closed
+closed_at l number =
+    if nat_lt number l.first then None else slice_get l.closed (number - l.first)
+
+-- no segment is closed, and the first one is open
+abbrev pub none_closed : ListingState
+none_closed = record { first = 0; closed = [] }
+
+-- after an entry more, of a log with pages of so many bytes; none where it can't follow
+abbrev pub listed_with : (page_size : ℕ) → Entry → ListingState → Option ListingState
+listed_with page_size (Starts first size) l =
+    if (nat_lt first l.first || nat_lt (open_in l) first) || nat_lt size page_size
+    || nat_lt page_size size then None
+    else Some (record { first = first; closed = drop (first - l.first) l.closed })
+listed_with page_size (Closes c) l =
+    if open_in l == 18446744073709551615 then None
+    else Some (record { first = l.first; closed = l.closed ++ c ∷ [] })
+
+-- after a record more
+abbrev pub listed_by : (page_size : ℕ) → Option Entry → ListingState → Option ListingState
+listed_by page_size None l = None
+listed_by page_size (Some e) l = listed_with page_size e l
+
+-- after these records, one after the other
+abbrev pub listed_after : (page_size : ℕ) → Option ListingState → List (List ℕ)
+    → Option ListingState
+listed_after page_size None records = None
+listed_after page_size (Some l) [] = Some l
+listed_after page_size (Some l) (r ∷ rs) =
+    listed_after page_size (listed_by page_size (entry_in r) l) rs
+
+-- what a manifest's records list
+abbrev pub listed_in : (page_size : ℕ) → List (List ℕ) → Option ListingState
+listed_in page_size records = listed_after page_size (Some none_closed) records
+
+-- an entry is taken in, unless memory is refused
+abbrev pub TakesIn : (page_size : ℕ) → Entry → ListingState → ListingState → {E : Type 0}
+    → Result Bool E → Type 0
+TakesIn page_size entry old new (Ok true) = listed_with page_size entry old ≡ Some new
+TakesIn page_size entry old new (Ok false) =
+    (listed_with page_size entry old ≡ None) × (new ≡ old)
+TakesIn page_size entry old new (Err e) = new ≡ old

@@ -1,0 +1,161 @@
+-- A blob with a journal on it, and a cache of its own.
+use Rattle.std.specs.Prelude.{◌≡◌, ℕ, List, [], ◌∷◌, ◌++◌, length, Option, Some, None, IfSome}
+use Rattle.std.specs.Prelude.{Result, Ok, Err, Vec}
+use Rattle.std.specs.declared.alloc.Global.{Global}
+use Rattle.disk.specs.Disk.{Life}
+use Rattle.disk.specs.declared.error.Error as layer
+use Rattle.cache.specs.CacheState.{CacheState}
+use Rattle.cache.specs.Pages.{IsFresh}
+use Rattle.writer_state.specs.WriterState.{WriterState}
+use Rattle.writer_state.specs.Sound.{content}
+use Rattle.journal.specs.declared.frame.Found.{Found}
+use Rattle.journal.specs.Journal.{AppendRecordGoes, CommitGoes, IsJournal, ReadRecordGoes}
+use Rattle.journal.specs.Frame.{records}
+use Rattle.journal.specs.Journal.{CommitsAll, KeepsCommitted, LeavesRecords}
+use Rattle.journal.specs.Journal.{records_in}
+use Rattle.page.specs.Page.{text}
+use Rattle.paged.specs.Recovery.{IsDurable}
+use Rattle.journal.specs.Calls.{JournalCallLeaves, JournalRecoverGoes, RecordReadLeaves}
+use Rattle.segments.specs.declared.error.Error.{Error}
+use Rattle.segments.specs.declared.error.Error.TheVariants as errors
+
+-- what contracts see of it; there is no journal once a call of it failed
+pub record OwnedState : Type 0 where
+  pub cache : CacheState
+  pub life : Life
+  pub journal : Option WriterState
+  pub page_size : ℕ
+  pub records : ℕ
+
+-- its journal is one, of pages of its size, and has so many records
+pub record IsOwnedJournal (sum own : List ℕ → ℕ) (s : OwnedState) (w : WriterState) : Type 0 where
+  pub journal : IsJournal sum w s.cache s.life
+  pub page_size : w.page_size ≡ s.page_size
+  pub counts : s.records ≡ length (records_in own w s.life)
+
+-- between two calls
+abbrev pub IsOwned : (sum own : List ℕ → ℕ) → OwnedState → Type 0
+IsOwned sum own s = IsFresh s.cache × IfSome s.journal (λ w. IsOwnedJournal sum own s w)
+
+-- the records that a journal has; none where there is none
+abbrev pub records_of : (own : List ℕ → ℕ) → Option WriterState → Life → List (List ℕ)
+records_of own None life = []
+records_of own (Some w) life = records_in own w life
+
+abbrev pub records_now : (own : List ℕ → ℕ) → OwnedState → List (List ℕ)
+records_now own s = records_of own s.journal s.life
+
+-- there is a journal, of which this holds
+abbrev pub HasJournal : Option WriterState → (WriterState → Type 0) → Type 0
+HasJournal None P = ⊥
+HasJournal (Some w) P = P w
+
+-- there was one, and there is one
+abbrev pub KeepsJournal : Option WriterState → Option WriterState
+    → (WriterState → WriterState → Type 0) → Type 0
+KeepsJournal was is P = HasJournal was (λ w. HasJournal is (λ now. P w now))
+
+-- an append, by its answer: an error of the layer leaves no journal, and without one nothing is
+-- done
+abbrev pub OwnedAppendGoes : (sum own : List ℕ → ℕ) → List ℕ → OwnedState → OwnedState
+    → Result ℕ Error → Type 0
+OwnedAppendGoes sum own bytes s t (Ok at) = KeepsJournal s.journal t.journal (λ w now.
+    AppendRecordGoes sum own w bytes t.cache s.life t.life (Ok (now, at)))
+OwnedAppendGoes sum own bytes s t (Err (errors.Layer e)) = HasJournal s.journal (λ w.
+    (t.journal ≡ None) × AppendRecordGoes sum own w bytes t.cache s.life t.life (Err e))
+OwnedAppendGoes sum own bytes s t (Err errors.Closed) = (s.journal ≡ None) × (t ≡ s)
+OwnedAppendGoes sum own bytes s t (Err _) = ⊥
+
+-- a commit, by its answer
+abbrev pub OwnedCommitGoes : (sum own : List ℕ → ℕ) → OwnedState → OwnedState
+    → Result (Unit {0}) Error → Type 0
+OwnedCommitGoes sum own s t (Ok _) = KeepsJournal s.journal t.journal (λ w now.
+    CommitGoes sum own w t.cache s.life t.life (Ok now))
+OwnedCommitGoes sum own s t (Err (errors.Layer e)) = HasJournal s.journal (λ w.
+    (t.journal ≡ None) × CommitGoes sum own w t.cache s.life t.life (Err e))
+OwnedCommitGoes sum own s t (Err errors.Closed) = (s.journal ≡ None) × (t ≡ s)
+OwnedCommitGoes sum own s t (Err _) = ⊥
+
+-- what a call of its journal leaves, whatever it answers
+abbrev pub OwnedLeaves : (sum own : List ℕ → ℕ) → List (List ℕ) → OwnedState → OwnedState → Type 0
+OwnedLeaves sum own all s t = IfSome s.journal (λ w.
+    JournalCallLeaves sum own w all s.cache t.cache s.life t.life)
+
+-- a read of the frame at an offset, by its answer
+abbrev pub OwnedReadGoes : (own : List ℕ → ℕ) → ℕ → OwnedState → OwnedState
+    → Result (Option Found) Error → Type 0
+OwnedReadGoes own offset s t (Ok found) = HasJournal s.journal (λ w.
+    (t.journal ≡ Some w)
+    × ReadRecordGoes own (content w s.life.present.readable) offset s.life t.life (Ok found))
+OwnedReadGoes own offset s t (Err (errors.Layer e)) = HasJournal s.journal (λ w.
+    (t.journal ≡ Some w)
+    × ReadRecordGoes own (content w s.life.present.readable) offset s.life t.life (Err e))
+OwnedReadGoes own offset s t (Err errors.Closed) = (s.journal ≡ None) × (t ≡ s)
+OwnedReadGoes own offset s t (Err _) = ⊥
+
+-- what a read leaves
+abbrev pub OwnedReadLeaves : (sum own : List ℕ → ℕ) → OwnedState → OwnedState → Type 0
+OwnedReadLeaves sum own s t = IfSome s.journal (λ w.
+    RecordReadLeaves sum own w s.cache t.cache s.life t.life)
+
+-- a recovery, by its answer: the records that it answers are those of the journal
+abbrev pub OwnedRecoverGoes : (sum own : List ℕ → ℕ) → ℕ → OwnedState → OwnedState
+    → Result (Vec (List ℕ) Global) layer.Error → Type 0
+OwnedRecoverGoes sum own capacity s t (Ok records) = HasJournal t.journal (λ w.
+    JournalRecoverGoes sum own s.cache t.cache capacity s.life t.life (Ok (w, records)))
+OwnedRecoverGoes sum own capacity s t (Err e) = (t.journal ≡ None)
+    × JournalRecoverGoes sum own s.cache t.cache capacity s.life t.life (Err e)
+
+-- the blob's last life, of a segment with these records: all of it is durable, and the bytes tell
+-- just the records
+pub record IsShut (sum own : List ℕ → ℕ) (P : ℕ) (all : List (List ℕ)) (life : Life) : Type 0 where
+  pub durable : IsDurable life.present
+  pub tells : records own (text sum P life.present.readable) ≡ all
+
+-- a closing, by its answer
+abbrev pub OwnedCloseGoes : (sum own : List ℕ → ℕ) → OwnedState → OwnedState
+    → Result (Unit {0}) Error → Type 0
+OwnedCloseGoes sum own s t (Ok _) = HasJournal s.journal (λ w.
+    IsShut sum own s.page_size (records_in own w s.life) t.life)
+OwnedCloseGoes sum own s t (Err (errors.Layer e)) = HasJournal s.journal (λ w.
+    CommitGoes sum own w t.cache s.life t.life (Err e))
+OwnedCloseGoes sum own s t (Err errors.Closed) = (s.journal ≡ None) × (t ≡ s)
+OwnedCloseGoes sum own s t (Err _) = ⊥
+
+-- what was committed is so at each moment since, and chance aside a crash at any of these moments
+-- leaves only the first of the records
+pub record KeepsRecords (sum own : List ℕ → ℕ) (P : ℕ) (all : List (List ℕ)) (old new : Life)
+    : Type 0 where
+  pub kept : KeepsCommitted sum own P old new
+  pub only : LeavesRecords sum own P all old new
+
+-- a call of its journal, whatever it answers, where these records are the journal's then
+abbrev pub OwnedKeeps : (sum own : List ℕ → ℕ) → OwnedState → OwnedState → Type 0
+OwnedKeeps sum own s t = IfSome s.journal (λ w.
+    KeepsRecords sum own s.page_size (records_in own w s.life) s.life t.life)
+
+-- the same with no journal
+abbrev pub without_journal : OwnedState → OwnedState
+without_journal s = record s { journal = None }
+
+-- a record was appended and committed: all of the blob is durable
+pub record IsAdded (sum own : List ℕ → ℕ) (P : ℕ) (bytes : List ℕ) (w : WriterState) (old : Life)
+    (now : WriterState) (new : Life) : Type 0 where
+  pub records : records_in own now new ≡ records_in own w old ++ bytes ∷ []
+  pub committed : CommitsAll sum own P (content now new.present.readable) new.present
+  pub durable : IsDurable new.present
+
+-- an append and a commit, by their answer
+abbrev pub OwnedAddGoes : (sum own : List ℕ → ℕ) → List ℕ → OwnedState → OwnedState
+    → Result (Unit {0}) Error → Type 0
+OwnedAddGoes sum own bytes s t (Ok u) = KeepsJournal s.journal t.journal (λ w now.
+    IsAdded sum own s.page_size bytes w s.life now t.life)
+OwnedAddGoes sum own bytes s t (Err (errors.Layer e)) =
+    HasJournal s.journal (λ w. t.journal ≡ None)
+OwnedAddGoes sum own bytes s t (Err errors.Closed) = (s.journal ≡ None) × (t ≡ s)
+OwnedAddGoes sum own bytes s t (Err _) = ⊥
+
+-- and what they leave, whatever they answer
+abbrev pub OwnedAddKeeps : (sum own : List ℕ → ℕ) → List ℕ → OwnedState → OwnedState → Type 0
+OwnedAddKeeps sum own bytes s t = IfSome s.journal (λ w.
+    KeepsRecords sum own s.page_size (records_in own w s.life ++ bytes ∷ []) s.life t.life)

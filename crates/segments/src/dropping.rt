@@ -1,0 +1,75 @@
+// Dropping the oldest segments.
+ghost use Rattle.std.specs.Prelude.{◌≡◌, IfOk};
+ghost use Rattle.segments.specs.Log.{AsksOfOlder, EndsSynced, IsLog, LogDropGoes, StartFromGoes};
+
+use crate::entry::Entry;
+use crate::error::Error;
+use crate::folder::{Asked, Folder};
+use crate::log::SegmentedLog;
+use disk::Blob;
+use page::Sum;
+use std::io;
+
+impl<F: Folder<B> + Drop, B: Blob + Drop, H: Sum, R: Sum> SegmentedLog<F, B, H, R> {
+    /// Drops the segments before this one, if there are such, and removes their files, the oldest
+    /// first. The manifest tells it first; so a crash may leave some of the files, and no call
+    /// reads them any more. A later drop removes them too, also one that drops nothing.
+    ///
+    /// `NoSegment` where there is no such segment yet: the open one is never dropped. Nothing is
+    /// done then. After any other error the open segment is as it was; open the log again to drop
+    /// segments or to rotate.
+    pub fn drop_before(&mut self, segment: u64) -> Result<(), Error>
+        requires log { IsLog H.sum_of R.sum_of self.old }
+        ensures goes { LogDropGoes segment self.old self.new result }
+        ensures ready { IsLog H.sum_of R.sum_of self.new }
+    {
+        if self.listing.open() < segment {
+            return Err(Error::NoSegment(segment));
+        }
+        if self.listing.first() < segment {
+            self.start_from(segment)?;
+        }
+        let first = self.listing.first();
+        match remove_before::<F, B>(&mut self.folder, first) {
+            Ok(()) => Ok(()),
+            Err(error) => Err(Error::System(error)),
+        }
+    }
+
+    // Has the manifest tell that a segment is the first one.
+    pub(crate) fn start_from(&mut self, segment: u64) -> Result<(), Error>
+        requires log { IsLog H.sum_of R.sum_of self.old }
+        ensures goes { StartFromGoes segment self.old self.new result }
+        ensures ready { IsLog H.sum_of R.sum_of self.new }
+    {
+        let entry = Entry::Starts(segment, self.options.page_size.get());
+        match self.enter(&entry) {
+            Ok(()) => Ok(()),
+            Err(error) => Err(error),
+        }
+    }
+}
+
+// Removes the files of the segments before one, the oldest first, as far down as they are there.
+#[tactic(auto, using(crate::proofs::Removals::asks_none, crate::proofs::Removals::asks_removal, crate::proofs::Removals::asks_sync, crate::proofs::Removals::ends_synced))]
+fn remove_before<F: Folder<B>, B: Blob>(folder: &mut F, first: u64) -> io::Result<()>
+    ensures below { AsksOfOlder first (F.asked folder.old) (F.asked folder.new) }
+    ensures synced { IfOk result (λ u. EndsSynced (F.asked folder.new)) }
+{
+    let oldest = oldest_before::<F, B>(folder, first)?;
+    for number in oldest..first {
+        folder.remove(number)?;
+    }
+    folder.sync()
+}
+
+// The oldest of the segments that are there without a gap before one.
+fn oldest_before<F: Folder<B>, B: Blob>(folder: &mut F, first: u64) -> io::Result<u64>
+    ensures { F.asked folder.new ≡ F.asked folder.old }
+{
+    let mut oldest = first;
+    while oldest > 0 && folder.has(Asked::Segment(oldest - 1))? {
+        oldest -= 1;
+    }
+    Ok(oldest)
+}

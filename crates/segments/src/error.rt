@@ -1,0 +1,73 @@
+// Why a call of a log is refused.
+ghost use Rattle.std.specs.Prelude.{◌≡◌};
+ghost use Rattle.disk.specs.declared.error.Error.TheVariants as layer;
+ghost use Rattle.segments.specs.declared.error.Error.TheVariants.{Layer, System};
+
+use std::alloc::{AllocError, AllocFailed};
+use std::io;
+
+/// Why a call of a log is refused.
+#[derive(Debug, Drop, thiserror::Error)]
+pub enum Error {
+    /// A call before failed, so the log is closed. Drop it, and open it again.
+    #[error("the log is closed, since a call before failed: drop it, and open it again")]
+    Closed,
+    /// The layer below refused the call: the device, the memory or the blob's size.
+    #[error("{0}")]
+    Layer(disk::Error),
+    /// The folder refused the call, or a file in it; the system says why.
+    #[error("{0}")]
+    System(io::Error),
+    /// The file of this closed segment doesn't hold what it held when it was closed. Bring it back
+    /// from a copy; the other segments can be read.
+    #[error("segment {0} doesn't hold what it held when it was closed: bring it back from a copy")]
+    Damaged(u64),
+    /// The file of this segment is there and has bytes, and the manifest knows nothing of it.
+    /// Nothing was changed: bring the manifest back from a copy, or move the file away.
+    #[error("the manifest doesn't know segment {0}, which has bytes: bring the manifest back")]
+    Unlisted(u64),
+    /// The file of the open segment is missing. Nothing was changed: bring it back from a copy.
+    #[error("segment {0} is missing, though the manifest says that it is the open one")]
+    Missing(u64),
+    /// A record of the manifest is none that this crate writes, or its pages have another size.
+    #[error("the manifest can't be read: is the page size right?")]
+    Manifest,
+    /// The segment was dropped, or there is none with this number yet.
+    #[error("there is no segment {0}")]
+    NoSegment(u64),
+    /// No segment number is left.
+    #[error("no segment number is left")]
+    NumbersExhausted,
+}
+
+impl From<disk::Error> for Error {
+    ghost from_gives = { λ x e. e ≡ Layer x };
+
+    fn from(error: disk::Error) -> Self {
+        Error::Layer(error)
+    }
+}
+
+impl From<io::Error> for Error {
+    ghost from_gives = { λ x e. e ≡ System x };
+
+    fn from(error: io::Error) -> Self {
+        Error::System(error)
+    }
+}
+
+impl From<AllocError> for Error {
+    ghost from_gives = { λ _ e. e ≡ Layer layer.OutOfMemory };
+
+    fn from(_: AllocError) -> Self {
+        Error::Layer(disk::Error::OutOfMemory)
+    }
+}
+
+impl<T: Drop> From<AllocFailed<T>> for Error {
+    ghost from_gives = { λ _ e. e ≡ Layer layer.OutOfMemory };
+
+    fn from(_: AllocFailed<T>) -> Self {
+        Error::Layer(disk::Error::OutOfMemory)
+    }
+}

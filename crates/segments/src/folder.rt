@@ -1,0 +1,61 @@
+// What a log's files stand in.
+ghost use Rattle.std.specs.Prelude.{◌≡◌, [], ◌∷◌, ◌++◌, List, IfOk};
+ghost use Rattle.disk.specs.History.{life_of, begun};
+ghost use Rattle.paged.specs.Recovery.{IsDurable};
+ghost use Rattle.segments.specs.declared.call.FolderEvent.{FolderEvent};
+ghost use Rattle.segments.specs.Folders.{call_for};
+ghost use Rattle.segments.specs.FolderPast.{folder_outcome};
+ghost use Rattle.segments.specs.declared.call.FolderCall.TheVariants as calls;
+
+use disk::{Blob, VecBlob};
+use std::io;
+
+/// A file of a log.
+#[derive(Clone, Copy)]
+pub enum Asked {
+    /// The one that lists the segments.
+    Manifest,
+    /// A segment, by its number.
+    Segment(u64),
+}
+
+/// What the files of a log stand in, each of which is opened as a blob of the type `B`. No clause
+/// says what a file gives: each says just what the folder was asked for.
+pub trait Folder<B: Blob> {
+    /// What it was asked for so far that changes it or makes it durable, and how each call went.
+    ghost asked: { Self → List FolderEvent };
+
+    /// Opens a file to be written, and makes it where it is missing. What it holds is durable then,
+    /// and the file is nobody else's.
+    fn open(&mut self, file: Asked) -> io::Result<B>
+        ensures rests { IfOk result (λ blob. IsDurable (B.life blob).present) }
+        ensures asked { let event = folder_outcome (call_for file) result in
+            asked self.new ≡ asked self.old ++ event ∷ [] };
+
+    /// The bytes of a file that was opened.
+    fn bytes(blob: &B) -> &[u8]
+        ensures { result.now ≡ (B.life blob.now).present.readable };
+
+    /// Reads a file into memory, and changes nothing. `NotFound` where it is missing.
+    fn read(&mut self, file: Asked) -> io::Result<VecBlob>
+        ensures rests { IfOk result (λ blob. let life = life_of blob.history in
+            life ≡ begun life.present.readable []) }
+        ensures asked { asked self.new ≡ asked self.old };
+
+    /// Whether a file is there.
+    fn has(&mut self, file: Asked) -> io::Result<bool>
+        ensures asked { asked self.new ≡ asked self.old };
+
+    /// The greatest number of a segment whose file has bytes.
+    fn last_with_bytes(&mut self) -> io::Result<Option<u64>>
+        ensures asked { asked self.new ≡ asked self.old };
+
+    /// Removes the file of a segment.
+    fn remove(&mut self, segment: u64) -> io::Result<()>
+        ensures asked { asked self.new
+            ≡ asked self.old ++ folder_outcome (calls.Removes segment) result ∷ [] };
+
+    /// Makes the names of the files durable.
+    fn sync(&mut self) -> io::Result<()>
+        ensures asked { asked self.new ≡ asked self.old ++ folder_outcome calls.Syncs result ∷ [] };
+}

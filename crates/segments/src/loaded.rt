@@ -1,0 +1,74 @@
+// A closed segment that was read into memory.
+ghost use Rattle.std.specs.Prelude.{◌≡◌, ◌↔◌, true, IfOk, IfSome};
+ghost use Rattle.std.specs.Int.NonZero.{non_zero_u16_get};
+ghost use Rattle.segments.specs.Log.{IsLoaded, HeldReadGoes};
+ghost use Rattle.segments.specs.Digests.{SameKept};
+
+use crate::closed::Closed;
+use crate::error::Error;
+use crate::log::Options;
+use crate::opening::recover;
+use crate::owned::OwnedJournal;
+use disk::VecBlob;
+use journal::Found;
+use page::Sum;
+use std::alloc::Global;
+use std::marker::Model;
+
+/// A closed segment that was read into memory: its bytes have the digest that was kept.
+#[derive(Drop)]
+pub struct Loaded<H: Sum, R: Sum> {
+    closed: Closed,
+    owned: OwnedJournal<VecBlob, H, R>,
+}
+
+impl<H: Sum, R: Sum> Model for Loaded<H, R> {
+    ghost use Rattle.segments.specs.Log.{LoadedState};
+
+    ghost Value = { LoadedState };
+
+    ghost view = { λ l. record { kept = l.closed; owned = l.owned } };
+}
+
+impl<H: Sum, R: Sum> Loaded<H, R> {
+    /// A segment that was read, of which this was kept. None where its bytes aren't those of which
+    /// it was.
+    pub fn new(
+        alloc: Global,
+        options: Options,
+        closed: Closed,
+        blob: VecBlob,
+    ) -> Result<Option<Self>, disk::Error>
+        ensures loaded { let P = non_zero_u16_get options.page_size in
+            IfOk result (λ l. IfSome l (λ l. IsLoaded H.sum_of R.sum_of P l)) }
+        ensures kept { IfOk result (λ l. IfSome l (λ l. l.kept ≡ closed)) }
+    {
+        if !closed.is_of(blob.bytes()) {
+            return Ok(None);
+        }
+        match recover::<VecBlob, H, R>(alloc, options, blob) {
+            Ok((owned, _)) => Ok(Some(Loaded { closed, owned })),
+            Err(error) => Err(error),
+        }
+    }
+
+    /// Whether it is the segment of which this was kept.
+    pub fn is_of(&self, closed: &Closed) -> bool
+        ensures { (result ≡ true) ↔ SameKept self.now.kept closed.now }
+    {
+        self.closed.len == closed.len && self.closed.digest == closed.digest
+    }
+
+    /// The frame at an offset.
+    pub fn read(&mut self, offset: u64) -> Result<Option<Found>, Error>
+        requires loaded { let P = self.old.owned.page_size in
+            IsLoaded H.sum_of R.sum_of P self.old }
+        ensures goes { let P = self.old.owned.page_size in
+            HeldReadGoes H.sum_of R.sum_of P self.old.kept offset result }
+        ensures loaded { let P = self.old.owned.page_size in
+            IsLoaded H.sum_of R.sum_of P self.new }
+        ensures kept { self.new.kept ≡ self.old.kept }
+    {
+        self.owned.read(offset)
+    }
+}

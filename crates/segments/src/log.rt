@@ -1,0 +1,107 @@
+// The log.
+ghost use Rattle.std.specs.Prelude.{◌≡◌, IfOk};
+ghost use Rattle.std.specs.Int.NonZero.{non_zero_u16_get};
+ghost use Rattle.segments.specs.Manifest.{closed_at, open_in};
+ghost use Rattle.segments.specs.Log.{EnterGoes, IsLog, IsSameButManifest, Tries};
+
+use crate::closed::Closed;
+use crate::entry::{Entry, bytes_of};
+use crate::error::Error;
+use crate::folder::Folder;
+use crate::listing::Listing;
+use crate::loaded::Loaded;
+use crate::owned::OwnedJournal;
+use disk::Blob;
+use page::Sum;
+use std::alloc::Global;
+use std::marker::Model;
+use std::num::{NonZeroU16, NonZeroUsize};
+
+/// How a log is kept.
+#[derive(Clone, Copy)]
+pub struct Options {
+    /// How many logical bytes a page has. A log is always opened with the same number.
+    pub page_size: NonZeroU16,
+    /// How many bytes are buffered before pages are written.
+    pub capacity: usize,
+    /// How many pages the cache of an open segment has, and that of a closed one that is read.
+    pub pages: NonZeroUsize,
+    /// How many bytes an opening reads at once.
+    pub buffer_size: NonZeroUsize,
+    /// From how many bytes of records and their frames on a segment is closed.
+    pub segment_size: u64,
+}
+
+/// A log of records in segments, in a folder.
+#[derive(Drop)]
+pub struct SegmentedLog<F: Folder<B>, B: Blob, H: Sum, R: Sum> {
+    pub(crate) alloc: Global,
+    pub(crate) options: Options,
+    pub(crate) folder: F,
+    pub(crate) manifest: OwnedJournal<B, H, R>,
+    pub(crate) current: OwnedJournal<B, H, R>,
+    pub(crate) listing: Listing,
+    pub(crate) loaded: Option<Loaded<H, R>>,
+}
+
+impl<F: Folder<B>, B: Blob, H: Sum, R: Sum> Model for SegmentedLog<F, B, H, R> {
+    ghost use Rattle.std.specs.Int.NonZero.{non_zero_u16_get};
+    ghost use Rattle.segments.specs.Log.{LogState};
+
+    ghost Value = { LogState };
+
+    ghost view = { λ l. record {
+      manifest = l.manifest;
+      current = l.current;
+      listing = l.listing;
+      asked = F.asked l.folder;
+      loaded = l.loaded;
+      page_size = non_zero_u16_get l.options.page_size;
+    } };
+}
+
+impl<F: Folder<B> + Drop, B: Blob + Drop, H: Sum, R: Sum> SegmentedLog<F, B, H, R> {
+    /// The number of the first segment that wasn't dropped.
+    pub fn first_segment(&self) -> u64
+        ensures { result ≡ self.now.listing.first }
+    {
+        self.listing.first()
+    }
+
+    /// The number of the open segment, the last one.
+    pub fn last_segment(&self) -> u64
+        ensures { result ≡ open_in self.now.listing }
+    {
+        self.listing.open()
+    }
+
+    /// How many records the open segment has.
+    pub fn records(&self) -> u64
+        ensures { result ≡ self.now.current.records }
+    {
+        self.current.records()
+    }
+
+    /// What is kept of a closed segment; none where it was dropped, or isn't closed.
+    pub fn closed(&self, segment: u64) -> Option<Closed>
+        ensures { result ≡ closed_at self.now.listing segment }
+    {
+        self.listing.closed(segment)
+    }
+
+    // Adds an entry to the manifest, and makes it durable; the listing tells it first. `Manifest`
+    // where it can't follow the entries before it.
+    pub(crate) fn enter(&mut self, entry: &Entry) -> Result<(), Error>
+        requires log { IsLog H.sum_of R.sum_of self.old }
+        ensures goes { EnterGoes R.sum_of entry.now self.old self.new result }
+        ensures ready { IsLog H.sum_of R.sum_of self.new }
+        ensures rest { IsSameButManifest self.old self.new }
+        ensures tries { Tries H.sum_of R.sum_of entry.now self.old self.new }
+    {
+        let bytes = bytes_of(self.alloc, entry)?;
+        if !self.listing.take_in(self.options.page_size.get(), entry)? {
+            return Err(Error::Manifest);
+        }
+        self.manifest.add(&bytes)
+    }
+}

@@ -1,0 +1,224 @@
+// Opening files.
+ghost use Rattle.std.specs.Prelude.{◌≡◌, IfOk};
+ghost use Rattle.std.specs.Int.NonZero.{non_zero_u16_get};
+ghost use Rattle.paged.specs.Recovery.{IsDurable};
+ghost use Rattle.segments.specs.Log.{AreParts, AsksForSegment, HasOpened, HasCurrent, HasManifest};
+ghost use Rattle.segments.specs.Log.{IsLog, IsOpenedLog, LeavesOpened};
+
+use crate::error::Error;
+use crate::folder::{Asked, Folder};
+use crate::listing::{Listing, listing_of};
+use crate::log::{Options, SegmentedLog};
+use crate::owned::OwnedJournal;
+use disk::{Blob, IoBuf, VecBlob};
+use page::Sum;
+use std::alloc::Global;
+use std::io::ErrorKind;
+
+impl<F: Folder<B> + Drop, B: Blob + Drop, H: Sum, R: Sum> SegmentedLog<F, B, H, R> {
+    /// Opens the log of a folder, and begins one where the folder has none.
+    ///
+    /// Before anything is changed a copy of the manifest is read, and held against the files that
+    /// are there. `Manifest` where it can't be read, as with another page size. `Unlisted` where a
+    /// segment has bytes that comes after the open one, or where there is no manifest: it may be an
+    /// old one, or be lost. `Missing` where the open segment isn't there. `System` where the system
+    /// refuses a file, and `Layer` where the device or memory failed. What was committed still is.
+    pub fn open(alloc: Global, folder: F, options: Options) -> Result<Self, Error>
+        ensures log { IfOk result (λ log. IsLog H.sum_of R.sum_of log) }
+        ensures opens { IfOk result (λ log. IsOpenedLog H.sum_of R.sum_of log) }
+        ensures page_size { IfOk result (λ log.
+            log.page_size ≡ non_zero_u16_get options.page_size) }
+    {
+        let mut folder = folder;
+        match open_parts::<F, B, H, R>(alloc, &mut folder, options) {
+            Ok(parts) => {
+                let Parts {
+                    manifest,
+                    current,
+                    listing,
+                    is_new,
+                } = parts;
+                let mut log = SegmentedLog {
+                    alloc,
+                    options,
+                    folder,
+                    manifest,
+                    current,
+                    listing,
+                    loaded: None,
+                };
+                match log.begin(is_new) {
+                    Ok(()) => Ok(log),
+                    Err(error) => Err(error),
+                }
+            }
+            Err(error) => Err(error),
+        }
+    }
+
+    // Gives a new manifest its first entry.
+    fn begin(&mut self, is_new: bool) -> Result<(), Error>
+        requires log { IsLog H.sum_of R.sum_of self.old }
+        requires opens { IsOpenedLog H.sum_of R.sum_of self.old }
+        ensures log { IfOk result (λ u. IsLog H.sum_of R.sum_of self.new) }
+        ensures opens { IfOk result (λ u. IsOpenedLog H.sum_of R.sum_of self.new) }
+        ensures page_size { self.new.page_size ≡ self.old.page_size }
+    {
+        if !is_new {
+            return Ok(());
+        }
+        let first = self.listing.first();
+        self.start_from(first)
+    }
+}
+
+// What a log is opened with.
+#[derive(Drop)]
+struct Parts<B: Blob, H: Sum, R: Sum> {
+    manifest: OwnedJournal<B, H, R>,
+    current: OwnedJournal<B, H, R>,
+    listing: Listing,
+    // Whether the manifest has no entry yet.
+    is_new: bool,
+}
+
+// The manifest and the open segment of a folder.
+fn open_parts<F: Folder<B>, B: Blob + Drop, H: Sum, R: Sum>(
+    alloc: Global,
+    folder: &mut F,
+    options: Options,
+) -> Result<Parts<B, H, R>, Error>
+    ensures { let P = non_zero_u16_get options.page_size in
+        IfOk result (λ p. AreParts H.sum_of R.sum_of P p.manifest p.current p.listing) }
+{
+    let number = open_number::<F, B, H, R>(alloc, folder, options)?;
+    let (manifest, listing, is_new) = open_manifest::<F, B, H, R>(alloc, folder, options)?;
+    if listing.open() != number {
+        return Err(Error::Manifest);
+    }
+    match open_current::<F, B, H, R>(alloc, folder, options, number) {
+        Ok(current) => Ok(Parts {
+            manifest,
+            current,
+            listing,
+            is_new,
+        }),
+        Err(error) => Err(error),
+    }
+}
+
+// The manifest of a folder, what it lists, and whether it has no entry yet.
+fn open_manifest<F: Folder<B>, B: Blob + Drop, H: Sum, R: Sum>(
+    alloc: Global,
+    folder: &mut F,
+    options: Options,
+) -> Result<(OwnedJournal<B, H, R>, Listing, bool), Error>
+    ensures { let P = non_zero_u16_get options.page_size in
+        IfOk result (λ r. HasManifest H.sum_of R.sum_of P r.0 r.1) }
+{
+    let blob = folder.open(Asked::Manifest)?;
+    let (mut manifest, entries) = recover::<B, H, R>(alloc, options, blob)?;
+    match listing_of(alloc, &entries, options.page_size.get()) {
+        Ok(listing) => match manifest.commit() {
+            Ok(()) => Ok((manifest, listing, entries.is_empty())),
+            Err(error) => Err(error),
+        },
+        Err(error) => Err(error),
+    }
+}
+
+// The open segment of a folder.
+fn open_current<F: Folder<B>, B: Blob + Drop, H: Sum, R: Sum>(
+    alloc: Global,
+    folder: &mut F,
+    options: Options,
+    number: u64,
+) -> Result<OwnedJournal<B, H, R>, Error>
+    ensures { let P = non_zero_u16_get options.page_size in
+        IfOk result (λ o. HasCurrent H.sum_of R.sum_of P o) }
+{
+    let blob = open_segment::<F, B>(folder, number)?;
+    match recover::<B, H, R>(alloc, options, blob) {
+        Ok((current, _)) => Ok(current),
+        Err(error) => Err(Error::Layer(error)),
+    }
+}
+
+// The number of the open segment, by a copy of the manifest. It changes nothing.
+fn open_number<F: Folder<B>, B: Blob + Drop, H: Sum, R: Sum>(
+    alloc: Global,
+    folder: &mut F,
+    options: Options,
+) -> Result<u64, Error>
+    ensures { F.asked folder.new ≡ F.asked folder.old }
+{
+    let last = folder.last_with_bytes()?;
+    let Some(number) = listed_open::<F, B, H, R>(alloc, folder, options)? else {
+        return match last {
+            Some(number) => Err(Error::Unlisted(number)),
+            None => Ok(0),
+        };
+    };
+    if let Some(last) = last {
+        if number < last {
+            return Err(Error::Unlisted(last));
+        }
+    }
+    if !folder.has(Asked::Segment(number))? {
+        return Err(Error::Missing(number));
+    }
+    Ok(number)
+}
+
+// The number of the open segment that a copy of the manifest tells; none where it has no entry.
+fn listed_open<F: Folder<B>, B: Blob + Drop, H: Sum, R: Sum>(
+    alloc: Global,
+    folder: &mut F,
+    options: Options,
+) -> Result<Option<u64>, Error>
+    ensures { F.asked folder.new ≡ F.asked folder.old }
+{
+    let copy = match folder.read(Asked::Manifest) {
+        Ok(copy) => copy,
+        Err(error) if error.kind() == ErrorKind::NotFound => return Ok(None),
+        Err(error) => return Err(Error::System(error)),
+    };
+    let (_, entries) = recover::<VecBlob, H, R>(alloc, options, copy)?;
+    if entries.is_empty() {
+        return Ok(None);
+    }
+    let listing = listing_of(alloc, &entries, options.page_size.get())?;
+    Ok(Some(listing.open()))
+}
+
+// Opens a segment, and makes its name durable.
+pub fn open_segment<F: Folder<B>, B: Blob + Drop>(folder: &mut F, number: u64) -> Result<B, Error>
+    ensures asks { AsksForSegment number (F.asked folder.old) (F.asked folder.new) result }
+    ensures rests { IfOk result (λ blob. IsDurable (B.life blob).present) }
+{
+    match folder.open(Asked::Segment(number)) {
+        Ok(blob) => match folder.sync() {
+            Ok(()) => Ok(blob),
+            Err(error) => Err(Error::System(error)),
+        },
+        Err(error) => Err(Error::System(error)),
+    }
+}
+
+// A blob with the journal that was recovered on it, and the journal's records.
+pub fn recover<B: Blob + Drop, H: Sum, R: Sum>(
+    alloc: Global,
+    options: Options,
+    blob: B,
+) -> Result<(OwnedJournal<B, H, R>, Vec<IoBuf>), disk::Error>
+    ensures has { let P = non_zero_u16_get options.page_size in
+        IfOk result (λ r. HasOpened H.sum_of R.sum_of P (B.life blob) r.0 r.1.items) }
+    ensures leaves { let P = non_zero_u16_get options.page_size in
+        IfOk result (λ r. LeavesOpened H.sum_of R.sum_of P (B.life blob) r.0) }
+{
+    let mut owned = OwnedJournal::new(alloc, blob, options.page_size, options.pages)?;
+    match owned.recover(alloc, options.capacity, options.buffer_size) {
+        Ok(records) => Ok((owned, records)),
+        Err(error) => Err(error),
+    }
+}

@@ -1,0 +1,230 @@
+// A blob with a journal on it, and a cache of its own.
+ghost use Rattle.std.specs.Prelude.{◌≡◌, ◌≤◌, ◌∷◌, ◌++◌, [], length, None, IfOk};
+ghost use Rattle.std.specs.Int.NonZero.{non_zero_u16_get};
+ghost use Rattle.segments.specs.Owned.{IsOwned, OwnedAddGoes, OwnedAddKeeps, OwnedAppendGoes};
+ghost use Rattle.segments.specs.Owned.{OwnedCommitGoes, OwnedLeaves};
+ghost use Rattle.segments.specs.Owned.{OwnedCloseGoes, OwnedKeeps, OwnedReadLeaves, OwnedReadGoes};
+ghost use Rattle.segments.specs.Owned.{OwnedRecoverGoes, records_now, without_journal};
+ghost use Rattle.disk.specs.Disk.{IsImage};
+ghost use Rattle.journal.specs.Calls.{JournalRecoveryLeaves};
+
+use crate::error::Error;
+use cache::CacheRef;
+use disk::{Blob, IoBuf};
+use journal::{Found, Journal};
+use page::Sum;
+use std::alloc::Global;
+use std::marker::Model;
+use std::num::{NonZeroU16, NonZeroUsize};
+
+/// A blob with a journal on it, and a cache of its own. A call of the journal that fails leaves
+/// none; then each later call answers `Closed`, except for a recovery.
+#[derive(Drop)]
+pub struct OwnedJournal<B: Blob, H, R> {
+    pub blob: B,
+    cache: CacheRef,
+    journal: Option<Journal<B, H, R>>,
+    page_size: NonZeroU16,
+    records: u64,
+}
+
+impl<B: Blob, H, R> Model for OwnedJournal<B, H, R> {
+    ghost use Rattle.std.specs.Int.NonZero.{non_zero_u16_get};
+    ghost use Rattle.segments.specs.Owned.{OwnedState};
+
+    ghost Value = { OwnedState };
+
+    ghost view = { λ o. record {
+      cache = o.cache;
+      life = B.life o.blob;
+      journal = o.journal;
+      page_size = non_zero_u16_get o.page_size;
+      records = o.records;
+    } };
+}
+
+impl<B: Blob + Drop, H: Sum, R: Sum> OwnedJournal<B, H, R> {
+    /// A blob with no journal yet, and a cache of so many pages. It answers `OutOfMemory` alone.
+    pub fn new(
+        alloc: Global,
+        blob: B,
+        page_size: NonZeroU16,
+        pages: NonZeroUsize,
+    ) -> Result<Self, disk::Error>
+        ensures owned { IfOk result (λ o. IsOwned H.sum_of R.sum_of o) }
+        ensures life { IfOk result (λ o. o.life ≡ B.life blob) }
+        ensures none { IfOk result (λ o. o.journal ≡ None) }
+        ensures page_size { IfOk result (λ o. o.page_size ≡ non_zero_u16_get page_size) }
+        ensures cache { IfOk result (λ o. o.cache.page_size ≡ non_zero_u16_get page_size) }
+    {
+        match CacheRef::new(alloc, page_size, pages) {
+            Ok(cache) => Ok(OwnedJournal {
+                blob,
+                cache,
+                journal: None,
+                page_size,
+                records: 0,
+            }),
+            Err(error) => Err(error),
+        }
+    }
+
+    /// Its blob.
+    pub fn blob(&self) -> &B
+        ensures { B.life result.now ≡ self.now.life }
+    {
+        &self.blob
+    }
+
+    /// How many records it has.
+    pub fn records(&self) -> u64
+        ensures { result ≡ self.now.records }
+    {
+        self.records
+    }
+
+    /// Recovers the journal of the blob as it is, and answers its records.
+    pub fn recover(
+        &mut self,
+        alloc: Global,
+        capacity: usize,
+        buffer_size: NonZeroUsize,
+    ) -> Result<Vec<IoBuf>, disk::Error>
+        requires owned { IsOwned H.sum_of R.sum_of self.old }
+        requires page_size { self.old.cache.page_size ≡ self.old.page_size }
+        ensures goes { OwnedRecoverGoes H.sum_of R.sum_of capacity self.old self.new result }
+        ensures ready { IsOwned H.sum_of R.sum_of self.new }
+        ensures leaves { JournalRecoveryLeaves H.sum_of R.sum_of self.old.cache self.new.cache
+            self.old.life self.new.life }
+        ensures page_size { self.new.page_size ≡ self.old.page_size }
+    {
+        let size = self.blob.len();
+        match Journal::recover(
+            alloc,
+            &mut self.blob,
+            size,
+            capacity,
+            &mut self.cache,
+            buffer_size,
+        ) {
+            Ok((journal, records)) => {
+                self.records = records.len() as u64;
+                self.journal = Some(journal);
+                Ok(records)
+            }
+            Err(error) => {
+                self.journal = None;
+                Err(error)
+            }
+        }
+    }
+
+    /// Appends a record, and answers the offset of its frame.
+    pub fn append(&mut self, bytes: &[u8]) -> Result<u64, Error>
+        requires owned { IsOwned H.sum_of R.sum_of self.old }
+        requires short { length bytes.now ≤ 65535 }
+        ensures goes { OwnedAppendGoes H.sum_of R.sum_of bytes.now self.old self.new result }
+        ensures ready { IsOwned H.sum_of R.sum_of self.new }
+        ensures leaves { let all = records_now R.sum_of self.old ++ bytes.now ∷ [] in
+            OwnedLeaves H.sum_of R.sum_of all self.old self.new }
+        ensures page_size { self.new.page_size ≡ self.old.page_size }
+    {
+        let Some(journal) = self.journal.take() else {
+            return Err(Error::Closed);
+        };
+        match journal.append_record(&mut self.blob, &mut self.cache, bytes) {
+            Ok((journal, offset)) => {
+                let _size = journal.size();
+                self.records += 1;
+                self.journal = Some(journal);
+                Ok(offset)
+            }
+            Err(error) => Err(Error::Layer(error)),
+        }
+    }
+
+    /// Commits all records.
+    pub fn commit(&mut self) -> Result<(), Error>
+        requires owned { IsOwned H.sum_of R.sum_of self.old }
+        ensures goes { OwnedCommitGoes H.sum_of R.sum_of self.old self.new result }
+        ensures ready { IsOwned H.sum_of R.sum_of self.new }
+        ensures leaves { let all = records_now R.sum_of self.old in
+            OwnedLeaves H.sum_of R.sum_of all self.old self.new }
+        ensures page_size { self.new.page_size ≡ self.old.page_size }
+    {
+        let Some(journal) = self.journal.take() else {
+            return Err(Error::Closed);
+        };
+        match journal.commit(&mut self.blob, &mut self.cache) {
+            Ok(journal) => {
+                self.journal = Some(journal);
+                Ok(())
+            }
+            Err(error) => Err(Error::Layer(error)),
+        }
+    }
+
+    /// The frame at an offset.
+    pub fn read(&mut self, offset: u64) -> Result<Option<Found>, Error>
+        requires owned { IsOwned H.sum_of R.sum_of self.old }
+        ensures goes { OwnedReadGoes R.sum_of offset self.old self.new result }
+        ensures ready { IsOwned H.sum_of R.sum_of self.new }
+        ensures leaves { OwnedReadLeaves H.sum_of R.sum_of self.old self.new }
+        ensures page_size { self.new.page_size ≡ self.old.page_size }
+    {
+        let Some(journal) = &self.journal else {
+            return Err(Error::Closed);
+        };
+        match journal.read_record(&mut self.blob, &mut self.cache, offset) {
+            Ok(found) => Ok(found),
+            Err(error) => Err(Error::Layer(error)),
+        }
+    }
+
+    /// Appends a record and commits all.
+    pub fn add(&mut self, bytes: &[u8]) -> Result<(), Error>
+        requires owned { IsOwned H.sum_of R.sum_of self.old }
+        requires short { length bytes.now ≤ 65535 }
+        ensures goes { OwnedAddGoes H.sum_of R.sum_of bytes.now self.old self.new result }
+        ensures ready { IsOwned H.sum_of R.sum_of self.new }
+        ensures added { OwnedAddKeeps H.sum_of R.sum_of bytes.now self.old self.new }
+        ensures page_size { self.new.page_size ≡ self.old.page_size }
+    {
+        match self.append(bytes) {
+            Ok(_) => self.commit(),
+            Err(error) => Err(error),
+        }
+    }
+
+    /// Commits all records, and closes the journal. All of the blob is durable then.
+    #[tactic(auto, using(crate::proofs::Closing::close_goes))]
+    pub fn close(&mut self) -> Result<(), Error>
+        requires owned { IsOwned H.sum_of R.sum_of self.old }
+        ensures goes { OwnedCloseGoes H.sum_of R.sum_of self.old self.new result }
+        ensures ready { IsOwned H.sum_of R.sum_of self.new }
+        ensures kept { OwnedKeeps H.sum_of R.sum_of self.old self.new }
+        ensures none { self.new.journal ≡ None }
+        ensures page_size { self.new.page_size ≡ self.old.page_size }
+    {
+        let closed = self.commit();
+        self.forget();
+        closed
+    }
+
+    // Lets the journal go.
+    fn forget(&mut self)
+        requires owned { IsOwned H.sum_of R.sum_of self.old }
+        ensures lets { self.new ≡ without_journal self.old }
+        ensures image { IsImage self.old.life.present self.old.life.present.readable }
+    {
+        self.journal = None;
+    }
+
+    /// The logical bytes of the journal; 0 where there is none.
+    pub fn size(&self) -> u64 {
+        match &self.journal {
+            Some(journal) => journal.size(),
+            None => 0,
+        }
+    }
+}

@@ -1,0 +1,77 @@
+// Closing the open segment, and opening the next one.
+ghost use Rattle.std.specs.Prelude.{◌≡◌, None};
+ghost use Rattle.segments.specs.Log.{CloseCurrentGoes, CurrentKeeps, IsLog, IsSameButAsked};
+ghost use Rattle.segments.specs.Log.{IsSameButCurrent, OpenNextGoes, RotateGoes};
+ghost use Rattle.segments.specs.Crash.{RotationSurvives};
+ghost use Rattle.segments.specs.Owned.{records_now};
+
+use crate::closed::Closed;
+use crate::entry::Entry;
+use crate::error::Error;
+use crate::folder::Folder;
+use crate::log::SegmentedLog;
+use crate::opening::{open_segment, recover};
+use crate::owned::OwnedJournal;
+use disk::Blob;
+use page::Sum;
+
+impl<F: Folder<B> + Drop, B: Blob + Drop, H: Sum, R: Sum> SegmentedLog<F, B, H, R> {
+    /// Closes the open segment, whatever its size, and opens the next one.
+    ///
+    /// All records are committed first; then what is to be kept of the segment's bytes is computed;
+    /// the next segment's file is made, and its name made durable; and then the manifest lists the
+    /// closed one. So a crash at any moment leaves the log before that or after it, and both have
+    /// the same records.
+    pub fn rotate(&mut self) -> Result<(), Error>
+        requires log { IsLog H.sum_of R.sum_of self.old }
+        ensures goes { RotateGoes H.sum_of R.sum_of self.old self.new result }
+        ensures ready { IsLog H.sum_of R.sum_of self.new }
+        ensures turns { RotationSurvives H.sum_of R.sum_of self.old self.new }
+    {
+        let closed = self.close_current()?;
+        let next = self.open_next()?;
+        match self.enter(&Entry::Closes(closed)) {
+            Ok(()) => {
+                self.current = next;
+                Ok(())
+            }
+            Err(error) => Err(error),
+        }
+    }
+
+    // Opens the next segment. `Unlisted` where its file has bytes: nothing was done to them.
+    fn open_next(&mut self) -> Result<OwnedJournal<B, H, R>, Error>
+        requires log { IsLog H.sum_of R.sum_of self.old }
+        ensures goes { OpenNextGoes H.sum_of R.sum_of self.old self.new result }
+        ensures ready { IsLog H.sum_of R.sum_of self.new }
+        ensures rest { IsSameButAsked self.old self.new }
+    {
+        let number = self.listing.open();
+        if number == u64::MAX {
+            return Err(Error::NumbersExhausted);
+        }
+        let blob = open_segment::<F, B>(&mut self.folder, number + 1)?;
+        if blob.len() > 0 {
+            return Err(Error::Unlisted(number + 1));
+        }
+        match recover::<B, H, R>(self.alloc, self.options, blob) {
+            Ok((next, _)) => Ok(next),
+            Err(error) => Err(Error::Layer(error)),
+        }
+    }
+
+    // Commits all of the open segment, closes it, and answers what is to be kept of it.
+    fn close_current(&mut self) -> Result<Closed, Error>
+        requires log { IsLog H.sum_of R.sum_of self.old }
+        ensures goes { CloseCurrentGoes H.sum_of R.sum_of self.old self.new result }
+        ensures ready { IsLog H.sum_of R.sum_of self.new }
+        ensures rest { IsSameButCurrent self.old self.new }
+        ensures keeps { let all = records_now R.sum_of self.old.current in
+            CurrentKeeps H.sum_of R.sum_of all self.old self.new }
+        ensures none { self.new.current.journal ≡ None }
+    {
+        let records = self.current.records();
+        self.current.close()?;
+        Ok(Closed::of(F::bytes(self.current.blob()), records))
+    }
+}

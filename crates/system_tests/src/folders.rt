@@ -1,0 +1,182 @@
+// A log in segments over a folder of the system: what comes back once it was closed, what is
+// refused, and which files stand there.
+ghost use Rattle.std.specs.Prelude.{IfOk};
+ghost use Rattle.crc32c.specs.Crc.{crc32c};
+ghost use Rattle.segments.specs.Log.{IsLog};
+
+use crc32c::Crc32c;
+use disk::IoBuf;
+use file::FileBlob;
+use segments::{Error, FileFolder, Options, Place, SegmentedLog};
+use std::fs::OpenOptions;
+use std::num::{NonZeroU16, NonZeroUsize};
+use std::os::unix::fs::FileExt;
+use std::test::Fail;
+use std::{fs, io};
+
+type Log = SegmentedLog<FileFolder, FileBlob, Crc32c, Crc32c>;
+
+// Pages of 84 bytes, and segments that are closed from 50 bytes on.
+fn options() -> Options {
+    Options {
+        page_size: NonZeroU16::new(84).unwrap_or(NonZeroU16::MIN),
+        capacity: 168,
+        pages: NonZeroUsize::MIN,
+        buffer_size: NonZeroUsize::MIN,
+        segment_size: 50,
+    }
+}
+
+fn open(rt: &HostRuntime, path: &str) -> Result<Log, Error>
+    ensures { IfOk result (λ log. IsLog crc32c crc32c log) }
+{
+    Log::open(rt.alloc(), FileFolder::new(rt, path)?, options())
+}
+
+// Whether three records stand where they should: two in the first segment, whose frames have 27 and
+// 28 bytes, and one in the next.
+fn are_placed(log: &mut Log) -> Result<bool, Error>
+    requires { IsLog crc32c crc32c log.old }
+    ensures { IsLog crc32c crc32c log.new }
+{
+    let first = log.append(b"the first of records")?;
+    let second = log.append(b"the second of records")?;
+    let third = log.append(b"the third of records")?;
+    log.commit()?;
+    Ok([first, second, third] == PLACES)
+}
+
+const PLACES: [Place; 3] = [
+    Place {
+        segment: 0,
+        offset: 0,
+    },
+    Place {
+        segment: 0,
+        offset: 27,
+    },
+    Place {
+        segment: 1,
+        offset: 0,
+    },
+];
+
+// The record at a place, or none.
+fn record_at(log: &mut Log, place: Place) -> Result<Option<IoBuf>, Error>
+    requires { IsLog crc32c crc32c log.old }
+    ensures { IsLog crc32c crc32c log.new }
+{
+    match log.read(place) {
+        Ok(Some(found)) => Ok(found.bytes),
+        Ok(None) => Ok(None),
+        Err(error) => Err(error),
+    }
+}
+
+// Whether these bytes are the record at a place.
+fn holds(log: &mut Log, place: Place, bytes: &[u8]) -> Result<bool, Error>
+    requires { IsLog crc32c crc32c log.old }
+    ensures { IsLog crc32c crc32c log.new }
+{
+    match record_at(log, place) {
+        Ok(Some(record)) => Ok(record.as_ref() == bytes),
+        Ok(None) => Ok(false),
+        Err(error) => Err(error),
+    }
+}
+
+// Whether a read at a place is refused in these words.
+fn is_refused(rt: &HostRuntime, log: &mut Log, place: Place, words: &str) -> io::Result<bool>
+    requires { IsLog crc32c crc32c log.old }
+    ensures { IsLog crc32c crc32c log.new }
+{
+    match record_at(log, place) {
+        Ok(_) => Ok(false),
+        Err(error) => Ok(error.to_string(rt.alloc())?.as_str() == words),
+    }
+}
+
+fn wrote(rt: &HostRuntime, path: &str) -> Result<bool, Error> {
+    let mut log = open(rt, path)?;
+    are_placed(&mut log)
+}
+
+fn comes_back(rt: &HostRuntime, path: &str) -> Result<bool, Error> {
+    let mut log = open(rt, path)?;
+    let [first, second, third] = PLACES;
+    Ok(
+        holds(&mut log, third, b"the third of records")?
+            && holds(&mut log, first, b"the first of records")?
+            && holds(&mut log, second, b"the second of records")?,
+    )
+}
+
+// Changes a bit of a file.
+fn change(rt: &HostRuntime, path: &str) -> io::Result<()> {
+    let file = OpenOptions::new().read(true).write(true).open(rt, path)?;
+    let mut byte = [0u8; 1];
+    file.read_exact_at(&mut byte, 30)?;
+    file.write_all_at(&[byte[0] ^ 1], 30)
+}
+
+const DAMAGED: &str =
+    "segment 0 doesn't hold what it held when it was closed: bring it back from a copy";
+
+// Whether the first segment is refused, and the next one is read.
+fn refuses_one(rt: &HostRuntime, path: &str) -> Result<bool, Error> {
+    let mut log = open(rt, path)?;
+    let [first, _, third] = PLACES;
+    Ok(
+        is_refused(rt, &mut log, first, DAMAGED)?
+            && holds(&mut log, third, b"the third of records")?,
+    )
+}
+
+// Whether the first segment is gone once it was dropped.
+fn drops_one(rt: &HostRuntime, path: &str) -> Result<bool, Error> {
+    let mut log = open(rt, path)?;
+    log.drop_before(1)?;
+    let [first, _, third] = PLACES;
+    Ok(
+        is_refused(rt, &mut log, first, "there is no segment 0")?
+            && holds(&mut log, third, b"the third of records")?,
+    )
+}
+
+// Whether the log can't be opened, in these words.
+fn is_shut(rt: &HostRuntime, path: &str, words: &str) -> io::Result<bool> {
+    match open(rt, path) {
+        Ok(_) => Ok(false),
+        Err(error) => Ok(error.to_string(rt.alloc())?.as_str() == words),
+    }
+}
+
+const SEGMENTS: [&str; 2] = [
+    "log-kept/00000000000000000000.segment",
+    "log-kept/00000000000000000001.segment",
+];
+
+const MISSING: &str = "segment 1 is missing, though the manifest says that it is the open one";
+
+const UNLISTED: &str =
+    "the manifest doesn't know segment 1, which has bytes: bring the manifest back";
+
+#[test]
+fn a_log_in_segments_comes_back(rt: HostRuntime) -> Result<(), Fail> {
+    let path = "log-kept";
+    let [old, last] = SEGMENTS;
+    let _ = fs::remove_dir_all(&rt, path);
+    fs::create_dir(&rt, path)?;
+    assert!(rt; matches!(wrote(&rt, path), Ok(true)));
+    assert!(rt; matches!(comes_back(&rt, path), Ok(true)));
+    change(&rt, old)?;
+    assert!(rt; matches!(refuses_one(&rt, path), Ok(true)));
+    assert!(rt; matches!(drops_one(&rt, path), Ok(true)) && !fs::exists(&rt, old)?);
+    fs::rename(&rt, "log-kept/manifest", "log-kept/aside")?;
+    assert!(rt; is_shut(&rt, path, UNLISTED)?);
+    fs::rename(&rt, "log-kept/aside", "log-kept/manifest")?;
+    fs::remove_file(&rt, last)?;
+    assert!(rt; is_shut(&rt, path, MISSING)?);
+    fs::remove_dir_all(&rt, path)?;
+    Ok(())
+}
