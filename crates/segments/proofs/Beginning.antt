@@ -29,3 +29,9 @@ pub begin_opened : (sum own : List ℕ → ℕ) (first : ℕ) (view s t : LogSta
     → StartFromGoes first s t result → IfOk result (λ u. IsOpenedLog sum own t)
 begin_opened sum own first view s t (Ok u) same log is started = opened sum own first s t log (is ∙ ap (λ (l : LogState). l.listing.first) same) started
 begin_opened sum own first view s t (Err e) same log is started = tt
+
+pub begin_same : (first : ℕ) (view s t : LogState) (result : Result (Unit {0}) Error) → view ≡ s → first ≡ view.listing.first
+    → StartFromGoes first s t result → IfOk result (λ u. (t.asked ≡ s.asked) × (t.listing ≡ s.listing))
+begin_same first view s t (Ok u) same is started =
+    (started.rest.asked, started.listing ∙ from_first first s.listing (is ∙ ap (λ (l : LogState). l.listing.first) same))
+begin_same first view s t (Err e) same is started = tt

@@ -1,5 +1,5 @@
 -- The records of a log, by what its closed segments held.
-use Rattle.std.specs.Prelude.{◌≡◌, ◌⊎◌, ◌+◌, ◌++◌, ℕ, suc, List, [], ◌∷◌, length, Some, None, Option, Result, Ok, Err, IfOk, Bool, true, false}
+use Rattle.std.specs.Prelude.{◌≡◌, ◌⊎◌, ◌≤◌, ◌+◌, ◌++◌, ℕ, suc, List, [], ◌∷◌, length, Some, None, Option, Result, Ok, Err, IfOk, Bool, true, false}
 use Rattle.std.specs.Prelude.{bytes_eq}
 use Rattle.std.proofs.Common.{ap, sym, ◌∙◌, refl, subst, inl, inr, append_assoc, append-nil, true≢false, arith}
 use Rattle.std.proofs.lemmas.Slice.Eq.{bytes_eq-Decides}
@@ -15,7 +15,7 @@ use Rattle.segments.specs.declared.error.Error.{Error}
 use Rattle.segments.specs.declared.place.Place.{Place}
 use Rattle.segments.specs.Digests.{IsOf}
 use Rattle.segments.specs.Manifest.{ListingState}
-use Rattle.segments.specs.Owned.{KeepsJournal, OwnedAppendGoes, OwnedState, records_now, records_of}
+use Rattle.segments.specs.Owned.{KeepsJournal, OwnedAppendGoes, OwnedState, owned_size, records_now, records_of}
 use Rattle.segments.specs.Log.{AppendHereGoes, HasCollision, HasMore, IsAppendedTo, IsRotated, IsSameButCurrent, LogAppendGoes, LogState, TellHeld, closed_records, log_records}
 
 judge : (one other : List ℕ) → sha256 one ≡ sha256 other → (b : Bool) → bytes_eq one other ≡ b → (one ≡ other) ⊎ HasCollision
@@ -81,8 +81,8 @@ appended_more sum own bytes s t p is held tells =
     let now = here_more sum own bytes held is.mid t p.offset is.here.1 is.rest in
     let mid_tells = subst (λ (l : ListingState). TellHeld held l.first l.closed) is.rest.listing tells in
     elim (is.before) [
-      | inl same ↦ inl (now ∙ ap (λ (m : LogState). log_records sum own held m ++ bytes ∷ []) same)
-      | inr turned ↦ elim (rotated_same sum own s is.mid turned held mid_tells) [
+      | inl same ↦ inl (now ∙ ap (λ (m : LogState). log_records sum own held m ++ bytes ∷ []) same.0)
+      | inr turned ↦ elim (rotated_same sum own s is.mid turned.0 held mid_tells) [
         | inl same ↦ inl (now ∙ ap (λ rs. rs ++ bytes ∷ []) (same ∙ append-nil (log_records sum own held s)))
         | inr collision ↦ inr collision
       ]
@@ -94,8 +94,8 @@ pub log_adds : (sum own : List ℕ → ℕ) (bytes : List ℕ) (s t : LogState) 
 log_adds sum own bytes s t (Ok p) is = appended_more sum own bytes s t p is
 log_adds sum own bytes s t (Err e) is = tt
 
-pub log_adds_after : (sum own : List ℕ → ℕ) (bytes : List ℕ) (s m t : LogState) (result : Result Place Error) → IsRotated sum own s m
+pub log_adds_after : (sum own : List ℕ → ℕ) (bytes : List ℕ) (s m t : LogState) (result : Result Place Error) → IsRotated sum own s m → s.most ≤ owned_size s.current.journal
     → AppendHereGoes sum own bytes m t result → IsSameButCurrent m t → IfOk result (λ p. HasMore sum own (bytes ∷ []) s t)
-log_adds_after sum own bytes s m t (Ok p) turned is rest =
-    appended_more sum own bytes s t p (record { mid = m; before = inr turned; here = is; rest = rest })
-log_adds_after sum own bytes s m t (Err e) turned is rest = tt
+log_adds_after sum own bytes s m t (Ok p) turned long is rest =
+    appended_more sum own bytes s t p (record { mid = m; before = inr (turned, long); here = is; rest = rest })
+log_adds_after sum own bytes s m t (Err e) turned long is rest = tt

@@ -70,6 +70,7 @@ rotated sum own s m n e next kept closed first has asks entered last =
           ∙ ap (λ (events : List FolderEvent). events ++ folder_event (calls.Opens (open_in s.listing + 1)) false ∷ folder_event calls.Syncs false ∷ []) first.asked;
       loaded = last.loaded ∙ same_loaded;
       page_size = last.page_size ∙ same_size;
+      most = last.most ∙ ap (λ (l : LogState). l.most) asks ∙ first.most;
     }
 
 -- the log stands with the next segment

@@ -24,7 +24,7 @@ use Rattle.segments.specs.Manifest.{ListingState, closed_at, entry_bytes, entry_
 use Rattle.segments.specs.Manifest.{listed_with, open_in}
 use Rattle.segments.specs.Owned.{HasJournal, IsOwned, IsShut, KeepsRecords, OwnedAppendGoes}
 use Rattle.segments.specs.Owned.{OwnedReadLeaves, OwnedState}
-use Rattle.segments.specs.Owned.{records_now}
+use Rattle.segments.specs.Owned.{owned_size, records_now}
 
 -- a closed segment that was read into memory: what was kept of it, and its journal
 pub record LoadedState : Type 0 where
@@ -40,6 +40,8 @@ pub record LogState : Type 0 where
   pub asked : List FolderEvent
   pub loaded : Option LoadedState
   pub page_size : ℕ
+  -- from how many bytes on a segment is closed
+  pub most : ℕ
 
 -- a content is the whole frames of bytes of which this was kept
 pub record HoldsClosed (sum : List ℕ → ℕ) (P : ℕ) (kept : Closed) (held : List ℕ) : Type 0 where
@@ -77,6 +79,7 @@ pub record IsSameButManifest (s t : LogState) : Type 0 where
   pub asked : t.asked ≡ s.asked
   pub loaded : t.loaded ≡ s.loaded
   pub page_size : t.page_size ≡ s.page_size
+  pub most : t.most ≡ s.most
 
 -- an entry was added to the manifest, and is durable
 pub record IsEntered (own : List ℕ → ℕ) (entry : Entry) (s t : LogState) : Type 0 where
@@ -119,6 +122,7 @@ pub record IsSameButCurrent (s t : LogState) : Type 0 where
   pub asked : t.asked ≡ s.asked
   pub loaded : t.loaded ≡ s.loaded
   pub page_size : t.page_size ≡ s.page_size
+  pub most : t.most ≡ s.most
 
 -- the open segment was closed: this is what is kept of it, where all of it is durable
 pub record IsClosedWith (sum own : List ℕ → ℕ) (s t : LogState) (kept : Closed) : Type 0 where
@@ -194,6 +198,7 @@ pub record IsRotated (sum own : List ℕ → ℕ) (s t : LogState) : Type 0 wher
       ∷ folder_event calls.Syncs false ∷ []
   pub loaded : t.loaded ≡ s.loaded
   pub page_size : t.page_size ≡ s.page_size
+  pub most : t.most ≡ s.most
 
 abbrev pub RotateGoes : (sum own : List ℕ → ℕ) → LogState → LogState → Result (Unit {0}) Error
     → Type 0
@@ -218,7 +223,8 @@ AppendHereGoes sum own bytes s t (Err e) = OwnedAppendGoes sum own bytes s.curre
 pub record IsAppendedTo (sum own : List ℕ → ℕ) (bytes : List ℕ) (s t : LogState) (p : Place)
     : Type 0 where
   pub mid : LogState
-  pub before : (mid ≡ s) ⊎ IsRotated sum own s mid
+  pub before : ((mid ≡ s) × (owned_size s.current.journal < s.most))
+      ⊎ (IsRotated sum own s mid × (s.most ≤ owned_size s.current.journal))
   pub here : AppendHereGoes sum own bytes mid t (Ok p)
   pub rest : IsSameButCurrent mid t
 
@@ -294,6 +300,7 @@ pub record LeavesReading (sum own : List ℕ → ℕ) (s t : LogState) : Type 0 
   pub listing : t.listing ≡ s.listing
   pub asked : t.asked ≡ s.asked
   pub page_size : t.page_size ≡ s.page_size
+  pub most : t.most ≡ s.most
   pub current : (t.current ≡ s.current) ⊎ OwnedReadLeaves sum own s.current t.current
 
 -- a closed segment was read at an offset
@@ -329,6 +336,7 @@ pub record IsSameButLoaded (s t : LogState) : Type 0 where
   pub listing : t.listing ≡ s.listing
   pub asked : t.asked ≡ s.asked
   pub page_size : t.page_size ≡ s.page_size
+  pub most : t.most ≡ s.most
 
 -- ---- dropping
 
@@ -407,6 +415,18 @@ pub record AreParts (sum own : List ℕ → ℕ) (P : ℕ) (manifest current : O
     (l : ListingState) : Type 0 where
   pub lists : HasManifest sum own P manifest l
   pub stands : HasCurrent sum own P current
+
+-- what it was asked for where a segment was opened
+abbrev pub AsksWhereOpen : {T E : Type 0} → ℕ → List FolderEvent → List FolderEvent
+    → Result T E → Type 0
+AsksWhereOpen number old new (Ok _) = new ≡ old ++ folder_event (calls.Opens number) false
+    ∷ folder_event calls.Syncs false ∷ []
+AsksWhereOpen number old new (Err _) = Unit {0}
+
+-- what a folder was asked for to open a log whose open segment has this number
+abbrev pub AsksForLog : ℕ → List FolderEvent → List FolderEvent → Type 0
+AsksForLog number old new = new ≡ old ++ folder_event calls.OpensManifest false
+    ∷ folder_event (calls.Opens number) false ∷ folder_event calls.Syncs false ∷ []
 
 -- the log of a folder was opened: what its files gave, the manifest and the open segment, is what
 -- the log has. An empty manifest gets its first entry, and lists no segment

@@ -14,6 +14,7 @@ use Rattle.journal.specs.Frame.{records}
 use Rattle.journal.specs.Journal.{CommitsAll, KeepsCommitted, LeavesRecords}
 use Rattle.journal.specs.Journal.{records_in}
 use Rattle.page.specs.Page.{text}
+use Rattle.paged.specs.Reads.{size_of}
 use Rattle.paged.specs.Recovery.{IsDurable}
 use Rattle.journal.specs.Calls.{JournalCallLeaves, JournalRecoverGoes, RecordReadLeaves}
 use Rattle.segments.specs.declared.error.Error.{Error}
@@ -44,6 +45,11 @@ records_of own (Some w) life = records_in own w life
 
 abbrev pub records_now : (own : List ℕ → ℕ) → OwnedState → List (List ℕ)
 records_now own s = records_of own s.journal s.life
+
+-- how many bytes its content has; none where there is no journal
+abbrev pub owned_size : Option WriterState → ℕ
+owned_size None = 0
+owned_size (Some w) = size_of w
 
 -- there is a journal, of which this holds
 abbrev pub HasJournal : Option WriterState → (WriterState → Type 0) → Type 0

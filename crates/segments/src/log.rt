@@ -57,6 +57,7 @@ impl<F: Folder<B>, B: Blob, H: Sum, R: Sum> Model for SegmentedLog<F, B, H, R> {
       asked = F.asked l.folder;
       loaded = l.loaded;
       page_size = non_zero_u16_get l.options.page_size;
+      most = l.options.segment_size;
     } };
 }
 

@@ -4,7 +4,8 @@ ghost use Rattle.std.specs.Int.NonZero.{non_zero_u16_get};
 ghost use Rattle.segments.specs.Owned.{IsOwned, OwnedAddGoes, OwnedAddKeeps, OwnedAppendGoes};
 ghost use Rattle.segments.specs.Owned.{OwnedCommitGoes, OwnedLeaves};
 ghost use Rattle.segments.specs.Owned.{OwnedCloseGoes, OwnedKeeps, OwnedReadLeaves, OwnedReadGoes};
-ghost use Rattle.segments.specs.Owned.{OwnedRecoverGoes, records_now, without_journal};
+ghost use Rattle.segments.specs.Owned.{OwnedRecoverGoes};
+ghost use Rattle.segments.specs.Owned.{owned_size, records_now, without_journal};
 ghost use Rattle.disk.specs.Disk.{IsImage};
 ghost use Rattle.journal.specs.Calls.{JournalRecoveryLeaves};
 
@@ -221,7 +222,9 @@ impl<B: Blob + Drop, H: Sum, R: Sum> OwnedJournal<B, H, R> {
     }
 
     /// The logical bytes of the journal; 0 where there is none.
-    pub fn size(&self) -> u64 {
+    pub fn size(&self) -> u64
+        ensures { result ≡ owned_size self.now.journal }
+    {
         match &self.journal {
             Some(journal) => journal.size(),
             None => 0,

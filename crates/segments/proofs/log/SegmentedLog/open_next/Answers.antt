@@ -8,5 +8,5 @@ pub returns-in-Ok-clause-goes : goal.returns-in-Ok-clause-goes
 returns-in-Ok-clause-goes g c =
     next_of g.H.Sum.sum_of g.R.Sum.sum_of _ _ _ (g.B.Blob.life c.in_ok-blob.blob) c.in-Ok.next c.in-Ok.field-0-1.items c.self.view_is c.in-Ok.ensures.has c.in-Ok.ensures.leaves c.in_ok-blob.ensures.rests
     (omega (arith, c.len.ensures, c.if-len-gt0.false))
-    (c.in_ok-blob.ensures.asks
+    (c.in_ok-blob.ensures.asks_for
     ∙ ap (λ n. g.F.Folder.asked c.self.inside.folder ++ folder_event (calls.Opens (n + 1)) false ∷ folder_event calls.Syncs false ∷ []) c.open-number.ensures)
