@@ -165,7 +165,8 @@ fn open_number<F: Folder<B>, B: Blob + Drop, H: Sum, R: Sum>(
     ensures { F.asked folder.new ≡ F.asked folder.old }
 {
     let last = folder.last_with_bytes()?;
-    let Some(number) = listed_open::<F, B, H, R>(alloc, folder, options)? else {
+    let is_used = last.is_some();
+    let Some(number) = listed_open::<F, B, H, R>(alloc, folder, options, is_used)? else {
         return match last {
             Some(number) => Err(Error::Unlisted(number)),
             None => Ok(0),
@@ -183,10 +184,12 @@ fn open_number<F: Folder<B>, B: Blob + Drop, H: Sum, R: Sum>(
 }
 
 // The number of the open segment that a copy of the manifest tells; none where it has no entry.
+// Where segments have bytes a manifest that has some has an entry.
 fn listed_open<F: Folder<B>, B: Blob + Drop, H: Sum, R: Sum>(
     alloc: Global,
     folder: &mut F,
     options: Options,
+    is_used: bool,
 ) -> Result<Option<u64>, Error>
     ensures { F.asked folder.new ≡ F.asked folder.old }
 {
@@ -195,9 +198,15 @@ fn listed_open<F: Folder<B>, B: Blob + Drop, H: Sum, R: Sum>(
         Err(error) if error.kind() == ErrorKind::NotFound => return Ok(None),
         Err(error) => return Err(Error::System(error)),
     };
+    let has_bytes = copy.len() > 0;
     let (_, entries) = recover::<VecBlob, H, R>(alloc, options, copy)?;
     if entries.is_empty() {
-        return Ok(None);
+        // Pages of another size have no text.
+        return if has_bytes && is_used {
+            Err(Error::Manifest)
+        } else {
+            Ok(None)
+        };
     }
     let listing = listing_of(alloc, &entries, options.page_size.get())?;
     Ok(Some(listing.open()))

@@ -16,10 +16,10 @@ use std::{fs, io};
 
 type Log = SegmentedLog<FileFolder, FileBlob, Crc32c, Crc32c>;
 
-// Pages of 84 bytes, and segments that are closed from 50 bytes on.
-fn options() -> Options {
+// Segments that are closed from 50 bytes on.
+fn options(page_size: u16) -> Options {
     Options {
-        page_size: NonZeroU16::new(84).unwrap_or(NonZeroU16::MIN),
+        page_size: NonZeroU16::new(page_size).unwrap_or(NonZeroU16::MIN),
         capacity: 168,
         pages: NonZeroUsize::MIN,
         buffer_size: NonZeroUsize::MIN,
@@ -30,7 +30,7 @@ fn options() -> Options {
 fn open(rt: &HostRuntime, path: &str) -> Result<Log, Error>
     ensures { IfOk result (λ log. IsLog crc32c crc32c log) }
 {
-    Log::open(rt.alloc(), FileFolder::new(rt, path)?, options())
+    Log::open(rt.alloc(), FileFolder::new(rt, path)?, options(84))
 }
 
 // Whether three records stand where they should: two in the first segment, whose frames have 27 and
@@ -143,9 +143,9 @@ fn drops_one(rt: &HostRuntime, path: &str) -> Result<bool, Error> {
     )
 }
 
-// Whether the log can't be opened, in these words.
-fn is_shut(rt: &HostRuntime, path: &str, words: &str) -> io::Result<bool> {
-    match open(rt, path) {
+// Whether the log can't be opened with pages of this size, in these words.
+fn is_shut(rt: &HostRuntime, path: &str, page_size: u16, words: &str) -> io::Result<bool> {
+    match Log::open(rt.alloc(), FileFolder::new(rt, path)?, options(page_size)) {
         Ok(_) => Ok(false),
         Err(error) => Ok(error.to_string(rt.alloc())?.as_str() == words),
     }
@@ -157,6 +157,8 @@ const SEGMENTS: [&str; 2] = [
 ];
 
 const MISSING: &str = "segment 1 is missing, though the manifest says that it is the open one";
+
+const MANIFEST: &str = "the manifest can't be read: is the page size right?";
 
 const UNLISTED: &str =
     "the manifest doesn't know segment 1, which has bytes: bring the manifest back";
@@ -173,10 +175,11 @@ fn a_log_in_segments_comes_back(rt: HostRuntime) -> Result<(), Fail> {
     assert!(rt; matches!(refuses_one(&rt, path), Ok(true)));
     assert!(rt; matches!(drops_one(&rt, path), Ok(true)) && !fs::exists(&rt, old)?);
     fs::rename(&rt, "log-kept/manifest", "log-kept/aside")?;
-    assert!(rt; is_shut(&rt, path, UNLISTED)?);
+    assert!(rt; is_shut(&rt, path, 84, UNLISTED)?);
     fs::rename(&rt, "log-kept/aside", "log-kept/manifest")?;
+    assert!(rt; is_shut(&rt, path, 85, MANIFEST)?);
     fs::remove_file(&rt, last)?;
-    assert!(rt; is_shut(&rt, path, MISSING)?);
+    assert!(rt; is_shut(&rt, path, 84, MISSING)?);
     fs::remove_dir_all(&rt, path)?;
     Ok(())
 }
