@@ -7,6 +7,4 @@ mod checksum;
 #[cfg(test)]
 mod files;
 #[cfg(test)]
-mod folders;
-#[cfg(test)]
 mod streams;
