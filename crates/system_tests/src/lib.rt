@@ -7,4 +7,6 @@ mod checksum;
 #[cfg(test)]
 mod files;
 #[cfg(test)]
+mod folders;
+#[cfg(test)]
 mod streams;

@@ -1,0 +1,233 @@
+// A log in segments over a folder of the system: what comes back once it was closed, what is
+// refused, and which files stand there.
+ghost use Rattle.std.specs.Prelude.{IfOk};
+ghost use Rattle.crc32c.specs.Crc.{crc32c};
+ghost use Rattle.segments.specs.Log.{IsLog};
+
+use crc32c::Crc32c;
+use disk::IoBuf;
+use file::FileBlob;
+use segments::{Error, FileFolder, Options, Place, SegmentedLog};
+use std::fs::OpenOptions;
+use std::num::{NonZeroU16, NonZeroUsize};
+use std::os::unix::fs::FileExt;
+use std::test::Fail;
+use std::{fs, io};
+
+type Log = SegmentedLog<FileFolder, FileBlob, Crc32c, Crc32c>;
+
+// Segments that are closed from 50 bytes on.
+fn options(page_size: u16) -> Options {
+    Options {
+        page_size: NonZeroU16::new(page_size).unwrap_or(NonZeroU16::MIN),
+        capacity: 168,
+        pages: NonZeroUsize::MIN,
+        buffer_size: NonZeroUsize::MIN,
+        segment_size: 50,
+    }
+}
+
+fn open(rt: &HostRuntime, path: &str) -> Result<Log, Error>
+    ensures { IfOk result (λ log. IsLog crc32c crc32c log) }
+{
+    Log::open(rt.alloc(), FileFolder::new(rt, path)?, options(84))
+}
+
+// Whether three records stand where they should: two in the first segment, whose frames have 27 and
+// 28 bytes, and one in the next.
+fn are_placed(log: &mut Log) -> Result<bool, Error>
+    requires { IsLog crc32c crc32c log.old }
+    ensures { IsLog crc32c crc32c log.new }
+{
+    let first = log.append(b"the first of records")?;
+    let second = log.append(b"the second of records")?;
+    let third = log.append(b"the third of records")?;
+    log.commit()?;
+    Ok([first, second, third] == PLACES)
+}
+
+const PLACES: [Place; 3] = [
+    Place {
+        segment: 0,
+        offset: 0,
+    },
+    Place {
+        segment: 0,
+        offset: 27,
+    },
+    Place {
+        segment: 1,
+        offset: 0,
+    },
+];
+
+// The record at a place, or none.
+fn record_at(log: &mut Log, place: Place) -> Result<Option<IoBuf>, Error>
+    requires { IsLog crc32c crc32c log.old }
+    ensures { IsLog crc32c crc32c log.new }
+{
+    match log.read(place) {
+        Ok(Some(found)) => Ok(found.bytes),
+        Ok(None) => Ok(None),
+        Err(error) => Err(error),
+    }
+}
+
+// Whether these bytes are the record at a place.
+fn holds(log: &mut Log, place: Place, bytes: &[u8]) -> Result<bool, Error>
+    requires { IsLog crc32c crc32c log.old }
+    ensures { IsLog crc32c crc32c log.new }
+{
+    match record_at(log, place) {
+        Ok(Some(record)) => Ok(record.as_ref() == bytes),
+        Ok(None) => Ok(false),
+        Err(error) => Err(error),
+    }
+}
+
+// Whether a read at a place is refused in these words.
+fn is_refused(rt: &HostRuntime, log: &mut Log, place: Place, words: &str) -> io::Result<bool>
+    requires { IsLog crc32c crc32c log.old }
+    ensures { IsLog crc32c crc32c log.new }
+{
+    match record_at(log, place) {
+        Ok(_) => Ok(false),
+        Err(error) => Ok(error.to_string(rt.alloc())?.as_str() == words),
+    }
+}
+
+fn come_back(log: &mut Log) -> Result<bool, Error>
+    requires { IsLog crc32c crc32c log.old }
+{
+    let [first, second, third] = PLACES;
+    Ok(
+        holds(log, third, b"the third of records")?
+            && holds(log, first, b"the first of records")?
+            && holds(log, second, b"the second of records")?,
+    )
+}
+
+// Changes a bit of a file.
+fn change(rt: &HostRuntime, path: &str) -> io::Result<()> {
+    let file = OpenOptions::new().read(true).write(true).open(rt, path)?;
+    let mut byte = [0u8; 1];
+    file.read_exact_at(&mut byte, 30)?;
+    file.write_all_at(&[byte[0] ^ 1], 30)
+}
+
+const DAMAGED: &str =
+    "segment 0 doesn't hold what it held when it was closed: bring it back from a copy";
+
+// Whether the first segment is refused, and the next one is read.
+fn is_one_refused(rt: &HostRuntime, log: &mut Log) -> Result<bool, Error>
+    requires { IsLog crc32c crc32c log.old }
+{
+    let [first, _, third] = PLACES;
+    Ok(is_refused(rt, log, first, DAMAGED)? && holds(log, third, b"the third of records")?)
+}
+
+// Whether the first segment is gone once it was dropped.
+fn is_one_dropped(rt: &HostRuntime, log: &mut Log) -> Result<bool, Error>
+    requires { IsLog crc32c crc32c log.old }
+{
+    log.drop_before(1)?;
+    let [first, _, third] = PLACES;
+    Ok(
+        is_refused(rt, log, first, "there is no segment 0")?
+            && holds(log, third, b"the third of records")?,
+    )
+}
+
+// What is asked of a log that is opened, and dropped after it.
+#[derive(Clone, Copy)]
+enum What {
+    IsWritten,
+    ComesBack,
+    IsOneRefused,
+    IsOneDropped,
+}
+
+fn ask(rt: &HostRuntime, log: &mut Log, what: What) -> Result<bool, Error>
+    requires { IsLog crc32c crc32c log.old }
+{
+    match what {
+        What::IsWritten => are_placed(log),
+        What::ComesBack => come_back(log),
+        What::IsOneRefused => is_one_refused(rt, log),
+        What::IsOneDropped => is_one_dropped(rt, log),
+    }
+}
+
+// A log is let go of in this function alone.
+fn is_so(rt: &HostRuntime, path: &str, what: What) -> bool {
+    match open(rt, path) {
+        Ok(log) => is_so_of(rt, log, what),
+        Err(_) => false,
+    }
+}
+
+fn is_so_of(rt: &HostRuntime, log: Log, what: What) -> bool
+    requires { IsLog crc32c crc32c log }
+{
+    let mut log = log;
+    is_yes(rt, &mut log, what)
+}
+
+fn is_yes(rt: &HostRuntime, log: &mut Log, what: What) -> bool
+    requires { IsLog crc32c crc32c log.old }
+{
+    match ask(rt, log, what) {
+        Ok(is) => is,
+        Err(_) => false,
+    }
+}
+
+// Whether the log can't be opened with pages of this size, in these words.
+fn is_shut(rt: &HostRuntime, path: &str, page_size: u16, words: &str) -> io::Result<bool> {
+    match Log::open(rt.alloc(), FileFolder::new(rt, path)?, options(page_size)) {
+        Ok(_) => Ok(false),
+        Err(error) => Ok(error.to_string(rt.alloc())?.as_str() == words),
+    }
+}
+
+const SEGMENTS: [&str; 2] = [
+    "log-kept/00000000000000000000.segment",
+    "log-kept/00000000000000000001.segment",
+];
+
+const MISSING: &str = "segment 1 is missing, though the manifest says that it is the open one";
+
+const MANIFEST: &str = "the manifest can't be read: is the page size right?";
+
+const UNLISTED: &str =
+    "the manifest doesn't know segment 1, which has bytes: bring the manifest back";
+
+// Whether a log comes back, a changed segment is refused, and a dropped one is gone.
+fn goes_through(rt: &HostRuntime, path: &str) -> io::Result<bool> {
+    let [old, _] = SEGMENTS;
+    let is_kept = is_so(rt, path, What::IsWritten) && is_so(rt, path, What::ComesBack);
+    change(rt, old)?;
+    let is_told = is_so(rt, path, What::IsOneRefused) && is_so(rt, path, What::IsOneDropped);
+    Ok(is_kept && is_told && !fs::exists(rt, old)?)
+}
+
+// Whether the log isn't opened with no manifest, with another page size, and with no open segment.
+fn is_guarded(rt: &HostRuntime, path: &str) -> io::Result<bool> {
+    let [_, last] = SEGMENTS;
+    fs::rename(rt, "log-kept/manifest", "log-kept/aside")?;
+    let is_unlisted = is_shut(rt, path, 84, UNLISTED)?;
+    fs::rename(rt, "log-kept/aside", "log-kept/manifest")?;
+    let is_other = is_shut(rt, path, 85, MANIFEST)?;
+    fs::remove_file(rt, last)?;
+    Ok(is_unlisted && is_other && is_shut(rt, path, 84, MISSING)?)
+}
+
+#[test]
+fn a_log_in_segments_comes_back(rt: HostRuntime) -> Result<(), Fail> {
+    let path = "log-kept";
+    let _ = fs::remove_dir_all(&rt, path);
+    fs::create_dir(&rt, path)?;
+    assert!(rt; goes_through(&rt, path)? && is_guarded(&rt, path)?);
+    fs::remove_dir_all(&rt, path)?;
+    Ok(())
+}
