@@ -106,8 +106,8 @@ manifest_as sum own kept n e s manifest pages keeps =
 -- a rotation of which the manifest was told, or may have been
 pub turn_survives : (sum own : List ℕ → ℕ) (s m n e t : LogState) (next : OwnedState) (kept : Closed) → IsLog sum own s → IsClosedWith sum own s m kept
     → CurrentKeeps sum own (records_now own s.current) s m → IsSameButCurrent s m → HasNext sum own m n next → IsSameButAsked m n
-    → IsTried sum own (Closes kept) n e → t.manifest ≡ e.manifest → RotationSurvives sum own s t
-turn_survives sum own s m n e t next kept log closed keeps first has asks tried same =
+    → IsTried sum own (Closes kept) n e → t.manifest ≡ e.manifest → (t.current ≡ m.current) ⊎ (t.current ≡ next) → RotationSurvives sum own s t
+turn_survives sum own s m n e t next kept log closed keeps first has asks tried same at =
     let manifest : n.manifest ≡ s.manifest = ap (λ (l : LogState). l.manifest) asks ∙ first.manifest in
     let pages : n.page_size ≡ s.page_size = ap (λ (l : LogState). l.page_size) asks ∙ first.page_size in
     let lists : n.listing ≡ s.listing = ap (λ (l : LogState). l.listing) asks ∙ first.listing in
@@ -115,7 +115,7 @@ turn_survives sum own s m n e t next kept log closed keeps first has asks tried 
     joined (λ held. KeepsLog sum own held s [] s.current.life m.current.life)
     (λ held. IsOf (held (open_in s.listing)) kept → Through (LogTurned sum own s.page_size held (log_records sum own held s) (open_in s.listing) m.current.life.present next.life.present) s.manifest.life t.manifest.life)
     (λ held. IsRotationKept sum own held s t) s.manifest.journal s.current.journal
-    (λ held closing turning. inr (record { last = m.current.life; next = next.life.present; kept = kept; closing = closing; of = closed.of; turning = turning }))
+    (λ held closing turning. inr (record { last = m.current.life; next = next.life.present; kept = kept; stands = elim at [ inl is ↦ inl (ap (λ (o : OwnedState). o.life) is) | inr is ↦ inr (ap (λ (o : OwnedState). o.life.present) is) ]; closing = closing; of = closed.of; turning = turning }))
     (survives_same sum own s m log keeps)
     (λ held. turn_by sum own held s kept m.current.life next.life.present tried.listing s.manifest.journal t.manifest.life closed.shut closed.of
     (subst (λ P. OnlyRecords sum own P [] next.life.present) first.page_size has.leaves) tried.told follows log.lists
@@ -138,7 +138,7 @@ pub refused_survives : (sum own : List ℕ → ℕ) (s m n e : LogState) (next :
     → Tries sum own (Closes kept) n e → IsSameButManifest n e → RotationSurvives sum own s e
 refused_survives sum own s m n e next kept log closed keeps first has asks tries rest = elim tries [
   | inl same ↦ close_survives sum own s m e log keeps (same ∙ ap (λ (l : LogState). l.manifest) asks ∙ first.manifest) (rest.current ∙ ap (λ (l : LogState). l.current) asks)
-  | inr tried ↦ turn_survives sum own s m n e e next kept log closed keeps first has asks tried refl
+  | inr tried ↦ turn_survives sum own s m n e e next kept log closed keeps first has asks tried refl (inl (rest.current ∙ ap (λ (l : LogState). l.current) asks))
 ]
 
 pub done_survives : (sum own : List ℕ → ℕ) (s m n e view : LogState) (next : OwnedState) (kept : Closed) → view ≡ e → IsLog sum own s → IsClosedWith sum own s m kept
@@ -148,5 +148,5 @@ done_survives sum own s m n e view next kept is log closed keeps first has asks 
   | inl same ↦
       let more = ap length (sym (ap (λ (o : OwnedState). records_now own o) same) ∙ entered.records) in
       absurd (omega (arith, more, length-append (records_now own n.manifest) (entry_bytes (Closes kept) ∷ [])))
-  | inr tried ↦ turn_survives sum own s m n e (record view { current = next }) next kept log closed keeps first has asks tried (ap (λ (l : LogState). l.manifest) is)
+  | inr tried ↦ turn_survives sum own s m n e (record view { current = next }) next kept log closed keeps first has asks tried (ap (λ (l : LogState). l.manifest) is) (inr refl)
 ]

@@ -89,6 +89,8 @@ pub record TurnKept (sum own : List ℕ → ℕ) (held : ℕ → List ℕ) (s t 
   pub last : Life
   pub next : Disk
   pub kept : Closed
+  -- the log's blob is the one that was closed, or the next one
+  pub stands : (t.current.life ≡ last) ⊎ (t.current.life.present ≡ next)
   pub closing : KeepsLog sum own held s [] s.current.life last
   pub of : IsOf last.present.readable kept
   pub turning : IsOf (held (open_in s.listing)) kept
