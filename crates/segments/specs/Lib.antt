@@ -1,7 +1,9 @@
 pub mod Digests
 pub mod Manifest
+pub mod FolderEvents
 pub mod FolderPast
 pub mod Folders
 pub mod Owned
 pub mod Log
 pub mod Crash
+pub mod Scan

@@ -39,6 +39,15 @@ abbrev pub closed_at : ListingState → ℕ → Option Closed
 closed_at l number =
     if nat_lt number l.first then None else slice_get l.closed (number - l.first)
 
+-- how many records closed segments have
+abbrev pub closed_count : List Closed → ℕ
+closed_count [] = 0
+closed_count (c ∷ cs) = c.records + closed_count cs
+
+-- a number, unless it passes the greatest one
+abbrev pub fitting : ℕ → Option ℕ
+fitting n = if nat_lt n 18446744073709551616 then Some n else None
+
 -- no segment is closed, and the first one is open
 abbrev pub none_closed : ListingState
 none_closed = record { first = 0; closed = [] }

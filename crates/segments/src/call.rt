@@ -11,10 +11,3 @@ pub enum FolderCall {
     /// The names of the files were made durable.
     Syncs,
 }
-
-/// A call that a folder was asked for, and whether it failed.
-#[derive(Clone, Copy)]
-pub struct FolderEvent {
-    pub call: FolderCall,
-    pub failed: bool,
-}

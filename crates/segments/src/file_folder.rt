@@ -2,15 +2,15 @@
 ghost use Rattle.std.specs.Prelude.{◌≡◌, [], ◌∷◌, ◌++◌, IfOk};
 ghost use Rattle.disk.specs.History.{life_of};
 ghost use Rattle.paged.specs.Recovery.{IsDurable};
-ghost use Rattle.segments.specs.FolderPast.{folder_event, folder_outcome};
+ghost use Rattle.segments.specs.FolderEvents.{folder_event, opening_outcome};
 ghost use Rattle.segments.specs.Folders.{call_for};
 
 use crate::call::FolderCall;
 use crate::folder::{Asked, Folder};
+use crate::names::Names;
 use crate::past::FolderPast;
 use disk::VecBlob;
 use file::FileBlob;
-use std::alloc::Global;
 use std::fs::File;
 use std::marker::Model;
 use std::snapshot::Snapshot;
@@ -21,22 +21,18 @@ use std::{fs, io};
 /// needed.
 #[derive(Drop)]
 pub struct FileFolder {
-    rt: HostRuntime,
-    path: String,
-    past: Snapshot<FolderPast>,
+    names: Names,
+    past: Snapshot<FolderPast<FileBlob>>,
 }
 
 impl Model for FileFolder {
     ghost use Rattle.std.specs.Prelude.{List};
-    ghost use Rattle.segments.specs.declared.call.FolderEvent.{FolderEvent};
+    ghost use Rattle.segments.specs.FolderEvents.{FolderEvent};
 
     ghost Value = { List FolderEvent };
 
     ghost view = { λ f. f.past.value };
 }
-
-// What stands after the number in the name of a segment's file.
-const ENDING: &str = ".segment";
 
 impl FileFolder {
     /// The folder at a path, of which nothing was asked yet.
@@ -44,37 +40,25 @@ impl FileFolder {
         ensures { IfOk result (λ folder. folder ≡ []) }
     {
         Ok(FileFolder {
-            rt: rt.clone()?,
-            path: String::from_str(rt.alloc(), path)?,
+            names: Names::new(rt, path)?,
             past: FolderPast::begun(),
         })
-    }
-
-    // The path of a file.
-    fn path_of(&self, file: Asked) -> io::Result<String> {
-        let path = self.path.as_str();
-        let name = match file {
-            Asked::Manifest => format!(in self.rt.alloc(); "{path}/manifest")?,
-            Asked::Segment(number) => {
-                format!(in self.rt.alloc(); "{path}/{number:020}{ENDING}")?
-            }
-        };
-        Ok(name)
     }
 
     #[tactic(auto, using(crate::proofs::Durable::begun_durable))]
     fn open_file(&self, file: Asked) -> io::Result<FileBlob>
         ensures { IfOk result (λ blob. IsDurable (life_of blob.kept.history).present) }
     {
-        file::open(&self.rt, self.path_of(file)?.as_str())
+        file::open(self.names.rt(), self.names.path_of(file)?.as_str())
     }
 
     fn remove_file(&self, segment: u64) -> io::Result<()> {
-        fs::remove_file(&self.rt, self.path_of(Asked::Segment(segment))?.as_str())
+        let path = self.names.path_of(Asked::Segment(segment))?;
+        fs::remove_file(self.names.rt(), path.as_str())
     }
 
     fn sync_names(&self) -> io::Result<()> {
-        File::open(&self.rt, self.path.as_str())?.sync_all()
+        File::open(self.names.rt(), self.names.folder())?.sync_all()
     }
 
     // A call more was made.
@@ -83,15 +67,19 @@ impl FileFolder {
     {
         self.past = FolderPast::after(&self.past, call, failed);
     }
-}
 
-// The number of a segment, by the name of its file.
-fn number_of(name: &str) -> Option<u64> {
-    let digits = name.strip_suffix(ENDING)?;
-    if digits.len() != 20 {
-        return None;
+    // A file more was opened, or wasn't.
+    fn note_opening(&mut self, file: Asked, opened: &io::Result<FileBlob>)
+        ensures { let event = opening_outcome (λ b. life_of b.kept.history) (call_for file) opened.now
+            in
+            self.new ≡ self.old ++ event ∷ [] }
+    {
+        let call = file.call();
+        match opened {
+            Ok(blob) => self.past = FolderPast::opened(&self.past, call, blob),
+            Err(_) => self.note(call, true),
+        }
     }
-    digits.parse().ok()
 }
 
 impl Folder<FileBlob> for FileFolder {
@@ -99,11 +87,7 @@ impl Folder<FileBlob> for FileFolder {
 
     fn open(&mut self, file: Asked) -> io::Result<FileBlob> {
         let opened = self.open_file(file);
-        let call = match file {
-            Asked::Manifest => FolderCall::OpensManifest,
-            Asked::Segment(number) => FolderCall::Opens(number),
-        };
-        self.note(call, opened.is_err());
+        self.note_opening(file, &opened);
         opened
     }
 
@@ -112,25 +96,15 @@ impl Folder<FileBlob> for FileFolder {
     }
 
     fn read(&mut self, file: Asked) -> io::Result<VecBlob> {
-        file::read(&self.rt, self.path_of(file)?.as_str())
+        file::read(self.names.rt(), self.names.path_of(file)?.as_str())
     }
 
     fn has(&mut self, file: Asked) -> io::Result<bool> {
-        fs::exists(&self.rt, self.path_of(file)?.as_str())
+        self.names.has(file)
     }
 
     fn last_with_bytes(&mut self) -> io::Result<Option<u64>> {
-        let mut last = None;
-        for entry in fs::read_dir(&self.rt, self.path.as_str())? {
-            let entry = entry?;
-            let Some(number) = number_of(entry.file_name()) else {
-                continue;
-            };
-            if entry.metadata()?.len() > 0 && last < Some(number) {
-                last = Some(number);
-            }
-        }
-        Ok(last)
+        self.names.last_with_bytes()
     }
 
     fn remove(&mut self, segment: u64) -> io::Result<()> {

@@ -2,11 +2,11 @@
 ghost use Rattle.std.specs.Prelude.{◌≡◌, [], ◌∷◌, ◌++◌, List, IfOk};
 ghost use Rattle.disk.specs.History.{life_of, begun};
 ghost use Rattle.paged.specs.Recovery.{IsDurable};
-ghost use Rattle.segments.specs.declared.call.FolderEvent.{FolderEvent};
 ghost use Rattle.segments.specs.Folders.{call_for};
-ghost use Rattle.segments.specs.FolderPast.{folder_outcome};
+ghost use Rattle.segments.specs.FolderEvents.{FolderEvent, folder_outcome, opening_outcome};
 ghost use Rattle.segments.specs.declared.call.FolderCall.TheVariants as calls;
 
+use crate::call::FolderCall;
 use disk::{Blob, VecBlob};
 use std::io;
 
@@ -19,17 +19,30 @@ pub enum Asked {
     Segment(u64),
 }
 
+impl Asked {
+    /// The call that opens it.
+    pub(crate) fn call(self) -> FolderCall
+        ensures { result ≡ call_for self }
+    {
+        match self {
+            Asked::Manifest => FolderCall::OpensManifest,
+            Asked::Segment(number) => FolderCall::Opens(number),
+        }
+    }
+}
+
 /// What the files of a log stand in, each of which is opened as a blob of the type `B`. No clause
 /// says what a file gives: each says just what the folder was asked for.
 pub trait Folder<B: Blob> {
-    /// What it was asked for so far that changes it or makes it durable, and how each call went.
+    /// What it was asked for so far that changes it or makes it durable, how each call went, and
+    /// what each opened file gave.
     ghost asked: { Self → List FolderEvent };
 
     /// Opens a file to be written, and makes it where it is missing. What it holds is durable then,
     /// and the file is nobody else's.
     fn open(&mut self, file: Asked) -> io::Result<B>
         ensures rests { IfOk result (λ blob. IsDurable (B.life blob).present) }
-        ensures asked { let event = folder_outcome (call_for file) result in
+        ensures asked { let event = opening_outcome B.life (call_for file) result in
             asked self.new ≡ asked self.old ++ event ∷ [] };
 
     /// The bytes of a file that was opened.

@@ -1,6 +1,6 @@
 // What a manifest lists.
 ghost use Rattle.std.specs.Prelude.{◌≡◌, ◌<◌, ◌+◌, ◌^◌, length, IfOk, Some};
-ghost use Rattle.segments.specs.Manifest.{closed_at, listed_in, none_closed, open_in, TakesIn};
+ghost use Rattle.segments.specs.Manifest.{closed_at, closed_count, fitting, listed_in, none_closed, open_in, TakesIn};
 
 use crate::closed::Closed;
 use crate::entry::{Entry, entry_of};
@@ -60,6 +60,17 @@ impl Listing {
             return None;
         }
         self.closed.get((number - self.first) as usize).copied()
+    }
+
+    /// How many records the closed segments have. None where that passes the greatest number.
+    pub fn records(&self) -> Option<u64>
+        ensures { result ≡ fitting (closed_count self.now.closed) }
+    {
+        let mut count = 0u64;
+        for closed in &self.closed {
+            count = count.checked_add(closed.records)?;
+        }
+        Some(count)
     }
 
     /// Has room for one closed segment more.

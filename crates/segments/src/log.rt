@@ -1,7 +1,7 @@
 // The log.
-ghost use Rattle.std.specs.Prelude.{◌≡◌, IfOk};
+ghost use Rattle.std.specs.Prelude.{◌≡◌, ◌+◌, IfOk};
 ghost use Rattle.std.specs.Int.NonZero.{non_zero_u16_get};
-ghost use Rattle.segments.specs.Manifest.{closed_at, open_in};
+ghost use Rattle.segments.specs.Manifest.{closed_at, closed_count, fitting, open_in};
 ghost use Rattle.segments.specs.Log.{EnterGoes, IsLog, IsSameButManifest, Tries};
 
 use crate::closed::Closed;
@@ -81,6 +81,15 @@ impl<F: Folder<B> + Drop, B: Blob + Drop, H: Sum, R: Sum> SegmentedLog<F, B, H, 
         ensures { result ≡ self.now.current.records }
     {
         self.current.records()
+    }
+
+    /// How many records the log has, of those that weren't dropped. None where that passes the
+    /// greatest number: then the manifest is none that a log has written.
+    pub fn len(&self) -> Option<u64>
+        ensures { let all = closed_count self.now.listing.closed + self.now.current.records in
+            result ≡ fitting all }
+    {
+        self.listing.records()?.checked_add(self.current.records())
     }
 
     /// What is kept of a closed segment; none where it was dropped, or isn't closed.

@@ -1,37 +1,39 @@
 // What a folder was asked for, as ghost data: nothing of it is left at run time.
 ghost use Rattle.std.specs.Prelude.{◌≡◌, [], ◌∷◌, ◌++◌};
-ghost use Rattle.segments.specs.FolderPast.{folder_event};
+ghost use Rattle.segments.specs.FolderEvents.{folder_event, opening_with};
 
 use crate::call::FolderCall;
+use disk::Blob;
 use std::marker::Model;
 use std::snapshot::Snapshot;
 
-/// What a folder was asked for so far, and how each call went. It is for whoever writes a
-/// [`crate::Folder`]: hold one as a `Snapshot`, which takes no memory, and let each call put one
-/// event more after it.
+/// What a folder was asked for so far, how each call went, and what each opened file gave. It is
+/// for whoever writes a [`crate::Folder`]: hold one as a `Snapshot`, which takes no memory, and let
+/// each call put one event more after it.
 #[cycle(past)]
 #[derive(Drop)]
-pub struct FolderPast {
-    last: Last,
+pub struct FolderPast<B: Blob> {
+    last: Last<B>,
 }
 
 // The last call, and what stood before it.
 #[cycle(past)]
 #[derive(Drop)]
-enum Last {
+enum Last<B: Blob> {
     Nothing,
-    After(Snapshot<Snapshot<FolderPast>>, FolderCall, bool),
+    After(Snapshot<Snapshot<FolderPast<B>>>, FolderCall, bool),
+    Opened(Snapshot<Snapshot<FolderPast<B>>>, FolderCall, Snapshot<B>),
 }
 
-impl Model for FolderPast {
+impl<B: Blob> Model for FolderPast<B> {
     ghost use Rattle.std.specs.Prelude.{List, length};
-    ghost use Rattle.segments.specs.declared.call.FolderEvent.{FolderEvent};
+    ghost use Rattle.segments.specs.FolderEvents.{FolderEvent};
 
     ghost Value = { List FolderEvent };
 
     ghost use Rattle.segments.specs.FolderPast.{events_of};
 
-    ghost view = { λ p. events_of p.last };
+    ghost view = { λ p. events_of B.life p.last };
 
     ghost size = { λ events. length events };
 
@@ -40,7 +42,7 @@ impl Model for FolderPast {
     ghost size_decreases = { λ a h. Prim.grind (arith, length-append) };
 }
 
-impl FolderPast {
+impl<B: Blob> FolderPast<B> {
     /// A folder that was asked for nothing yet.
     pub fn begun() -> Snapshot<Self>
         ensures { result.value ≡ [] }
@@ -57,6 +59,17 @@ impl FolderPast {
     {
         let past = FolderPast {
             last: Last::After(Snapshot::of(before), call, failed),
+        };
+        Snapshot::of(&past)
+    }
+
+    /// An opening more, which gave this blob.
+    pub fn opened(before: &Snapshot<Self>, call: FolderCall, blob: &B) -> Snapshot<Self>
+        ensures { let given = (B.life blob.now).present.readable in
+            result.value ≡ before.now.value ++ opening_with call given ∷ [] }
+    {
+        let past = FolderPast {
+            last: Last::Opened(Snapshot::of(before), call, Snapshot::of(blob)),
         };
         Snapshot::of(&past)
     }

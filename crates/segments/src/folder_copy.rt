@@ -1,0 +1,110 @@
+// A copy of a folder of the system, in memory.
+ghost use Rattle.std.specs.Prelude.{◌≡◌, [], ◌∷◌, ◌++◌, IfOk};
+ghost use Rattle.disk.specs.History.{life_of};
+ghost use Rattle.paged.specs.Recovery.{IsDurable};
+ghost use Rattle.segments.specs.FolderEvents.{folder_event, opening_outcome};
+ghost use Rattle.segments.specs.Folders.{call_for};
+
+use crate::call::FolderCall;
+use crate::folder::{Asked, Folder};
+use crate::names::Names;
+use crate::past::FolderPast;
+use disk::VecBlob;
+use std::io;
+use std::marker::Model;
+use std::snapshot::Snapshot;
+
+/// A folder of the system of which nothing is changed: a file that is opened is read into memory,
+/// and only that copy changes. A file that is missing isn't made: its opening answers `NotFound`. A
+/// log over it is for reading; what is appended goes as it is dropped.
+#[derive(Drop)]
+pub struct FolderCopy {
+    names: Names,
+    past: Snapshot<FolderPast<VecBlob>>,
+}
+
+impl Model for FolderCopy {
+    ghost use Rattle.std.specs.Prelude.{List};
+    ghost use Rattle.segments.specs.FolderEvents.{FolderEvent};
+
+    ghost Value = { List FolderEvent };
+
+    ghost view = { λ f. f.past.value };
+}
+
+impl FolderCopy {
+    /// The folder at a path, of which nothing was asked yet.
+    pub fn new(rt: &HostRuntime, path: &str) -> io::Result<Self>
+        ensures { IfOk result (λ folder. folder ≡ []) }
+    {
+        Ok(FolderCopy {
+            names: Names::new(rt, path)?,
+            past: FolderPast::begun(),
+        })
+    }
+
+    #[tactic(auto, using(crate::proofs::Durable::begun_durable))]
+    fn copy(&self, file: Asked) -> io::Result<VecBlob>
+        ensures { IfOk result (λ blob. IsDurable (life_of blob.history).present) }
+    {
+        file::read(self.names.rt(), self.names.path_of(file)?.as_str())
+    }
+
+    // A call more was made.
+    fn note(&mut self, call: FolderCall, failed: bool)
+        ensures { self.new ≡ self.old ++ folder_event call failed ∷ [] }
+    {
+        self.past = FolderPast::after(&self.past, call, failed);
+    }
+
+    // A file more was opened, or wasn't.
+    fn note_opening(&mut self, file: Asked, opened: &io::Result<VecBlob>)
+        ensures { let event = opening_outcome (λ b. life_of b.history) (call_for file) opened.now
+            in
+            self.new ≡ self.old ++ event ∷ [] }
+    {
+        let call = file.call();
+        match opened {
+            Ok(blob) => self.past = FolderPast::opened(&self.past, call, blob),
+            Err(_) => self.note(call, true),
+        }
+    }
+}
+
+impl Folder<VecBlob> for FolderCopy {
+    ghost asked = { λ f. f };
+
+    fn open(&mut self, file: Asked) -> io::Result<VecBlob> {
+        let opened = self.copy(file);
+        self.note_opening(file, &opened);
+        opened
+    }
+
+    fn bytes(blob: &VecBlob) -> &[u8] {
+        blob.bytes()
+    }
+
+    fn read(&mut self, file: Asked) -> io::Result<VecBlob> {
+        file::read(self.names.rt(), self.names.path_of(file)?.as_str())
+    }
+
+    fn has(&mut self, file: Asked) -> io::Result<bool> {
+        self.names.has(file)
+    }
+
+    fn last_with_bytes(&mut self) -> io::Result<Option<u64>> {
+        self.names.last_with_bytes()
+    }
+
+    /// It refuses: the folder isn't changed.
+    fn remove(&mut self, segment: u64) -> io::Result<()> {
+        self.note(FolderCall::Removes(segment), true);
+        Err(io::Error::from(io::ErrorKind::PermissionDenied))
+    }
+
+    /// No name changed.
+    fn sync(&mut self) -> io::Result<()> {
+        self.note(FolderCall::Syncs, false);
+        Ok(())
+    }
+}

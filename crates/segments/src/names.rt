@@ -1,0 +1,77 @@
+// The files of a log in a folder of the system, by their names.
+use crate::folder::Asked;
+use disk::VecBlob;
+use std::alloc::Global;
+use std::{fs, io};
+
+// What stands after the number in the name of a segment's file.
+const ENDING: &str = ".segment";
+
+/// The files of a log in a folder of the system: `manifest`, and of each segment its number with
+/// twenty digits and `.segment`.
+#[derive(Drop)]
+pub struct Names {
+    rt: HostRuntime,
+    path: String,
+}
+
+impl Names {
+    /// Those of the folder at a path.
+    pub fn new(rt: &HostRuntime, path: &str) -> io::Result<Self> {
+        Ok(Names {
+            rt: rt.clone()?,
+            path: String::from_str(rt.alloc(), path)?,
+        })
+    }
+
+    /// The system.
+    pub fn rt(&self) -> &HostRuntime {
+        &self.rt
+    }
+
+    /// The path of the folder.
+    pub fn folder(&self) -> &str {
+        self.path.as_str()
+    }
+
+    /// The path of a file.
+    pub fn path_of(&self, file: Asked) -> io::Result<String> {
+        let path = self.path.as_str();
+        let name = match file {
+            Asked::Manifest => format!(in self.rt.alloc(); "{path}/manifest")?,
+            Asked::Segment(number) => {
+                format!(in self.rt.alloc(); "{path}/{number:020}{ENDING}")?
+            }
+        };
+        Ok(name)
+    }
+
+    /// Whether a file is there.
+    pub fn has(&self, file: Asked) -> io::Result<bool> {
+        fs::exists(&self.rt, self.path_of(file)?.as_str())
+    }
+
+    /// The greatest number of a segment whose file has bytes.
+    pub fn last_with_bytes(&self) -> io::Result<Option<u64>> {
+        let mut last = None;
+        for entry in fs::read_dir(&self.rt, self.path.as_str())? {
+            let entry = entry?;
+            let Some(number) = number_of(entry.file_name()) else {
+                continue;
+            };
+            if entry.metadata()?.len() > 0 && last < Some(number) {
+                last = Some(number);
+            }
+        }
+        Ok(last)
+    }
+}
+
+// The number of a segment, by the name of its file.
+fn number_of(name: &str) -> Option<u64> {
+    let digits = name.strip_suffix(ENDING)?;
+    if digits.len() != 20 {
+        return None;
+    }
+    digits.parse().ok()
+}
