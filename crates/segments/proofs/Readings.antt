@@ -18,7 +18,7 @@ read_of : (own : List ℕ → ℕ) (held : List ℕ) (offset : ℕ) (old new : L
 read_of own held offset old new None is = is.0
 read_of own held offset old new (Some f) is = is.0
 
-reads_by : (own : List ℕ → ℕ) (j k : Option WriterState) (offset : ℕ) (old new : Life) (found : Option Found)
+pub reads_by : (own : List ℕ → ℕ) (j k : Option WriterState) (offset : ℕ) (old new : Life) (found : Option Found)
     → HasJournal j (λ w. (k ≡ Some w) × ReadRecordGoes own (content w old.present.readable) offset old new (Ok found))
     → (held : List ℕ) × HasJournal j (λ w. held ≡ content w old.present.readable) × IsReadOf own held offset found
 reads_by own None k offset old new found is = absurd is
@@ -31,11 +31,11 @@ reads_current sum own s t p (Ok found) at is =
     let held = reads_by own s.current.journal t.current.journal p.offset s.current.life t.current.life found is in
     (held.0, inl (at, held.1), held.2)
 reads_current sum own s t p (Err (errors.Layer e)) at is = tt
-reads_current sum own s t p (Err errors.Closed) at is = tt
-reads_current sum own s t p (Err (errors.System e)) at is = tt
+reads_current sum own s t p (Err errors.Closed) at is = (at, is.0)
+reads_current sum own s t p (Err (errors.System e)) at is = absurd is
 reads_current sum own s t p (Err (errors.Damaged n)) at is = absurd is
-reads_current sum own s t p (Err (errors.Unlisted n)) at is = tt
-reads_current sum own s t p (Err (errors.Missing n)) at is = tt
-reads_current sum own s t p (Err errors.Manifest) at is = tt
+reads_current sum own s t p (Err (errors.Unlisted n)) at is = absurd is
+reads_current sum own s t p (Err (errors.Missing n)) at is = absurd is
+reads_current sum own s t p (Err errors.Manifest) at is = absurd is
 reads_current sum own s t p (Err (errors.NoSegment n)) at is = absurd is
-reads_current sum own s t p (Err errors.NumbersExhausted) at is = tt
+reads_current sum own s t p (Err errors.NumbersExhausted) at is = absurd is

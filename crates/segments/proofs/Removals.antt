@@ -1,10 +1,9 @@
 -- What a folder is asked for as segments are dropped.
 use Rattle.std.specs.Prelude.{◌≡◌, ◌<◌, ◌++◌, ◌∷◌, [], ℕ, List, Result, Ok, Err, IfOk}
 use Rattle.std.proofs.Common.{ap, sym, ◌∙◌, refl, inl, inr, append_assoc, append-nil}
-use Rattle.segments.specs.declared.call.FolderEvent.{FolderEvent}
 use Rattle.segments.specs.declared.call.FolderCall.{FolderCall}
 use Rattle.segments.specs.declared.call.FolderCall.TheVariants as calls
-use Rattle.segments.specs.FolderPast.{folder_outcome}
+use Rattle.segments.specs.FolderEvents.{FolderEvent, folder_outcome}
 use Rattle.segments.specs.Log.{AreOfOlder, AsksOfOlder, EndsSynced, IsOfOlder}
 
 pub asks_none : (first : ℕ) (events : List FolderEvent) → AsksOfOlder first events events

@@ -2,17 +2,15 @@
 use Rattle.std.specs.Prelude.{◌≡◌, ◌+◌, ◌++◌, ◌==◌, ℕ, List, [], ◌∷◌, length, Some, None, Option, IfSome, Bool, true, false, if◌then◌else◌}
 use Rattle.std.proofs.Common.{ap, sym, ◌∙◌, subst}
 use Rattle.disk.specs.Disk.{Life}
-use Rattle.segments.specs.declared.call.FolderEvent.{FolderEvent}
-use Rattle.segments.specs.declared.call.FolderCall.TheVariants as calls
 use Rattle.segments.specs.declared.closed.Closed.{Closed}
 use Rattle.segments.specs.declared.entry.Entry.TheVariants.{Closes}
-use Rattle.segments.specs.FolderPast.{folder_event}
+use Rattle.segments.specs.FolderEvents.{FolderEvent}
 use Rattle.segments.specs.Manifest.{ListingState, entry_bytes, listed_with, open_in}
 use Rattle.paged.specs.Recovery.{IsDurable}
 use Rattle.journal.specs.Journal.{OnlyRecords}
 use Rattle.writer_state.specs.WriterState.{WriterState}
 use Rattle.segments.specs.Owned.{HasJournal, OwnedState, records_now}
-use Rattle.segments.specs.Log.{HasOpened, HasNext, IsClosedWith, IsEntered, IsLog, IsRotated, IsSameButAsked, IsSameButCurrent, IsSameButManifest, LeavesOpened, LogState}
+use Rattle.segments.specs.Log.{HasOpened, events_for, HasNext, IsClosedWith, IsEntered, IsLog, IsRotated, IsSameButAsked, IsSameButCurrent, IsSameButManifest, LeavesOpened, LogState}
 use Rattle.segments.proofs.Empty.{no_record}
 
 journal_is : (P : WriterState → Type 0) (j : Option WriterState) → HasJournal j P → HasJournal j (λ w. Unit {0})
@@ -22,7 +20,7 @@ journal_is P (Some w) is = tt
 -- the next segment, opened over no byte
 pub next_of : (sum own : List ℕ → ℕ) (s now t : LogState) (old : Life) (next : OwnedState) (answered : List (List ℕ))
     → s ≡ now → HasOpened sum own s.page_size old next answered → LeavesOpened sum own s.page_size old next → IsDurable old.present → length old.present.readable ≡ 0
-    → t.asked ≡ s.asked ++ folder_event (calls.Opens (open_in s.listing + 1)) false ∷ folder_event calls.Syncs false ∷ []
+    → t.asked ≡ s.asked ++ events_for (open_in s.listing + 1) []
     → HasNext sum own now t next
 next_of sum own s now t old next answered view begun leaves durable few asked = subst (λ s. HasNext sum own s t next) view (record {
   owned = begun.owned;
@@ -66,8 +64,8 @@ rotated sum own s m n e next kept closed first has asks entered last =
       there = has.there;
       none = has.none;
       asked = last.asked ∙ has.asked
-          ∙ ap (λ (l : ListingState). m.asked ++ folder_event (calls.Opens (open_in l + 1)) false ∷ folder_event calls.Syncs false ∷ []) first.listing
-          ∙ ap (λ (events : List FolderEvent). events ++ folder_event (calls.Opens (open_in s.listing + 1)) false ∷ folder_event calls.Syncs false ∷ []) first.asked;
+          ∙ ap (λ (l : ListingState). m.asked ++ events_for (open_in l + 1) []) first.listing
+          ∙ ap (λ (events : List FolderEvent). events ++ events_for (open_in s.listing + 1) []) first.asked;
       loaded = last.loaded ∙ same_loaded;
       page_size = last.page_size ∙ same_size;
       most = last.most ∙ ap (λ (l : LogState). l.most) asks ∙ first.most;

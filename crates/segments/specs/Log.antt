@@ -1,5 +1,5 @@
 -- A log in segments: what it has, and what stands between its calls.
-use Rattle.std.specs.Prelude.{◌≡◌, ◌⊎◌, ℕ, suc, List, [], ◌∷◌, ◌++◌, length}
+use Rattle.std.specs.Prelude.{◌≡◌, ◌≢◌, ◌⊎◌, ℕ, suc, List, [], ◌∷◌, ◌++◌, length}
 use Rattle.std.specs.Prelude.{Option, Some, None, IfSome}
 use Rattle.std.specs.Prelude.{Result, Ok, Err, ◌+◌, ◌-◌, ◌<◌, ◌≤◌, false, true, drop}
 use Rattle.disk.specs.Disk.{Life}
@@ -10,19 +10,18 @@ use Rattle.writer_state.specs.Sound.{content}
 use Rattle.journal.specs.Frame.{records, whole_frames}
 use Rattle.journal.specs.declared.frame.Found.{Found}
 use Rattle.journal.specs.Journal.{CommitsAll, IsFound, OnlyRecords, records_in}
-use Rattle.segments.specs.declared.call.FolderEvent.{FolderEvent}
 use Rattle.segments.specs.declared.call.FolderCall.TheVariants as calls
 use Rattle.segments.specs.declared.closed.Closed.{Closed}
 use Rattle.segments.specs.declared.entry.Entry.{Entry}
-use Rattle.segments.specs.declared.entry.Entry.TheVariants.{Closes}
+use Rattle.segments.specs.declared.entry.Entry.TheVariants.{Starts, Closes}
 use Rattle.segments.specs.declared.error.Error.{Error}
 use Rattle.segments.specs.declared.place.Place.{Place}
 use Rattle.segments.specs.declared.error.Error.TheVariants as errors
 use Rattle.segments.specs.Digests.{Collide, IsOf, SameKept}
-use Rattle.segments.specs.FolderPast.{folder_event}
+use Rattle.segments.specs.FolderEvents.{FolderEvent, folder_event, opening_with}
 use Rattle.segments.specs.Manifest.{ListingState, closed_at, entry_bytes, entry_in, listed_in}
 use Rattle.segments.specs.Manifest.{listed_with, open_in}
-use Rattle.segments.specs.Owned.{HasJournal, IsOwned, IsShut, KeepsRecords, OwnedAppendGoes}
+use Rattle.segments.specs.Owned.{content_now, HasJournal, IsOwned, IsShut, KeepsRecords, OwnedAppendGoes}
 use Rattle.segments.specs.Owned.{OwnedReadLeaves, OwnedState}
 use Rattle.segments.specs.Owned.{owned_size, records_now}
 
@@ -49,10 +48,12 @@ pub record HoldsClosed (sum : List ℕ → ℕ) (P : ℕ) (kept : Closed) (held 
   pub of : IsOf bytes kept
   pub holds : held ≡ whole_frames (text sum P bytes)
 
-abbrev pub IsLoaded : (sum own : List ℕ → ℕ) → ℕ → LoadedState → Type 0
-IsLoaded sum own P l = (l.owned.page_size ≡ P) × IsOwned sum own l.owned
-    × IfSome l.owned.journal (λ w.
-    HoldsClosed sum P l.kept (content w l.owned.life.present.readable))
+-- a closed segment in memory: there is a journal, and its content is that of the segment
+pub record IsLoaded (sum own : List ℕ → ℕ) (P : ℕ) (l : LoadedState) : Type 0 where
+  pub page_size : l.owned.page_size ≡ P
+  pub owned : IsOwned sum own l.owned
+  pub there : HasJournal l.owned.journal (λ w. Unit {0})
+  pub holds : HoldsClosed sum P l.kept (content_now l.owned)
 
 -- the manifest tells this listing, and all of it is durable
 pub record Lists (sum own : List ℕ → ℕ) (P : ℕ) (listing : ListingState) (w : WriterState)
@@ -88,12 +89,19 @@ pub record IsEntered (own : List ℕ → ℕ) (entry : Entry) (s t : LogState) :
   pub records : records_now own t.manifest
       ≡ records_now own s.manifest ++ entry_bytes entry ∷ []
 
+-- an entry is refused: it can't follow those before it; or a call of the manifest failed, or did
+-- before; or memory failed
+abbrev pub EnterRefused : Entry → LogState → Error → Type 0
+EnterRefused entry s (errors.Layer e) = Unit {0}
+EnterRefused entry s errors.Manifest = listed_with s.page_size entry s.listing ≡ None
+EnterRefused entry s errors.Closed = s.manifest.journal ≡ None
+EnterRefused entry s e = ⊥
+
 -- an entry, by its answer: after an error the manifest is as it was, or has no journal
 abbrev pub EnterGoes : (own : List ℕ → ℕ) → Entry → LogState → LogState → Result (Unit {0}) Error
     → Type 0
 EnterGoes own entry s t (Ok u) = IsEntered own entry s t
-EnterGoes own entry s t (Err (errors.NoSegment n)) = ⊥
-EnterGoes own entry s t (Err e) = (t ≡ s) ⊎ (t.manifest.journal ≡ None)
+EnterGoes own entry s t (Err e) = ((t ≡ s) ⊎ (t.manifest.journal ≡ None)) × EnterRefused entry s e
 
 -- what was committed of the manifest is so at each moment since, and chance aside a crash at any of
 -- these moments leaves only the first of its entries and of this one
@@ -150,15 +158,27 @@ pub record HasOpened (sum own : List ℕ → ℕ) (P : ℕ) (old : Life) (o : Ow
       content w o.life.present.readable ≡ whole_frames (text sum P old.present.readable))
   pub told : records_now own o ≡ records own (text sum P old.present.readable)
   pub given : answered ≡ records own (text sum P old.present.readable)
+  -- all of them are committed
+  pub committed : CommitsAll sum own P (content_now o) o.life.present
 
--- what a folder was asked for by the opening of a segment, by its answer
-abbrev pub AsksForSegment : {T E : Type 0} → ℕ → List FolderEvent → List FolderEvent
-    → Result T E → Type 0
-AsksForSegment number old new (Ok _) = new ≡ old ++ folder_event (calls.Opens number) false
-    ∷ folder_event calls.Syncs false ∷ []
-AsksForSegment number old new (Err _) =
-    (new ≡ old ++ folder_event (calls.Opens number) true ∷ [])
-    ⊎ (new ≡ old ++ folder_event (calls.Opens number) false ∷ folder_event calls.Syncs true ∷ [])
+-- the folder refused to open a segment, or to make its name durable
+abbrev pub AsksInVain : ℕ → List FolderEvent → List FolderEvent → Type 0
+AsksInVain number old new = (new ≡ old ++ folder_event (calls.Opens number) true ∷ [])
+    ⊎ ((given : List ℕ) × (new ≡ old ++ opening_with (calls.Opens number) given
+    ∷ folder_event calls.Syncs true ∷ []))
+
+-- what a folder was asked for by the opening of a segment that gave these bytes
+abbrev pub events_for : ℕ → (given : List ℕ) → List FolderEvent
+events_for number given =
+    opening_with (calls.Opens number) given ∷ folder_event calls.Syncs false ∷ []
+
+-- and by its answer
+abbrev pub AsksForSegment : {B : Type 0} → (B → Life) → ℕ → List FolderEvent → List FolderEvent
+    → Result B Error → Type 0
+AsksForSegment life number old new (Ok blob) =
+    new ≡ old ++ events_for number (life blob).present.readable
+AsksForSegment life number old new (Err (errors.System e)) = AsksInVain number old new
+AsksForSegment life number old new (Err _) = ⊥
 
 -- the next segment was opened: it has no record, and its name is durable
 pub record HasNext (sum own : List ℕ → ℕ) (s t : LogState) (next : OwnedState) : Type 0 where
@@ -167,13 +187,21 @@ pub record HasNext (sum own : List ℕ → ℕ) (s t : LogState) (next : OwnedSt
   pub there : HasJournal next.journal (λ w. Unit {0})
   pub none : records_now own next ≡ []
   pub leaves : OnlyRecords sum own s.page_size [] next.life.present
-  pub asked : t.asked ≡ s.asked ++ folder_event (calls.Opens (open_in s.listing + 1)) false
-      ∷ folder_event calls.Syncs false ∷ []
+  pub asked : t.asked ≡ s.asked ++ events_for (open_in s.listing + 1) []
+
+-- an opening of the next segment is refused: the folder refused it, or its file has bytes, or it can
+-- have no number; or the device or memory failed
+abbrev pub NextRefused : LogState → LogState → Error → Type 0
+NextRefused s t (errors.Layer e) = Unit {0}
+NextRefused s t (errors.System e) = AsksInVain (open_in s.listing + 1) s.asked t.asked
+NextRefused s t (errors.Unlisted n) = n ≡ open_in s.listing + 1
+NextRefused s t errors.NumbersExhausted = open_in s.listing ≡ 18446744073709551615
+NextRefused s t e = ⊥
 
 abbrev pub OpenNextGoes : (sum own : List ℕ → ℕ) → LogState → LogState → Result OwnedState Error
     → Type 0
 OpenNextGoes sum own s t (Ok next) = HasNext sum own s t next
-OpenNextGoes sum own s t (Err e) = Unit {0}
+OpenNextGoes sum own s t (Err e) = NextRefused s t e
 
 -- the same, except for what the folder was asked for
 abbrev pub IsSameButAsked : LogState → LogState → Type 0
@@ -194,16 +222,22 @@ pub record IsRotated (sum own : List ℕ → ℕ) (s t : LogState) : Type 0 wher
   pub listed : HasJournal t.manifest.journal (λ w. Unit {0})
   pub there : HasJournal t.current.journal (λ w. Unit {0})
   pub none : records_now own t.current ≡ []
-  pub asked : t.asked ≡ s.asked ++ folder_event (calls.Opens (open_in s.listing + 1)) false
-      ∷ folder_event calls.Syncs false ∷ []
+  pub asked : t.asked ≡ s.asked ++ events_for (open_in s.listing + 1) []
   pub loaded : t.loaded ≡ s.loaded
   pub page_size : t.page_size ≡ s.page_size
   pub most : t.most ≡ s.most
 
+-- a rotation is refused: one of the journals is closed since a call before failed, or the next
+-- segment can't be opened, or the device or memory failed
+abbrev pub RotateRefused : LogState → LogState → Error → Type 0
+RotateRefused s t errors.Closed = (s.current.journal ≡ None) ⊎ (s.manifest.journal ≡ None)
+RotateRefused s t e = NextRefused s t e
+
+-- a rotation, by its answer: after an error the log has no open segment
 abbrev pub RotateGoes : (sum own : List ℕ → ℕ) → LogState → LogState → Result (Unit {0}) Error
     → Type 0
 RotateGoes sum own s t (Ok u) = IsRotated sum own s t
-RotateGoes sum own s t (Err e) = t.current.journal ≡ None
+RotateGoes sum own s t (Err e) = (t.current.journal ≡ None) × RotateRefused s t e
 
 -- where the blob was durable, chance aside a crash leaves only the first of its records
 abbrev pub LeavesOpened : (sum own : List ℕ → ℕ) → ℕ → Life → OwnedState → Type 0
@@ -228,11 +262,20 @@ pub record IsAppendedTo (sum own : List ℕ → ℕ) (bytes : List ℕ) (s t : L
   pub here : AppendHereGoes sum own bytes mid t (Ok p)
   pub rest : IsSameButCurrent mid t
 
+-- an append is refused: it is to the open segment, or to the next one, after a rotation. There the
+-- device or memory may fail too
+abbrev pub AppendRefused : (sum own : List ℕ → ℕ) → List ℕ → LogState → LogState → Error → Type 0
+AppendRefused sum own bytes s t e =
+    ((owned_size s.current.journal < s.most)
+    × OwnedAppendGoes sum own bytes s.current t.current (Err e))
+    ⊎ ((s.most ≤ owned_size s.current.journal) × RotateRefused s t e)
+
 -- an append, by its answer: after an error the log has no open segment
 abbrev pub LogAppendGoes : (sum own : List ℕ → ℕ) → List ℕ → LogState → LogState
     → Result Place Error → Type 0
 LogAppendGoes sum own bytes s t (Ok p) = IsAppendedTo sum own bytes s t p
-LogAppendGoes sum own bytes s t (Err e) = t.current.journal ≡ None
+LogAppendGoes sum own bytes s t (Err e) =
+    (t.current.journal ≡ None) × AppendRefused sum own bytes s t e
 
 -- ---- the records, by what closed segments held
 
@@ -283,16 +326,29 @@ IsContentOf sum s segment held =
     ⊎ ((kept : Closed) × (closed_at s.listing segment ≡ Some kept)
     × HoldsClosed sum s.page_size kept held)
 
+-- a segment is closed
+abbrev pub IsListed : LogState → ℕ → Type 0
+IsListed s segment = (kept : Closed) × (closed_at s.listing segment ≡ Some kept)
+
+-- a read of a segment is refused: there is none of this number; or it is closed, and its file doesn't
+-- hold what it held, or the folder refuses the file; or it is the open one, and a call before failed;
+-- or the device or memory failed
+abbrev pub LogReadRefused : LogState → ℕ → Error → Type 0
+LogReadRefused s segment (errors.NoSegment n) =
+    (n ≡ segment) × (segment ≢ open_in s.listing) × (closed_at s.listing segment ≡ None)
+LogReadRefused s segment (errors.Damaged n) = (n ≡ segment) × IsListed s segment
+LogReadRefused s segment (errors.System e) = IsListed s segment
+LogReadRefused s segment errors.Closed =
+    (segment ≡ open_in s.listing) × (s.current.journal ≡ None)
+LogReadRefused s segment (errors.Layer e) = Unit {0}
+LogReadRefused s segment e = ⊥
+
 -- a read at a place, by its answer
 abbrev pub LogReadGoes : (sum own : List ℕ → ℕ) → LogState → Place → Result (Option Found) Error
     → Type 0
 LogReadGoes sum own s p (Ok found) =
     (held : List ℕ) × IsContentOf sum s p.segment held × IsReadOf own held p.offset found
-LogReadGoes sum own s p (Err (errors.NoSegment n)) =
-    (n ≡ p.segment) × (closed_at s.listing p.segment ≡ None)
-LogReadGoes sum own s p (Err (errors.Damaged n)) =
-    (n ≡ p.segment) × ((kept : Closed) × (closed_at s.listing p.segment ≡ Some kept))
-LogReadGoes sum own s p (Err e) = Unit {0}
+LogReadGoes sum own s p (Err e) = LogReadRefused s p.segment e
 
 -- what a read leaves: all but what is in memory of the segments
 pub record LeavesReading (sum own : List ℕ → ℕ) (s t : LogState) : Type 0 where
@@ -302,6 +358,8 @@ pub record LeavesReading (sum own : List ℕ → ℕ) (s t : LogState) : Type 0 
   pub page_size : t.page_size ≡ s.page_size
   pub most : t.most ≡ s.most
   pub current : (t.current ≡ s.current) ⊎ OwnedReadLeaves sum own s.current t.current
+  pub holds : content_now t.current ≡ content_now s.current
+  pub journal : t.current.journal ≡ s.current.journal
 
 -- a closed segment was read at an offset
 abbrev pub HeldReadGoes : (sum own : List ℕ → ℕ) → ℕ → Closed → ℕ
@@ -309,7 +367,6 @@ abbrev pub HeldReadGoes : (sum own : List ℕ → ℕ) → ℕ → Closed → �
 HeldReadGoes sum own P kept offset (Ok found) =
     (held : List ℕ) × HoldsClosed sum P kept held × IsReadOf own held offset found
 HeldReadGoes sum own P kept offset (Err (errors.Layer e)) = Unit {0}
-HeldReadGoes sum own P kept offset (Err errors.Closed) = Unit {0}
 HeldReadGoes sum own P kept offset (Err _) = ⊥
 
 -- a closed segment is in memory
@@ -325,9 +382,10 @@ abbrev pub TakeLoadedGoes : (sum own : List ℕ → ℕ) → LogState → ℕ
 TakeLoadedGoes sum own s number (Ok l) = HasLoaded sum own s number l
 TakeLoadedGoes sum own s number (Err (errors.NoSegment n)) =
     (n ≡ number) × (closed_at s.listing number ≡ None)
-TakeLoadedGoes sum own s number (Err (errors.Damaged n)) =
-    (n ≡ number) × ((kept : Closed) × (closed_at s.listing number ≡ Some kept))
-TakeLoadedGoes sum own s number (Err e) = Unit {0}
+TakeLoadedGoes sum own s number (Err (errors.Damaged n)) = (n ≡ number) × IsListed s number
+TakeLoadedGoes sum own s number (Err (errors.System e)) = IsListed s number
+TakeLoadedGoes sum own s number (Err (errors.Layer e)) = Unit {0}
+TakeLoadedGoes sum own s number (Err e) = ⊥
 
 -- the same, except for the closed segment in memory
 pub record IsSameButLoaded (s t : LogState) : Type 0 where
@@ -373,8 +431,8 @@ pub record IsStartedFrom (segment : ℕ) (s t : LogState) : Type 0 where
 
 abbrev pub StartFromGoes : ℕ → LogState → LogState → Result (Unit {0}) Error → Type 0
 StartFromGoes segment s t (Ok u) = IsStartedFrom segment s t
-StartFromGoes segment s t (Err (errors.NoSegment n)) = ⊥
-StartFromGoes segment s t (Err e) = IsSameButManifest s t
+StartFromGoes segment s t (Err e) =
+    IsSameButManifest s t × EnterRefused (Starts segment s.page_size) s e
 
 -- segments were dropped: just those before the one, where it wasn't the first
 pub record IsDropped (segment : ℕ) (s t : LogState) : Type 0 where
@@ -390,50 +448,62 @@ abbrev pub LogDropGoes : ℕ → LogState → LogState → Result (Unit {0}) Err
 LogDropGoes segment s t (Ok u) = IsDropped segment s t
 LogDropGoes segment s t (Err (errors.NoSegment n)) =
     (t ≡ s) × (n ≡ segment) × (open_in s.listing < segment)
-LogDropGoes segment s t (Err e) = t.current ≡ s.current
+LogDropGoes segment s t (Err (errors.System e)) = t.current ≡ s.current
+LogDropGoes segment s t (Err (errors.Layer e)) = t.current ≡ s.current
+LogDropGoes segment s t (Err errors.Closed) =
+    (t.current ≡ s.current) × (s.manifest.journal ≡ None)
+LogDropGoes segment s t (Err e) = ⊥
 
 -- ---- opening
 
 -- a manifest was opened: it lists what the bytes that its file gave tell, and all is durable
 pub record HasManifest (sum own : List ℕ → ℕ) (P : ℕ) (o : OwnedState) (l : ListingState)
-    : Type 0 where
+    (old new : List FolderEvent) : Type 0 where
   pub bytes : List ℕ
+  pub asked : new ≡ old ++ opening_with calls.OpensManifest bytes ∷ []
   pub owned : IsOwned sum own o
   pub page_size : o.page_size ≡ P
   pub lists : HasJournal o.journal (λ w. Lists sum own P l w o.life)
   pub told : listed_in P (records own (text sum P bytes)) ≡ Some l
 
--- the open segment was opened: it has the records that the bytes of its file tell
-pub record HasCurrent (sum own : List ℕ → ℕ) (P : ℕ) (o : OwnedState) : Type 0 where
+-- the open segment was opened: it has the records that the bytes tell that its file gave, and no
+-- other; all are committed
+pub record HasCurrent (sum own : List ℕ → ℕ) (P : ℕ) (o : OwnedState) (number : ℕ)
+    (old new : List FolderEvent) : Type 0 where
   pub bytes : List ℕ
   pub owned : IsOwned sum own o
   pub page_size : o.page_size ≡ P
   pub there : HasJournal o.journal (λ w. Unit {0})
   pub told : records_now own o ≡ records own (text sum P bytes)
+  pub committed : CommitsAll sum own P (content_now o) o.life.present
+  pub only : OnlyRecords sum own P (records_now own o) o.life.present
+  pub asked : new ≡ old ++ events_for number bytes
 
+-- what a folder was asked for to open a log: it gave these bytes of the manifest, and these of the
+-- open segment, which has this number
+abbrev pub AsksForLog : (manifest : List ℕ) → ℕ → (segment : List ℕ) → List FolderEvent
+    → List FolderEvent → Type 0
+AsksForLog manifest number segment old new =
+    new ≡ old ++ opening_with calls.OpensManifest manifest ∷ events_for number segment
+
+-- both were opened
 pub record AreParts (sum own : List ℕ → ℕ) (P : ℕ) (manifest current : OwnedState)
-    (l : ListingState) : Type 0 where
-  pub lists : HasManifest sum own P manifest l
-  pub stands : HasCurrent sum own P current
+    (l : ListingState) (old new : List FolderEvent) : Type 0 where
+  pub mid : List FolderEvent
+  pub lists : HasManifest sum own P manifest l old mid
+  pub stands : HasCurrent sum own P current (open_in l) mid new
 
--- what it was asked for where a segment was opened
-abbrev pub AsksWhereOpen : {T E : Type 0} → ℕ → List FolderEvent → List FolderEvent
-    → Result T E → Type 0
-AsksWhereOpen number old new (Ok _) = new ≡ old ++ folder_event (calls.Opens number) false
-    ∷ folder_event calls.Syncs false ∷ []
-AsksWhereOpen number old new (Err _) = Unit {0}
-
--- what a folder was asked for to open a log whose open segment has this number
-abbrev pub AsksForLog : ℕ → List FolderEvent → List FolderEvent → Type 0
-AsksForLog number old new = new ≡ old ++ folder_event calls.OpensManifest false
-    ∷ folder_event (calls.Opens number) false ∷ folder_event calls.Syncs false ∷ []
-
--- the log of a folder was opened: what its files gave, the manifest and the open segment, is what
--- the log has. An empty manifest gets its first entry, and lists no segment
-pub record IsOpenedLog (sum own : List ℕ → ℕ) (s : LogState) : Type 0 where
-  pub manifest_bytes : List ℕ
+-- the log of a folder was opened that was asked for these calls before: what its files gave, the
+-- manifest and the open segment, is what the log has. All of it is committed, and chance aside a
+-- crash leaves nothing else. An empty manifest gets its first entry, and lists no segment
+pub record IsOpenedLog (sum own : List ℕ → ℕ) (before : List FolderEvent) (s : LogState)
+    : Type 0 where
+  pub manifest : List ℕ
   pub bytes : List ℕ
-  pub listed : listed_in s.page_size (records own (text sum s.page_size manifest_bytes))
+  pub asked : AsksForLog manifest (open_in s.listing) bytes before s.asked
+  pub listed : listed_in s.page_size (records own (text sum s.page_size manifest))
       ≡ Some s.listing
   pub there : HasJournal s.current.journal (λ w. Unit {0})
   pub records : records_now own s.current ≡ records own (text sum s.page_size bytes)
+  pub committed : CommitsAll sum own s.page_size (content_now s.current) s.current.life.present
+  pub only : OnlyRecords sum own s.page_size (records_now own s.current) s.current.life.present

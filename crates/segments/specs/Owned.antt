@@ -46,6 +46,14 @@ records_of own (Some w) life = records_in own w life
 abbrev pub records_now : (own : List ℕ → ℕ) → OwnedState → List (List ℕ)
 records_now own s = records_of own s.journal s.life
 
+-- the content of a journal; none where there is no journal
+abbrev pub content_of : Option WriterState → Life → List ℕ
+content_of None life = []
+content_of (Some w) life = content w life.present.readable
+
+abbrev pub content_now : OwnedState → List ℕ
+content_now s = content_of s.journal s.life
+
 -- how many bytes its content has; none where there is no journal
 abbrev pub owned_size : Option WriterState → ℕ
 owned_size None = 0
@@ -99,10 +107,12 @@ OwnedReadGoes own offset s t (Err (errors.Layer e)) = HasJournal s.journal (λ w
 OwnedReadGoes own offset s t (Err errors.Closed) = (s.journal ≡ None) × (t ≡ s)
 OwnedReadGoes own offset s t (Err _) = ⊥
 
--- what a read leaves
-abbrev pub OwnedReadLeaves : (sum own : List ℕ → ℕ) → OwnedState → OwnedState → Type 0
-OwnedReadLeaves sum own s t = IfSome s.journal (λ w.
-    RecordReadLeaves sum own w s.cache t.cache s.life t.life)
+-- what a read leaves: the same journal, with the same content
+pub record OwnedReadLeaves (sum own : List ℕ → ℕ) (s t : OwnedState) : Type 0 where
+  pub journal : t.journal ≡ s.journal
+  pub page_size : t.page_size ≡ s.page_size
+  pub records : t.records ≡ s.records
+  pub call : IfSome s.journal (λ w. RecordReadLeaves sum own w s.cache t.cache s.life t.life)
 
 -- a recovery, by its answer: the records that it answers are those of the journal
 abbrev pub OwnedRecoverGoes : (sum own : List ℕ → ℕ) → ℕ → OwnedState → OwnedState

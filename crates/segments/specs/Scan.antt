@@ -1,39 +1,44 @@
 -- Going over the records of a log: those from a place on.
-use Rattle.std.specs.Prelude.{◌≡◌, ◌⊎◌, ◌+◌, ◌-◌, ◌++◌, ◌==◌, ℕ, suc, List, [], ◌∷◌, drop}
-use Rattle.std.specs.Prelude.{Option, Some, None, Result, Ok, Err, Bool, true, false}
-use Rattle.std.specs.Prelude.{if◌then◌else◌}
-use Rattle.disk.specs.Disk.{Life}
+use Rattle.std.specs.Prelude.{◌≡◌, ◌⊎◌, ◌≤◌, ◌<◌, ◌+◌, ◌-◌, ◌*◌, ◌++◌, ℕ, suc, List, [], ◌∷◌, drop, nat_lt}
+use Rattle.std.specs.Prelude.{Option, Some, None, Result, Ok, Err, if◌then◌else◌}
 use Rattle.page.specs.Page.{text}
-use Rattle.writer_state.specs.WriterState.{WriterState}
-use Rattle.writer_state.specs.Sound.{content}
 use Rattle.journal.specs.Frame.{records, whole_frames}
 use Rattle.segments.specs.declared.error.Error.{Error}
 use Rattle.segments.specs.declared.place.Place.{Place}
-use Rattle.segments.specs.Manifest.{open_in}
-use Rattle.segments.specs.Owned.{content_of}
-use Rattle.segments.specs.Log.{HasCollision, LogState, ReadRefused, TellHeld, closed_records}
-use Rattle.segments.specs.Log.{log_records, records_now}
+use Rattle.segments.specs.declared.scanning.Step.{Step}
+use Rattle.segments.specs.declared.scanning.Step.TheVariants.{Record, Passed, End}
+use Rattle.segments.specs.Manifest.{ListingState, open_in}
+use Rattle.segments.specs.Owned.{content_now}
+use Rattle.segments.specs.Log.{HasCollision, LogReadRefused, LogState, TellHeld, closed_records}
+use Rattle.segments.specs.Log.{log_records}
 
--- the content of a segment: of the open one; or the whole frames of what a closed one held
-abbrev pub held_content : (sum : List ℕ → ℕ) → (held : ℕ → List ℕ) → LogState → ℕ → List ℕ
-held_content sum held s segment =
-    if segment == open_in s.listing then content_of s.current.journal s.current.life
-    else whole_frames (text sum s.page_size (held segment))
+-- the content of a segment, by what the closed ones held and by the content of the open one: the
+-- whole frames of what a closed one held
+abbrev pub held_content : (sum : List ℕ → ℕ) → ℕ → (held : ℕ → List ℕ) → ListingState
+    → (content : List ℕ) → ℕ → List ℕ
+held_content sum P held l content segment =
+    if nat_lt segment (open_in l) then whole_frames (text sum P (held segment)) else content
 
 -- the records after a segment: those of the closed ones that follow, and those of the open one
-abbrev pub records_after : (sum own : List ℕ → ℕ) → (held : ℕ → List ℕ) → LogState → ℕ
-    → List (List ℕ)
-records_after sum own held s segment =
-    if segment == open_in s.listing then []
-    else closed_records sum own s.page_size held (suc segment)
-      (drop (suc segment - s.listing.first) s.listing.closed) ++ records_now own s.current
+abbrev pub records_after : (sum own : List ℕ → ℕ) → ℕ → (held : ℕ → List ℕ) → ListingState
+    → (content : List ℕ) → ℕ → List (List ℕ)
+records_after sum own P held l content segment =
+    if nat_lt segment (open_in l) then closed_records sum own P held (suc segment)
+      (drop (suc segment - l.first) l.closed) ++ records own content
+    else []
 
 -- the records from a place on
+abbrev pub records_at : (sum own : List ℕ → ℕ) → ℕ → (held : ℕ → List ℕ) → ListingState
+    → (content : List ℕ) → Place → List (List ℕ)
+records_at sum own P held l content p =
+    records own (drop p.offset (held_content sum P held l content p.segment))
+    ++ records_after sum own P held l content p.segment
+
+-- those of a log
 abbrev pub records_from : (sum own : List ℕ → ℕ) → (held : ℕ → List ℕ) → LogState → Place
     → List (List ℕ)
 records_from sum own held s p =
-    records own (drop p.offset (held_content sum held s p.segment))
-    ++ records_after sum own held s p.segment
+    records_at sum own s.page_size held s.listing (content_now s.current) p
 
 -- from this place on there are all records of the log
 abbrev pub ComesFirst : (sum own : List ℕ → ℕ) → LogState → Place → Type 0
@@ -42,25 +47,54 @@ ComesFirst sum own s p =
 
 -- whatever the closed segments held, so long as what was kept tells it: there are just these
 -- records from the one place to the other, or two strings of one digest are at hand
+abbrev pub StandBy : (sum own : List ℕ → ℕ) → ℕ → ListingState → (content : List ℕ)
+    → List (List ℕ) → (from to : Place) → Type 0
+StandBy sum own P l content these from to =
+    (held : ℕ → List ℕ) → TellHeld held l.first l.closed
+    → (records_at sum own P held l content from
+    ≡ these ++ records_at sum own P held l content to) ⊎ HasCollision
+
+-- the same of a log
 abbrev pub StandBetween : (sum own : List ℕ → ℕ) → LogState → List (List ℕ) → (from to : Place)
     → Type 0
 StandBetween sum own s these from to =
-    (held : ℕ → List ℕ) → TellHeld held s.listing.first s.listing.closed
-    → (records_from sum own held s from ≡ these ++ records_from sum own held s to) ⊎ HasCollision
+    StandBy sum own s.page_size s.listing (content_now s.current) these from to
 
 -- there is none from this place on
 abbrev pub IsEnd : (sum own : List ℕ → ℕ) → LogState → Place → Type 0
 IsEnd sum own s p = (held : ℕ → List ℕ) → records_from sum own held s p ≡ []
 
--- a record was found: where it stands, none before it, and none between it and the place behind
+-- a record was found: none stands before it, and it alone before the place behind it
 abbrev pub IsNextAt : (sum own : List ℕ → ℕ) → LogState → (from at behind : Place) → List ℕ
     → Type 0
 IsNextAt sum own s from at behind bytes = StandBetween sum own s [] from at
     × StandBetween sum own s (bytes ∷ []) at behind
 
--- a read of the next record, by its answer
+-- how far the end is, at most: what goes down as one goes on
+abbrev pub far_from : LogState → Place → ℕ
+far_from s p = (open_in s.listing + 1 - p.segment) * 18446744073709551616 - p.offset
+
+-- a place behind another one
+pub record IsBehind (s : LogState) (from to : Place) : Type 0 where
+  pub segment : from.segment ≤ to.segment
+  pub nearer : far_from s to < far_from s from
+
+-- one frame further, by what is found: a record, and the place behind it; or no record, and where to
+-- go on; or the end
+abbrev pub StepGoes : (sum own : List ℕ → ℕ) → LogState → Place → Result Step Error → Type 0
+StepGoes sum own s at (Ok (Record bytes behind)) = StandBetween sum own s (bytes ∷ []) at behind
+StepGoes sum own s at (Ok (Passed to)) = StandBetween sum own s [] at to × IsBehind s at to
+StepGoes sum own s at (Ok End) = IsEnd sum own s at
+StepGoes sum own s at (Err e) = LogReadRefused s at.segment e
+
+-- a segment from a place on can't be read
+abbrev pub IsRefusedFrom : LogState → Place → Error → Type 0
+IsRefusedFrom s p e =
+    (segment : ℕ) × (p.segment ≤ segment) × LogReadRefused s segment e
+
+-- a read of the next record, by its answer; one that is refused leaves the place where it was
 abbrev pub NextGoes : (sum own : List ℕ → ℕ) → LogState → (old new : Place)
     → Result (Option (Place × List ℕ)) Error → Type 0
 NextGoes sum own s old new (Ok None) = StandBetween sum own s [] old new × IsEnd sum own s new
 NextGoes sum own s old new (Ok (Some r)) = IsNextAt sum own s old r.0 new r.1
-NextGoes sum own s old new (Err e) = (new ≡ old) × ReadRefused s e
+NextGoes sum own s old new (Err e) = (new ≡ old) × IsRefusedFrom s old e

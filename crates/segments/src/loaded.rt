@@ -33,6 +33,7 @@ impl<H: Sum, R: Sum> Model for Loaded<H, R> {
 impl<H: Sum, R: Sum> Loaded<H, R> {
     /// A segment that was read, of which this was kept. None where its bytes aren't those of which
     /// it was.
+    #[tactic(auto, using(crate::proofs::Loading::loaded_of))]
     pub fn new(
         alloc: Global,
         options: Options,
@@ -60,6 +61,7 @@ impl<H: Sum, R: Sum> Loaded<H, R> {
     }
 
     /// The frame at an offset.
+    #[tactic(auto, using(crate::proofs::Loading::held_read, crate::proofs::Loading::loaded_still))]
     pub fn read(&mut self, offset: u64) -> Result<Option<Found>, Error>
         requires loaded { let P = self.old.owned.page_size in
             IsLoaded H.sum_of R.sum_of P self.old }

@@ -1,12 +1,10 @@
 // Opening files.
-ghost use Rattle.std.specs.Prelude.{◌≡◌, ◌∷◌, ◌++◌, [], false, IfOk};
+ghost use Rattle.std.specs.Prelude.{◌≡◌, List, IfOk};
 ghost use Rattle.std.specs.Int.NonZero.{non_zero_u16_get};
 ghost use Rattle.paged.specs.Recovery.{IsDurable};
+ghost use Rattle.segments.specs.FolderEvents.{FolderEvent};
 ghost use Rattle.segments.specs.Log.{AreParts, AsksForSegment, HasOpened, HasCurrent, HasManifest};
-ghost use Rattle.segments.specs.Log.{AsksForLog, AsksWhereOpen, IsLog, IsOpenedLog, LeavesOpened};
-ghost use Rattle.segments.specs.declared.call.FolderCall.TheVariants as calls;
-ghost use Rattle.segments.specs.FolderPast.{folder_event};
-ghost use Rattle.segments.specs.Manifest.{open_in};
+ghost use Rattle.segments.specs.Log.{IsLog, IsOpenedLog, LeavesOpened};
 
 use crate::error::Error;
 use crate::folder::{Asked, Folder};
@@ -28,11 +26,10 @@ impl<F: Folder<B> + Drop, B: Blob + Drop, H: Sum, R: Sum> SegmentedLog<F, B, H, 
     /// refuses a file, and `Layer` where the device or memory failed. What was committed still is.
     pub fn open(alloc: Global, folder: F, options: Options) -> Result<Self, Error>
         ensures log { IfOk result (λ log. IsLog H.sum_of R.sum_of log) }
-        ensures opens { IfOk result (λ log. IsOpenedLog H.sum_of R.sum_of log) }
+        ensures opens { let before = F.asked folder in
+            IfOk result (λ log. IsOpenedLog H.sum_of R.sum_of before log) }
         ensures page_size { IfOk result (λ log.
             log.page_size ≡ non_zero_u16_get options.page_size) }
-        ensures asks { IfOk result (λ log.
-            AsksForLog (open_in log.listing) (F.asked folder) log.asked) }
     {
         let mut folder = folder;
         match open_parts::<F, B, H, R>(alloc, &mut folder, options) {
@@ -64,12 +61,11 @@ impl<F: Folder<B> + Drop, B: Blob + Drop, H: Sum, R: Sum> SegmentedLog<F, B, H, 
     // Gives a new manifest its first entry.
     fn begin(&mut self, is_new: bool) -> Result<(), Error>
         requires log { IsLog H.sum_of R.sum_of self.old }
-        requires opens { IsOpenedLog H.sum_of R.sum_of self.old }
         ensures log { IfOk result (λ u. IsLog H.sum_of R.sum_of self.new) }
-        ensures opens { IfOk result (λ u. IsOpenedLog H.sum_of R.sum_of self.new) }
+        ensures opens { (before : List FolderEvent)
+            → IsOpenedLog H.sum_of R.sum_of before self.old
+            → IfOk result (λ u. IsOpenedLog H.sum_of R.sum_of before self.new) }
         ensures page_size { self.new.page_size ≡ self.old.page_size }
-        ensures same { IfOk result (λ u.
-            (self.new.asked ≡ self.old.asked) × (self.new.listing ≡ self.old.listing)) }
     {
         if !is_new {
             return Ok(());
@@ -96,9 +92,8 @@ fn open_parts<F: Folder<B>, B: Blob + Drop, H: Sum, R: Sum>(
     options: Options,
 ) -> Result<Parts<B, H, R>, Error>
     ensures are { let P = non_zero_u16_get options.page_size in
-        IfOk result (λ p. AreParts H.sum_of R.sum_of P p.manifest p.current p.listing) }
-    ensures asks { IfOk result (λ p.
-        AsksForLog (open_in p.listing) (F.asked folder.old) (F.asked folder.new)) }
+        IfOk result (λ p. AreParts H.sum_of R.sum_of P p.manifest p.current p.listing
+        (F.asked folder.old) (F.asked folder.new)) }
 {
     let number = open_number::<F, B, H, R>(alloc, folder, options)?;
     let (manifest, listing, is_new) = open_manifest::<F, B, H, R>(alloc, folder, options)?;
@@ -123,9 +118,8 @@ fn open_manifest<F: Folder<B>, B: Blob + Drop, H: Sum, R: Sum>(
     options: Options,
 ) -> Result<(OwnedJournal<B, H, R>, Listing, bool), Error>
     ensures has { let P = non_zero_u16_get options.page_size in
-        IfOk result (λ r. HasManifest H.sum_of R.sum_of P r.0 r.1) }
-    ensures asks { IfOk result (λ r.
-        F.asked folder.new ≡ F.asked folder.old ++ folder_event calls.OpensManifest false ∷ []) }
+        let old = F.asked folder.old in let new = F.asked folder.new in
+        IfOk result (λ r. HasManifest H.sum_of R.sum_of P r.0 r.1 old new) }
 {
     let blob = folder.open(Asked::Manifest)?;
     let (mut manifest, entries) = recover::<B, H, R>(alloc, options, blob)?;
@@ -146,8 +140,8 @@ fn open_current<F: Folder<B>, B: Blob + Drop, H: Sum, R: Sum>(
     number: u64,
 ) -> Result<OwnedJournal<B, H, R>, Error>
     ensures has { let P = non_zero_u16_get options.page_size in
-        IfOk result (λ o. HasCurrent H.sum_of R.sum_of P o) }
-    ensures asks { AsksWhereOpen number (F.asked folder.old) (F.asked folder.new) result }
+        let old = F.asked folder.old in let new = F.asked folder.new in
+        IfOk result (λ o. HasCurrent H.sum_of R.sum_of P o number old new) }
 {
     let blob = open_segment::<F, B>(folder, number)?;
     match recover::<B, H, R>(alloc, options, blob) {
@@ -214,7 +208,8 @@ fn listed_open<F: Folder<B>, B: Blob + Drop, H: Sum, R: Sum>(
 
 // Opens a segment, and makes its name durable.
 pub fn open_segment<F: Folder<B>, B: Blob + Drop>(folder: &mut F, number: u64) -> Result<B, Error>
-    ensures asks_for { AsksForSegment number (F.asked folder.old) (F.asked folder.new) result }
+    ensures asks_for { let old = F.asked folder.old in let new = F.asked folder.new in
+        AsksForSegment B.life number old new result }
     ensures rests { IfOk result (λ blob. IsDurable (B.life blob).present) }
 {
     match folder.open(Asked::Segment(number)) {

@@ -171,7 +171,6 @@ impl<B: Blob + Drop, H: Sum, R: Sum> OwnedJournal<B, H, R> {
         ensures goes { OwnedReadGoes R.sum_of offset self.old self.new result }
         ensures ready { IsOwned H.sum_of R.sum_of self.new }
         ensures leaves { OwnedReadLeaves H.sum_of R.sum_of self.old self.new }
-        ensures page_size { self.new.page_size ≡ self.old.page_size }
     {
         let Some(journal) = &self.journal else {
             return Err(Error::Closed);

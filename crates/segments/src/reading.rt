@@ -1,9 +1,9 @@
 // Reading records.
-ghost use Rattle.std.specs.Prelude.{◌≡◌, Some, IfOk};
+ghost use Rattle.std.specs.Prelude.{◌≡◌, ◌≢◌, Some};
 ghost use Rattle.segments.specs.Log.{IsLog, IsSameButCurrent, IsSameButLoaded, LeavesReading};
 ghost use Rattle.segments.specs.Log.{LogReadGoes, TakeLoadedGoes};
 ghost use Rattle.segments.specs.Owned.{OwnedReadLeaves, OwnedReadGoes};
-ghost use Rattle.segments.specs.Manifest.{closed_at};
+ghost use Rattle.segments.specs.Manifest.{closed_at, open_in};
 
 use crate::closed::Closed;
 use crate::error::Error;
@@ -56,6 +56,7 @@ impl<F: Folder<B> + Drop, B: Blob + Drop, H: Sum, R: Sum> SegmentedLog<F, B, H, 
     // The frame at a place of a closed segment.
     fn read_closed(&mut self, place: Place) -> Result<Option<Found>, Error>
         requires log { IsLog H.sum_of R.sum_of self.old }
+        requires closed { place.segment ≢ open_in self.old.listing }
         ensures goes { LogReadGoes H.sum_of R.sum_of self.old place result }
         ensures ready { IsLog H.sum_of R.sum_of self.new }
         ensures rest { IsSameButLoaded self.old self.new }
@@ -89,7 +90,7 @@ impl<F: Folder<B> + Drop, B: Blob + Drop, H: Sum, R: Sum> SegmentedLog<F, B, H, 
     /// what was kept of it. `Damaged` where it doesn't hold what it held when it was closed: the
     /// other segments can be read. `NoSegment` where it was dropped, or was never there. `System`
     /// where the system refuses its file. An error leaves the log as it was.
-    #[tactic(auto, using(crate::proofs::Readings::reads_current))]
+    #[tactic(auto, using(crate::proofs::Readings::reads_current, crate::proofs::Joining::leaves_current))]
     pub fn read(&mut self, place: Place) -> Result<Option<Found>, Error>
         requires log { IsLog H.sum_of R.sum_of self.old }
         ensures goes { LogReadGoes H.sum_of R.sum_of self.old place result }

@@ -1,7 +1,8 @@
 // Going over the records.
-ghost use Rattle.std.specs.Prelude.{◌≡◌, IfOk};
-ghost use Rattle.segments.specs.Log.{IsLog, LeavesReading, log_records};
-ghost use Rattle.segments.specs.Scan.{ComesFirst, NextGoes};
+ghost use Rattle.std.specs.Prelude.{None, Ok};
+ghost use Rattle.segments.specs.Log.{IsLog, LeavesReading};
+ghost use Rattle.segments.specs.Scan.{ComesFirst, NextGoes, StepGoes};
+ghost use Rattle.segments.specs.Log.{LogReadGoes};
 
 use crate::error::Error;
 use crate::folder::Folder;
@@ -9,6 +10,17 @@ use crate::log::SegmentedLog;
 use crate::place::Place;
 use disk::{Blob, IoBuf};
 use page::Sum;
+
+// What stands at a place.
+#[derive(Drop)]
+enum Step {
+    // A record, and the place behind it.
+    Record(IoBuf, Place),
+    // No record: here it goes on.
+    Passed(Place),
+    // The end of the log.
+    End,
+}
 
 impl<F: Folder<B> + Drop, B: Blob + Drop, H: Sum, R: Sum> SegmentedLog<F, B, H, R> {
     /// The place of the first record, from which [`next`](SegmentedLog::next) goes over all.
@@ -37,30 +49,51 @@ impl<F: Folder<B> + Drop, B: Blob + Drop, H: Sum, R: Sum> SegmentedLog<F, B, H, 
     {
         let mut at = *place;
         loop {
-            let found = self.read(at)?;
-            match found {
-                Some(found) => {
-                    let behind = Place {
-                        segment: at.segment,
-                        offset: found.end,
-                    };
-                    if let Some(bytes) = found.bytes {
-                        *place = behind;
-                        return Ok(Some((at, bytes)));
-                    }
-                    at = behind;
+            match self.step(at)? {
+                Step::Record(bytes, behind) => {
+                    *place = behind;
+                    return Ok(Some((at, bytes)));
                 }
-                None => {
-                    if at.segment == self.listing.open() {
-                        *place = at;
-                        return Ok(None);
-                    }
-                    at = Place {
-                        segment: at.segment + 1,
-                        offset: 0,
-                    };
+                Step::Passed(to) => at = to,
+                Step::End => {
+                    *place = at;
+                    return Ok(None);
                 }
             }
         }
+    }
+
+    // One frame further.
+    fn step(&mut self, at: Place) -> Result<Step, Error>
+        requires log { IsLog H.sum_of R.sum_of self.old }
+        ensures goes { StepGoes H.sum_of R.sum_of self.old at result }
+        ensures ready { IsLog H.sum_of R.sum_of self.new }
+        ensures leaves { LeavesReading H.sum_of R.sum_of self.old self.new }
+    {
+        let Some(found) = self.read(at)? else {
+            return Ok(self.step_after(at));
+        };
+        let behind = Place {
+            segment: at.segment,
+            offset: found.end,
+        };
+        match found.bytes {
+            Some(bytes) => Ok(Step::Record(bytes, behind)),
+            None => Ok(Step::Passed(behind)),
+        }
+    }
+
+    // After the last frame of a segment: the next one follows a closed one.
+    fn step_after(&self, at: Place) -> Step
+        requires none { LogReadGoes H.sum_of R.sum_of self.now at (Ok None) }
+        ensures { StepGoes H.sum_of R.sum_of self.now at (Ok result) }
+    {
+        if at.segment == self.listing.open() {
+            return Step::End;
+        }
+        Step::Passed(Place {
+            segment: at.segment + 1,
+            offset: 0,
+        })
     }
 }

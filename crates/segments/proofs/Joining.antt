@@ -1,0 +1,107 @@
+-- Reads, one after another.
+use Rattle.std.specs.Prelude.{◌≡◌, ◌⊎◌, ℕ, List, [], ◌∷◌, length, Some, None, Option, IfSome}
+use Rattle.std.proofs.Common.{ap, sym, ◌∙◌, subst, inl, inr, refl}
+use Rattle.disk.specs.Disk.{Disk, Life}
+use Rattle.cache.specs.CacheState.{CacheState}
+use Rattle.crash.specs.Looks.{Looked, looked_joins}
+use Rattle.crash.specs.Moments.{through_end, through_joins}
+use Rattle.writer_state.specs.WriterState.{WriterState}
+use Rattle.writer_state.specs.Sound.{content}
+use Rattle.journal.specs.Frame.{records}
+use Rattle.journal.specs.Journal.{Commits, OnlyRecords, records_in}
+use Rattle.journal.specs.Calls.{JournalCallLeaves, RecordReadLeaves}
+use Rattle.segments.specs.Owned.{OwnedReadLeaves, OwnedState, content_of}
+use Rattle.segments.specs.Log.{IsSameButCurrent, IsSameButLoaded, LeavesReading, LogState}
+
+-- two calls of a journal, as one
+call_joins : (sum own : List ℕ → ℕ) (w : WriterState) (all : List (List ℕ)) (cache mid after : CacheState) (old half new : Life)
+    → JournalCallLeaves sum own w all cache mid old half → JournalCallLeaves sum own w all mid after half new → JournalCallLeaves sum own w all cache after old new
+call_joins sum own w all cache mid after old half new first second = record {
+  fresh = second.fresh;
+  readers = λ r below reader.
+      let one = first.readers r below reader in
+      let two = second.readers r below one.reader in
+      record { reader = two.reader; holds = two.holds ∙ one.holds };
+  others = λ sum other life apart is. second.others sum other life apart (first.others sum other life apart is);
+  their_readers = λ sum r life apart is. second.their_readers sum r life apart (first.their_readers sum r life apart is);
+  kept = λ held n commits. through_joins (Commits sum own w.page_size held n) old half new (first.kept held n commits)
+      (second.kept held n (through_end (Commits sum own w.page_size held n) old half (first.kept held n commits)));
+  only = through_joins (OnlyRecords sum own w.page_size all) old half new first.only second.only;
+}
+
+-- a read leaves the bytes
+looked_bytes : (old new : Life) → Looked old new → new.present.readable ≡ old.present.readable
+looked_bytes old new looked = ap (λ (d : Disk). d.readable) looked.same
+
+read_joins : (sum own : List ℕ → ℕ) (w : WriterState) (cache mid after : CacheState) (old half new : Life)
+    → RecordReadLeaves sum own w cache mid old half → RecordReadLeaves sum own w mid after half new → RecordReadLeaves sum own w cache after old new
+read_joins sum own w cache mid after old half new first second = record {
+  looked = looked_joins old half new first.looked second.looked;
+  call = call_joins sum own w (records_in own w old) cache mid after old half new first.call
+      (subst (λ (bytes : List ℕ). JournalCallLeaves sum own w (records own (content w bytes)) mid after half new) (looked_bytes old half first.looked) second.call);
+}
+
+reads_by : (sum own : List ℕ → ℕ) (j : Option WriterState) (cache mid after : CacheState) (old half new : Life)
+    → IfSome j (λ w. RecordReadLeaves sum own w cache mid old half) → IfSome j (λ w. RecordReadLeaves sum own w mid after half new)
+    → IfSome j (λ w. RecordReadLeaves sum own w cache after old new)
+reads_by sum own None cache mid after old half new first second = tt
+reads_by sum own (Some w) cache mid after old half new first second = read_joins sum own w cache mid after old half new first second
+
+owned_joins : (sum own : List ℕ → ℕ) (s m t : OwnedState) → OwnedReadLeaves sum own s m → OwnedReadLeaves sum own m t → OwnedReadLeaves sum own s t
+owned_joins sum own s m t first second = record {
+  journal = second.journal ∙ first.journal;
+  page_size = second.page_size ∙ first.page_size;
+  records = second.records ∙ first.records;
+  call = reads_by sum own s.journal s.cache m.cache t.cache s.life m.life t.life first.call
+      (subst (λ j. IfSome j (λ w. RecordReadLeaves sum own w m.cache t.cache m.life t.life)) first.journal second.call);
+}
+
+pub leaves_joins : (sum own : List ℕ → ℕ) (s m t : LogState) → LeavesReading sum own s m → LeavesReading sum own m t → LeavesReading sum own s t
+leaves_joins sum own s m t first second = record {
+  manifest = second.manifest ∙ first.manifest;
+  listing = second.listing ∙ first.listing;
+  asked = second.asked ∙ first.asked;
+  page_size = second.page_size ∙ first.page_size;
+  most = second.most ∙ first.most;
+  current = elim (first.current) [
+    | inl same ↦ subst (λ o. (t.current ≡ o) ⊎ OwnedReadLeaves sum own o t.current) same second.current
+    | inr one ↦ elim (second.current) [
+      | inl same ↦ inr (subst (λ o. OwnedReadLeaves sum own s.current o) (sym same) one)
+      | inr two ↦ inr (owned_joins sum own s.current m.current t.current one two)
+    ]
+  ];
+  holds = second.holds ∙ first.holds;
+  journal = second.journal ∙ first.journal;
+}
+
+-- nothing was read
+pub leaves_start : (sum own : List ℕ → ℕ) (s : LogState) → LeavesReading sum own s s
+leaves_start sum own s = record {
+  manifest = refl;
+  listing = refl;
+  asked = refl;
+  page_size = refl;
+  most = refl;
+  current = inl refl;
+  holds = refl;
+  journal = refl;
+}
+
+-- a read of the open segment leaves its content
+pub content_by : (sum own : List ℕ → ℕ) (j : Option WriterState) (cache after : CacheState) (old new : Life)
+    → IfSome j (λ w. RecordReadLeaves sum own w cache after old new) → content_of j new ≡ content_of j old
+content_by sum own None cache after old new leaves = refl
+content_by sum own (Some w) cache after old new leaves = ap (λ (bytes : List ℕ). content w bytes) (looked_bytes old new leaves.looked)
+
+-- what a read of the open segment leaves of the log
+pub leaves_current : (sum own : List ℕ → ℕ) (s t : LogState) → IsSameButCurrent s t → OwnedReadLeaves sum own s.current t.current → LeavesReading sum own s t
+leaves_current sum own s t rest leaves = record {
+  manifest = rest.manifest;
+  listing = rest.listing;
+  asked = rest.asked;
+  page_size = rest.page_size;
+  most = rest.most;
+  current = inr leaves;
+  holds = ap (λ j. content_of j t.current.life) leaves.journal ∙ content_by sum own s.current.journal s.current.cache t.current.cache s.current.life t.current.life leaves.call;
+  journal = leaves.journal;
+}
