@@ -1,14 +1,16 @@
 -- A log that begins.
-use Rattle.std.specs.Prelude.{◌≡◌, ◌-◌, ℕ, List, drop, Some, Result, Ok, Err, IfOk}
-use Rattle.std.proofs.Common.{ap, sym, ◌∙◌, subst, arith}
+use Rattle.std.specs.Prelude.{◌≡◌, ◌-◌, ◌++◌, ℕ, List, [], ◌∷◌, drop, Some, None, Result, Ok, Err, IfOk}
+use Rattle.std.proofs.Common.{ap, sym, ◌∙◌, subst, arith, append_assoc}
 use Rattle.page.specs.Page.{text}
 use Rattle.journal.specs.Frame.{records}
 use Rattle.journal.specs.Journal.{CommitsAll, OnlyRecords}
 use Rattle.segments.specs.declared.error.Error.{Error}
-use Rattle.segments.specs.FolderEvents.{FolderEvent}
+use Rattle.segments.specs.declared.call.FolderCall.TheVariants as calls
+use Rattle.segments.specs.FolderEvents.{FolderEvent, opening_with}
 use Rattle.segments.specs.Manifest.{ListingState, listed_in, open_in}
 use Rattle.segments.specs.Owned.{HasJournal, OwnedState, content_now, records_now}
-use Rattle.segments.specs.Log.{AsksForLog, IsOpenedLog, IsStartedFrom, LogState, StartFromGoes, listing_from}
+use Rattle.segments.specs.Log.{AreParts, events_for, IsStartedFrom, LogState, StartFromGoes, closed_records, listing_from, log_records}
+use Rattle.segments.specs.Crash.{AsksForLog, IsOpenedLog, records_by, records_left}
 
 from_first : (first : ℕ) (l : ListingState) → first ≡ l.first → listing_from first l ≡ l
 from_first first l is =
@@ -16,20 +18,33 @@ from_first first l is =
       none : (n : ℕ) → n - n ≡ 0
       none n = omega arith
 
+-- the records of an opened log are those that are left by its files' bytes
+pub left_by : (sum own : List ℕ → ℕ) (manifest bytes : List ℕ) (s : LogState) → listed_in s.page_size (records own (text sum s.page_size manifest)) ≡ Some s.listing
+    → records_now own s.current ≡ records own (text sum s.page_size bytes)
+    → (held file : ℕ → List ℕ) → file (open_in s.listing) ≡ bytes → records_left sum own s.page_size held file manifest ≡ Some (log_records sum own held s)
+left_by sum own manifest bytes s listed told held file same =
+    let before = closed_records sum own s.page_size held s.listing.first s.listing.closed in
+    ap (λ o. records_by sum own s.page_size held file o) listed
+    ∙ ap (λ b. Some (before ++ records own (text sum s.page_size b))) same
+    ∙ ap (λ rs. Some (before ++ rs)) (sym told)
+
 opened : (sum own : List ℕ → ℕ) (first : ℕ) (before : List FolderEvent) (s t : LogState) → IsOpenedLog sum own before s → first ≡ s.listing.first → IsStartedFrom first s t
     → IsOpenedLog sum own before t
 opened sum own first before s t log is started =
     let same : t.listing ≡ s.listing = started.listing ∙ from_first first s.listing is in
     let pages = sym started.rest.page_size in
     let current = sym started.rest.current in
+    let listed = ap (λ P. listed_in P (records own (text sum P log.manifest))) started.rest.page_size ∙ log.listed ∙ ap (λ (l : ListingState). Some l) (sym same) in
+    let told = ap (λ (o : OwnedState). records_now own o) started.rest.current ∙ log.records ∙ ap (λ P. records own (text sum P log.bytes)) pages in
     record {
       manifest = log.manifest;
       bytes = log.bytes;
       asked = subst (λ l. AsksForLog log.manifest (open_in l) log.bytes before t.asked) (sym same)
           (subst (λ es. AsksForLog log.manifest (open_in s.listing) log.bytes before es) (sym started.rest.asked) log.asked);
-      listed = ap (λ P. listed_in P (records own (text sum P log.manifest))) started.rest.page_size ∙ log.listed ∙ ap (λ (l : ListingState). Some l) (sym same);
+      listed = listed;
+      left = left_by sum own log.manifest log.bytes t listed told;
       there = subst (λ (o : OwnedState). HasJournal o.journal (λ w. Unit {0})) current log.there;
-      records = ap (λ (o : OwnedState). records_now own o) started.rest.current ∙ log.records ∙ ap (λ P. records own (text sum P log.bytes)) pages;
+      records = told;
       committed = subst (λ P. CommitsAll sum own P (content_now t.current) t.current.life.present) pages
           (subst (λ (o : OwnedState). CommitsAll sum own s.page_size (content_now o) o.life.present) current log.committed);
       only = subst (λ P. OnlyRecords sum own P (records_now own t.current) t.current.life.present) pages
@@ -40,3 +55,22 @@ pub begin_opened : (sum own : List ℕ → ℕ) (first : ℕ) (before : List Fol
     → first ≡ view.listing.first → StartFromGoes first s t result → IfOk result (λ u. IsOpenedLog sum own before t)
 begin_opened sum own first before view s t (Ok u) same log is started = opened sum own first before s t log (is ∙ ap (λ (l : LogState). l.listing.first) same) started
 begin_opened sum own first before view s t (Err e) same log is started = tt
+
+-- a log over the manifest and the segment that were opened
+pub parts_open : (sum own : List ℕ → ℕ) (P most : ℕ) (before after : List FolderEvent) (manifest current : OwnedState) (l : ListingState) → AreParts sum own P manifest current l before after
+    → IsOpenedLog sum own before (record { manifest = manifest; current = current; listing = l; asked = after; loaded = None; page_size = P; most = most })
+parts_open sum own P most before after manifest current l parts =
+    let s : LogState = record { manifest = manifest; current = current; listing = l; asked = after; loaded = None; page_size = P; most = most } in
+    let first = opening_with calls.OpensManifest parts.lists.bytes in
+    let events = events_for (open_in l) parts.stands.bytes in
+    record {
+      manifest = parts.lists.bytes;
+      bytes = parts.stands.bytes;
+      asked = parts.stands.asked ∙ ap (λ es. es ++ events) parts.lists.asked ∙ append_assoc before (first ∷ []) events;
+      listed = parts.lists.told;
+      left = left_by sum own parts.lists.bytes parts.stands.bytes s parts.lists.told parts.stands.told;
+      there = parts.stands.there;
+      records = parts.stands.told;
+      committed = parts.stands.committed;
+      only = parts.stands.only;
+    }

@@ -15,6 +15,6 @@ pub mod Beginning
 pub mod Surviving
 pub mod Opened
 pub mod Turning
-pub mod Scanning
+pub mod Stepping
 pub mod Joining
 pub mod Loading

@@ -7,11 +7,14 @@ use Rattle.crash.specs.Guard.{IsChanceFree}
 use Rattle.crash.specs.Kept.{Through}
 use Rattle.page.specs.Page.{text}
 use Rattle.journal.specs.Frame.{IsPrefix, records}
-use Rattle.journal.specs.Journal.{Commits}
+use Rattle.journal.specs.Journal.{Commits, CommitsAll, OnlyRecords}
 use Rattle.segments.specs.declared.closed.Closed.{Closed}
+use Rattle.segments.specs.declared.call.FolderCall.TheVariants as calls
 use Rattle.segments.specs.Digests.{IsOf}
+use Rattle.segments.specs.FolderEvents.{FolderEvent, opening_with}
 use Rattle.segments.specs.Manifest.{ListingState, listed_in, open_in}
-use Rattle.segments.specs.Log.{HasCollision, LogState, closed_records, log_records}
+use Rattle.segments.specs.Owned.{HasJournal, content_now, records_now}
+use Rattle.segments.specs.Log.{HasCollision, LogState, closed_records, events_for, log_records}
 
 -- the records of a log whose manifest lists this, and whose files hold these bytes; each closed
 -- segment held what `held` tells
@@ -115,3 +118,30 @@ abbrev pub AppendSurvives : (sum own : List ℕ → ℕ) → List ℕ → LogSta
 AppendSurvives sum own bytes s t = CurrentSurvives sum own (bytes ∷ []) s t
     ⊎ RotationSurvives sum own s t
     ⊎ ((m : LogState) × RotationSurvives sum own s m × CurrentSurvives sum own (bytes ∷ []) m t)
+
+-- ---- opening
+
+-- what a folder was asked for to open a log: it gave these bytes of the manifest, and these of the
+-- open segment, which has this number
+abbrev pub AsksForLog : (manifest : List ℕ) → ℕ → (segment : List ℕ) → List FolderEvent
+    → List FolderEvent → Type 0
+AsksForLog manifest number segment old new =
+    new ≡ old ++ opening_with calls.OpensManifest manifest ∷ events_for number segment
+
+-- the log of a folder was opened that was asked for these calls before: what its files gave, the
+-- manifest and the open segment, is what the log has. All of it is committed, and chance aside a
+-- crash leaves nothing else. An empty manifest gets its first entry, and lists no segment
+pub record IsOpenedLog (sum own : List ℕ → ℕ) (before : List FolderEvent) (s : LogState)
+    : Type 0 where
+  pub manifest : List ℕ
+  pub bytes : List ℕ
+  pub asked : AsksForLog manifest (open_in s.listing) bytes before s.asked
+  pub listed : listed_in s.page_size (records own (text sum s.page_size manifest))
+      ≡ Some s.listing
+  -- so it has the records that are left of a log whose files hold these bytes
+  pub left : (held file : ℕ → List ℕ) → file (open_in s.listing) ≡ bytes
+      → records_left sum own s.page_size held file manifest ≡ Some (log_records sum own held s)
+  pub there : HasJournal s.current.journal (λ w. Unit {0})
+  pub records : records_now own s.current ≡ records own (text sum s.page_size bytes)
+  pub committed : CommitsAll sum own s.page_size (content_now s.current) s.current.life.present
+  pub only : OnlyRecords sum own s.page_size (records_now own s.current) s.current.life.present

@@ -479,31 +479,9 @@ pub record HasCurrent (sum own : List ℕ → ℕ) (P : ℕ) (o : OwnedState) (n
   pub only : OnlyRecords sum own P (records_now own o) o.life.present
   pub asked : new ≡ old ++ events_for number bytes
 
--- what a folder was asked for to open a log: it gave these bytes of the manifest, and these of the
--- open segment, which has this number
-abbrev pub AsksForLog : (manifest : List ℕ) → ℕ → (segment : List ℕ) → List FolderEvent
-    → List FolderEvent → Type 0
-AsksForLog manifest number segment old new =
-    new ≡ old ++ opening_with calls.OpensManifest manifest ∷ events_for number segment
-
 -- both were opened
 pub record AreParts (sum own : List ℕ → ℕ) (P : ℕ) (manifest current : OwnedState)
     (l : ListingState) (old new : List FolderEvent) : Type 0 where
   pub mid : List FolderEvent
   pub lists : HasManifest sum own P manifest l old mid
   pub stands : HasCurrent sum own P current (open_in l) mid new
-
--- the log of a folder was opened that was asked for these calls before: what its files gave, the
--- manifest and the open segment, is what the log has. All of it is committed, and chance aside a
--- crash leaves nothing else. An empty manifest gets its first entry, and lists no segment
-pub record IsOpenedLog (sum own : List ℕ → ℕ) (before : List FolderEvent) (s : LogState)
-    : Type 0 where
-  pub manifest : List ℕ
-  pub bytes : List ℕ
-  pub asked : AsksForLog manifest (open_in s.listing) bytes before s.asked
-  pub listed : listed_in s.page_size (records own (text sum s.page_size manifest))
-      ≡ Some s.listing
-  pub there : HasJournal s.current.journal (λ w. Unit {0})
-  pub records : records_now own s.current ≡ records own (text sum s.page_size bytes)
-  pub committed : CommitsAll sum own s.page_size (content_now s.current) s.current.life.present
-  pub only : OnlyRecords sum own s.page_size (records_now own s.current) s.current.life.present

@@ -4,7 +4,8 @@ ghost use Rattle.std.specs.Int.NonZero.{non_zero_u16_get};
 ghost use Rattle.paged.specs.Recovery.{IsDurable};
 ghost use Rattle.segments.specs.FolderEvents.{FolderEvent};
 ghost use Rattle.segments.specs.Log.{AreParts, AsksForSegment, HasOpened, HasCurrent, HasManifest};
-ghost use Rattle.segments.specs.Log.{IsLog, IsOpenedLog, LeavesOpened};
+ghost use Rattle.segments.specs.Log.{IsLog, LeavesOpened};
+ghost use Rattle.segments.specs.Crash.{IsOpenedLog};
 
 use crate::error::Error;
 use crate::folder::{Asked, Folder};
@@ -24,6 +25,7 @@ impl<F: Folder<B> + Drop, B: Blob + Drop, H: Sum, R: Sum> SegmentedLog<F, B, H, 
     /// segment has bytes that comes after the open one, or where there is no manifest: it may be an
     /// old one, or be lost. `Missing` where the open segment isn't there. `System` where the system
     /// refuses a file, and `Layer` where the device or memory failed. What was committed still is.
+    #[tactic(auto, using(crate::proofs::Beginning::parts_open))]
     pub fn open(alloc: Global, folder: F, options: Options) -> Result<Self, Error>
         ensures log { IfOk result (λ log. IsLog H.sum_of R.sum_of log) }
         ensures opens { let before = F.asked folder in
