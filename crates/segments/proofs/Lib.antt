@@ -18,3 +18,4 @@ pub mod Turning
 pub mod Stepping
 pub mod Joining
 pub mod Loading
+pub mod Refusing

@@ -1,6 +1,6 @@
 -- A closed segment in memory.
 use Rattle.std.specs.Prelude.{◌≡◌, ℕ, List, Some, None, Option, Result, Ok, Err, IfSome}
-use Rattle.std.proofs.Common.{ap, sym, ◌∙◌, subst}
+use Rattle.std.proofs.Common.{ap, sym, ◌∙◌, subst, inr}
 use Rattle.disk.specs.Disk.{Life}
 use Rattle.page.specs.Page.{text}
 use Rattle.writer_state.specs.WriterState.{WriterState}
@@ -10,9 +10,10 @@ use Rattle.journal.specs.declared.frame.Found.{Found}
 use Rattle.segments.specs.declared.closed.Closed.{Closed}
 use Rattle.segments.specs.declared.error.Error.{Error}
 use Rattle.segments.specs.declared.error.Error.TheVariants as errors
-use Rattle.segments.specs.Digests.{IsOf}
+use Rattle.segments.specs.declared.place.Place.{Place}
+use Rattle.segments.specs.Digests.{IsOf, SameKept}
 use Rattle.segments.specs.Owned.{HasJournal, IsOwned, OwnedReadGoes, OwnedReadLeaves, OwnedState, content_of}
-use Rattle.segments.specs.Log.{HasOpened, HeldReadGoes, HoldsClosed, IsLoaded, IsReadOf, LoadedState}
+use Rattle.segments.specs.Log.{HasLoaded, HasOpened, HeldReadGoes, HoldsClosed, IsLoaded, IsReadOf, LoadedState, LogReadGoes, LogState}
 use Rattle.segments.proofs.Joining.{content_by}
 use Rattle.segments.proofs.Readings.{reads_by}
 
@@ -57,8 +58,8 @@ pub held_read : (sum own : List ℕ → ℕ) (P : ℕ) (l : LoadedState) (t : Ow
     → OwnedReadGoes own offset l.owned t result → HeldReadGoes sum own P l.kept offset result
 held_read sum own P l t offset (Ok found) loaded is =
     let read = reads_by own l.owned.journal t.journal offset l.owned.life t.life found is in
-    let same = is_content read.0 l.owned.journal l.owned.life read.1.0 in
-    (content_of l.owned.journal l.owned.life, loaded.holds, subst (λ held. IsReadOf own held offset found) same read.1.1)
+    let same = is_content read.0 l.owned.journal l.owned.life read.1 in
+    (content_of l.owned.journal l.owned.life, loaded.holds, subst (λ held. IsReadOf own held offset found) same read.2)
 held_read sum own P l t offset (Err (errors.Layer e)) loaded is = tt
 held_read sum own P l t offset (Err errors.Closed) loaded is = absurd (not_there l.owned.journal loaded.there is.0)
 held_read sum own P l t offset (Err (errors.System e)) loaded is = absurd is
@@ -68,3 +69,27 @@ held_read sum own P l t offset (Err (errors.Missing n)) loaded is = absurd is
 held_read sum own P l t offset (Err errors.Manifest) loaded is = absurd is
 held_read sum own P l t offset (Err (errors.NoSegment n)) loaded is = absurd is
 held_read sum own P l t offset (Err errors.NumbersExhausted) loaded is = absurd is
+
+-- ---- a read of a closed segment
+
+same_holds : (sum : List ℕ → ℕ) (P : ℕ) (one other : Closed) (held : List ℕ) → SameKept one other → HoldsClosed sum P one held → HoldsClosed sum P other held
+same_holds sum P one other held same is = record {
+  bytes = is.bytes;
+  of = record { len = sym same.len ∙ is.of.len; digest = sym same.digest ∙ is.of.digest };
+  holds = is.holds;
+}
+
+pub reads_closed : (sum own : List ℕ → ℕ) (s : LogState) (p : Place) (l : LoadedState) (result : Result (Option Found) Error) → HasLoaded sum own s p.segment l
+    → HeldReadGoes sum own l.owned.page_size l.kept p.offset result → LogReadGoes sum own s p result
+reads_closed sum own s p l (Ok found) has is =
+    let holds = subst (λ P. HoldsClosed sum P l.kept is.0) has.loaded.page_size is.1 in
+    (is.0, inr (has.kept, has.listed, same_holds sum s.page_size l.kept has.kept is.0 has.same holds), is.2)
+reads_closed sum own s p l (Err (errors.Layer e)) has is = tt
+reads_closed sum own s p l (Err errors.Closed) has is = absurd is
+reads_closed sum own s p l (Err (errors.System e)) has is = absurd is
+reads_closed sum own s p l (Err (errors.Damaged n)) has is = absurd is
+reads_closed sum own s p l (Err (errors.Unlisted n)) has is = absurd is
+reads_closed sum own s p l (Err (errors.Missing n)) has is = absurd is
+reads_closed sum own s p l (Err errors.Manifest) has is = absurd is
+reads_closed sum own s p l (Err (errors.NoSegment n)) has is = absurd is
+reads_closed sum own s p l (Err errors.NumbersExhausted) has is = absurd is

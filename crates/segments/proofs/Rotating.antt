@@ -1,6 +1,6 @@
 -- A rotation, step by step.
-use Rattle.std.specs.Prelude.{◌≡◌, ◌+◌, ◌++◌, ◌==◌, ℕ, List, [], ◌∷◌, length, Some, None, Option, IfSome, Bool, true, false, if◌then◌else◌}
-use Rattle.std.proofs.Common.{ap, sym, ◌∙◌, subst}
+use Rattle.std.specs.Prelude.{◌≡◌, ◌≢◌, ◌+◌, ◌++◌, ◌==◌, ℕ, List, [], ◌∷◌, length, Some, None, Option, IfSome, Bool, true, false, if◌then◌else◌}
+use Rattle.std.proofs.Common.{ap, sym, ◌∙◌, subst, refl, arith}
 use Rattle.disk.specs.Disk.{Life}
 use Rattle.segments.specs.declared.closed.Closed.{Closed}
 use Rattle.segments.specs.declared.entry.Entry.TheVariants.{Closes}
@@ -17,12 +17,23 @@ journal_is : (P : WriterState → Type 0) (j : Option WriterState) → HasJourna
 journal_is P None is = is
 journal_is P (Some w) is = tt
 
+nothing : (bytes : List ℕ) → length bytes ≡ 0 → bytes ≡ []
+nothing [] few = refl
+nothing (b ∷ bytes) few = absurd (omega (arith, few))
+
+-- its file gave no byte
+pub next_asked : (old new : List FolderEvent) (number opened : ℕ) (life : Life) → number ≡ opened → length life.present.readable ≡ 0
+    → new ≡ old ++ events_for (number + 1) life.present.readable → new ≡ old ++ events_for (opened + 1) []
+next_asked old new number opened life same few asked =
+    asked ∙ ap (λ n. old ++ events_for (n + 1) life.present.readable) same ∙ ap (λ bytes. old ++ events_for (opened + 1) bytes) (nothing life.present.readable few)
+
 -- the next segment, opened over no byte
 pub next_of : (sum own : List ℕ → ℕ) (s now t : LogState) (old : Life) (next : OwnedState) (answered : List (List ℕ))
-    → s ≡ now → HasOpened sum own s.page_size old next answered → LeavesOpened sum own s.page_size old next → IsDurable old.present → length old.present.readable ≡ 0
+    → s ≡ now → open_in s.listing ≢ 18446744073709551615 → HasOpened sum own s.page_size old next answered → LeavesOpened sum own s.page_size old next → IsDurable old.present → length old.present.readable ≡ 0
     → t.asked ≡ s.asked ++ events_for (open_in s.listing + 1) []
     → HasNext sum own now t next
-next_of sum own s now t old next answered view begun leaves durable few asked = subst (λ s. HasNext sum own s t next) view (record {
+next_of sum own s now t old next answered view numbered begun leaves durable few asked = subst (λ s. HasNext sum own s t next) view (record {
+  numbered = numbered;
   owned = begun.owned;
   page_size = begun.page_size;
   there = journal_is _ next.journal begun.holds;

@@ -1,5 +1,6 @@
 -- Going over the records of a log.
 use Rattle.std.specs.Prelude.{◌≡◌, ◌≢◌, ◌⊎◌, ◌≤◌, ◌<◌, ◌+◌, ◌-◌, ◌*◌, ◌++◌, ℕ, zero, suc, List, [], ◌∷◌, length, drop, nat_lt, slice_get, Some, None, Option, IfSome, Result, Ok, Err, Bool, true, false, if◌then◌else◌}
+use Rattle.std.specs.Result.{IsErrAnd}
 use Rattle.std.proofs.Common.{ap, sym, ◌∙◌, refl, subst, inl, inr, append_assoc, append-nil, arith, min}
 use Rattle.std.proofs.lemmas.List.{drop_all}
 use Rattle.std.proofs.lemmas.Bool.{cases_lt, lt-ltb, le-ltb, ltb-false}
@@ -19,7 +20,7 @@ use Rattle.segments.specs.Digests.{IsOf}
 use Rattle.segments.specs.Manifest.{ListingState, closed_at, open_in}
 use Rattle.segments.specs.Owned.{HasJournal, OwnedState, content_now, content_of, records_now, records_of}
 use Rattle.segments.specs.Log.{HasCollision, IsContentOf, LeavesReading, LogReadGoes, LogReadRefused, LogState, TellHeld, closed_records}
-use Rattle.segments.specs.Scan.{ComesFirst, IsBehind, IsEnd, StandBetween, StandBy, held_content, records_after, records_at}
+use Rattle.segments.specs.Scan.{ComesFirst, IsBehind, IsEnd, NextGoes, StandBetween, StandBy, held_content, records_after, records_at}
 use Rattle.segments.proofs.Records.{judged}
 
 -- ---- what is listed
@@ -61,7 +62,7 @@ tells_at held first (c ∷ cs) (suc k) kept tells is =
 -- a segment that has content is no later than the open one
 is_inside : (sum : List ℕ → ℕ) (s : LogState) (segment : ℕ) (C : List ℕ) → IsContentOf sum s segment C → segment ≤ open_in s.listing
 is_inside sum s segment C (inl is) = omega (arith, is.0)
-is_inside sum s segment C (inr is) = let here = within s.listing segment is.0 is.1.0 in omega (arith, here.before)
+is_inside sum s segment C (inr is) = let here = within s.listing segment is.0 is.1 in omega (arith, here.before)
 
 -- ---- the content of a segment
 
@@ -82,12 +83,12 @@ is_held sum held s segment C tells (inl is) =
     inl (pick_false (nat_lt segment (open_in s.listing)) (whole_frames (text sum s.page_size (held segment))) (content_now s.current) (le-ltb segment (open_in s.listing) (omega (arith, is.0)))
     ∙ current_is s.current.journal s.current.life C is.1)
 is_held sum held s segment C tells (inr is) =
-    let here = within s.listing segment is.0 is.1.0 in
+    let here = within s.listing segment is.0 is.1 in
     let told = subst (λ n. IsOf (held n) is.0) (omega (arith, here.after)) (tells_at held s.listing.first s.listing.closed (segment - s.listing.first) is.0 tells here.there) in
-    elim (judged (held segment) is.1.1.bytes is.0 told is.1.1.of) [
+    elim (judged (held segment) is.2.bytes is.0 told is.2.of) [
       | inl same ↦ inl (
           pick_true (nat_lt segment (open_in s.listing)) (whole_frames (text sum s.page_size (held segment))) (content_now s.current) (lt-ltb segment (open_in s.listing) here.before)
-          ∙ ap (λ bytes. whole_frames (text sum s.page_size bytes)) same ∙ sym is.1.1.holds)
+          ∙ ap (λ bytes. whole_frames (text sum s.page_size bytes)) same ∙ sym is.2.holds)
       | inr collision ↦ inr collision
     ]
 
@@ -172,8 +173,8 @@ closed_between sum own s at kept C listed is le held tells =
 -- nothing follows the open one
 pub open_end : (sum own : List ℕ → ℕ) (s : LogState) (at : Place) (C : List ℕ) → at.segment ≡ open_in s.listing → HasJournal s.current.journal (λ w. C ≡ content w s.current.life.present.readable)
     → length C ≤ at.offset → IsEnd sum own s at
-open_end sum own s at C open is le held =
-    let is_not = le-ltb at.segment (open_in s.listing) (omega (arith, open)) in
+open_end sum own s at C last is le held =
+    let is_not = le-ltb at.segment (open_in s.listing) (omega (arith, last)) in
     let P = s.page_size in
     let l = s.listing in
     let now = content_now s.current in
@@ -202,10 +203,10 @@ pub step_found : (sum own : List ℕ → ℕ) (s : LogState) (at : Place) (f : F
     → StandBetween sum own s (listed f.bytes) at (record { segment = at.segment; offset = f.end })
     × IsBehind s at (record { segment = at.segment; offset = f.end })
 step_found sum own s at f fits is =
-    let found = is.1.1 in
-    let inside = is_inside sum s at.segment is.0 is.1.0 in
+    let found = is.2 in
+    let inside = is_inside sum s at.segment is.0 is.1 in
     (
-      found_between sum own s at f.end f.bytes is.0 is.1.0 found,
+      found_between sum own s at f.end f.bytes is.0 is.1 found,
       record {
         segment = omega arith;
         nearer = omega (arith, inside, fits, found.after, found.within);
@@ -213,29 +214,32 @@ step_found sum own s at f fits is =
     )
 
 -- none was found in a closed segment: the next one follows
+passed_by : (sum own : List ℕ → ℕ) (s : LogState) (at : Place) (C : List ℕ) → at.offset < 18446744073709551616 → at.segment ≢ open_in s.listing → IsContentOf sum s at.segment C → length C ≤ at.offset
+    → StandBetween sum own s [] at (record { segment = at.segment + 1; offset = 0 })
+    × IsBehind s at (record { segment = at.segment + 1; offset = 0 }) × (at.segment < open_in s.listing)
+passed_by sum own s at C fits other (inl last) le = absurd (other last.0)
+passed_by sum own s at C fits other (inr closed) le =
+    let here = within s.listing at.segment closed.0 closed.1 in
+    (
+      closed_between sum own s at closed.0 C closed.1 (inr closed) le,
+      record { segment = omega arith; nearer = omega (arith, fits, here.before) },
+      here.before,
+    )
+
 pub step_passed : (sum own : List ℕ → ℕ) (s : LogState) (at : Place) → at.offset < 18446744073709551616 → at.segment ≢ open_in s.listing → LogReadGoes sum own s at (Ok None)
     → StandBetween sum own s [] at (record { segment = at.segment + 1; offset = 0 })
     × IsBehind s at (record { segment = at.segment + 1; offset = 0 }) × (at.segment < open_in s.listing)
-step_passed sum own s at fits other is = passed_by is.1.0 where
-  passed_by : IsContentOf sum s at.segment is.0 → StandBetween sum own s [] at (record { segment = at.segment + 1; offset = 0 })
-      × IsBehind s at (record { segment = at.segment + 1; offset = 0 }) × (at.segment < open_in s.listing)
-  passed_by (inl open) = absurd (other open.0)
-  passed_by (inr closed) =
-      let here = within s.listing at.segment closed.0 closed.1.0 in
-      (
-        closed_between sum own s at closed.0 is.0 closed.1.0 is.1.0 is.1.1,
-        record { segment = omega arith; nearer = omega (arith, fits, here.before) },
-        here.before,
-      )
+step_passed sum own s at fits other is = passed_by sum own s at is.0 fits other is.1 is.2
 
 -- none was found in the open one: it is the end
+stops_by : (sum own : List ℕ → ℕ) (s : LogState) (at : Place) (C : List ℕ) → at.segment ≡ open_in s.listing → IsContentOf sum s at.segment C → length C ≤ at.offset → IsEnd sum own s at
+stops_by sum own s at C last (inl here) le = open_end sum own s at C last here.1 le
+stops_by sum own s at C last (inr closed) le =
+    let here = within s.listing at.segment closed.0 closed.1 in
+    absurd (omega (arith, here.before, last))
+
 pub step_stops : (sum own : List ℕ → ℕ) (s : LogState) (at : Place) → at.segment ≡ open_in s.listing → LogReadGoes sum own s at (Ok None) → IsEnd sum own s at
-step_stops sum own s at open is = stops_by is.1.0 where
-  stops_by : IsContentOf sum s at.segment is.0 → IsEnd sum own s at
-  stops_by (inl here) = open_end sum own s at is.0 open here.1 is.1.1
-  stops_by (inr closed) =
-      let here = within s.listing at.segment closed.0 closed.1.0 in
-      absurd (omega (arith, here.before, open))
+step_stops sum own s at last is = stops_by sum own s at is.0 last is.1 is.2
 
 -- ---- one step after another
 
@@ -243,7 +247,7 @@ pub between_joins : (sum own : List ℕ → ℕ) (s : LogState) (these : List (L
 between_joins sum own s these p q r first second held tells =
     elim (first held tells) [
       | inl same ↦ elim (second held tells) [
-        | inl then ↦ inl (same ∙ then)
+        | inl more ↦ inl (same ∙ more)
         | inr collision ↦ inr collision
       ]
       | inr collision ↦ inr collision
@@ -269,14 +273,19 @@ behind_back sum own s m p q leaves is = record {
 }
 
 pub refused_back : (sum own : List ℕ → ℕ) (s m : LogState) (segment : ℕ) (e : Error) → LeavesReading sum own s m → LogReadRefused m segment e → LogReadRefused s segment e
-refused_back sum own s m segment e leaves is = refused_by e is where
-  refused_by : (e : Error) → LogReadRefused m segment e → LogReadRefused s segment e
-  refused_by errors.Closed is = (is.0 ∙ ap (λ (l : ListingState). open_in l) leaves.listing, sym leaves.journal ∙ is.1)
-  refused_by (errors.Layer e) is = tt
-  refused_by (errors.System e) is = subst (λ (l : ListingState). (kept : Closed) × (closed_at l segment ≡ Some kept)) leaves.listing is
-  refused_by (errors.Damaged n) is = (is.0, subst (λ (l : ListingState). (kept : Closed) × (closed_at l segment ≡ Some kept)) leaves.listing is.1)
-  refused_by (errors.Unlisted n) is = absurd is
-  refused_by (errors.Missing n) is = absurd is
-  refused_by errors.Manifest is = absurd is
-  refused_by (errors.NoSegment n) is = (is.0, λ same. is.1.0 (same ∙ sym (ap (λ (l : ListingState). open_in l) leaves.listing)), sym (ap (λ (l : ListingState). closed_at l segment) leaves.listing) ∙ is.1.1)
-  refused_by errors.NumbersExhausted is = absurd is
+refused_back sum own s m segment errors.Closed leaves is = (is.0 ∙ ap (λ (l : ListingState). open_in l) leaves.listing, sym leaves.journal ∙ is.1)
+refused_back sum own s m segment (errors.Layer e) leaves is = tt
+refused_back sum own s m segment (errors.System e) leaves is = (is.0, ap (λ (l : ListingState). closed_at l segment) (sym leaves.listing) ∙ is.1)
+refused_back sum own s m segment (errors.Damaged n) leaves is = (is.0, (is.1.0, ap (λ (l : ListingState). closed_at l segment) (sym leaves.listing) ∙ is.1.1))
+refused_back sum own s m segment (errors.Unlisted n) leaves is = absurd is
+refused_back sum own s m segment (errors.Missing n) leaves is = absurd is
+refused_back sum own s m segment errors.Manifest leaves is = absurd is
+refused_back sum own s m segment (errors.NoSegment n) leaves is =
+    (is.0, λ same. is.1 (same ∙ sym (ap (λ (l : ListingState). open_in l) leaves.listing)), ap (λ (l : ListingState). closed_at l segment) (sym leaves.listing) ∙ is.2)
+refused_back sum own s m segment errors.NumbersExhausted leaves is = absurd is
+
+pub next_refused : (sum own : List ℕ → ℕ) (s m : LogState) (from at place : Place) (e : Error) (result : Result (Option (Place × List ℕ)) Error) → LeavesReading sum own s m
+    → from.segment ≤ at.segment → place ≡ from → IsErrAnd result (λ x. x ≡ e) → LogReadRefused m at.segment e → NextGoes sum own s from place result
+next_refused sum own s m from at place e (Ok r) leaves further same is refused = absurd is
+next_refused sum own s m from at place e (Err x) leaves further same is refused =
+    (same, (at.segment, further, subst (λ y. LogReadRefused s at.segment y) (sym is) (refused_back sum own s m at.segment e leaves refused)))

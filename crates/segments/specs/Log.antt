@@ -22,6 +22,7 @@ use Rattle.segments.specs.FolderEvents.{FolderEvent, folder_event, opening_with}
 use Rattle.segments.specs.Manifest.{ListingState, closed_at, entry_bytes, entry_in, listed_in}
 use Rattle.segments.specs.Manifest.{listed_with, open_in}
 use Rattle.segments.specs.Owned.{content_now, HasJournal, IsOwned, IsShut, KeepsRecords, OwnedAppendGoes}
+use Rattle.segments.specs.Owned.{OwnedCloseGoes}
 use Rattle.segments.specs.Owned.{OwnedReadLeaves, OwnedState}
 use Rattle.segments.specs.Owned.{owned_size, records_now}
 
@@ -141,7 +142,7 @@ pub record IsClosedWith (sum own : List ℕ → ℕ) (s t : LogState) (kept : Cl
 abbrev pub CloseCurrentGoes : (sum own : List ℕ → ℕ) → LogState → LogState → Result Closed Error
     → Type 0
 CloseCurrentGoes sum own s t (Ok kept) = IsClosedWith sum own s t kept
-CloseCurrentGoes sum own s t (Err e) = Unit {0}
+CloseCurrentGoes sum own s t (Err e) = OwnedCloseGoes sum own s.current t.current (Err e)
 
 -- what a call of the open segment's journal leaves: what was committed is so at each moment since,
 -- and chance aside a crash at any of these moments leaves only the first of these records
@@ -182,6 +183,7 @@ AsksForSegment life number old new (Err _) = ⊥
 
 -- the next segment was opened: it has no record, and its name is durable
 pub record HasNext (sum own : List ℕ → ℕ) (s t : LogState) (next : OwnedState) : Type 0 where
+  pub numbered : open_in s.listing ≢ 18446744073709551615
   pub owned : IsOwned sum own next
   pub page_size : next.page_size ≡ s.page_size
   pub there : HasJournal next.journal (λ w. Unit {0})

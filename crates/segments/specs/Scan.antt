@@ -12,6 +12,10 @@ use Rattle.segments.specs.Owned.{content_now}
 use Rattle.segments.specs.Log.{HasCollision, LogReadRefused, LogState, TellHeld, closed_records}
 use Rattle.segments.specs.Log.{log_records}
 
+-- a place
+abbrev pub place_at : (segment offset : ℕ) → Place
+place_at segment offset = record { segment = segment; offset = offset }
+
 -- the content of a segment, by what the closed ones held and by the content of the open one: the
 -- whole frames of what a closed one held
 abbrev pub held_content : (sum : List ℕ → ℕ) → ℕ → (held : ℕ → List ℕ) → ListingState

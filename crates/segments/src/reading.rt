@@ -54,6 +54,7 @@ impl<F: Folder<B> + Drop, B: Blob + Drop, H: Sum, R: Sum> SegmentedLog<F, B, H, 
     }
 
     // The frame at a place of a closed segment.
+    #[tactic(auto, using(crate::proofs::Loading::reads_closed))]
     fn read_closed(&mut self, place: Place) -> Result<Option<Found>, Error>
         requires log { IsLog H.sum_of R.sum_of self.old }
         requires closed { place.segment ≢ open_in self.old.listing }

@@ -1,7 +1,7 @@
 // Going over the records.
 ghost use Rattle.std.specs.Prelude.{None, Ok};
 ghost use Rattle.segments.specs.Log.{IsLog, LeavesReading};
-ghost use Rattle.segments.specs.Scan.{ComesFirst, NextGoes, StepGoes};
+ghost use Rattle.segments.specs.Scan.{ComesFirst, NextGoes, StepGoes, place_at};
 ghost use Rattle.segments.specs.Log.{LogReadGoes};
 
 use crate::error::Error;
@@ -24,6 +24,7 @@ enum Step {
 
 impl<F: Folder<B> + Drop, B: Blob + Drop, H: Sum, R: Sum> SegmentedLog<F, B, H, R> {
     /// The place of the first record, from which [`next`](SegmentedLog::next) goes over all.
+    #[tactic(auto, using(crate::proofs::Stepping::comes_first))]
     pub fn start(&self) -> Place
         ensures { ComesFirst H.sum_of R.sum_of self.now result }
     {
@@ -49,7 +50,7 @@ impl<F: Folder<B> + Drop, B: Blob + Drop, H: Sum, R: Sum> SegmentedLog<F, B, H, 
     {
         let mut at = *place;
         loop {
-            match self.step(at)? {
+            match self.step(at.segment, at.offset)? {
                 Step::Record(bytes, behind) => {
                     *place = behind;
                     return Ok(Some((at, bytes)));
@@ -63,18 +64,19 @@ impl<F: Folder<B> + Drop, B: Blob + Drop, H: Sum, R: Sum> SegmentedLog<F, B, H, 
         }
     }
 
-    // One frame further.
-    fn step(&mut self, at: Place) -> Result<Step, Error>
+    // One frame further from a place.
+    fn step(&mut self, segment: u64, offset: u64) -> Result<Step, Error>
         requires log { IsLog H.sum_of R.sum_of self.old }
-        ensures goes { StepGoes H.sum_of R.sum_of self.old at result }
+        ensures goes { let at = place_at segment offset in
+            StepGoes H.sum_of R.sum_of self.old at result }
         ensures ready { IsLog H.sum_of R.sum_of self.new }
         ensures leaves { LeavesReading H.sum_of R.sum_of self.old self.new }
     {
-        let Some(found) = self.read(at)? else {
-            return Ok(self.step_after(at));
+        let Some(found) = self.read(Place { segment, offset })? else {
+            return Ok(self.step_after(segment, offset));
         };
         let behind = Place {
-            segment: at.segment,
+            segment,
             offset: found.end,
         };
         match found.bytes {
@@ -84,15 +86,17 @@ impl<F: Folder<B> + Drop, B: Blob + Drop, H: Sum, R: Sum> SegmentedLog<F, B, H, 
     }
 
     // After the last frame of a segment: the next one follows a closed one.
-    fn step_after(&self, at: Place) -> Step
-        requires none { LogReadGoes H.sum_of R.sum_of self.now at (Ok None) }
-        ensures { StepGoes H.sum_of R.sum_of self.now at (Ok result) }
+    fn step_after(&self, segment: u64, offset: u64) -> Step
+        requires none { let at = place_at segment offset in
+            LogReadGoes H.sum_of R.sum_of self.now at (Ok None) }
+        ensures { let at = place_at segment offset in
+            StepGoes H.sum_of R.sum_of self.now at (Ok result) }
     {
-        if at.segment == self.listing.open() {
+        if segment == self.listing.open() {
             return Step::End;
         }
         Step::Passed(Place {
-            segment: at.segment + 1,
+            segment: segment + 1,
             offset: 0,
         })
     }

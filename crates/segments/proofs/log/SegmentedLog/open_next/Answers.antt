@@ -1,12 +1,9 @@
-use Rattle.std.proofs.Common.{◌+◌, ◌++◌, ◌∷◌, [], false, ap, ◌∙◌, arith}
-use Rattle.segments.specs.declared.call.FolderCall.TheVariants as calls
-use Rattle.segments.specs.FolderPast.{folder_event}
-use Rattle.segments.proofs.Rotating.{next_of}
+use Rattle.std.proofs.Common.{arith, ◌∙◌}
+use Rattle.segments.proofs.Rotating.{next_asked, next_of}
 use Rattle.segments.proofs.log.SegmentedLog.open_next.Goals as goal
 
 pub returns-in-Ok-clause-goes : goal.returns-in-Ok-clause-goes
 returns-in-Ok-clause-goes g c =
-    next_of g.H.Sum.sum_of g.R.Sum.sum_of _ _ _ (g.B.Blob.life c.in_ok-blob.blob) c.in-Ok.next c.in-Ok.field-0-1.items c.self.view_is c.in-Ok.ensures.has c.in-Ok.ensures.leaves c.in_ok-blob.ensures.rests
+    next_of g.H.Sum.sum_of g.R.Sum.sum_of _ _ _ (g.B.Blob.life c.in_ok-blob.blob) c.in-Ok.next c.in-Ok.field-0-1.items c.self.view_is (λ full. c.if-number.false (c.open-number.ensures ∙ full)) c.in-Ok.ensures.has c.in-Ok.ensures.leaves c.in_ok-blob.ensures.rests
     (omega (arith, c.len.ensures, c.if-len-gt0.false))
-    (c.in_ok-blob.ensures.asks_for
-    ∙ ap (λ n. g.F.Folder.asked c.self.inside.folder ++ folder_event (calls.Opens (n + 1)) false ∷ folder_event calls.Syncs false ∷ []) c.open-number.ensures)
+    (next_asked (g.F.Folder.asked c.self.inside.folder) _ c.open-number.result _ (g.B.Blob.life c.in_ok-blob.blob) c.open-number.ensures (omega (arith, c.len.ensures, c.if-len-gt0.false)) c.in_ok-blob.ensures.asks_for)
