@@ -233,8 +233,8 @@ after_append own before bytes short small whole =
 
 -- a commit
 pub committed : (sum own : List ℕ → ℕ) (w : WriterState) (after : CacheState) (old new : Life) (now : WriterState) → IsSound sum w old.present → AreWholeFrames (content w old.present.readable) → IsReady sum now after new → SyncAllGoes sum w old new (Ok now)
-    → IsCommitted sum own w after old new now
-committed sum own w after old new now sound whole ready goes =
+    → KeepsStarted sum own w now old new → IsCommitted sum own w after old new now
+committed sum own w after old new now sound whole ready goes starts =
     let same : content now new.present.readable ≡ content w old.present.readable = goes.holds.content ∙ append-nil (content w old.present.readable) in
     record {
       journal = is_journal sum now after new (held_on sum w old [] now after new goes.holds ready) (subst (λ (l : List ℕ). AreWholeFrames l) (sym same) whole);
@@ -243,6 +243,7 @@ committed sum own w after old new now sound whole ready goes =
       all = subst (λ (P : ℕ). CommitsAll sum own P (content now new.present.readable) new.present) (sym goes.holds.same.page_size)
           (subst (λ (l : List ℕ). CommitsAll sum own w.page_size l new.present) (sym same) (commits_all sum own w.page_size (content w old.present.readable) new.present (goes.durable sound)));
       durable = goes.as_opened.durable goes.settled.clean;
+      starts = starts;
     }
 
 pub not_committed : (sum own : List ℕ → ℕ) (w : WriterState) (after : CacheState) (old new : Life) (e : Error) → SyncAllGoes sum w old new (Err e) → CommitGoes sum own w after old new (Err e)
@@ -280,9 +281,9 @@ append_gives sum own w bytes after old new (Err e) is = tt
 
 -- a commit, by its answer
 pub commit_goes : (sum own : List ℕ → ℕ) (w : WriterState) (after : CacheState) (old new : Life) (result : Result WriterState Error) → IsSound sum w old.present → AreWholeFrames (content w old.present.readable)
-    → SyncAllGoes sum w old new result → IfOk result (λ now. IsReady sum now after new) → CommitGoes sum own w after old new result
-commit_goes sum own w after old new (Ok now) sound whole goes ready = committed sum own w after old new now sound whole ready goes
-commit_goes sum own w after old new (Err e) sound whole goes ready = not_committed sum own w after old new e goes
+    → SyncAllGoes sum w old new result → IfOk result (λ now. IsReady sum now after new) → IfOk result (λ now. KeepsStarted sum own w now old new) → CommitGoes sum own w after old new result
+commit_goes sum own w after old new (Ok now) sound whole goes ready starts = committed sum own w after old new now sound whole ready goes starts
+commit_goes sum own w after old new (Err e) sound whole goes ready starts = not_committed sum own w after old new e goes
 
 pub commit_gives : (sum own : List ℕ → ℕ) (w : WriterState) (after : CacheState) (old new : Life) (result : Result WriterState Error) → CommitGoes sum own w after old new result → IfOk result (λ now. IsJournal sum now after new)
 commit_gives sum own w after old new (Ok now) is = is.journal

@@ -16,14 +16,15 @@ use Rattle.crash.specs.Started.{CoversStay, CoversThrough}
 use Rattle.crash.specs.Stays.{KeepsAllFloors}
 use Rattle.writer_state.proofs.CoverLaws.{would_longer}
 use Rattle.writer_state.proofs.StartedLaws.{alike_would}
-use Rattle.writer_state.specs.Sound.{IsSound, content}
+use Rattle.writer_state.specs.Sound.{IsSound, StateFits, content}
 use Rattle.writer_state.specs.WriterState.{WriterState, started_state}
 use Rattle.writer_state.specs.declared.sync_state.SyncState.{SyncState}
 use Rattle.writer_state.specs.declared.sync_state.SyncState.TheVariants.{Clean, Dirty, Pending}
 use Rattle.paged.specs.Calls.{BuffersOver, Completed, Completes, StartedSyncKeeps, TryAppendGoes}
-use Rattle.paged.specs.Goes.{AppendGoes, HasStarted, HasWaited, Holds, SnapshotGoes, StartSyncGoes, WaitForSyncGoes}
+use Rattle.paged.specs.Goes.{AppendGoes, HasStarted, HasWaited, Holds, StartSyncGoes, SyncAllGoes, WaitForSyncGoes}
 use Rattle.paged.specs.Owes.{Owes, OwesWaiting, owed_covers, owed_floors}
 use Rattle.paged.specs.Ready.{IsReady}
+use Rattle.paged.specs.Recovery.{IsDurable}
 use Rattle.paged_read.specs.Tail.{Tail}
 use Rattle.journal.specs.Frame.{AreWholeFrames, frame, records}
 use Rattle.journal.specs.Journal.{Commits, HasStartedCommit, HasWaitedForCommit, IsJournal, IsStarted, KeepsStarted, PendingCommits, StartCommitGoes, StartedCommits, WaitForCommitGoes, WouldCommit}
@@ -115,6 +116,11 @@ pub append_starts : (sum own : List ℕ → ℕ) (w : WriterState) (bytes next :
 append_starts sum own w bytes next cache after old new (Ok r) goes owes = starts_held sum own w r.0 bytes next cache after old new goes.answers.holds owes
 append_starts sum own w bytes next cache after old new (Err e) goes owes = tt
 
+pub commit_starts : (sum own : List ℕ → ℕ) (w : WriterState) (next : List ℕ) (cache after : CacheState) (old new : Life) (result : Result WriterState Error) → SyncAllGoes sum w old new result → Owes sum w next cache after old new
+    → IfOk result (λ now. KeepsStarted sum own w now old new)
+commit_starts sum own w next cache after old new (Ok now) goes owes = starts_held sum own w now [] next cache after old new goes.holds owes
+commit_starts sum own w next cache after old new (Err e) goes owes = tt
+
 -- one that asked nothing of the device
 unwaited : (sum : List ℕ → ℕ) (P : ℕ) (held : List ℕ) (s t : SyncState) (life : Life) → t ≡ s → Completed sum P held s t life life
 unwaited sum P held Clean t life same = tt
@@ -189,15 +195,16 @@ started_commit sum own w cache after old new now started sound whole ready has o
     let goes = has.goes in
     let holds = goes.holds in
     let same : content now new.present.readable ≡ held = holds.content ∙ append-nil held in
-    let named : StartedCommits sum own now.page_size (content now new.present.readable) (length (records own (content now new.present.readable))) started new.present =
-    subst (λ (P : ℕ). StartedCommits sum own P (content now new.present.readable) (length (records own (content now new.present.readable))) started new.present) (sym holds.same.page_size)
-    (subst (λ (l : List ℕ). StartedCommits sum own w.page_size l (length (records own l)) started new.present) (sym same) (starts_all sum own w.page_size held new started (goes.starts sound))) in
+    let n = length (records own held) in
+    let named : StartedCommits sum own now.page_size (content now new.present.readable) n started new.present =
+    subst (λ (P : ℕ). StartedCommits sum own P (content now new.present.readable) n started new.present) (sym holds.same.page_size)
+    (subst (λ (l : List ℕ). StartedCommits sum own w.page_size l n started new.present) (sym same) (starts_all sum own w.page_size held new started (goes.starts sound))) in
     record {
       journal = is_journal sum now after new (held_on sum w old [] now after new holds ready) (subst (λ (l : List ℕ). AreWholeFrames l) (sym same) whole);
       holds = same;
       same = holds.same;
       sync = goes.state;
-      all = is_started sum own now (length (records own (content now new.present.readable))) started new goes.state named;
+      all = is_started sum own now n started new goes.state named;
       starts = starts_held sum own w now [] held cache after old new holds owes;
       named = named;
       fresh = has.fresh;
@@ -216,9 +223,16 @@ start_gives sum own w after old new (Err e) is = tt
 
 -- ---- a wait
 
-waited : (sum own : List ℕ → ℕ) (w : WriterState) (old new : Life) (now : WriterState) → HasWaited sum w old new now → OwesWaiting sum w old new → HasWaitedForCommit sum own w old new now
+-- of a sound writer that has nothing unsynced all that is readable is durable
+clean_is_durable : (sum : List ℕ → ℕ) (w : WriterState) (d : Disk) → IsSound sum w d → w.sync ≡ Clean → IsDurable d
+unfolding IsSound
+clean_is_durable sum w d sound clean =
+    let fits : StateFits d Clean = subst (λ (s : SyncState). StateFits d s) clean sound.stands.state in
+    record { since = fits.0; base = fits.1 }
+
+waited : (sum own : List ℕ → ℕ) (w : WriterState) (old new : Life) (now : WriterState) → IsSound sum w old.present → HasWaited sum w old new now → OwesWaiting sum w old new → HasWaitedForCommit sum own w old new now
 unfolding IsStarted
-waited sum own w old new now has owes =
+waited sum own w old new now sound has owes =
     let held = content w old.present.readable in
     let holds = has.holds in
     let same : content now new.present.readable ≡ held = holds.content ∙ append-nil held in
@@ -230,11 +244,12 @@ waited sum own w old new now has owes =
       commits = λ n started.
           subst (λ (P : ℕ). Commits sum own P (content now new.present.readable) n new.present) (sym holds.same.page_size)
           (subst (λ (l : List ℕ). Commits sum own w.page_size l n new.present) (sym same) (either_done sum own w.page_size held n old new w.sync keeps has.completes started));
+      durable = clean_is_durable sum now new.present (has.sound sound);
     }
 
-pub wait_goes : (sum own : List ℕ → ℕ) (w : WriterState) (old new : Life) (result : Result WriterState Error) → WaitForSyncGoes sum w old new result → OwesWaiting sum w old new → WaitForCommitGoes sum own w old new result
-wait_goes sum own w old new (Ok now) has owes = waited sum own w old new now has owes
-wait_goes sum own w old new (Err e) refused owes = refused.cause
+pub wait_goes : (sum own : List ℕ → ℕ) (w : WriterState) (old new : Life) (result : Result WriterState Error) → IsSound sum w old.present → WaitForSyncGoes sum w old new result → OwesWaiting sum w old new → WaitForCommitGoes sum own w old new result
+wait_goes sum own w old new (Ok now) sound has owes = waited sum own w old new now sound has owes
+wait_goes sum own w old new (Err e) sound refused owes = refused.cause
 
 -- with each cache with which the journal was one
 pub wait_gives : (sum : List ℕ → ℕ) (w : WriterState) (cache : CacheState) (old new : Life) (result : Result WriterState Error) → IsJournal sum w cache old → WaitForSyncGoes sum w old new result → IfOk result (λ now. IsReady sum now cache new)

@@ -195,6 +195,7 @@ pub record IsCommitted (sum own : List ℕ → ℕ) (w : WriterState) (after : C
   pub all : CommitsAll sum own now.page_size (content now new.present.readable) new.present
   -- and so is all that is readable of the blob: it may be copied, or its digest kept
   pub durable : IsDurable new.present
+  pub starts : KeepsStarted sum own w now old new
 
 abbrev pub CommitGoes : (sum own : List ℕ → ℕ) → WriterState → CacheState → Life → Life
     → Result WriterState Error → Type 0
@@ -209,11 +210,11 @@ pub record HasStartedCommit (sum own : List ℕ → ℕ) (w : WriterState) (afte
   pub holds : content now new.present.readable ≡ content w old.present.readable
   pub same : IsSameWriter w now
   pub sync : now.sync ≡ started_state started
-  pub all : IsStarted sum own now (length (records own (content now new.present.readable))) new
+  pub all : IsStarted sum own now (length (records_in own w old)) new
   pub starts : KeepsStarted sum own w now old new
   -- so whoever waits for it, also behind the journal's back, commits them
-  pub named : let held = content now new.present.readable in
-      StartedCommits sum own now.page_size held (length (records own held)) started new.present
+  pub named : StartedCommits sum own now.page_size (content now new.present.readable)
+      (length (records_in own w old)) started new.present
   -- where the device was asked, the sync has the name that comes next
   pub fresh : 0 < start_calls w → started ≡ Named (length old.present.started)
   -- where it has failed by now, it did in this call, or had before
@@ -232,6 +233,8 @@ pub record HasWaitedForCommit (sum own : List ℕ → ℕ) (w : WriterState) (ol
   pub state : now ≡ waited_writer w
   pub commits : (n : ℕ) → IsStarted sum own w n old
       → Commits sum own now.page_size (content now new.present.readable) n new.present
+  -- where nothing was written since that sync was started, all that is readable is durable
+  pub durable : now.sync ≡ Clean → IsDurable new.present
 
 abbrev pub WaitForCommitGoes : (sum own : List ℕ → ℕ) → WriterState → Life → Life
     → Result WriterState Error → Type 0

@@ -117,11 +117,13 @@ impl<B, H, R> Journal<B, H, R> {
 
 impl<B: Blob, H: Sum, R: Sum> Journal<B, H, R> {
     /// Appends a record, and answers the offset of its frame, in logical bytes. It is committed by
-    /// the next [`Journal::commit`]. No device is asked where the frame fits what is buffered, and
-    /// else at most three calls are made.
+    /// the next [`Journal::commit`], or once the next [`Journal::start_commit`] was waited for. A
+    /// commit that was started before goes on. No device is asked where the frame fits what is
+    /// buffered; else at most three calls are made, of which one waits for that commit.
     ///
     /// `OffsetOverflow` where the blob has no room for the frame, `WriteFailed` where the device
-    /// failed, `OutOfMemory`. The journal is gone then.
+    /// failed, `SyncFailed` where it failed in the wait, or the commit that was started had failed;
+    /// `OutOfMemory`. The journal is gone then.
     pub fn append_record(
         self,
         blob: &mut B,
@@ -179,9 +181,10 @@ impl<B: Blob, H: Sum, R: Sum> Journal<B, H, R> {
 
     /// Commits all records that were appended: whatever crashes from then on, they come back. All of
     /// the blob is durable then. It makes at most two device calls, and none where all is durable.
+    /// It waits for a commit that was started before.
     ///
-    /// `WriteFailed` and `SyncFailed` where the device failed, `OutOfMemory`. The journal is gone
-    /// then.
+    /// `WriteFailed` and `SyncFailed` where the device failed, and `SyncFailed` where the commit
+    /// that was started had failed; `OutOfMemory`. The journal is gone then.
     pub fn commit(self, blob: &mut B, cache: &mut CacheRef) -> Result<Self, Error>
         requires journal { IsJournal H.sum_of self cache.old (B.life blob.old) }
         ensures goes { let old = B.life blob.old in let new = B.life blob.new in
@@ -213,18 +216,19 @@ impl<B: Blob, H: Sum, R: Sum> Journal<B, H, R> {
         }
     }
 
-    /// Writes all records that were appended, and starts to make them durable, so that others may be
-    /// appended and read meanwhile. It answers the name of the sync, or `Done` where all is durable
-    /// already; where one was started and nothing was appended since, that one's name. All records
-    /// that there are now are committed once that sync was waited for, by
-    /// [`Journal::wait_for_commit`], by any later call of the journal that has to wait, or at any
-    /// time by [`paged::wait_sync`]; before that the started sync promises nothing.
+    /// Starts a commit: it writes all records that were appended, and starts to make them durable.
+    /// Others may be appended and read meanwhile. It answers the name of the started sync, or
+    /// `Done` where all is durable already; where one was started and nothing was appended since,
+    /// that one's name. All records that there are now are committed by a wait for it that answers
+    /// `Ok`: by [`Journal::wait_for_commit`], by any later call of the journal that has to wait,
+    /// or, where the journal is gone, by [`paged::wait_sync`]. Before that the started sync
+    /// promises nothing.
     ///
-    /// It makes at most three device calls: a wait for the sync that was started before, a write,
+    /// It makes at most three device calls: a wait for the commit that was started before, a write,
     /// and the start. A start that fails shows at the wait.
     ///
-    /// `WriteFailed` and `SyncFailed` where the device failed, and `SyncFailed` where the sync that
-    /// was started before had failed; `OutOfMemory`. The journal is gone then, and what was
+    /// `WriteFailed` and `SyncFailed` where the device failed, and `SyncFailed` where the commit
+    /// that was started before had failed; `OutOfMemory`. The journal is gone then, and what was
     /// committed still is.
     pub fn start_commit(
         self,
@@ -261,12 +265,13 @@ impl<B: Blob, H: Sum, R: Sum> Journal<B, H, R> {
         }
     }
 
-    /// Waits until what the last [`Journal::start_commit`] started is done; where no sync is pending
-    /// it does nothing. The records that there were at that start are committed then: whatever
-    /// crashes from then on, they come back. What was appended since isn't yet. It makes one device
-    /// call at most, and needs no cache: the journal goes on with the one that it had.
+    /// Waits for the commit that was started last, by [`Journal::start_commit`]. The records that
+    /// there were at that start are committed then: whatever crashes from then on, they come back.
+    /// Those that were appended since need not be. Where nothing is to be waited for it does
+    /// nothing. It makes at most one device call, and uses no cache: the journal goes on with its
+    /// own.
     ///
-    /// `SyncFailed` where the device failed, now or as the sync was started or waited for before;
+    /// `SyncFailed` where the device failed, now or as the commit was started or waited for before;
     /// `OutOfMemory`. The journal is gone then, and what was committed still is.
     pub fn wait_for_commit(self, blob: &mut B) -> Result<Self, Error>
         requires journal { (cache : CacheState) × IsJournal H.sum_of self cache (B.life blob.old) }
@@ -300,10 +305,12 @@ impl<B: Blob, H: Sum, R: Sum> Journal<B, H, R> {
     }
 
     /// A reader of the records that the journal has now, and the journal, which goes on. What is
-    /// buffered of whole pages is written for it, without a sync; so nothing is committed by it. It
-    /// makes at most two device calls, and none where no whole page is buffered.
+    /// buffered of whole pages is written for it, without a sync; so nothing is committed by it,
+    /// but for a commit that was started before, for which it waits then. It makes at most two
+    /// device calls, and none where no whole page is buffered.
     ///
-    /// `WriteFailed` where the device failed, `OutOfMemory`. The journal is gone then.
+    /// `WriteFailed` where the device failed, `SyncFailed` where it failed in the wait, or the
+    /// commit that was started had failed; `OutOfMemory`. The journal is gone then.
     pub fn reader(
         self,
         blob: &mut B,

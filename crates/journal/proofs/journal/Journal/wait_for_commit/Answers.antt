@@ -9,7 +9,8 @@ wait_for_sync-requires g c = record { sound = (ready_of g.H.Sum.sum_of c.args.se
 pub returns-clause-goes : goal.returns-clause-goes
 returns-clause-goes g c =
     let call = c.wait_for_sync in
-    wait_goes g.H.Sum.sum_of g.R.Sum.sum_of c.args.self (g.B.Blob.life c.args.blob.now) (g.B.Blob.life call.new.blob) call.result call.ensures.goes call.ensures.owes
+    wait_goes g.H.Sum.sum_of g.R.Sum.sum_of c.args.self (g.B.Blob.life c.args.blob.now) (g.B.Blob.life call.new.blob) call.result
+    (ready_of g.H.Sum.sum_of c.args.self c.requires.journal.0 (g.B.Blob.life c.args.blob.now) c.requires.journal.1).sound call.ensures.goes call.ensures.owes
 
 pub returns-clause-ready : goal.returns-clause-ready
 returns-clause-ready g c = λ cache journal.
