@@ -1,5 +1,5 @@
 -- Commits that are started, and waited for later.
-use Rattle.std.proofs.Common.{◌≡◌, ◌⊎◌, inl, inr, ℕ, ◌≤◌, List, [], ◌++◌, length, take, refl, sym, ap, ◌∙◌, subst, arith, append-nil, length-append, Ok, Err, Result}
+use Rattle.std.proofs.Common.{◌≡◌, ◌⊎◌, inl, inr, ℕ, ◌≤◌, List, [], ◌++◌, length, take, sym, ap, ◌∙◌, subst, arith, append-nil, length-append, Ok, Err, Result}
 use Rattle.std.specs.Prelude.{IfOk, Option, Some}
 use Rattle.std.proofs.lemmas.Bool.{cases_eq}
 use Rattle.std.proofs.Math.Seq.{take-length}
@@ -25,8 +25,7 @@ use Rattle.paged.specs.Goes.{AppendGoes, HasStarted, HasWaited, Holds, StartSync
 use Rattle.paged.specs.Owes.{Owes, OwesWaiting, owed_covers, owed_floors}
 use Rattle.paged.specs.Ready.{IsReady}
 use Rattle.paged.specs.Recovery.{IsDurable}
-use Rattle.paged_read.specs.Tail.{Tail}
-use Rattle.journal.specs.Frame.{AreWholeFrames, frame, records}
+use Rattle.journal.specs.Frame.{AreWholeFrames, records}
 use Rattle.journal.specs.Journal.{Commits, HasStartedCommit, HasWaitedForCommit, IsJournal, IsStarted, KeepsStarted, PendingCommits, StartCommitGoes, StartedCommits, WaitForCommitGoes, WouldCommit}
 use Rattle.journal.proofs.Journals.{commits_all, commits_longer, front, held_on, is_journal, ready_of, whole_of}
 
@@ -36,7 +35,7 @@ Either sum own P held n s d = Commits sum own P held n d ⊎ PendingCommits sum 
 
 -- ---- a longer content
 
-pub would_commit_longer : (sum own : List ℕ → ℕ) (P : ℕ) (held more : List ℕ) (n name : ℕ) (d : Disk) → WouldCommit sum own P held n name d → WouldCommit sum own P (held ++ more) n name d
+would_commit_longer : (sum own : List ℕ → ℕ) (P : ℕ) (held more : List ℕ) (n name : ℕ) (d : Disk) → WouldCommit sum own P held n name d → WouldCommit sum own P (held ++ more) n name d
 would_commit_longer sum own P held more n name d would =
     let begins : held ≡ take (length held) (held ++ more) = sym (take-length held) ∙ front held more (length held) (omega arith) in
     record {
