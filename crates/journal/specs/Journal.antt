@@ -212,7 +212,7 @@ pub record HasStartedCommit (sum own : List ℕ → ℕ) (w : WriterState) (afte
   pub sync : now.sync ≡ started_state started
   pub all : IsStarted sum own now (length (records_in own w old)) new
   pub starts : KeepsStarted sum own w now old new
-  -- so whoever waits for it, also behind the journal's back, commits them
+  -- so whoever waits for it by its name commits them
   pub named : StartedCommits sum own now.page_size (content now new.present.readable)
       (length (records_in own w old)) started new.present
   -- where the device was asked, the sync has the name that comes next
