@@ -33,7 +33,7 @@ use Rattle.paged.specs.Recovers.{Recovers}
 use Rattle.paged.specs.Truncate.{Truncates, KeepsFloorsWithin}
 use Rattle.paged.specs.Writer.{physical_blob_size}
 use Rattle.journal.specs.Frame.{frame, record_len, frame_len, listed, record_of, records, whole_frames, AreWholeFrames, IsPrefix}
-use Rattle.journal.specs.Journal.{IsBetweenCalls, IsJournal, IsNewToJournals, OtherJournalsStay, AllJournalsStay, OnlyReads, LeavesContent, Commits, OnlyRecords, KeepsCommitted, LeavesRecords, CommitsAll, IsAppended, AppendRecordGoes, IsCommitted, CommitGoes, BringsRecordsBack, BringsOnlyRecords, MeasuresFrame, RecordReadRefused, ReadsContent, ReadsFrame, IsFound, IsTrimmed, Trims, JournalHasRecovered, RecoversJournal}
+use Rattle.journal.specs.Journal.{IsBetweenCalls, IsJournal, IsNewToJournals, OtherJournalsStay, AllJournalsStay, OnlyReads, LeavesContent, Commits, OnlyRecords, KeepsCommitted, KeepsStarted, LeavesRecords, CommitsAll, IsAppended, AppendRecordGoes, IsCommitted, CommitGoes, BringsRecordsBack, BringsOnlyRecords, MeasuresFrame, RecordReadRefused, ReadsContent, ReadsFrame, IsFound, IsTrimmed, Trims, JournalHasRecovered, RecoversJournal}
 use Rattle.journal.proofs.Frames.{records-append, records-take, whole_more, whole_is_whole, records-whole, whole_first, length-whole, frame_is_whole, records-frame, record_of-frame, length-frame, record_len-front, record_of-front, records-from}
 
 -- the first of the first are the first
@@ -44,7 +44,7 @@ pub prefix_of_itself : (a : List (List ℕ)) → IsPrefix a a
 prefix_of_itself a = ([], sym (append-nil a))
 
 -- the first bytes of a content are those of a longer one
-front : (before more : List ℕ) (n : ℕ) → n ≤ length before → take n before ≡ take n (before ++ more)
+pub front : (before more : List ℕ) (n : ℕ) → n ≤ length before → take n before ≡ take n (before ++ more)
 front before more n within = sym (take-append-le n before more within)
 
 -- floors that are kept keep what is committed
@@ -157,8 +157,8 @@ held_on sum w old more now after new holds ready = record { ready = ready; size 
 -- a record whose frame stands after the content
 pub appended : (sum own : List ℕ → ℕ) (w : WriterState) (bytes : List ℕ) (after : CacheState) (old new : Life) (now : WriterState) (offset : ℕ) → length bytes ≤ 65535 → own bytes < 2 ^ 32
     → AreWholeFrames (content w old.present.readable) → offset ≡ length (content w old.present.readable) → content now new.present.readable ≡ content w old.present.readable ++ frame own bytes → IsSameWriter w now
-    → IsBetweenCalls sum now after new → IsAppended sum own w bytes after old new now offset
-appended sum own w bytes after old new now offset short small whole at holds same between =
+    → IsBetweenCalls sum now after new → KeepsStarted sum own w now old new → IsAppended sum own w bytes after old new now offset
+appended sum own w bytes after old new now offset short small whole at holds same between starts =
     let before = content w old.present.readable in
     let framed = frame own bytes in
     let fits : length bytes < 2 ^ 16 = omega arith in
@@ -173,6 +173,7 @@ appended sum own w bytes after old new now offset short small whole at holds sam
       commits = λ n d commits.
           subst (λ (P : ℕ). Commits sum own P (content now new.present.readable) n d) (sym same.page_size)
           (subst (λ (l : List ℕ). Commits sum own w.page_size l n d) (sym holds) (commits_longer sum own w.page_size before framed n d commits));
+      starts = starts;
     }
 
 -- an append that was refused
@@ -209,14 +210,14 @@ buffer_refused sum own w now bytes after life e (Err x) is tries =
 
 -- one that it took
 pub buffered : (sum own : List ℕ → ℕ) (w now : WriterState) (bytes : List ℕ) (cache : CacheState) (life : Life) (at : ℕ) (fits : Option ℕ) → length bytes ≤ 65535 → own bytes < 2 ^ 32 → IsJournal sum w cache life
-    → fits ≡ Some at → BuffersOver sum w (frame own bytes) now (Ok fits) → KeepsReads w now → IsAppended sum own w bytes cache life life now at
-buffered sum own w now bytes cache life at fits short small journal is buffers keeps =
+    → fits ≡ Some at → BuffersOver sum w (frame own bytes) now (Ok fits) → KeepsReads w now → KeepsStarted sum own w now life life → IsAppended sum own w bytes cache life life now at
+buffered sum own w now bytes cache life at fits short small journal is buffers keeps starts =
     let ready = ready_of sum w cache life journal in
     let over : BuffersOver sum w (frame own bytes) now (Ok (Some at)) = subst (λ (o : Option ℕ). BuffersOver sum w (frame own bytes) now (Ok o)) is buffers in
     let is_at = (over life ready.sound).0 in
     let goes = (over life ready.sound).1 in
     appended sum own w bytes cache life life now at short small (whole_of sum w cache life journal) is_at goes.content goes.same
-    (record { ready = record { sound = goes.sound; can = keeps cache life.present ready.can; fresh = ready.fresh }; size = goes.size; only = goes.only })
+    (record { ready = record { sound = goes.sound; can = keeps cache life.present ready.can; fresh = ready.fresh }; size = goes.size; only = goes.only }) starts
 
 -- one for which it has no room: nothing has changed
 pub not_fitting : (w now : WriterState) (framed : List ℕ) (fits : Option ℕ) → fits ≡ None → TryAppendGoes w framed now (Ok fits) → now ≡ w
@@ -232,8 +233,8 @@ after_append own before bytes short small whole =
 
 -- a commit
 pub committed : (sum own : List ℕ → ℕ) (w : WriterState) (after : CacheState) (old new : Life) (now : WriterState) → IsSound sum w old.present → AreWholeFrames (content w old.present.readable) → IsReady sum now after new → SyncAllGoes sum w old new (Ok now)
-    → IsCommitted sum own w after old new now
-committed sum own w after old new now sound whole ready goes =
+    → KeepsStarted sum own w now old new → IsCommitted sum own w after old new now
+committed sum own w after old new now sound whole ready goes starts =
     let same : content now new.present.readable ≡ content w old.present.readable = goes.holds.content ∙ append-nil (content w old.present.readable) in
     record {
       journal = is_journal sum now after new (held_on sum w old [] now after new goes.holds ready) (subst (λ (l : List ℕ). AreWholeFrames l) (sym same) whole);
@@ -242,6 +243,7 @@ committed sum own w after old new now sound whole ready goes =
       all = subst (λ (P : ℕ). CommitsAll sum own P (content now new.present.readable) new.present) (sym goes.holds.same.page_size)
           (subst (λ (l : List ℕ). CommitsAll sum own w.page_size l new.present) (sym same) (commits_all sum own w.page_size (content w old.present.readable) new.present (goes.durable sound)));
       durable = goes.as_opened.durable goes.settled.clean;
+      starts = starts;
     }
 
 pub not_committed : (sum own : List ℕ → ℕ) (w : WriterState) (after : CacheState) (old new : Life) (e : Error) → SyncAllGoes sum w old new (Err e) → CommitGoes sum own w after old new (Err e)
@@ -266,11 +268,11 @@ brings_back sum own P d image is_image = λ content n commits.
 
 -- an append of a record's frame, by its answer
 pub append_goes : (sum own : List ℕ → ℕ) (w : WriterState) (bytes : List ℕ) (after : CacheState) (old new : Life) (result : Result (WriterState × ℕ) Error) → length bytes ≤ 65535 → own bytes < 2 ^ 32
-    → AreWholeFrames (content w old.present.readable) → AppendGoes sum w (frame own bytes) old new result → IfOk result (λ r. IsReady sum r.0 after new) → AppendRecordGoes sum own w bytes after old new result
-append_goes sum own w bytes after old new (Ok r) short small whole goes ready =
+    → AreWholeFrames (content w old.present.readable) → AppendGoes sum w (frame own bytes) old new result → IfOk result (λ r. IsReady sum r.0 after new) → IfOk result (λ r. KeepsStarted sum own w r.0 old new) → AppendRecordGoes sum own w bytes after old new result
+append_goes sum own w bytes after old new (Ok r) short small whole goes ready starts =
     let is = goes.answers in
-    appended sum own w bytes after old new r.0 r.1 short small whole is.at_end is.holds.content is.holds.same (held_on sum w old (frame own bytes) r.0 after new is.holds ready)
-append_goes sum own w bytes after old new (Err e) short small whole goes ready = not_appended sum own w bytes after old new e goes.answers
+    appended sum own w bytes after old new r.0 r.1 short small whole is.at_end is.holds.content is.holds.same (held_on sum w old (frame own bytes) r.0 after new is.holds ready) starts
+append_goes sum own w bytes after old new (Err e) short small whole goes ready starts = not_appended sum own w bytes after old new e goes.answers
 
 pub append_gives : (sum own : List ℕ → ℕ) (w : WriterState) (bytes : List ℕ) (after : CacheState) (old new : Life) (result : Result (WriterState × ℕ) Error) → AppendRecordGoes sum own w bytes after old new result
     → IfOk result (λ r. IsJournal sum r.0 after new)
@@ -279,9 +281,9 @@ append_gives sum own w bytes after old new (Err e) is = tt
 
 -- a commit, by its answer
 pub commit_goes : (sum own : List ℕ → ℕ) (w : WriterState) (after : CacheState) (old new : Life) (result : Result WriterState Error) → IsSound sum w old.present → AreWholeFrames (content w old.present.readable)
-    → SyncAllGoes sum w old new result → IfOk result (λ now. IsReady sum now after new) → CommitGoes sum own w after old new result
-commit_goes sum own w after old new (Ok now) sound whole goes ready = committed sum own w after old new now sound whole ready goes
-commit_goes sum own w after old new (Err e) sound whole goes ready = not_committed sum own w after old new e goes
+    → SyncAllGoes sum w old new result → IfOk result (λ now. IsReady sum now after new) → IfOk result (λ now. KeepsStarted sum own w now old new) → CommitGoes sum own w after old new result
+commit_goes sum own w after old new (Ok now) sound whole goes ready starts = committed sum own w after old new now sound whole ready goes starts
+commit_goes sum own w after old new (Err e) sound whole goes ready starts = not_committed sum own w after old new e goes
 
 pub commit_gives : (sum own : List ℕ → ℕ) (w : WriterState) (after : CacheState) (old new : Life) (result : Result WriterState Error) → CommitGoes sum own w after old new result → IfOk result (λ now. IsJournal sum now after new)
 commit_gives sum own w after old new (Ok now) is = is.journal

@@ -1,5 +1,6 @@
 pub mod Frames
 pub mod Journals
+pub mod Starts
 pub mod Readers
 pub mod Costs
 pub mod Walks

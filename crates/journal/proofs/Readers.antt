@@ -26,7 +26,7 @@ use Rattle.paged_read.specs.Snapshots.{LeavesAllTails, LeavesOthers, LeavesReads
 use Rattle.paged_read.specs.Tail.{Tail, HasFullPages, logical_bytes, tail_size}
 use Rattle.paged.specs.Caches.{tail_of}
 use Rattle.paged.specs.Goes.{SnapshotGoes}
-use Rattle.paged.specs.Owes.{Owes, owed_floors, owed_only}
+use Rattle.paged.specs.Owes.{Owes, OwesWaiting, owed_floors, owed_only}
 use Rattle.paged.specs.Ready.{IsReady}
 use Rattle.paged.specs.RecoveryCalls.{OwesRecovering}
 use Rattle.paged.specs.Truncate.{KeepsFloorsWithin}
@@ -36,9 +36,10 @@ use Rattle.std.specs.declared.alloc.Global.{Global}
 use Rattle.journal.specs.Calls.{JournalCallLeaves, JournalCrashGoes, JournalCrashLeaves, RecordReadLeaves, ReaderLeaves, JournalRecoverGoes, JournalRecoveryLeaves}
 use Rattle.journal.specs.declared.frame.Found.{Found}
 use Rattle.journal.specs.Frame.{AreWholeFrames, IsPrefix, listed, records, whole_frames}
-use Rattle.journal.specs.Journal.{BringsRecordsBack, Commits, JournalHasRecovered, RecoversJournal, IsBetweenCalls, IsFound, IsJournal, OnlyReads, RecordReadRefused, records_in}
+use Rattle.journal.specs.Journal.{BringsRecordsBack, Commits, JournalHasRecovered, RecoversJournal, IsBetweenCalls, IsFound, IsJournal, KeepsStarted, OnlyReads, RecordReadRefused, records_in}
 use Rattle.journal.specs.Reader.{ReaderState, AllReadersStay, EachReaderStays, FindsNext, IsNewToReaders, IsNext, IsOpenSnapshot, HasReader, IsReader, JournalsStay, LeavesTheirRecords, OnlyLooks, ViewLeaves, OtherReadersStay, ReadersStay, read_over}
 use Rattle.journal.proofs.Frames.{records-none}
+use Rattle.journal.proofs.Starts.{starts_looked}
 use Rattle.journal.proofs.Journals.{all_stay, brings_back, commits_through, new_id, recovered_keeps, recovered_leaves, recovery_stays, trim_commits, between_of, held_on, is_journal, keeps_committed, leaves_records, leaves_still, others_stay, prefix_of_itself, refused_later, whole_of}
 
 -- what a reader stands on
@@ -380,6 +381,22 @@ owed_same sum own w cache after old new owes =
     let itself = prefix_of_itself (records_in own w old) in
     owed_leaves sum own w (records_in own w old) (content w old.present.readable) cache after old new itself itself owes
 
+-- a wait: with each cache with which the journal was one
+pub waiting_leaves : (sum own : List ℕ → ℕ) (w : WriterState) (cache : CacheState) (old new : Life) → OwesWaiting sum w old new → IsJournal sum w cache old → JournalCallLeaves sum own w (records_in own w old) cache cache old new
+waiting_leaves sum own w cache old new owes journal =
+    let P = w.page_size in
+    let held = content w old.present.readable in
+    let ready = (between_of sum w cache old journal).ready in
+    let itself = prefix_of_itself (records_in own w old) in
+    record {
+      fresh = ready.fresh;
+      readers = readers_stay sum w cache cache old new (owes.tails cache ready.can.page_size);
+      others = λ other v now apart stays. stays;
+      their_readers = λ other r now apart reader. reader;
+      kept = keeps_committed sum own P old new (owed_floors sum P w.full_pages held held old new owes.through);
+      only = leaves_records sum own P held held (records_in own w old) old new itself itself (owed_only sum P w.full_pages held held old new owes.through);
+    }
+
 -- no call
 pub nothing_leaves : (sum own : List ℕ → ℕ) (w : WriterState) (all : List (List ℕ)) (cache : CacheState) (life : Life) → IsJournal sum w cache life → IsPrefix (records_in own w life) all → JournalCallLeaves sum own w all cache cache life life
 nothing_leaves sum own w all cache life journal first = record {
@@ -419,6 +436,7 @@ looks_leave sum own r cache after old new looks = record {
   their_readers = other_readers_stay r.tail.id cache after looks.others;
   kept = keeps_committed sum own r.tail.page_size old new (looked_keeps sum r.tail.page_size old new looks.looked);
   only = looked_records sum own cache old new looks.looked;
+  starts = λ w. starts_looked sum own w old new looks.looked;
 }
 
 -- ---- the next record
@@ -456,8 +474,8 @@ not_some (Some bytes) is = cc
 -- ---- a reader that was made
 
 pub reader_made : (sum own : List ℕ → ℕ) (w : WriterState) (after : CacheState) (old new : Life) (now : WriterState) (t : Tail) → IsSound sum w old.present → AreWholeFrames (content w old.present.readable) → SnapshotGoes sum w after old new (Ok (now, t)) → IsReady sum now after new
-    → HasReader sum own w after old new now (record { tail = t; offset = 0 })
-reader_made sum own w after old new now t sound whole goes ready =
+    → KeepsStarted sum own w now old new → HasReader sum own w after old new now (record { tail = t; offset = 0 })
+reader_made sum own w after old new now t sound whole goes ready starts =
     let held = content w old.present.readable in
     let holds = goes.holds in
     let same : content now new.present.readable ≡ held = holds.content ∙ append-nil held in
@@ -474,4 +492,5 @@ reader_made sum own w after old new now t sound whole goes ready =
       below = (let pages : t.full_pages ≡ now.full_pages = ap (λ (u : Tail). u.full_pages) goes.tail in omega arith);
       over = over;
       all = ap (λ (l : List ℕ). records own l) over;
+      starts = starts;
     }

@@ -12,7 +12,8 @@ use Rattle.journal.specs.Journal.{IsNewToJournals, KeepsAllRecords, KeepsCommitt
 use Rattle.journal.specs.Journal.{LeavesAllRecords, LeavesRecords, OtherJournalsStay}
 use Rattle.journal.specs.Journal.{RecoversJournal, StaysCommitted, records_in}
 use Rattle.journal.specs.Reader.{AllReadersStay, EachReaderStays, IsNewToReaders, JournalsStay}
-use Rattle.journal.specs.Reader.{LeavesTheirRecords, OtherReadersStay, ReaderState, ReadersStay}
+use Rattle.journal.specs.Reader.{KeepsTheirStarts, LeavesTheirRecords, OtherReadersStay}
+use Rattle.journal.specs.Reader.{ReaderState, ReadersStay}
 
 -- what a call of a journal leaves: the cache serves on; the readers of its blob go on, and the
 -- journals and the readers of other blobs
@@ -47,6 +48,7 @@ pub record ReaderLeaves (sum own : List ℕ → ℕ) (r : ReaderState) (cache af
   pub kept : KeepsCommitted sum own r.tail.page_size old new
   -- and chance aside a crash at any of these moments leaves only the first of the journal's records
   pub only : LeavesTheirRecords sum own cache old new
+  pub starts : KeepsTheirStarts sum own old new
 
 -- ---- recovery
 

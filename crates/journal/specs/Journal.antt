@@ -6,19 +6,26 @@ use Rattle.std.specs.declared.alloc.Global.{Global}
 use Rattle.disk.specs.Disk.{Disk, Life, IsImage, HasFailed}
 use Rattle.disk.specs.declared.error.Error.{Error}
 use Rattle.disk.specs.declared.error.Error.TheVariants.{ReadFailed, OffsetOverflow, OutOfMemory}
+use Rattle.disk.specs.declared.error.Error.TheVariants.{SyncFailed}
+use Rattle.disk.specs.declared.started_sync.StartedSync.{StartedSync}
+use Rattle.disk.specs.declared.started_sync.StartedSync.TheVariants.{Done, Named}
 use Rattle.page.specs.Page.{text}
 use Rattle.cache.specs.CacheState.{CacheState}
 use Rattle.crash.specs.Guard.{IsChanceFree}
 use Rattle.crash.specs.Distinct.{IsDistinct, IsVouched}
 use Rattle.crash.specs.Kept.{AllKeep, Through}
 use Rattle.crash.specs.Looks.{Looked}
+use Rattle.crash.specs.Started.{WouldKeep}
 use Rattle.writer_state.specs.Sound.{LeavesItsContent, content}
 use Rattle.crash.specs.Stays.{KeepsAllFloors, LeavesOnly}
-use Rattle.writer_state.specs.WriterState.{WriterState}
+use Rattle.writer_state.specs.WriterState.{WriterState, started_state}
+use Rattle.writer_state.specs.declared.sync_state.SyncState.{SyncState}
+use Rattle.writer_state.specs.declared.sync_state.SyncState.TheVariants.{Clean, Dirty, Pending}
 use Rattle.paged_read.specs.Failures.{NoneFailed}
 use Rattle.paged_read.specs.Snapshots.{LeavesOthers, LeavesTails}
 use Rattle.paged.specs.Ready.{IsReady}
-use Rattle.paged.specs.Calls.{IsSameWriter, CallCause}
+use Rattle.paged.specs.Calls.{IsSameWriter, CallCause, PendingSyncFailed, start_calls}
+use Rattle.paged.specs.Calls.{waited_writer}
 use Rattle.paged.specs.Reads.{size_of}
 use Rattle.paged.specs.Recovery.{IsDurable}
 use Rattle.paged.specs.Recovers.{Recovers}
@@ -97,6 +104,14 @@ pub record Commits (sum own : List ℕ → ℕ) (P : ℕ) (content : List ℕ) (
 abbrev pub CommitsAll : (sum own : List ℕ → ℕ) → ℕ → List ℕ → Disk → Type 0
 CommitsAll sum own P content d = Commits sum own P content (length (records own content)) d
 
+-- the content's first n records would be committed, were the started sync of this name complete
+pub record WouldCommit (sum own : List ℕ → ℕ) (P : ℕ) (content : List ℕ) (n name : ℕ) (d : Disk)
+    : Type 0 where
+  pub floor : ℕ
+  pub within : floor ≤ length content
+  pub kept : WouldKeep sum P content name floor d
+  pub there : n ≤ length (records own (take floor content))
+
 -- chance aside, the records of whatever a crash leaves are the first of these; and where no
 -- checksum collides there is no chance
 pub record OnlyRecords (sum own : List ℕ → ℕ) (P : ℕ) (all : List (List ℕ)) (d : Disk)
@@ -104,6 +119,32 @@ pub record OnlyRecords (sum own : List ℕ → ℕ) (P : ℕ) (all : List (List 
   pub only : (image : List ℕ) → IsImage d image → IsChanceFree sum P d image
       → IsPrefix (records own (text sum P image)) all
   pub vouched : IsVouched sum P d
+
+-- what a started sync stands for: the content's first n records are committed already, or are once
+-- it completed
+abbrev pub StartedCommits : (sum own : List ℕ → ℕ) → ℕ → List ℕ → ℕ → StartedSync → Disk → Type 0
+StartedCommits sum own P content n Done d = Commits sum own P content n d
+StartedCommits sum own P content n (Named name) d = WouldCommit sum own P content n name d
+
+-- a writer in this state waits for a sync that commits them
+abbrev pub PendingCommits : (sum own : List ℕ → ℕ) → ℕ → List ℕ → ℕ → SyncState → Disk → Type 0
+PendingCommits sum own P content n Clean d = ⊥
+PendingCommits sum own P content n Dirty d = ⊥
+PendingCommits sum own P content n (Pending name) d = WouldCommit sum own P content n name d
+
+-- a commit of a journal's first n records was started: they are committed already, or are once the
+-- sync that the journal waits for completed. The word for it in contracts: a caller hands it from
+-- call to call, and has no need to see into it
+unfoldable pub IsStarted : (sum own : List ℕ → ℕ) → WriterState → (n : ℕ) → Life → Type 0
+IsStarted sum own w n life =
+    let held = content w life.present.readable in
+    Commits sum own w.page_size held n life.present
+    ⊎ PendingCommits sum own w.page_size held n w.sync life.present
+
+-- each commit that was started as a call began still is
+abbrev pub KeepsStarted : (sum own : List ℕ → ℕ) → (w now : WriterState) → Life → Life → Type 0
+KeepsStarted sum own w now old new =
+    (n : ℕ) → IsStarted sum own w n old → IsStarted sum own now n new
 
 -- what was committed as a call began is committed at each moment since
 abbrev pub KeepsCommitted : (sum own : List ℕ → ℕ) → ℕ → Life → Life → Type 0
@@ -134,6 +175,7 @@ pub record IsAppended (sum own : List ℕ → ℕ) (w : WriterState) (bytes : Li
   pub commits : (n : ℕ) (d : Disk)
       → Commits sum own w.page_size (content w old.present.readable) n d
       → Commits sum own now.page_size (content now new.present.readable) n d
+  pub starts : KeepsStarted sum own w now old new
 
 abbrev pub AppendRecordGoes : (sum own : List ℕ → ℕ) → WriterState → List ℕ → CacheState → Life
     → Life → Result (WriterState × ℕ) Error → Type 0
@@ -153,11 +195,51 @@ pub record IsCommitted (sum own : List ℕ → ℕ) (w : WriterState) (after : C
   pub all : CommitsAll sum own now.page_size (content now new.present.readable) new.present
   -- and so is all that is readable of the blob: it may be copied, or its digest kept
   pub durable : IsDurable new.present
+  pub starts : KeepsStarted sum own w now old new
 
 abbrev pub CommitGoes : (sum own : List ℕ → ℕ) → WriterState → CacheState → Life → Life
     → Result WriterState Error → Type 0
 CommitGoes sum own w after old new (Ok now) = IsCommitted sum own w after old new now
 CommitGoes sum own w after old new (Err e) = CallCause w.sync old new e
+
+-- a commit of all records was started: they are committed already, or are once the sync of this
+-- answer completed, which is the one that the journal waits for
+pub record HasStartedCommit (sum own : List ℕ → ℕ) (w : WriterState) (after : CacheState)
+    (old new : Life) (now : WriterState) (started : StartedSync) : Type 0 where
+  pub journal : IsJournal sum now after new
+  pub holds : content now new.present.readable ≡ content w old.present.readable
+  pub same : IsSameWriter w now
+  pub sync : now.sync ≡ started_state started
+  pub all : IsStarted sum own now (length (records_in own w old)) new
+  pub starts : KeepsStarted sum own w now old new
+  -- so whoever waits for it by its name commits them
+  pub named : StartedCommits sum own now.page_size (content now new.present.readable)
+      (length (records_in own w old)) started new.present
+  -- where the device was asked, the sync has the name that comes next
+  pub fresh : 0 < start_calls w → started ≡ Named (length old.present.started)
+  -- where it has failed by now, it did in this call, or had before
+  pub waits : PendingSyncFailed now.sync new.present → CallCause w.sync old new SyncFailed
+
+abbrev pub StartCommitGoes : (sum own : List ℕ → ℕ) → WriterState → CacheState → Life → Life
+    → Result (WriterState × StartedSync) Error → Type 0
+StartCommitGoes sum own w after old new (Ok r) = HasStartedCommit sum own w after old new r.0 r.1
+StartCommitGoes sum own w after old new (Err e) = CallCause w.sync old new e
+
+-- the sync that the journal waited for has completed: each commit that was started is done
+pub record HasWaitedForCommit (sum own : List ℕ → ℕ) (w : WriterState) (old new : Life)
+    (now : WriterState) : Type 0 where
+  pub holds : content now new.present.readable ≡ content w old.present.readable
+  pub same : IsSameWriter w now
+  pub state : now ≡ waited_writer w
+  pub commits : (n : ℕ) → IsStarted sum own w n old
+      → Commits sum own now.page_size (content now new.present.readable) n new.present
+  -- where nothing was written since that sync was started, all that is readable is durable
+  pub durable : now.sync ≡ Clean → IsDurable new.present
+
+abbrev pub WaitForCommitGoes : (sum own : List ℕ → ℕ) → WriterState → Life → Life
+    → Result WriterState Error → Type 0
+WaitForCommitGoes sum own w old new (Ok now) = HasWaitedForCommit sum own w old new now
+WaitForCommitGoes sum own w old new (Err e) = CallCause w.sync old new e
 
 -- why a read within the content may answer this error: a read of the device failed in the call; or
 -- none did, and memory was refused, before the device was asked or after any of its reads

@@ -2,14 +2,17 @@
 ghost use Rattle.std.specs.Prelude.{◌≡◌, ◌≤◌, ◌+◌, ◌++◌, ◌∷◌, [], length, true, false, IfOk};
 ghost use Rattle.std.specs.Int.NonZero.{non_zero_usize_get};
 ghost use Rattle.cache.specs.Pages.{IsFresh};
-ghost use Rattle.writer_state.specs.Sound.{content};
+ghost use Rattle.cache.specs.CacheState.{CacheState};
+ghost use Rattle.writer_state.specs.Sound.{IsSound, content};
 ghost use Rattle.crash.specs.Stays.{LeavesOnly};
 ghost use Rattle.paged.specs.Caches.{tail_of};
 ghost use Rattle.paged.specs.Calls.{BuffersOver, TryAppendGoes};
-ghost use Rattle.paged.specs.Costs.{AppendCosts, SnapshotCosts, SyncCosts};
+ghost use Rattle.paged.specs.Costs.{AppendCosts, SnapshotCosts, StartSyncCosts, SyncCosts};
+ghost use Rattle.paged.specs.Costs.{WaitForSyncCosts};
 ghost use Rattle.paged.specs.Flush.{has_work};
-ghost use Rattle.paged.specs.Goes.{AppendGoes, SnapshotGoes, SyncAllGoes};
-ghost use Rattle.paged.specs.Owes.{Owes};
+ghost use Rattle.paged.specs.Goes.{AppendGoes, SnapshotGoes, StartSyncGoes, SyncAllGoes};
+ghost use Rattle.paged.specs.Goes.{WaitForSyncGoes};
+ghost use Rattle.paged.specs.Owes.{Owes, OwesWaiting};
 ghost use Rattle.paged.specs.Ready.{IsReady};
 ghost use Rattle.paged.specs.Reads.{size_of};
 ghost use Rattle.paged.specs.Truncate.{KeepsFloorsWithin};
@@ -18,6 +21,7 @@ ghost use Rattle.paged.specs.Caches.{KeepsReads};
 ghost use Rattle.paged_read.specs.Snapshots.{LeavesOthers};
 ghost use Rattle.journal.specs.Journal.{AppendRecordGoes, CommitGoes, ReadRecordGoes, Trims};
 ghost use Rattle.journal.specs.Journal.{IsBetweenCalls, IsJournal, OnlyReads, records_in};
+ghost use Rattle.journal.specs.Journal.{KeepsStarted, StartCommitGoes, WaitForCommitGoes};
 ghost use Rattle.journal.specs.Reader.{IsReader, ReaderGoes};
 ghost use Rattle.journal.specs.Calls.{JournalCallLeaves, JournalRecoverGoes, JournalRecoveryLeaves};
 ghost use Rattle.journal.specs.Calls.{RecordReadLeaves};
@@ -29,7 +33,7 @@ use crate::lookup::frame_at;
 use crate::reader::Reader;
 use crate::walk::records_of;
 use cache::CacheRef;
-use disk::{Blob, Error, IoBuf};
+use disk::{Blob, Error, IoBuf, StartedSync};
 use page::Sum;
 use paged::{Hand, Recovery, Sealed, Writer, recover_keeping};
 use std::alloc::Global;
@@ -113,11 +117,13 @@ impl<B, H, R> Journal<B, H, R> {
 
 impl<B: Blob, H: Sum, R: Sum> Journal<B, H, R> {
     /// Appends a record, and answers the offset of its frame, in logical bytes. It is committed by
-    /// the next [`Journal::commit`]. No device is asked where the frame fits what is buffered, and
-    /// else at most three calls are made.
+    /// the next [`Journal::commit`], or once the next [`Journal::start_commit`] was waited for. A
+    /// commit that was started before goes on. No device is asked where the frame fits what is
+    /// buffered; else at most three calls are made, of which one waits for that commit.
     ///
     /// `OffsetOverflow` where the blob has no room for the frame, `WriteFailed` where the device
-    /// failed, `OutOfMemory`. The journal is gone then.
+    /// failed, `SyncFailed` where it failed in the wait, or the commit that was started had failed;
+    /// `OutOfMemory`. The journal is gone then.
     pub fn append_record(
         self,
         blob: &mut B,
@@ -175,9 +181,10 @@ impl<B: Blob, H: Sum, R: Sum> Journal<B, H, R> {
 
     /// Commits all records that were appended: whatever crashes from then on, they come back. All of
     /// the blob is durable then. It makes at most two device calls, and none where all is durable.
+    /// It waits for a commit that was started before.
     ///
-    /// `WriteFailed` and `SyncFailed` where the device failed, `OutOfMemory`. The journal is gone
-    /// then.
+    /// `WriteFailed` and `SyncFailed` where the device failed, and `SyncFailed` where the commit
+    /// that was started had failed; `OutOfMemory`. The journal is gone then.
     pub fn commit(self, blob: &mut B, cache: &mut CacheRef) -> Result<Self, Error>
         requires journal { IsJournal H.sum_of self cache.old (B.life blob.old) }
         ensures goes { let old = B.life blob.old in let new = B.life blob.new in
@@ -209,11 +216,101 @@ impl<B: Blob, H: Sum, R: Sum> Journal<B, H, R> {
         }
     }
 
-    /// A reader of the records that the journal has now, and the journal, which goes on. What is
-    /// buffered of whole pages is written for it, without a sync; so nothing is committed by it. It
-    /// makes at most two device calls, and none where no whole page is buffered.
+    /// Starts a commit: it writes all records that were appended, and starts to make them durable.
+    /// Others may be appended and read meanwhile. It answers the name of the started sync, or
+    /// `Done` where all is durable already; where one was started and nothing was appended since,
+    /// that one's name. All records that there are now are committed by a wait for it that answers
+    /// `Ok`: by [`Journal::wait_for_commit`], by any later call of the journal that has to wait,
+    /// or, where the journal is gone, by [`paged::wait_sync`]. Before that the started sync
+    /// promises nothing.
     ///
-    /// `WriteFailed` where the device failed, `OutOfMemory`. The journal is gone then.
+    /// It makes at most three device calls: a wait for the commit that was started before, a write,
+    /// and the start. A start that fails shows at the wait.
+    ///
+    /// `WriteFailed` and `SyncFailed` where the device failed, and `SyncFailed` where the commit
+    /// that was started before had failed; `OutOfMemory`. The journal is gone then, and what was
+    /// committed still is.
+    pub fn start_commit(
+        self,
+        blob: &mut B,
+        cache: &mut CacheRef,
+    ) -> Result<(Self, StartedSync), Error>
+        requires journal { IsJournal H.sum_of self cache.old (B.life blob.old) }
+        ensures goes { let old = B.life blob.old in let new = B.life blob.new in
+            StartCommitGoes H.sum_of R.sum_of self cache.new old new result }
+        ensures ready { IfOk result (λ r. IsJournal H.sum_of r.0 cache.new (B.life blob.new)) }
+        ensures leaves { let old = B.life blob.old in let new = B.life blob.new in
+            let all = records_in R.sum_of self old in
+            JournalCallLeaves H.sum_of R.sum_of self all cache.old cache.new old new }
+        ensures costs { let old = B.life blob.old in let new = B.life blob.new in
+            StartSyncCosts self cache.old cache.new old new result }
+    {
+        self.start_sync(blob, cache)
+    }
+
+    // Writes the content, and starts to make it durable.
+    fn start_sync(self, blob: &mut B, cache: &mut CacheRef) -> Result<(Self, StartedSync), Error>
+        requires ready { IsReady H.sum_of self cache.old (B.life blob.old) }
+        ensures goes { StartSyncGoes H.sum_of self (B.life blob.old) (B.life blob.new) result }
+        ensures ready { IfOk result (λ r. IsReady H.sum_of r.0 cache.new (B.life blob.new)) }
+        ensures owes { let all = content self (B.life blob.old).present.readable in
+            Owes H.sum_of self all cache.old cache.new (B.life blob.old) (B.life blob.new) }
+        ensures costs { let old = B.life blob.old in let new = B.life blob.new in
+            StartSyncCosts self cache.old cache.new old new result }
+    {
+        let alloc = self.alloc;
+        match self.writer.start_sync(blob, cache) {
+            Ok((writer, started)) => Ok((Journal::new(alloc, writer), started)),
+            Err(error) => Err(error),
+        }
+    }
+
+    /// Waits for the commit that was started last, by [`Journal::start_commit`]. The records that
+    /// there were at that start are committed then: whatever crashes from then on, they come back.
+    /// Those that were appended since need not be. Where nothing is to be waited for it does
+    /// nothing. It makes at most one device call, and uses no cache: the journal goes on with its
+    /// own.
+    ///
+    /// `SyncFailed` where the device failed, now or as the commit was started or waited for before;
+    /// `OutOfMemory`. The journal is gone then, and what was committed still is.
+    pub fn wait_for_commit(self, blob: &mut B) -> Result<Self, Error>
+        requires journal { (cache : CacheState) × IsJournal H.sum_of self cache (B.life blob.old) }
+        ensures goes { let old = B.life blob.old in let new = B.life blob.new in
+            WaitForCommitGoes H.sum_of R.sum_of self old new result }
+        ensures ready { (cache : CacheState) → IsJournal H.sum_of self cache (B.life blob.old)
+            → IfOk result (λ j. IsJournal H.sum_of j cache (B.life blob.new)) }
+        ensures leaves { let old = B.life blob.old in let new = B.life blob.new in
+            let all = records_in R.sum_of self old in
+            (cache : CacheState) → IsJournal H.sum_of self cache old
+            → JournalCallLeaves H.sum_of R.sum_of self all cache cache old new }
+        ensures costs { WaitForSyncCosts self (B.life blob.old) (B.life blob.new) result }
+    {
+        self.wait_for_sync(blob)
+    }
+
+    // Waits until what was started is durable.
+    fn wait_for_sync(self, blob: &mut B) -> Result<Self, Error>
+        requires sound { IsSound H.sum_of self (B.life blob.old).present }
+        ensures goes { WaitForSyncGoes H.sum_of self (B.life blob.old) (B.life blob.new) result }
+        ensures ready { (cache : CacheState) → IsReady H.sum_of self cache (B.life blob.old)
+            → IfOk result (λ w. IsReady H.sum_of w cache (B.life blob.new)) }
+        ensures owes { OwesWaiting H.sum_of self (B.life blob.old) (B.life blob.new) }
+        ensures costs { WaitForSyncCosts self (B.life blob.old) (B.life blob.new) result }
+    {
+        let alloc = self.alloc;
+        match self.writer.wait_for_sync(blob) {
+            Ok(writer) => Ok(Journal::new(alloc, writer)),
+            Err(error) => Err(error),
+        }
+    }
+
+    /// A reader of the records that the journal has now, and the journal, which goes on. What is
+    /// buffered of whole pages is written for it, without a sync; so nothing is committed by it,
+    /// but for a commit that was started before, for which it waits then. It makes at most two
+    /// device calls, and none where no whole page is buffered.
+    ///
+    /// `WriteFailed` where the device failed, `SyncFailed` where it failed in the wait, or the
+    /// commit that was started had failed; `OutOfMemory`. The journal is gone then.
     pub fn reader(
         self,
         blob: &mut B,
@@ -333,6 +430,10 @@ impl<B: Blob, H: Sum, R: Sum> Journal<B, H, R> {
         ensures ready { IsJournal H.sum_of self.now cache.new (B.life blob.new) }
         ensures leaves { let old = B.life blob.old in let new = B.life blob.new in
             RecordReadLeaves H.sum_of R.sum_of self.now cache.old cache.new old new }
+
+        // Each commit that was started still is.
+        ensures starts { let old = B.life blob.old in let new = B.life blob.new in
+            KeepsStarted H.sum_of R.sum_of self.now self.now old new }
         ensures costs { let old = B.life blob.old in let new = B.life blob.new in
             let held = content self.now old.present.readable in
             FrameCosts (tail_of self.now) held offset cache.old cache.new old new }

@@ -10,6 +10,7 @@ use Rattle.journal.specs.Calls.{JournalCallLeaves}
 use Rattle.journal.specs.Journal.{records_in}
 use Rattle.journal.proofs.Journals.{append_goes, append_gives, buffer_refused, buffered, before_append, after_append, not_fitting, ready_of, whole_of}
 use Rattle.journal.proofs.Readers.{nothing_leaves, owed_leaves}
+use Rattle.journal.proofs.Starts.{append_starts, buffered_starts}
 use Rattle.journal.proofs.Costs.{costs_buffered, costs_refused, costs_unframed}
 use Rattle.journal.proofs.journal.Journal.append_record.Given.{Over}
 use Rattle.journal.proofs.journal.Journal.append_record.Goals as goal
@@ -41,6 +42,7 @@ returns-in-Some-clause-goes g c =
     let tried = c.in_ok-offset.ensures in
     buffered g.H.Sum.sum_of g.R.Sum.sum_of c.args.self c.try_append.new.self c.args.bytes.now c.args.cache.now (g.B.Blob.life c.args.blob.now) c.in-Some.offset _
     c.requires.short (g.met.R.Sum.small c.args.bytes.now) c.requires.journal c.in-Some.is tried.appends tried.can_read
+    (buffered_starts g.H.Sum.sum_of g.R.Sum.sum_of c.args.self c.try_append.new.self (frame g.R.Sum.sum_of c.args.bytes.now) c.args.cache.now (g.B.Blob.life c.args.blob.now) c.in-Some.offset _ c.requires.journal c.in-Some.is tried.tries tried.appends)
 
 pub returns-in-Some-clause-ready : goal.returns-in-Some-clause-ready
 returns-in-Some-clause-ready g c = (returns-in-Some-clause-goes g c).journal
@@ -65,10 +67,13 @@ returns-clause-goes g c =
     let old = g.B.Blob.life c.args.blob.now in
     let new = g.B.Blob.life c.append.new.blob in
     let framed : c.deref.result.now ≡ frame g.R.Sum.sum_of c.args.bytes.now = c.deref.ensures.value ∙ c.in_ok-framed.ensures.framed in
-    let goes : AppendGoes g.H.Sum.sum_of w c.deref.result.now old new c.append.result =
-    subst (λ (v : WriterState). AppendGoes g.H.Sum.sum_of v c.deref.result.now old new c.append.result) (same g (goal.at.returns-clause-goes g c).After-append) c.append.ensures.goes in
+    let stays = same g (goal.at.returns-clause-goes g c).After-append in
+    let goes : AppendGoes g.H.Sum.sum_of w c.deref.result.now old new c.append.result = subst (λ (v : WriterState). AppendGoes g.H.Sum.sum_of v c.deref.result.now old new c.append.result) stays c.append.ensures.goes in
+    let owes : Owes g.H.Sum.sum_of w (content w old.present.readable ++ c.deref.result.now) c.args.cache.now c.append.new.cache old new =
+    subst (λ (v : WriterState). Owes g.H.Sum.sum_of v (content v old.present.readable ++ c.deref.result.now) c.args.cache.now c.append.new.cache old new) stays c.append.ensures.owes in
     append_goes g.H.Sum.sum_of g.R.Sum.sum_of w c.args.bytes.now c.append.new.cache old new c.append.result c.requires.short (g.met.R.Sum.small c.args.bytes.now) (whole_of g.H.Sum.sum_of w c.args.cache.now old c.requires.journal)
     (subst (λ (b : List ℕ). AppendGoes g.H.Sum.sum_of w b old new c.append.result) framed goes) c.append.ensures.ready
+    (append_starts g.H.Sum.sum_of g.R.Sum.sum_of w c.deref.result.now (content w old.present.readable ++ c.deref.result.now) c.args.cache.now c.append.new.cache old new c.append.result goes owes)
 
 pub returns-clause-ready : goal.returns-clause-ready
 returns-clause-ready g c =

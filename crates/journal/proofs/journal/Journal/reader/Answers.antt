@@ -1,7 +1,9 @@
-use Rattle.std.proofs.Common.{subst, sym}
+use Rattle.std.proofs.Common.{[], subst, sym}
+use Rattle.writer_state.specs.Sound.{content}
 use Rattle.journal.specs.Reader.{HasReader, ReaderState}
 use Rattle.journal.proofs.Journals.{ready_of, whole_of}
 use Rattle.journal.proofs.Readers.{owed_same, reader_made}
+use Rattle.journal.proofs.Starts.{starts_held}
 use Rattle.journal.proofs.Costs.{reader_costs, reader_refused}
 use Rattle.journal.proofs.journal.Journal.reader.Goals as goal
 
@@ -18,7 +20,8 @@ returns-clause-goes g c =
     let goes = c.in_ok-journal.ensures in
     let now = c.in_ok-journal.journal in
     subst (λ (r : ReaderState). HasReader sum own w c.snapshot.new.cache old new now r) (sym c.new.ensures)
-    (reader_made sum own w c.snapshot.new.cache old new now c.in_ok-journal.snapshot (ready_of g.H.Sum.sum_of c.args.self c.args.cache.now (g.B.Blob.life c.args.blob.now) c.requires.journal).sound (whole_of sum w c.args.cache.now old c.requires.journal) goes.goes goes.ready)
+    (reader_made sum own w c.snapshot.new.cache old new now c.in_ok-journal.snapshot (ready_of g.H.Sum.sum_of c.args.self c.args.cache.now (g.B.Blob.life c.args.blob.now) c.requires.journal).sound (whole_of sum w c.args.cache.now old c.requires.journal) goes.goes goes.ready
+    (starts_held sum own w now [] (content w old.present.readable) c.args.cache.now c.snapshot.new.cache old new goes.goes.holds c.snapshot.ensures.owes))
 
 pub returns-clause-ready : goal.returns-clause-ready
 returns-clause-ready g c = let has = returns-clause-goes g c in (has.journal, has.reader)
