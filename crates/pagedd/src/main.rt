@@ -20,6 +20,13 @@ mod check;
 mod command;
 mod ending;
 mod fits;
+mod log_cat;
+mod log_check;
+mod log_files;
+mod log_map;
+mod log_parts;
+mod log_refusing;
+mod log_report;
 mod look;
 mod map;
 mod opening;
@@ -39,6 +46,10 @@ use crate::cat::cat;
 use crate::check::check;
 use crate::command::{VERSION, command};
 use crate::ending::{end, or_end};
+use crate::log_cat::cat_log;
+use crate::log_check::check_log;
+use crate::log_files::{fail_folder, is_folder};
+use crate::log_map::{Drawn, map_log};
 use crate::look::read;
 use crate::map::map;
 use crate::request::{Checksum, Request, Task, Told, set_aside_in};
@@ -58,7 +69,11 @@ fn perform<H: Sum>(
     request: &Request,
     set_aside: &[&str],
 ) -> Result<Status, Status> {
+    if is_folder(rt, request.file) {
+        return perform_on_folder::<H>(rt, request);
+    }
     match request.task {
+        Task::ServeLog => Ok(Status::Done),
         Task::Serve { create } => serve::<H>(rt, request, create),
         Task::Append { each_line } => append::<H>(rt, request, each_line),
         Task::Tell(told) => tell_of::<H>(rt, request, told, &mut read(rt, request.file)?),
@@ -67,6 +82,31 @@ fn perform<H: Sum>(
             or_end(rt, println!(rt; "pagedd {VERSION}"))?;
             Ok(Status::Done)
         }
+    }
+}
+
+// Does what is asked for of the folder of a log.
+fn perform_on_folder<H: Sum>(rt: &HostRuntime, request: &Request) -> Result<Status, Status> {
+    let folder = request.file;
+    match request.task {
+        Task::Tell(Told::Check) => check_log::<H>(rt, request),
+        Task::Tell(Told::Map { from, to, long }) => {
+            map_log::<H>(rt, request, Drawn { from, to, long })
+        }
+        Task::Tell(Told::Cat { from: 0, len: u64::MAX }) => cat_log::<H>(rt, request),
+        Task::Tell(Told::Cat { .. }) => {
+            Err(fail_folder(rt, folder, "--from and --len are of a file's content"))
+        }
+        Task::Serve { .. } => {
+            Err(fail_folder(rt, folder, "'pagedd serve-log' serves a log"))
+        }
+        Task::Append { .. } => {
+            Err(fail_folder(rt, folder, "use 'pagedd serve-log' to append records to a log"))
+        }
+        Task::Salvage { .. } => {
+            Err(fail_folder(rt, folder, "'pagedd cat' writes the records of a log that are whole"))
+        }
+        Task::ServeLog | Task::Version => Ok(Status::Done),
     }
 }
 
