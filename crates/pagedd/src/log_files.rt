@@ -14,10 +14,9 @@ pub fn is_folder(rt: &HostRuntime, path: &str) -> bool {
     }
 }
 
-/// Says that a command works on files alone, and answers the status.
+/// Says why a command isn't for a folder, and answers the status.
 pub fn fail_folder(rt: &HostRuntime, path: &str, advice: &str) -> Status {
-    let words = format_args!("it is a folder: not supported; {advice}");
-    fail(rt, path, words)
+    fail(rt, path, format_args!("it is a folder: {advice}"))
 }
 
 /// The path of a log's manifest.

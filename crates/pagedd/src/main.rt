@@ -20,13 +20,22 @@ mod check;
 mod command;
 mod ending;
 mod fits;
+mod log_answer;
 mod log_cat;
 mod log_check;
 mod log_files;
+mod log_guard;
+mod log_hello;
+mod log_input;
 mod log_map;
 mod log_parts;
+mod log_records;
 mod log_refusing;
 mod log_report;
+mod log_request;
+mod log_serving;
+mod log_status;
+mod log_taking;
 mod look;
 mod map;
 mod opening;
@@ -50,6 +59,7 @@ use crate::log_cat::cat_log;
 use crate::log_check::check_log;
 use crate::log_files::{fail_folder, is_folder};
 use crate::log_map::{Drawn, map_log};
+use crate::log_serving::serve_log;
 use crate::look::read;
 use crate::map::map;
 use crate::request::{Checksum, Request, Task, Told, set_aside_in};
@@ -73,7 +83,7 @@ fn perform<H: Sum>(
         return perform_on_folder::<H>(rt, request);
     }
     match request.task {
-        Task::ServeLog => Ok(Status::Done),
+        Task::ServeLog => serve_log::<H>(rt, request),
         Task::Serve { create } => serve::<H>(rt, request, create),
         Task::Append { each_line } => append::<H>(rt, request, each_line),
         Task::Tell(told) => tell_of::<H>(rt, request, told, &mut read(rt, request.file)?),
@@ -98,15 +108,16 @@ fn perform_on_folder<H: Sum>(rt: &HostRuntime, request: &Request) -> Result<Stat
             Err(fail_folder(rt, folder, "--from and --len are of a file's content"))
         }
         Task::Serve { .. } => {
-            Err(fail_folder(rt, folder, "'pagedd serve-log' serves a log"))
+            Err(fail_folder(rt, folder, "'pagedd serve-log' serves the log in it"))
         }
         Task::Append { .. } => {
-            Err(fail_folder(rt, folder, "use 'pagedd serve-log' to append records to a log"))
+            Err(fail_folder(rt, folder, "append isn't supported for a log: 'pagedd serve-log' appends its records"))
         }
         Task::Salvage { .. } => {
-            Err(fail_folder(rt, folder, "'pagedd cat' writes the records of a log that are whole"))
+            Err(fail_folder(rt, folder, "salvage isn't supported for a log: 'pagedd cat' writes the records that are whole"))
         }
-        Task::ServeLog | Task::Version => Ok(Status::Done),
+        Task::ServeLog => serve_log::<H>(rt, request),
+        Task::Version => Ok(Status::Done),
     }
 }
 
