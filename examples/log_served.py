@@ -76,6 +76,7 @@ def contents(path):
 def put(path, data):
     with open(path, "wb") as file:
         file.write(data)
+    return path
 
 
 def segment(folder, number):
@@ -343,6 +344,39 @@ def torn(program, folder):
     expect(log.read((0, 0))[0] == bytes(3000) and log.copy in log.end()[1], "what was before it is read")
 
 
+def begun(program, folder):
+    """What a crash may leave of a segment that follows a closed one: nothing in it was committed yet."""
+    for what, data in (("zeros", bytes(4096)), ("a part of a page", some(1)), ("a torn page", some(1).ljust(4096, b"\1"))):
+        shutil.rmtree(folder, ignore_errors=True)
+        places = a_log(program, folder)
+        last = places[-1][0]
+        inside = sum(place[0] < last for place in places)
+        put(segment(folder, last), data)
+        log = Session(program, folder, SMALL)
+        copy = b"" if not any(data) else data
+        expect((log.size, log.cut, contents(log.copy) if log.copy else b"") == (inside, len(data), copy),
+               f"an open segment with {what} alone is cut" + (", after a copy was made" if copy else ""))
+        expect(log.append(b"more") == (last, 0) and log.end()[0] == 0, "and the log goes on")
+    shutil.rmtree(folder, ignore_errors=True)
+    os.mkdir(folder)
+    put(os.path.join(folder, "manifest"), bytes(4096))
+    log = Session(program, folder, SMALL)
+    expect(log.size == 0 and log.append(b"first") == (0, 0) and log.end()[0] == 0, "and so does a log that was just begun")
+    shutil.rmtree(folder, ignore_errors=True)
+    log = Session(program, folder)
+    log.append_all([bytes(MOST)] * 20)
+    log.end()
+    whole = contents(segment(folder, 0))
+    put(segment(folder, 0), whole[:5000] + b"\1" + whole[5001:])
+    before = image(folder)
+    status, out, said = play(program, "serve-log", folder)
+    expect((status, out) == (3, b"") and image(folder) == before,
+           f"an open segment of which more than 1 MiB would go is refused with status 3: {said.strip()}")
+    log = Session(program, folder, "--cut")
+    expect(log.size == 0 and contents(log.copy) == before[os.path.basename(segment(folder, 0))][4096:] and log.end()[0] == 0,
+           "--cut goes on, after a copy was made")
+
+
 def closed_by_a_failure(program, folder):
     shutil.rmtree(folder, ignore_errors=True)
     log = Session(program, folder, SMALL)
@@ -389,8 +423,9 @@ def full(program, folder):
 def commands(program, folder):
     shutil.rmtree(folder, ignore_errors=True)
     a_log(program, folder)
+    file = put(folder + "-file", b"")
     before = image(folder)
-    for words in (["append", folder], ["salvage", folder, folder + "-out"], ["serve", folder], [folder],
+    for words in (["serve-log", file], ["append", folder], ["salvage", folder, folder + "-out"], ["serve", folder], [folder],
                   ["cat", "--from", "3", folder], ["cat", "--len", "3", folder], ["map", "--from", "99", folder]):
         status, out, said = play(program, *words)
         expect((status, out, said.count("\n")) == (1, b"", 1), f"pagedd {words[0]} is refused: {said.strip()}")
@@ -404,7 +439,7 @@ def main():
     made.add_argument("PAGEDD", type=usage.program)
     program = made.parse_args().PAGEDD
     with tempfile.TemporaryDirectory() as room:
-        parts = (version_one, version_two, wrong_frames, in_order, alone, tampering, older_manifest, torn,
+        parts = (version_one, version_two, wrong_frames, in_order, alone, tampering, older_manifest, torn, begun,
                  closed_by_a_failure, full, commands)
         for number, part in enumerate(parts):
             part(program, os.path.join(room, f"log-{number}"))

@@ -245,7 +245,9 @@ const WITH_WRITER: [&str; 4] = ["pagedd", "serve", "serve-log", "append"];
 /// The command line.
 pub fn command<'a>(alloc: Global) -> Result<Command<'a>, AllocError> {
     let top = Command::new(alloc, "pagedd")
-        .about("serves a paged blob over a file, or a log in a folder, to one client, and looks at them")
+        .about(
+            "serves a paged blob over a file, or a log in a folder, to one client, and looks at them",
+        )
         .version(VERSION)
         .after_help(STATUSES)
         .args_conflicts_with_subcommands(true);

@@ -60,7 +60,10 @@ fn keeps<H: Sum>(rt: &HostRuntime, request: &Request, path: &str) -> Result<bool
     let part = Part::of::<H>(rt, request, path)?;
     if !part.keeps_all() {
         let words = "a recovery would give up some of its end, which isn't among the records";
-        tell(rt, format_args!("{path}: {words}: see 'pagedd check {path}'"));
+        tell(
+            rt,
+            format_args!("{path}: {words}: see 'pagedd check {path}'"),
+        );
     }
     Ok(part.keeps_all())
 }
@@ -78,7 +81,10 @@ fn write_segments<H: Sum>(
     for segment in log.first_segment()..=log.last_segment() {
         if let Some(error) = write_segment::<H>(rt, log, segment, out)? {
             let words = "its records are left out";
-            tell(rt, format_args!("{}: segment {segment}: {error}: {words}", request.file));
+            tell(
+                rt,
+                format_args!("{}: segment {segment}: {error}: {words}", request.file),
+            );
             are_read = false;
         }
     }

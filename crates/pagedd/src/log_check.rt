@@ -54,13 +54,19 @@ fn check_parts<H: Sum>(
         print_heading(rt, request, log.first_segment(), last, &manifest)?;
     } else {
         or_end(rt, tell_heading(rt, request, log.first_segment(), last))?;
-        or_end(rt, tell_part(rt, "manifest", &manifest, manifest_path.as_str()))?;
+        or_end(
+            rt,
+            tell_part(rt, "manifest", &manifest, manifest_path.as_str()),
+        )?;
     }
     let are_whole = check_closed::<H>(rt, request, log)?;
     if request.json {
         print_ending(rt, last, log.records(), &open, count)?;
     } else {
-        or_end(rt, tell_open(rt, last, log.records(), &open, open_path.as_str()))?;
+        or_end(
+            rt,
+            tell_open(rt, last, log.records(), &open, open_path.as_str()),
+        )?;
         or_end(rt, println!(rt; "in all: {} records", count))?;
     }
     Ok(Status::of_file(are_whole && manifest.is_whole && open.is_whole))
@@ -70,8 +76,7 @@ fn tell_heading(rt: &HostRuntime, request: &Request, first: u64, last: u64) -> i
     let name = request.shape.checksum.name();
     println!(rt;
         "{} has a log: segments {first} to {last}, pages of {} bytes, {name}",
-        request.file,
-        request.shape.page_size
+        request.file, request.shape.page_size
     )
 }
 
@@ -116,8 +121,7 @@ fn check_closed<H: Sum>(
             let words = kept.words();
             let told = println!(rt;
                 "segment {number}: {} records, {} bytes, {words}",
-                closed.records,
-                closed.len
+                closed.records, closed.len
             );
             or_end(rt, told)?;
         }
@@ -127,11 +131,7 @@ fn check_closed<H: Sum>(
 }
 
 // Tells why a log can't be opened.
-fn check_unopened(
-    rt: &HostRuntime,
-    request: &Request,
-    error: &Error,
-) -> Result<Status, Status> {
+fn check_unopened(rt: &HostRuntime, request: &Request, error: &Error) -> Result<Status, Status> {
     let status = refuse_log(rt, request, error);
     if request.json {
         print_unopened(rt, request, error)?;

@@ -4,7 +4,7 @@ ghost use Rattle.segments.specs.Log.{IsLog};
 use crate::log_check::LogCopy;
 use crate::log_files::{copy_of, manifest_in, options_of, segment_in};
 use crate::log_refusing::refuse_log;
-use crate::look::{looked, read};
+use crate::look::{Look, looked, read};
 use crate::opening::{allow, open};
 use crate::request::Request;
 use crate::status::Status;
@@ -67,6 +67,13 @@ fn is_not_found(error: &Error) -> bool {
     }
 }
 
+// Whether a crash may have left a file so, of which nothing is committed yet, as of the segment that
+// follows one that was closed. The page size is right, since the manifest was read with it.
+fn may_be_torn(request: &Request, look: &Look) -> bool {
+    let survey = look.survey;
+    survey.beyond == 0 || survey.outlook.cut <= request.cut_limit
+}
+
 // Adds what a recovery of a file gives up.
 fn guard_file<H: Sum>(
     rt: &HostRuntime,
@@ -74,12 +81,13 @@ fn guard_file<H: Sum>(
     path: &str,
     given_up: &mut GivenUp,
 ) -> Result<(), Status> {
-    let part = request.about(path);
+    let mut part = request.about(path);
     let mut copy = read(rt, path)?;
     let look = looked::<VecBlob, H>(rt, &part, &mut copy)?;
     if look.at_stake() == 0 {
         return Ok(());
     }
+    part.cut = request.cut || may_be_torn(request, &look);
     let allowed = if request.read_only {
         allow::<VecBlob, H>(rt, &part, &mut copy)?
     } else {

@@ -65,7 +65,11 @@ fn map_segments<H: Sum>(
     if first >= end {
         let words = "--from and --to leave none of its segments";
         let known = log.first_segment();
-        return Err(fail(rt, request.file, format_args!("{words}: it has {known} to {last}")));
+        return Err(fail(
+            rt,
+            request.file,
+            format_args!("{words}: it has {known} to {last}"),
+        ));
     }
     if drawn.long && !request.json {
         draw_long::<H>(rt, request, log, first, end)?;
@@ -125,7 +129,10 @@ fn draw_long<H: Sum>(
         let told = match log.closed(number) {
             Some(closed) => {
                 let mark = Kept::of(&mut folder, number, &closed).mark();
-                println!(rt; "{number:>10} {mark} {} records, {} bytes", closed.records, closed.len)
+                println!(rt;
+                    "{number:>10} {mark} {} records, {} bytes",
+                    closed.records, closed.len
+                )
             }
             None => println!(rt; "{number:>10} + {} records", log.records()),
         };

@@ -112,7 +112,10 @@ impl Part {
 impl fmt::Display for Part {
     fn fmt<W: fmt::Write>(&self, f: &mut fmt::Formatter<W>) -> fmt::Result {
         let Part {
-            bytes, kept, cut, ..
+            bytes,
+            kept,
+            cut,
+            ..
         } = self;
         if self.is_whole {
             return write!(f, "whole, {bytes} bytes");

@@ -31,7 +31,8 @@ pub fn refuse_log(rt: &HostRuntime, request: &Request, error: &Error) -> Status 
 }
 
 // What is said of a folder in which a file of a log is missing.
-const NO_LOG: &str = "there is no log in it, or its first file isn't there: 'pagedd serve-log' begins one";
+const NO_LOG: &str =
+    "there is no log in it, or its first file isn't there: 'pagedd serve-log' begins one";
 
 // Says with which page size and checksum the manifest can be read, if there are such.
 fn tell_fit(rt: &HostRuntime, request: &Request) -> Result<(), Status> {
@@ -41,9 +42,15 @@ fn tell_fit(rt: &HostRuntime, request: &Request) -> Result<(), Status> {
     match fits.first() {
         Some(fit) => tell(
             rt,
-            format_args!("{path}: {fit}; nothing was changed; try again with {}", fit.shape),
+            format_args!(
+                "{path}: {fit}; nothing was changed; try again with {}",
+                fit.shape
+            ),
         ),
-        None => tell(rt, format_args!("{path}: nothing was changed; see 'pagedd check {path}'")),
+        None => tell(
+            rt,
+            format_args!("{path}: nothing was changed; see 'pagedd check {path}'"),
+        ),
     }
     Ok(())
 }

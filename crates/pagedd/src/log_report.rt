@@ -20,7 +20,10 @@ impl fmt::Display for PartMembers<'_> {
             torn,
             is_whole,
         } = self.0;
-        write!(f, "\"bytes\":{bytes},\"kept_bytes\":{kept},\"cut_bytes\":{cut},")?;
+        write!(
+            f,
+            "\"bytes\":{bytes},\"kept_bytes\":{kept},\"cut_bytes\":{cut},"
+        )?;
         write!(f, "\"torn\":{torn},\"whole\":{is_whole}")
     }
 }

@@ -28,11 +28,8 @@ use std::path::PathBuf;
 /// is made, except for reading alone.
 pub fn serve_log<H: Sum>(rt: &HostRuntime, request: &Request) -> Result<Status, Status> {
     let folder = request.file;
-    if !request.read_only
-        && !is_folder(rt, folder)
-        && let Err(error) = make_folder(rt, folder)
-    {
-        return Err(fail(rt, folder, error));
+    if !is_folder(rt, folder) {
+        make_folder(rt, request)?;
     }
     let given_up = guard_log::<H>(rt, request)?;
     if request.read_only {
@@ -45,8 +42,23 @@ pub fn serve_log<H: Sum>(rt: &HostRuntime, request: &Request) -> Result<Status, 
     }
 }
 
+// Makes the folder, unless something else has its name, or the log is served for reading alone.
+fn make_folder(rt: &HostRuntime, request: &Request) -> Result<(), Status> {
+    let folder = request.file;
+    if fs::exists(rt, folder).unwrap_or(false) {
+        return Err(fail(rt, folder, "it is no folder: 'pagedd serve' serves a file"));
+    }
+    if request.read_only {
+        return Err(fail(rt, folder, "there is no such folder"));
+    }
+    match make_durable(rt, folder) {
+        Ok(()) => Ok(()),
+        Err(error) => Err(fail(rt, folder, error)),
+    }
+}
+
 // Makes a folder, and its name durable.
-fn make_folder(rt: &HostRuntime, path: &str) -> io::Result<()> {
+fn make_durable(rt: &HostRuntime, path: &str) -> io::Result<()> {
     fs::create_dir(rt, path)?;
     let mut above: PathBuf = fs::canonicalize(rt, path)?;
     above.pop();
@@ -139,7 +151,11 @@ fn end(rt: &HostRuntime, request: &Request, client: &Client) -> Result<Status, S
         None => Ok(Status::Done),
         Some(error) => {
             let words = "what was appended since the last sync may be lost";
-            Err(fail(rt, request.file, format_args!("the log was closed: {error}: {words}")))
+            Err(fail(
+                rt,
+                request.file,
+                format_args!("the log was closed: {error}: {words}"),
+            ))
         }
     }
 }

@@ -5,7 +5,7 @@ use crate::log_answer::{Refusal, write_answer, write_found, write_places, write_
 use crate::log_records::{Records, length_of, split_record};
 use crate::log_request::LogRequest;
 use crate::log_status::{AT_END, CLOSED, NO_RECORDS, READ_ONLY, refusal_of};
-use disk::{Blob, IoBuf};
+use disk::Blob;
 use journal::MOST_BYTES;
 use page::Sum;
 use protocol::{Stop, Version};
@@ -207,7 +207,10 @@ fn take_read<F: Folder<B> + Drop, B: Blob + Drop, H: Sum, W: Write>(
     ensures log { IsLog H.sum_of H.sum_of log.new }
 {
     match log.read(place) {
-        Ok(Some(found)) => write_found(out, found.end, found.bytes.as_ref().map(IoBuf::as_ref)),
+        Ok(Some(found)) => match &found.bytes {
+            Some(bytes) => write_found(out, found.end, Some(bytes.as_ref())),
+            None => write_found(out, found.end, None),
+        },
         Ok(None) => refuse(alloc, client, out, AT_END),
         Err(error) => refuse_kept(alloc, client, out, &error, false),
     }

@@ -1,13 +1,15 @@
-//! Serves a paged blob over a file to a program in any language, appends to such files, and looks at
-//! them.
+//! Serves a paged blob over a file, or a log in a folder, to a program in any language, appends to
+//! such files, and looks at them.
 //!
 //! `pagedd serve FILE`: requests come on standard input, answers go to standard output, in frames of
 //! bytes that `docs/PROTOCOL.md` describes. Before anything is cut the file is looked at. What goes
 //! and may have been synced is set aside, and a line on standard error says what goes. What a crash
 //! doesn't leave is refused.
 //!
+//! `pagedd serve-log FOLDER` serves a log of records in the same way, as `docs/LOG_PROTOCOL.md` says.
+//!
 //! `append` takes standard input as content. `check`, `map`, `cat` and `salvage` read a file and
-//! change nothing of it.
+//! change nothing of it; the first three do so for the folder of a log too.
 //!
 //! [`Status`](status::Status) lists the exit statuses. Where the status is neither 0 nor 141, standard
 //! error says why; for `check`, its own output does.
@@ -103,7 +105,12 @@ fn perform_on_folder<H: Sum>(rt: &HostRuntime, request: &Request) -> Result<Stat
         Task::Tell(Told::Map { from, to, long }) => {
             map_log::<H>(rt, request, Drawn { from, to, long })
         }
-        Task::Tell(Told::Cat { from: 0, len: u64::MAX }) => cat_log::<H>(rt, request),
+        Task::Tell(
+            Told::Cat {
+                from: 0,
+                len: u64::MAX,
+            },
+        ) => cat_log::<H>(rt, request),
         Task::Tell(Told::Cat { .. }) => {
             Err(fail_folder(rt, folder, "--from and --len are of a file's content"))
         }
@@ -111,10 +118,18 @@ fn perform_on_folder<H: Sum>(rt: &HostRuntime, request: &Request) -> Result<Stat
             Err(fail_folder(rt, folder, "'pagedd serve-log' serves the log in it"))
         }
         Task::Append { .. } => {
-            Err(fail_folder(rt, folder, "append isn't supported for a log: 'pagedd serve-log' appends its records"))
+            Err(fail_folder(
+                rt,
+                folder,
+                "append isn't supported for a log: 'pagedd serve-log' appends its records",
+            ))
         }
         Task::Salvage { .. } => {
-            Err(fail_folder(rt, folder, "salvage isn't supported for a log: 'pagedd cat' writes the records that are whole"))
+            Err(fail_folder(
+                rt,
+                folder,
+                "salvage isn't supported for a log: 'pagedd cat' writes the records that are whole",
+            ))
         }
         Task::ServeLog => serve_log::<H>(rt, request),
         Task::Version => Ok(Status::Done),
