@@ -24,9 +24,9 @@ START = (0, 0)
 
 
 class Log(Blob):
-    """A log, served by a process. A place is a segment and an offset in it. What the hello told is in `size`, the number
-    of records, `page_size`, `checksum`, `read_only`, `cut`, `given_up` and `copy`; of `limits`, `ranges` is the most
-    bytes of a record."""
+    """A log, served by a process. A place is a segment and an offset in it. What the hello told is in `size`, which is
+    the number of records, `page_size`, `checksum`, `read_only`, `cut`, `given_up` and `copy`; of `limits`, `ranges` is
+    the most bytes of a record."""
 
     def __init__(self, program, folder, *options):
         self.open([program, "serve-log", *options, folder])

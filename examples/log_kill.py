@@ -83,7 +83,8 @@ def compare(kill, log, kept):
     end = numbers[-1] + 1 if numbers else 0
     wanted = [number for number in range(kept.committed) if kept.places[number][0] >= kept.tried]
     if wanted and (not numbers or numbers[0] > wanted[0] or end < kept.committed):
-        raise SystemExit(f"kill {kill}: {wanted[0]} to {kept.committed} were committed, and {numbers[:1]} to {end} are there")
+        there = f"{numbers[0]} to {end}" if numbers else "none"
+        raise SystemExit(f"kill {kill}: {wanted[0]} to {kept.committed} were committed; there are {there}")
     if end > kept.next:
         raise SystemExit(f"kill {kill}: records that weren't appended")
     for place, data in found:
@@ -114,7 +115,8 @@ def main():
             try:
                 log = Session(program, folder, SMALL)
             except EOFError:
-                raise SystemExit(f"kill {kill}: it is refused: {play(program, 'serve-log', SMALL, folder)[2]}") from None
+                said = play(program, "serve-log", SMALL, folder)[2]
+                raise SystemExit(f"kill {kill}: it is refused: {said}") from None
             most = max(most, compare(kill, log, kept))
             timer = threading.Timer(rng.random() * 0.2, log.process.kill)
             timer.start()

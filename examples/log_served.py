@@ -6,6 +6,7 @@ isn't as `docs/LOG_PROTOCOL.md` says ends it. It has no cases of a killed progra
 """
 import json
 import os
+import re
 import resource
 import shutil
 import signal
@@ -20,6 +21,7 @@ from log_client import (APPEND_RECORDS, APPEND_RECORDS_SYNC, AT_END, CLOSED, DAM
 
 SMALL = "--segment-size=300"
 MOST = 65535
+PAGE = os.path.join(os.path.dirname(os.path.abspath(__file__)), "..", "docs", "LOG_PROTOCOL.md")
 OFFER = b"\x02\x02\x01\x02"
 UNLISTED = 41
 
@@ -124,9 +126,11 @@ def version_one(program, folder):
            "a record of 65,535 bytes is appended, and so is one of none")
     log.drop_before(2)
     expect(not os.path.exists(segment(folder, 0)) and log.status(READ, 0, 0) == NO_SEGMENT
-           and log.status(NEXT, 1, 0) == NO_SEGMENT, "of a dropped segment the file is gone, and reads are refused with 38")
+           and log.status(NEXT, 1, 0) == NO_SEGMENT,
+           "of a dropped segment the file is gone, and reads are refused with 38")
     expect(next(log.records())[0] == (2, 0), "next from 0, 0 on begins at the first segment that is left")
-    expect(log.status(DROP_BEFORE, 10 ** 6) == NO_SEGMENT, "a drop before a segment that isn't there yet is refused with 38")
+    expect(log.status(DROP_BEFORE, 10 ** 6) == NO_SEGMENT,
+           "a drop before a segment that isn't there yet is refused with 38")
     expect(log.end() == (0, ""), "a close ends it with status 0")
     log = Session(program, folder, SMALL, version=1)
     expect(log.size == sum(at[0] >= 2 for at in places) + 1,
@@ -146,7 +150,8 @@ def version_two(program, folder):
     expect([log.read(place)[0] for place in more] == [b"one", b"two"], "so does append_records_sync")
     expect(log.ask(APPEND_RECORDS, data=batch([])) == b"", "there may be no record")
     expect(struct.unpack("<Q", log.ask(SYNC_SIZE)) == (15,), "sync_size tells the number of records")
-    expect(log.ask(FLUSH) == b"" and log.ask(SYNC) == b"" and log.count() == 15, "flush, sync and size are as they were")
+    expect(log.ask(FLUSH) == b"" and log.ask(SYNC) == b"" and log.count() == 15,
+           "flush, sync and size are as they were")
     wrong = {"no count": b"\1\0\0", "a length that is missing": struct.pack("<II", 2, 0),
              "too few bytes": batch([b"abc"])[:-1], "too many bytes": batch([b"abc"]) + b"d",
              "a record that is too long": batch([b"first", bytes(MOST + 1)])}
@@ -154,7 +159,8 @@ def version_two(program, folder):
         for kind in (APPEND_RECORDS, APPEND_RECORDS_SYNC):
             refused = log.refusal(kind, data=fields)
             expect((refused.status, refused.next, refused.taken, refused.errno, refused.words)
-                   == (NO_RECORDS, 0, 0, 0, "") and log.count() == 15, f"{what} is refused with 23, and nothing is appended")
+                   == (NO_RECORDS, 0, 0, 0, "") and log.count() == 15,
+                   f"{what} is refused with 23, and nothing is appended")
     refused = log.refusal(APPEND, data=bytes(MOST + 1))
     expect((refused.status, refused.next) == (NO_RECORDS, 0), "a refusal tells the client to ask for something else")
     expect(log.refusal(READ, 999, 0).status == NO_SEGMENT and log.refusal(READ, 0, 10 ** 9).status == AT_END,
@@ -191,7 +197,8 @@ def wrong_frames(program, folder):
                 raise SystemExit(f"NOT SO: {frame} is no request of version {version}: {status} {out} {said}")
         print(f"frames that are none end version {version} with status 2, after what came before was answered")
     greeting = b"\x01" + struct.pack("<IBQ", 9, 0, 0)
-    expect(play(program, "serve-log", folder, given=b"\x03")[:2] == (2, greeting), "another first byte ends it with status 2")
+    expect(play(program, "serve-log", folder, given=b"\x03")[:2] == (2, greeting),
+           "another first byte ends it with status 2")
     expect(play(program, "serve-log", folder, given=b"\x02\x02\x07\x08")[:2]
            == (2, greeting + b"\3\0\0\0\x18\1\2"), "an offer of versions that aren't known is answered 24")
     status, out, _ = play(program, "serve-log", folder, given=b"\x02\x05\x01")
@@ -204,7 +211,8 @@ def wrong_frames(program, folder):
 def in_order(program, folder):
     log = Session(program, folder, SMALL)
     log.send(struct.pack("<IB", 1, SIZE) + b"\1\0")
-    expect(struct.unpack("<Q", log.answer()) == (log.size,), "an answer is out before the rest of the next request has come")
+    expect(struct.unpack("<Q", log.answer()) == (log.size,),
+           "an answer is out before the rest of the next request has come")
     log.send(b"\0\0\x05" + struct.pack("<IB", 1, SIZE) * 5000)
     expect(all(log.answer() for _ in range(5001)), "many requests are answered in order")
     second = play(program, "serve-log", folder)
@@ -268,7 +276,7 @@ def tampering(program, folder):
             wanted = (DAMAGED, 0, 0) if data is not None else (SYSTEM, 1, 2)
             others = [log.read(place)[0] for place in places if place[0] != 1]
             if (first, second) != (wanted, wanted) or others != inside or log.end() != (0, ""):
-                raise SystemExit(f"NOT SO: a closed segment that is {what} is refused with {expected}: {first} {second}")
+                raise SystemExit(f"NOT SO: a segment that is {what} is refused with {expected}: {first} {second}")
         state = "damaged" if data is not None else "missing"
         status, out, _ = play(program, "check", folder)
         told = json.loads(play(program, "check", "--json", folder)[1])
@@ -280,7 +288,7 @@ def tampering(program, folder):
                 or mapped != "#" + ("!" if data is not None else "?") + "#" * (last - 2) + "+"
                 or (written[0], written[1]) != (3, b"".join(it + b"\n" for it in inside))
                 or not written[2].startswith(f"pagedd: {folder}: segment 1: ")):
-            raise SystemExit(f"NOT SO: check, map and cat tell a closed segment that is {what}: {out} {told} {mapped} {written}")
+            raise SystemExit(f"NOT SO: check, map and cat tell that it is {what}: {out} {told} {mapped} {written}")
         print(f"a closed segment that is {what}: its reads are refused with {expected}, check, map and cat tell it, "
               "and the others are read")
     back()
@@ -346,7 +354,8 @@ def torn(program, folder):
 
 def begun(program, folder):
     """What a crash may leave of a segment that follows a closed one: nothing in it was committed yet."""
-    for what, data in (("zeros", bytes(4096)), ("a part of a page", some(1)), ("a torn page", some(1).ljust(4096, b"\1"))):
+    left = {"zeros": bytes(4096), "a part of a page": some(1), "a torn page": some(1).ljust(4096, b"\1")}
+    for what, data in left.items():
         shutil.rmtree(folder, ignore_errors=True)
         places = a_log(program, folder)
         last = places[-1][0]
@@ -361,7 +370,8 @@ def begun(program, folder):
     os.mkdir(folder)
     put(os.path.join(folder, "manifest"), bytes(4096))
     log = Session(program, folder, SMALL)
-    expect(log.size == 0 and log.append(b"first") == (0, 0) and log.end()[0] == 0, "and so does a log that was just begun")
+    expect(log.size == 0 and log.append(b"first") == (0, 0) and log.end()[0] == 0,
+           "and so does a log that was just begun")
     shutil.rmtree(folder, ignore_errors=True)
     log = Session(program, folder)
     log.append_all([bytes(MOST)] * 20)
@@ -373,8 +383,8 @@ def begun(program, folder):
     expect((status, out) == (3, b"") and image(folder) == before,
            f"an open segment of which more than 1 MiB would go is refused with status 3: {said.strip()}")
     log = Session(program, folder, "--cut")
-    expect(log.size == 0 and contents(log.copy) == before[os.path.basename(segment(folder, 0))][4096:] and log.end()[0] == 0,
-           "--cut goes on, after a copy was made")
+    cut = before[os.path.basename(segment(folder, 0))][4096:]
+    expect(log.size == 0 and contents(log.copy) == cut and log.end()[0] == 0, "--cut goes on, after a copy was made")
 
 
 def closed_by_a_failure(program, folder):
@@ -425,13 +435,25 @@ def commands(program, folder):
     a_log(program, folder)
     file = put(folder + "-file", b"")
     before = image(folder)
-    for words in (["serve-log", file], ["append", folder], ["salvage", folder, folder + "-out"], ["serve", folder], [folder],
-                  ["cat", "--from", "3", folder], ["cat", "--len", "3", folder], ["map", "--from", "99", folder]):
+    for words in (["serve-log", file], ["append", folder], ["salvage", folder, folder + "-out"], ["serve", folder],
+                  [folder], ["cat", "--from", "3", folder], ["cat", "--len", "3", folder],
+                  ["map", "--from", "99", folder]):
         status, out, said = play(program, *words)
         expect((status, out, said.count("\n")) == (1, b"", 1), f"pagedd {words[0]} is refused: {said.strip()}")
     expect(play(program, "map", "--from", "2", "--to", "4", folder)[1].split()[-2:] == [b"2", b"##"],
            "map draws the segments from one to before another")
     expect(image(folder) == before, "and nothing changed")
+
+
+def documented(program, folder):
+    """The bytes of the page: of each two blocks the first is written, and the second read."""
+    with open(PAGE, encoding="utf-8") as page:
+        text = page.read().split("## Examples")[1]
+    blocks = [bytes.fromhex("".join(block.split())) for block in re.findall(r"(?:^ {4}[0-9a-f ]+\n)+", text, re.M)]
+    for number, (given, wanted) in enumerate(zip(blocks[::2], blocks[1::2])):
+        ended = play(program, "serve-log", f"{folder}-{number}", given=given)
+        expect(ended == (0, wanted, ""), f"the page's example of version {number + 1} is so")
+    expect(len(blocks) == 4, "and the page has two")
 
 
 def main():
@@ -440,7 +462,7 @@ def main():
     program = made.parse_args().PAGEDD
     with tempfile.TemporaryDirectory() as room:
         parts = (version_one, version_two, wrong_frames, in_order, alone, tampering, older_manifest, torn, begun,
-                 closed_by_a_failure, full, commands)
+                 closed_by_a_failure, full, commands, documented)
         for number, part in enumerate(parts):
             part(program, os.path.join(room, f"log-{number}"))
     print("all is so")

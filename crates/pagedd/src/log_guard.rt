@@ -67,8 +67,8 @@ fn is_not_found(error: &Error) -> bool {
     }
 }
 
-// Whether a crash may have left a file so, of which nothing is committed yet, as of the segment that
-// follows one that was closed. The page size is right, since the manifest was read with it.
+// Whether a crash may have left a file so, of which nothing is committed yet, as of the segment
+// that follows one that was closed. The page size is right, since the manifest was read with it.
 fn may_be_torn(request: &Request, look: &Look) -> bool {
     let survey = look.survey;
     survey.beyond == 0 || survey.outlook.cut <= request.cut_limit

@@ -63,7 +63,7 @@ impl Kept {
         match self {
             Kept::Whole => "whole",
             Kept::Damaged => {
-                "damaged: it doesn't hold what it held when it was closed: bring it back from a copy"
+                "damaged: it isn't what it was when it was closed: bring it back from a copy"
             }
             Kept::Missing => "missing: bring it back from a copy",
             Kept::Unread => "not read, since the system refuses it",

@@ -88,7 +88,8 @@ pub fn print_unopened(rt: &HostRuntime, request: &Request, error: &Error) -> Res
     let words = error.to_string(rt.alloc())?;
     let words = quoted(rt, words.as_str())?;
     let printed = println!(rt;
-        "{{\"file\":{file},\"page_size\":{page_size},\"checksum\":\"{checksum}\",\"error\":{words}}}"
+        "{{\"file\":{file},\"page_size\":{page_size},\"checksum\":\"{checksum}\",\
+         \"error\":{words}}}"
     );
     or_end(rt, printed)
 }

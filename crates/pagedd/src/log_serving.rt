@@ -24,8 +24,8 @@ use std::fs::{self, File};
 use std::io::{self, BufReader, BufWriter, Read, Write};
 use std::path::PathBuf;
 
-/// Serves the log of a folder, or for reading alone a copy of it in memory. A folder that is missing
-/// is made, except for reading alone.
+/// Serves the log of a folder, or for reading alone a copy of it in memory. A folder that is
+/// missing is made, except for reading alone.
 pub fn serve_log<H: Sum>(rt: &HostRuntime, request: &Request) -> Result<Status, Status> {
     let folder = request.file;
     if !is_folder(rt, folder) {
@@ -185,8 +185,8 @@ fn serve_client<F: Folder<B> + Drop, B: Blob + Drop, H: Sum, R: Read, W: Write +
     }
 }
 
-// Takes the requests of the input, one after another, and writes an answer to each, up to a close or
-// the end of the input.
+// Takes the requests of the input, one after another, and writes an answer to each, up to a close
+// or the end of the input.
 fn serve_requests<F: Folder<B> + Drop, B: Blob + Drop, H: Sum, R: Read, W: Write + Drop>(
     alloc: Global,
     client: &mut Client,
