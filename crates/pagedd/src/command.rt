@@ -13,23 +13,33 @@ const STATUSES: &str = "\
 Exit status:
   0    done; all that the file holds is whole, and in what was answered
   1    it couldn't be done: the file, the input, the output, memory or the command line
-  2    the input of serve isn't requests
-  3    the file isn't whole, or is refused; nothing was cut
+  2    the input of serve or serve-log isn't requests
+  3    the file or the log isn't whole, or is refused; nothing was cut
   141  the output was closed by its reader";
 
 /// The commands, and what each does.
-const COMMANDS: [(&str, &str); 7] = [
+const COMMANDS: [(&str, &str); 8] = [
     ("serve", "serves FILE, and makes it where it is missing"),
+    (
+        "serve-log",
+        "serves the log in FOLDER, and makes FOLDER where it is missing",
+    ),
     (
         "append",
         "appends standard input to FILE, durably, and makes FILE where it is missing",
     ),
     (
         "check",
-        "tells what a recovery would keep and cut, and which pages don't verify",
+        "tells what a recovery would keep and cut, and which pages or segments don't verify",
     ),
-    ("map", "draws the pages of FILE, one mark each"),
-    ("cat", "writes the content of FILE to standard output"),
+    (
+        "map",
+        "draws the pages of FILE, or the segments of a log's folder, one mark each",
+    ),
+    (
+        "cat",
+        "writes the content of FILE, or the records of a log's folder, a line each",
+    ),
     (
         "salvage",
         "puts all that verifies, also after a bad page, into a new blob OUT",
@@ -67,34 +77,55 @@ struct Row {
 }
 
 /// The options, in the order in which help has them.
-const ROWS: [Row; 18] = [
+const ROWS: [Row; 21] = [
     Row {
         name: "FILE",
         takes: Takes::Word,
         default: None,
         help: "the file of the blob",
-        commands: &WITH_FILE,
+        commands: &["pagedd", "serve", "append", "salvage"],
+    },
+    Row {
+        name: "FILE",
+        takes: Takes::Word,
+        default: None,
+        help: "the file of the blob, or the folder of a log",
+        commands: &["check", "map", "cat"],
+    },
+    Row {
+        name: "FOLDER",
+        takes: Takes::Word,
+        default: None,
+        help: "the folder of the log",
+        commands: &["serve-log"],
     },
     Row {
         name: "page-size",
         takes: Takes::PageSize,
         default: Some("4084"),
         help: "the content bytes of a page",
-        commands: &WITH_FILE,
+        commands: &WITH_PAGES,
     },
     Row {
         name: "checksum",
         takes: Takes::Checksum,
         default: Some("crc32c"),
-        help: "the checksum of a page",
-        commands: &WITH_FILE,
+        help: "the checksum of a page, and of a record of a log",
+        commands: &WITH_PAGES,
     },
     Row {
         name: "buffer",
         takes: Takes::Size,
         default: Some("65536"),
         help: "the bytes that are held back, and those of a read",
-        commands: &WITH_FILE,
+        commands: &WITH_PAGES,
+    },
+    Row {
+        name: "segment-size",
+        takes: Takes::Number,
+        default: Some("67108864"),
+        help: "from how many content bytes on a segment is closed",
+        commands: &["serve-log"],
     },
     Row {
         name: "OUT",
@@ -115,28 +146,28 @@ const ROWS: [Row; 18] = [
         takes: Takes::Size,
         default: Some("64"),
         help: "the pages that may be held in memory",
-        commands: &["pagedd", "serve", "append"],
+        commands: &WITH_WRITER,
     },
     Row {
         name: "cut",
         takes: Takes::Nothing,
         default: None,
         help: "recovers a file that would be refused; what is cut is kept beside it",
-        commands: &["pagedd", "serve", "append"],
+        commands: &WITH_WRITER,
     },
     Row {
         name: "cut-limit",
         takes: Takes::Number,
         default: Some("1048576"),
         help: "how many bytes may go although a page among them has a value",
-        commands: &["pagedd", "serve", "append", "check"],
+        commands: &["pagedd", "serve", "serve-log", "append", "check"],
     },
     Row {
         name: "read-only",
         takes: Takes::Nothing,
         default: None,
         help: "serves a copy in memory as it would be recovered, and changes no file",
-        commands: &["pagedd", "serve"],
+        commands: &["pagedd", "serve", "serve-log"],
     },
     Row {
         name: "create",
@@ -156,35 +187,35 @@ const ROWS: [Row; 18] = [
         name: "from",
         takes: Takes::Number,
         default: None,
-        help: "the first page",
+        help: "the first page, or segment",
         commands: &["map"],
     },
     Row {
         name: "to",
         takes: Takes::Number,
         default: None,
-        help: "the page before which it ends",
+        help: "the page or segment before which it ends",
         commands: &["map"],
     },
     Row {
         name: "from",
         takes: Takes::Number,
         default: None,
-        help: "the offset of the first byte",
+        help: "the offset of the first byte of a file's content",
         commands: &["cat"],
     },
     Row {
         name: "len",
         takes: Takes::Number,
         default: None,
-        help: "how many bytes at most",
+        help: "how many bytes at most of a file's content",
         commands: &["cat"],
     },
     Row {
         name: "long",
         takes: Takes::Nothing,
         default: None,
-        help: "a line for each page, with what its slots say",
+        help: "a line for each page or segment, with what is known of it",
         commands: &["map"],
     },
     Row {
@@ -196,15 +227,27 @@ const ROWS: [Row; 18] = [
     },
 ];
 
-/// The commands that are about a file.
-const WITH_FILE: [&str; 7] = [
-    "pagedd", "serve", "append", "check", "map", "cat", "salvage",
+/// The commands that are about a file or a folder.
+const WITH_PAGES: [&str; 8] = [
+    "pagedd",
+    "serve",
+    "serve-log",
+    "append",
+    "check",
+    "map",
+    "cat",
+    "salvage",
 ];
+
+/// The commands that may write to it.
+const WITH_WRITER: [&str; 4] = ["pagedd", "serve", "serve-log", "append"];
 
 /// The command line.
 pub fn command<'a>(alloc: Global) -> Result<Command<'a>, AllocError> {
     let top = Command::new(alloc, "pagedd")
-        .about("serves a paged blob over a file to one client, and looks at such files")
+        .about(
+            "serves a paged blob over a file, or a log in a folder, to one client, and looks at them",
+        )
         .version(VERSION)
         .after_help(STATUSES)
         .args_conflicts_with_subcommands(true);

@@ -1,13 +1,15 @@
-//! Serves a paged blob over a file to a program in any language, appends to such files, and looks at
-//! them.
+//! Serves a paged blob over a file, or a log in a folder, to a program in any language, appends to
+//! such files, and looks at them.
 //!
 //! `pagedd serve FILE`: requests come on standard input, answers go to standard output, in frames of
 //! bytes that `docs/PROTOCOL.md` describes. Before anything is cut the file is looked at. What goes
 //! and may have been synced is set aside, and a line on standard error says what goes. What a crash
 //! doesn't leave is refused.
 //!
+//! `pagedd serve-log FOLDER` serves a log of records in the same way, as `docs/LOG_PROTOCOL.md` says.
+//!
 //! `append` takes standard input as content. `check`, `map`, `cat` and `salvage` read a file and
-//! change nothing of it.
+//! change nothing of it; the first three do so for the folder of a log too.
 //!
 //! [`Status`](status::Status) lists the exit statuses. Where the status is neither 0 nor 141, standard
 //! error says why; for `check`, its own output does.
@@ -20,6 +22,22 @@ mod check;
 mod command;
 mod ending;
 mod fits;
+mod log_answer;
+mod log_cat;
+mod log_check;
+mod log_files;
+mod log_guard;
+mod log_hello;
+mod log_input;
+mod log_map;
+mod log_parts;
+mod log_records;
+mod log_refusing;
+mod log_report;
+mod log_request;
+mod log_serving;
+mod log_status;
+mod log_taking;
 mod look;
 mod map;
 mod opening;
@@ -39,6 +57,11 @@ use crate::cat::cat;
 use crate::check::check;
 use crate::command::{VERSION, command};
 use crate::ending::{end, or_end};
+use crate::log_cat::cat_log;
+use crate::log_check::check_log;
+use crate::log_files::{fail_folder, is_folder};
+use crate::log_map::{Drawn, map_log};
+use crate::log_serving::serve_log;
 use crate::look::read;
 use crate::map::map;
 use crate::request::{Checksum, Request, Task, Told, set_aside_in};
@@ -58,7 +81,11 @@ fn perform<H: Sum>(
     request: &Request,
     set_aside: &[&str],
 ) -> Result<Status, Status> {
+    if is_folder(rt, request.file) {
+        return perform_on_folder::<H>(rt, request);
+    }
     match request.task {
+        Task::ServeLog => serve_log::<H>(rt, request),
         Task::Serve { create } => serve::<H>(rt, request, create),
         Task::Append { each_line } => append::<H>(rt, request, each_line),
         Task::Tell(told) => tell_of::<H>(rt, request, told, &mut read(rt, request.file)?),
@@ -67,6 +94,45 @@ fn perform<H: Sum>(
             or_end(rt, println!(rt; "pagedd {VERSION}"))?;
             Ok(Status::Done)
         }
+    }
+}
+
+// Does what is asked for of the folder of a log.
+fn perform_on_folder<H: Sum>(rt: &HostRuntime, request: &Request) -> Result<Status, Status> {
+    let folder = request.file;
+    match request.task {
+        Task::Tell(Told::Check) => check_log::<H>(rt, request),
+        Task::Tell(Told::Map { from, to, long }) => {
+            map_log::<H>(rt, request, Drawn { from, to, long })
+        }
+        Task::Tell(
+            Told::Cat {
+                from: 0,
+                len: u64::MAX,
+            },
+        ) => cat_log::<H>(rt, request),
+        Task::Tell(Told::Cat { .. }) => {
+            Err(fail_folder(rt, folder, "--from and --len are of a file's content"))
+        }
+        Task::Serve { .. } => {
+            Err(fail_folder(rt, folder, "'pagedd serve-log' serves the log in it"))
+        }
+        Task::Append { .. } => {
+            Err(fail_folder(
+                rt,
+                folder,
+                "append isn't supported for a log: 'pagedd serve-log' appends its records",
+            ))
+        }
+        Task::Salvage { .. } => {
+            Err(fail_folder(
+                rt,
+                folder,
+                "salvage isn't supported for a log: 'pagedd cat' writes the records that are whole",
+            ))
+        }
+        Task::ServeLog => serve_log::<H>(rt, request),
+        Task::Version => Ok(Status::Done),
     }
 }
 

@@ -78,8 +78,8 @@ fn name_of(verdict: Verdict) -> &'static str {
     }
 }
 
-// A name as a text of JSON.
-fn quoted(rt: &HostRuntime, name: &str) -> Result<String, Status> {
+/// A name as a text of JSON.
+pub fn quoted(rt: &HostRuntime, name: &str) -> Result<String, Status> {
     match serde_json::to_string(rt.alloc(), &name) {
         Ok(text) => Ok(text),
         Err(_) => Err(Status::OutOfMemory),

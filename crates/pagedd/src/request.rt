@@ -38,11 +38,13 @@ impl fmt::Display for Shape {
     }
 }
 
-/// What is to be done with a file.
+/// What is to be done with a file, or with the folder of a log.
 #[derive(Clone, Copy)]
 pub enum Task<'a> {
     /// Serve it to the program's input and output; where it is missing, make it, if `create`.
     Serve { create: bool },
+    /// Serve the log in a folder to the program's input and output.
+    ServeLog,
     /// Append the program's input to it, with a sync after each line, if `each_line`.
     Append { each_line: bool },
     /// Read it into memory, and tell this of it.
@@ -76,6 +78,8 @@ pub struct Request<'a> {
     /// A file is cut whatever the survey says.
     pub cut: bool,
     pub cut_limit: u64,
+    /// From how many content bytes on a segment of a log is closed.
+    pub segment_size: u64,
     /// The answer is one JSON object.
     pub json: bool,
 }
@@ -89,15 +93,23 @@ impl<'a> Request<'a> {
         };
         Request {
             task,
-            file: words.get_str("FILE").unwrap_or_default(),
+            file: file_of(words),
             shape: shape_of(words),
             buffer: non_zero(words.get_one::<usize>("buffer")),
             cache: non_zero(words.get_one::<usize>("cache")),
             read_only: words.get_flag("read-only"),
             cut: words.get_flag("cut"),
             cut_limit: words.get_one::<u64>("cut-limit").unwrap_or(0),
+            segment_size: words.get_one::<u64>("segment-size").unwrap_or(u64::MAX),
             json: words.get_flag("json"),
         }
+    }
+}
+
+impl Request<'_> {
+    /// The same about another file.
+    pub fn about<'b>(&'b self, file: &'b str) -> Request<'b> {
+        Request { file, ..*self }
     }
 }
 
@@ -105,6 +117,14 @@ impl<'a> Request<'a> {
 pub fn set_aside_in<'m, 'a>(matches: &'m ArgMatches<'a>) -> Option<&'m [&'a str]> {
     let (_, words) = matches.subcommand()?;
     words.get_strs("CUT")
+}
+
+// The file or the folder that a command is about.
+fn file_of<'a>(words: &ArgMatches<'a>) -> &'a str {
+    match words.get_str("FILE") {
+        Some(file) => file,
+        None => words.get_str("FOLDER").unwrap_or_default(),
+    }
 }
 
 // What a command of this name asks for.
@@ -126,6 +146,7 @@ fn task_of<'a>(name: &str, words: &ArgMatches<'a>) -> Task<'a> {
         "salvage" => Task::Salvage {
             out: words.get_str("OUT").unwrap_or_default(),
         },
+        "serve-log" => Task::ServeLog,
         "version" => Task::Version,
         _ => Task::Serve { create: true },
     }

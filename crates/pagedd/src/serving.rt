@@ -14,7 +14,7 @@ use std::fs;
 use std::io::{BufReader, BufWriter, Write};
 
 /// So many bytes of requests are taken by one call of the system, and so many of answers are given.
-const PIECE: usize = 1 << 16;
+pub const PIECE: usize = 1 << 16;
 
 /// Serves a file, or for reading alone a copy of it in memory. A file that is missing is made where
 /// `create` asks.
@@ -87,8 +87,8 @@ fn serve_streams<B: Blob + Cause + InMemory, H: Sum>(
     Ok(serve_file::<B, H, _, _>(alloc, blob, &setting, name, copy, input, out))
 }
 
-// Says in a line why a session ended.
-fn tell_stop(
+/// Says in a line why a session ended.
+pub fn tell_stop(
     rt: &HostRuntime,
     request: &Request,
     stop: Stop,
@@ -104,8 +104,8 @@ fn tell_stop(
     }
 }
 
-// How a session ends whose last answers are sent now.
-fn flushed<W: Write>(served: Result<(), Stop>, out: &mut W) -> Result<(), Stop> {
+/// How a session ends whose last answers are sent now.
+pub fn flushed<W: Write>(served: Result<(), Stop>, out: &mut W) -> Result<(), Stop> {
     let sent = out.flush();
     served?;
     sent?;

@@ -8,8 +8,16 @@ use std::{env, fs, str};
 use strsim::levenshtein;
 
 /// The commands.
-const COMMANDS: [&str; 8] = [
-    "serve", "append", "check", "map", "cat", "salvage", "version", "help",
+const COMMANDS: [&str; 9] = [
+    "serve",
+    "serve-log",
+    "append",
+    "check",
+    "map",
+    "cat",
+    "salvage",
+    "version",
+    "help",
 ];
 
 /// The options that take no value.
@@ -27,12 +35,13 @@ const FLAGS: [&str; 10] = [
 ];
 
 /// The options that take a value, which may be the next word.
-const WITH_VALUE: [&str; 8] = [
+const WITH_VALUE: [&str; 9] = [
     "--page-size",
     "--checksum",
     "--buffer",
     "--cache",
     "--cut-limit",
+    "--segment-size",
     "--from",
     "--to",
     "--len",

@@ -1,0 +1,140 @@
+// Telling what the folder of a log holds.
+ghost use Rattle.segments.specs.Log.{IsLog};
+
+use crate::ending::or_end;
+use crate::log_files::{copy_of, manifest_in, options_of, segment_in};
+use crate::log_parts::{Kept, Part};
+use crate::log_refusing::refuse_log;
+use crate::log_report::{print_closed, print_ending, print_heading, print_unopened};
+use crate::request::Request;
+use crate::status::Status;
+use disk::VecBlob;
+use page::Sum;
+use segments::{Error, FolderCopy, SegmentedLog};
+use std::io;
+
+/// A log over a copy of its folder.
+pub type LogCopy<H> = SegmentedLog<FolderCopy, VecBlob, H, H>;
+
+/// Tells what a log has, and which of its files aren't whole. It is whole where each closed segment
+/// holds what it held when it was closed, and a recovery of the manifest and of the open segment
+/// gives up nothing.
+pub fn check_log<H: Sum>(rt: &HostRuntime, request: &Request) -> Result<Status, Status> {
+    let folder = copy_of(rt, request.file)?;
+    match LogCopy::<H>::open(rt.alloc(), folder, options_of(request)) {
+        Ok(log) => check_opened::<H>(rt, request, log),
+        Err(error) => check_unopened(rt, request, &error),
+    }
+}
+
+// Tells of a log that was opened.
+fn check_opened<H: Sum>(
+    rt: &HostRuntime,
+    request: &Request,
+    log: LogCopy<H>,
+) -> Result<Status, Status>
+    requires log { IsLog H.sum_of H.sum_of log }
+{
+    check_parts::<H>(rt, request, &log)
+}
+
+fn check_parts<H: Sum>(
+    rt: &HostRuntime,
+    request: &Request,
+    log: &LogCopy<H>,
+) -> Result<Status, Status> {
+    let folder = request.file;
+    let last = log.last_segment();
+    let manifest_path = manifest_in(rt.alloc(), folder)?;
+    let open_path = segment_in(rt.alloc(), folder, last)?;
+    let manifest = Part::of::<H>(rt, request, manifest_path.as_str())?;
+    let open = Part::of::<H>(rt, request, open_path.as_str())?;
+    let count = log.len().unwrap_or(u64::MAX);
+    if request.json {
+        print_heading(rt, request, log.first_segment(), last, &manifest)?;
+    } else {
+        or_end(rt, tell_heading(rt, request, log.first_segment(), last))?;
+        or_end(
+            rt,
+            tell_part(rt, "manifest", &manifest, manifest_path.as_str()),
+        )?;
+    }
+    let are_whole = check_closed::<H>(rt, request, log)?;
+    if request.json {
+        print_ending(rt, last, log.records(), &open, count)?;
+    } else {
+        or_end(
+            rt,
+            tell_open(rt, last, log.records(), &open, open_path.as_str()),
+        )?;
+        or_end(rt, println!(rt; "in all: {} records", count))?;
+    }
+    Ok(Status::of_file(are_whole && manifest.is_whole && open.is_whole))
+}
+
+fn tell_heading(rt: &HostRuntime, request: &Request, first: u64, last: u64) -> io::Result<()> {
+    let name = request.shape.checksum.name();
+    println!(rt;
+        "{} has a log: segments {first} to {last}, pages of {} bytes, {name}",
+        request.file, request.shape.page_size
+    )
+}
+
+// Tells of a file that an opening recovers.
+fn tell_part(rt: &HostRuntime, what: &str, part: &Part, path: &str) -> io::Result<()> {
+    if part.is_whole {
+        println!(rt; "{what}: {part}")
+    } else {
+        println!(rt; "{what}: {part}: see 'pagedd check {path}'")
+    }
+}
+
+fn tell_open(
+    rt: &HostRuntime,
+    number: u64,
+    records: u64,
+    part: &Part,
+    path: &str,
+) -> io::Result<()> {
+    print!(rt; "segment {number}: open, {records} records; ")?;
+    tell_part(rt, "its file", part, path)
+}
+
+// Tells of each closed segment, and answers whether all are whole.
+fn check_closed<H: Sum>(
+    rt: &HostRuntime,
+    request: &Request,
+    log: &LogCopy<H>,
+) -> Result<bool, Status> {
+    let mut folder = copy_of(rt, request.file)?;
+    let mut are_whole = true;
+    let mut is_first = true;
+    for number in log.first_segment()..log.last_segment() {
+        let Some(closed) = log.closed(number) else {
+            continue;
+        };
+        let kept = Kept::of(&mut folder, number, &closed);
+        are_whole = are_whole && kept == Kept::Whole;
+        if request.json {
+            print_closed(rt, number, &closed, kept, is_first)?;
+        } else {
+            let words = kept.words();
+            let told = println!(rt;
+                "segment {number}: {} records, {} bytes, {words}",
+                closed.records, closed.len
+            );
+            or_end(rt, told)?;
+        }
+        is_first = false;
+    }
+    Ok(are_whole)
+}
+
+// Tells why a log can't be opened.
+fn check_unopened(rt: &HostRuntime, request: &Request, error: &Error) -> Result<Status, Status> {
+    let status = refuse_log(rt, request, error);
+    if request.json {
+        print_unopened(rt, request, error)?;
+    }
+    Err(status)
+}

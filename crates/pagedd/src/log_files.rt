@@ -1,0 +1,50 @@
+// The folder of a log, and its files by their names.
+use crate::ending::fail;
+use crate::request::Request;
+use crate::status::Status;
+use segments::{FolderCopy, Options};
+use std::alloc::{AllocError, Global};
+use std::fs;
+
+/// Whether this path names a folder.
+pub fn is_folder(rt: &HostRuntime, path: &str) -> bool {
+    match fs::metadata(rt, path) {
+        Ok(told) => told.is_dir(),
+        Err(_) => false,
+    }
+}
+
+/// Says why a command isn't for a folder, and answers the status.
+pub fn fail_folder(rt: &HostRuntime, path: &str, advice: &str) -> Status {
+    fail(rt, path, format_args!("it is a folder: {advice}"))
+}
+
+/// The path of a log's manifest.
+pub fn manifest_in(alloc: Global, folder: &str) -> Result<String, AllocError> {
+    format!(in alloc; "{folder}/manifest")
+}
+
+/// The path of a segment.
+pub fn segment_in(alloc: Global, folder: &str, number: u64) -> Result<String, AllocError> {
+    format!(in alloc; "{folder}/{number:020}.segment")
+}
+
+/// A copy of the folder: each file is read into memory, and none changes. Where there is no memory
+/// a line says so.
+pub fn copy_of(rt: &HostRuntime, folder: &str) -> Result<FolderCopy, Status> {
+    match FolderCopy::new(rt, folder) {
+        Ok(copy) => Ok(copy),
+        Err(error) => Err(fail(rt, folder, error)),
+    }
+}
+
+/// How the log is kept.
+pub fn options_of(request: &Request) -> Options {
+    Options {
+        page_size: request.shape.page_size,
+        capacity: request.buffer.get(),
+        pages: request.cache,
+        buffer_size: request.buffer,
+        segment_size: request.segment_size,
+    }
+}

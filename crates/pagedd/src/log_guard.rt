@@ -1,0 +1,102 @@
+// A look at a log before it is opened: nothing of it goes before that is said, and is set aside.
+ghost use Rattle.segments.specs.Log.{IsLog};
+
+use crate::log_check::LogCopy;
+use crate::log_files::{copy_of, manifest_in, options_of, segment_in};
+use crate::log_refusing::refuse_log;
+use crate::look::{Look, looked, read};
+use crate::opening::{allow, open};
+use crate::request::Request;
+use crate::status::Status;
+use disk::VecBlob;
+use file::FileBlob;
+use page::Sum;
+use segments::Error;
+use std::io::ErrorKind;
+
+/// What an opening gives up of the manifest and of the open segment.
+#[derive(Drop)]
+pub struct GivenUp {
+    /// How many bytes it cuts.
+    pub cut: u64,
+    /// How many bytes go: those, and those of a torn last page.
+    pub bytes: u64,
+    /// The name of the copy that was made of them, if one was; that of the open segment's, where
+    /// both were.
+    pub copy: Option<String>,
+}
+
+/// What an opening of a log gives up, unless the log is refused. A copy of it is set aside, and a
+/// line on standard error says what goes. For reading alone the line says what isn't served.
+pub fn guard_log<H: Sum>(rt: &HostRuntime, request: &Request) -> Result<GivenUp, Status> {
+    let mut given_up = GivenUp {
+        cut: 0,
+        bytes: 0,
+        copy: None,
+    };
+    if let Some(number) = open_number::<H>(rt, request)? {
+        let manifest = manifest_in(rt.alloc(), request.file)?;
+        let segment = segment_in(rt.alloc(), request.file, number)?;
+        guard_file::<H>(rt, request, manifest.as_str(), &mut given_up)?;
+        guard_file::<H>(rt, request, segment.as_str(), &mut given_up)?;
+    }
+    Ok(given_up)
+}
+
+// The number of the open segment, by a copy of the log. None where a file isn't there yet, and may
+// be made.
+fn open_number<H: Sum>(rt: &HostRuntime, request: &Request) -> Result<Option<u64>, Status> {
+    let folder = copy_of(rt, request.file)?;
+    match LogCopy::<H>::open(rt.alloc(), folder, options_of(request)) {
+        Ok(log) => Ok(Some(last_of::<H>(log))),
+        Err(error) if !request.read_only && is_not_found(&error) => Ok(None),
+        Err(error) => Err(refuse_log(rt, request, &error)),
+    }
+}
+
+fn last_of<H: Sum>(log: LogCopy<H>) -> u64
+    requires log { IsLog H.sum_of H.sum_of log }
+{
+    log.last_segment()
+}
+
+fn is_not_found(error: &Error) -> bool {
+    match error {
+        Error::System(why) => why.kind() == ErrorKind::NotFound,
+        _ => false,
+    }
+}
+
+// Whether a crash may have left a file so, of which nothing is committed yet, as of the segment
+// that follows one that was closed. The page size is right, since the manifest was read with it.
+fn may_be_torn(request: &Request, look: &Look) -> bool {
+    let survey = look.survey;
+    survey.beyond == 0 || survey.outlook.cut <= request.cut_limit
+}
+
+// Adds what a recovery of a file gives up.
+fn guard_file<H: Sum>(
+    rt: &HostRuntime,
+    request: &Request,
+    path: &str,
+    given_up: &mut GivenUp,
+) -> Result<(), Status> {
+    let mut part = request.about(path);
+    let mut copy = read(rt, path)?;
+    let look = looked::<VecBlob, H>(rt, &part, &mut copy)?;
+    if look.at_stake() == 0 {
+        return Ok(());
+    }
+    part.cut = request.cut || may_be_torn(request, &look);
+    let allowed = if request.read_only {
+        allow::<VecBlob, H>(rt, &part, &mut copy)?
+    } else {
+        allow::<FileBlob, H>(rt, &part, &mut open(rt, path)?)?
+    };
+    given_up.cut = given_up.cut.saturating_add(look.survey.outlook.cut);
+    given_up.bytes = given_up.bytes.saturating_add(allowed.bytes);
+    if allowed.copy.is_some() {
+        given_up.copy = allowed.copy;
+    }
+    Ok(())
+}

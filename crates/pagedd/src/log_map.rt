@@ -1,0 +1,142 @@
+// A picture of a log's segments.
+ghost use Rattle.segments.specs.Log.{IsLog};
+
+use crate::ending::{fail, or_end};
+use crate::log_check::LogCopy;
+use crate::log_files::{copy_of, options_of};
+use crate::log_parts::Kept;
+use crate::log_refusing::refuse_log;
+use crate::log_report::print_log_map;
+use crate::request::Request;
+use crate::status::Status;
+use page::Sum;
+use std::{io, str};
+
+/// So many marks make a line.
+const ROW: usize = 64;
+
+/// What the marks mean.
+const LEGEND: &str = "# whole, ! damaged, ? missing, - not read, + open";
+
+/// Which segments are drawn, and how.
+#[derive(Clone, Copy)]
+pub struct Drawn {
+    /// The first one.
+    pub from: u64,
+    /// The one before which the drawing ends.
+    pub to: u64,
+    /// A line for each, with what was kept of it.
+    pub long: bool,
+}
+
+/// Draws the segments of a log: a mark for each, or a line. Each closed one is read whole.
+pub fn map_log<H: Sum>(
+    rt: &HostRuntime,
+    request: &Request,
+    drawn: Drawn,
+) -> Result<Status, Status> {
+    let folder = copy_of(rt, request.file)?;
+    match LogCopy::<H>::open(rt.alloc(), folder, options_of(request)) {
+        Ok(log) => map_opened::<H>(rt, request, drawn, log),
+        Err(error) => Err(refuse_log(rt, request, &error)),
+    }
+}
+
+fn map_opened<H: Sum>(
+    rt: &HostRuntime,
+    request: &Request,
+    drawn: Drawn,
+    log: LogCopy<H>,
+) -> Result<Status, Status>
+    requires log { IsLog H.sum_of H.sum_of log }
+{
+    map_segments::<H>(rt, request, drawn, &log)
+}
+
+fn map_segments<H: Sum>(
+    rt: &HostRuntime,
+    request: &Request,
+    drawn: Drawn,
+    log: &LogCopy<H>,
+) -> Result<Status, Status> {
+    let last = log.last_segment();
+    let first = drawn.from.max(log.first_segment());
+    let end = drawn.to.min(last.saturating_add(1));
+    if first >= end {
+        let words = "--from and --to leave none of its segments";
+        let known = log.first_segment();
+        return Err(fail(
+            rt,
+            request.file,
+            format_args!("{words}: it has {known} to {last}"),
+        ));
+    }
+    if drawn.long && !request.json {
+        draw_long::<H>(rt, request, log, first, end)?;
+        return Ok(Status::Done);
+    }
+    let marks = marks_of::<H>(rt, request, log, first, end)?;
+    if request.json {
+        print_log_map(rt, request, first, end, marks.as_str())?;
+    } else {
+        or_end(rt, draw(rt, first, marks.as_str()))?;
+    }
+    Ok(Status::Done)
+}
+
+fn marks_of<H: Sum>(
+    rt: &HostRuntime,
+    request: &Request,
+    log: &LogCopy<H>,
+    first: u64,
+    end: u64,
+) -> Result<String, Status> {
+    let mut folder = copy_of(rt, request.file)?;
+    let mut marks = String::new(rt.alloc());
+    for number in first..end {
+        let mark = match log.closed(number) {
+            Some(closed) => Kept::of(&mut folder, number, &closed).mark(),
+            None => '+',
+        };
+        marks.push(mark)?;
+    }
+    Ok(marks)
+}
+
+// Draws rows of marks, each after the number of its first segment.
+fn draw(rt: &HostRuntime, first: u64, marks: &str) -> io::Result<()> {
+    println!(rt; "{LEGEND}")?;
+    let mut number = first;
+    for row in marks.as_bytes().chunks(ROW) {
+        let row = str::from_utf8(row).unwrap_or_default();
+        println!(rt; "{number:>10} {row}")?;
+        number = number.saturating_add(ROW as u64);
+    }
+    Ok(())
+}
+
+// Draws a line for each segment.
+fn draw_long<H: Sum>(
+    rt: &HostRuntime,
+    request: &Request,
+    log: &LogCopy<H>,
+    first: u64,
+    end: u64,
+) -> Result<(), Status> {
+    let mut folder = copy_of(rt, request.file)?;
+    or_end(rt, println!(rt; "{LEGEND}"))?;
+    for number in first..end {
+        let told = match log.closed(number) {
+            Some(closed) => {
+                let mark = Kept::of(&mut folder, number, &closed).mark();
+                println!(rt;
+                    "{number:>10} {mark} {} records, {} bytes",
+                    closed.records, closed.len
+                )
+            }
+            None => println!(rt; "{number:>10} + {} records", log.records()),
+        };
+        or_end(rt, told)?;
+    }
+    Ok(())
+}

@@ -1,0 +1,128 @@
+// How the files of a log are.
+use crate::census::Census;
+use crate::look::{looked, read};
+use crate::request::Request;
+use crate::status::Status;
+use disk::VecBlob;
+use page::Sum;
+use segments::{Asked, Closed, Folder, FolderCopy};
+use std::fmt;
+use std::io::ErrorKind;
+
+/// How the file of a closed segment is.
+#[derive(Clone, Copy, PartialEq, Eq)]
+pub enum Kept {
+    /// It holds what it held when it was closed.
+    Whole,
+    /// It doesn't.
+    Damaged,
+    /// It isn't there.
+    Missing,
+    /// The system refuses to read it.
+    Unread,
+}
+
+impl Kept {
+    /// That of a closed segment, of which this was kept. Its file is read whole.
+    pub fn of(folder: &mut FolderCopy, number: u64, closed: &Closed) -> Self {
+        match folder.read(Asked::Segment(number)) {
+            Ok(blob) => {
+                if closed.is_of(blob.bytes()) {
+                    Kept::Whole
+                } else {
+                    Kept::Damaged
+                }
+            }
+            Err(error) if error.kind() == ErrorKind::NotFound => Kept::Missing,
+            Err(_) => Kept::Unread,
+        }
+    }
+
+    /// One word for it.
+    pub fn name(self) -> &'static str {
+        match self {
+            Kept::Whole => "whole",
+            Kept::Damaged => "damaged",
+            Kept::Missing => "missing",
+            Kept::Unread => "unread",
+        }
+    }
+
+    /// One mark for it.
+    pub fn mark(self) -> char {
+        match self {
+            Kept::Whole => '#',
+            Kept::Damaged => '!',
+            Kept::Missing => '?',
+            Kept::Unread => '-',
+        }
+    }
+
+    /// What is wrong, and what to do.
+    pub fn words(self) -> &'static str {
+        match self {
+            Kept::Whole => "whole",
+            Kept::Damaged => {
+                "damaged: it isn't what it was when it was closed: bring it back from a copy"
+            }
+            Kept::Missing => "missing: bring it back from a copy",
+            Kept::Unread => "not read, since the system refuses it",
+        }
+    }
+}
+
+/// How a file is that an opening recovers: the manifest, or the open segment.
+#[derive(Clone, Copy)]
+pub struct Part {
+    /// How many bytes it has.
+    pub bytes: u64,
+    /// How many bytes of content a recovery would keep.
+    pub kept: u64,
+    /// How many bytes at its end a recovery would cut.
+    pub cut: u64,
+    /// Whether the last page that is kept has another slot that says something and fails.
+    pub torn: bool,
+    /// Whether nothing would be cut, each page has a value, and no slot is bad.
+    pub is_whole: bool,
+}
+
+impl Part {
+    /// How the file at this path is. Where it can't be read, or for want of memory, a line says so.
+    pub fn of<H: Sum>(rt: &HostRuntime, request: &Request, path: &str) -> Result<Self, Status> {
+        let mut blob = read(rt, path)?;
+        let part = request.about(path);
+        let look = looked::<VecBlob, H>(rt, &part, &mut blob)?;
+        let census = Census::of::<H>(rt, blob.bytes(), &look)?;
+        let outlook = look.survey.outlook;
+        Ok(Part {
+            bytes: look.size,
+            kept: outlook.len,
+            cut: outlook.cut,
+            torn: look.survey.torn,
+            is_whole: outlook.cut == 0 && census.is_empty(),
+        })
+    }
+
+    /// Whether a recovery would give up nothing of it.
+    pub fn keeps_all(&self) -> bool {
+        self.cut == 0 && !self.torn
+    }
+}
+
+impl fmt::Display for Part {
+    fn fmt<W: fmt::Write>(&self, f: &mut fmt::Formatter<W>) -> fmt::Result {
+        let Part {
+            bytes,
+            kept,
+            cut,
+            ..
+        } = self;
+        if self.is_whole {
+            return write!(f, "whole, {bytes} bytes");
+        }
+        write!(
+            f,
+            "{bytes} bytes, not whole: a recovery keeps {kept} content bytes, and cuts {cut} bytes"
+        )
+    }
+}

@@ -1,0 +1,113 @@
+// What check and map answer of a log in JSON: one line, whose members stand in a fixed order.
+use crate::ending::or_end;
+use crate::log_parts::{Kept, Part};
+use crate::report::quoted;
+use crate::request::Request;
+use crate::status::Status;
+use segments::{Closed, Error};
+use std::fmt;
+
+/// What is known of a file that an opening recovers, as members of an object.
+#[derive(Clone, Copy)]
+struct PartMembers<'a>(&'a Part);
+
+impl fmt::Display for PartMembers<'_> {
+    fn fmt<W: fmt::Write>(&self, f: &mut fmt::Formatter<W>) -> fmt::Result {
+        let Part {
+            bytes,
+            kept,
+            cut,
+            torn,
+            is_whole,
+        } = self.0;
+        write!(
+            f,
+            "\"bytes\":{bytes},\"kept_bytes\":{kept},\"cut_bytes\":{cut},"
+        )?;
+        write!(f, "\"torn\":{torn},\"whole\":{is_whole}")
+    }
+}
+
+/// Prints what stands in front of the closed segments.
+pub fn print_heading(
+    rt: &HostRuntime,
+    request: &Request,
+    first: u64,
+    last: u64,
+    manifest: &Part,
+) -> Result<(), Status> {
+    let file = quoted(rt, request.file)?;
+    let page_size = request.shape.page_size;
+    let checksum = request.shape.checksum.name();
+    let manifest = PartMembers(manifest);
+    let printed = print!(rt;
+        "{{\"file\":{file},\"page_size\":{page_size},\"checksum\":\"{checksum}\",\
+         \"first\":{first},\"last\":{last},\"manifest\":{{{manifest}}},\"closed\":["
+    );
+    or_end(rt, printed)
+}
+
+/// Prints what is known of a closed segment.
+pub fn print_closed(
+    rt: &HostRuntime,
+    number: u64,
+    closed: &Closed,
+    kept: Kept,
+    is_first: bool,
+) -> Result<(), Status> {
+    let mark = if is_first { "" } else { "," };
+    let printed = print!(rt;
+        "{mark}{{\"segment\":{number},\"records\":{},\"bytes\":{},\"state\":\"{}\"}}",
+        closed.records,
+        closed.len,
+        kept.name()
+    );
+    or_end(rt, printed)
+}
+
+/// Prints what stands behind them.
+pub fn print_ending(
+    rt: &HostRuntime,
+    last: u64,
+    records: u64,
+    open: &Part,
+    count: u64,
+) -> Result<(), Status> {
+    let open = PartMembers(open);
+    let printed = println!(rt;
+        "],\"open\":{{\"segment\":{last},\"records\":{records},{open}}},\"records\":{count}}}"
+    );
+    or_end(rt, printed)
+}
+
+/// Prints why a log can't be opened.
+pub fn print_unopened(rt: &HostRuntime, request: &Request, error: &Error) -> Result<(), Status> {
+    let file = quoted(rt, request.file)?;
+    let page_size = request.shape.page_size;
+    let checksum = request.shape.checksum.name();
+    let words = error.to_string(rt.alloc())?;
+    let words = quoted(rt, words.as_str())?;
+    let printed = println!(rt;
+        "{{\"file\":{file},\"page_size\":{page_size},\"checksum\":\"{checksum}\",\
+         \"error\":{words}}}"
+    );
+    or_end(rt, printed)
+}
+
+/// Prints what map says of a log, with the marks of its segments from one to before another.
+pub fn print_log_map(
+    rt: &HostRuntime,
+    request: &Request,
+    from: u64,
+    to: u64,
+    marks: &str,
+) -> Result<(), Status> {
+    let file = quoted(rt, request.file)?;
+    let page_size = request.shape.page_size;
+    let checksum = request.shape.checksum.name();
+    let printed = println!(rt;
+        "{{\"file\":{file},\"page_size\":{page_size},\"checksum\":\"{checksum}\",\
+         \"segments\":{{\"from\":{from},\"to\":{to}}},\"marks\":\"{marks}\"}}"
+    );
+    or_end(rt, printed)
+}

@@ -1,0 +1,160 @@
+// What a client asks of a log.
+use crate::log_input::{Unread, read_bytes, read_front, read_number, skip_bytes};
+use journal::MOST_BYTES;
+use protocol::{Flaw, Version};
+use segments::Place;
+use std::alloc::Global;
+use std::io::BufRead;
+
+/// What a client asks of a log.
+#[derive(Drop)]
+pub enum LogRequest {
+    /// To append these bytes as a record.
+    Append(Vec<u8>),
+    /// To append a record that is longer than one may be.
+    AppendTooLong,
+    /// To append the records that these bytes tell.
+    Records(Vec<u8>),
+    /// To append them, and to commit.
+    RecordsSync(Vec<u8>),
+    /// To commit.
+    Sync,
+    /// To commit, and to tell how many records there are.
+    SyncSize,
+    /// To tell how many records there are.
+    Size,
+    /// The frame at a place.
+    Read(Place),
+    /// The next record from a place on.
+    Next(Place),
+    /// To drop the segments before this one.
+    DropBefore(u64),
+    /// To send all answers.
+    Flush,
+    /// The end.
+    Close,
+}
+
+impl LogRequest {
+    /// Whether a client that may only read is refused it.
+    pub fn is_change(&self) -> bool {
+        match self {
+            LogRequest::Append(_)
+            | LogRequest::AppendTooLong
+            | LogRequest::Records(_)
+            | LogRequest::RecordsSync(_)
+            | LogRequest::Sync
+            | LogRequest::SyncSize
+            | LogRequest::DropBefore(_) => true,
+            LogRequest::Size
+            | LogRequest::Read(_)
+            | LogRequest::Next(_)
+            | LogRequest::Flush
+            | LogRequest::Close => false,
+        }
+    }
+}
+
+/// Reads a request; none at the end of the input.
+pub fn read_request<R: BufRead>(
+    alloc: Global,
+    version: Version,
+    input: &mut R,
+) -> Result<Option<LogRequest>, Unread> {
+    let mut head = [0u8; 4];
+    let count = read_front(input, &mut head)?;
+    if count == 0 {
+        return Ok(None);
+    }
+    if count < 4 {
+        return Err(Unread::Malformed(Flaw::Cut));
+    }
+    let Some(len) = u32::from_le_bytes(head).checked_sub(1) else {
+        return Err(Unread::Malformed(Flaw::Empty));
+    };
+    let mut kind = [0u8; 1];
+    if read_front(input, &mut kind)? == 0 {
+        return Err(Unread::Malformed(Flaw::Cut));
+    }
+    let [kind] = kind;
+    Ok(Some(read_body(alloc, version, input, kind, len as usize)?))
+}
+
+// Reads what stands after the kind of a request: so many bytes. A wrong length is told before they
+// are awaited.
+fn read_body<R: BufRead>(
+    alloc: Global,
+    version: Version,
+    input: &mut R,
+    kind: u8,
+    len: usize,
+) -> Result<LogRequest, Unread> {
+    if !is_known(version, kind) {
+        return Err(Unread::Malformed(Flaw::Kind(kind)));
+    }
+    if has_bytes(kind) {
+        return read_of_bytes(alloc, input, kind, len);
+    }
+    if len != fields_len(kind) {
+        return Err(Unread::Malformed(Flaw::Length));
+    }
+    match kind {
+        2 => Ok(LogRequest::Sync),
+        5 => Ok(LogRequest::Size),
+        6 => Ok(LogRequest::Read(read_place(input)?)),
+        7 => Ok(LogRequest::Next(read_place(input)?)),
+        21 => Ok(LogRequest::SyncSize),
+        25 => Ok(LogRequest::Flush),
+        27 => Ok(LogRequest::DropBefore(read_number(input)?)),
+        _ => Ok(LogRequest::Close),
+    }
+}
+
+// Whether there is a kind of this number.
+fn is_known(version: Version, kind: u8) -> bool {
+    match kind {
+        1 | 2 | 5 | 6 | 7 | 16 | 27 => true,
+        17 | 18 | 21 | 25 => version == Version::Two,
+        _ => false,
+    }
+}
+
+// Whether a request of this kind has bytes, as many as its frame holds.
+fn has_bytes(kind: u8) -> bool {
+    matches!(kind, 1 | 17 | 18)
+}
+
+// How many bytes the fields of any other kind have.
+fn fields_len(kind: u8) -> usize {
+    match kind {
+        6 | 7 => 16,
+        27 => 8,
+        _ => 0,
+    }
+}
+
+// Reads a request that has so many bytes.
+fn read_of_bytes<R: BufRead>(
+    alloc: Global,
+    input: &mut R,
+    kind: u8,
+    len: usize,
+) -> Result<LogRequest, Unread> {
+    if kind == 1 && len > MOST_BYTES {
+        skip_bytes(input, len)?;
+        return Ok(LogRequest::AppendTooLong);
+    }
+    let bytes = read_bytes(alloc, input, len)?;
+    match kind {
+        1 => Ok(LogRequest::Append(bytes)),
+        17 => Ok(LogRequest::Records(bytes)),
+        _ => Ok(LogRequest::RecordsSync(bytes)),
+    }
+}
+
+// Reads a place: the number of a segment, and an offset.
+fn read_place<R: BufRead>(input: &mut R) -> Result<Place, Unread> {
+    let segment = read_number(input)?;
+    let offset = read_number(input)?;
+    Ok(Place { segment, offset })
+}

@@ -1,0 +1,251 @@
+// Serving a log to the program's input and output.
+ghost use Rattle.segments.specs.Log.{IsLog};
+
+use crate::ending::{fail, fail_stop, or_end};
+use crate::log_answer::{Refusal, write_refusal};
+use crate::log_files::{copy_of, is_folder, options_of};
+use crate::log_guard::{GivenUp, guard_log};
+use crate::log_hello::{Hello, greet, greet_refused, read_opening, tell_opening};
+use crate::log_refusing::refuse_log;
+use crate::log_request::{LogRequest, read_request};
+use crate::log_status::{status_of, status_of_flaw};
+use crate::log_taking::{Client, take_request};
+use crate::request::Request;
+use crate::serving::{PIECE, flushed, tell_stop};
+use crate::status::Status;
+use crate::streams::{Input, Output};
+use disk::{Blob, VecBlob};
+use file::FileBlob;
+use page::Sum;
+use protocol::{Stop, Version};
+use segments::{Error, FileFolder, Folder, FolderCopy, SegmentedLog};
+use std::alloc::Global;
+use std::fs::{self, File};
+use std::io::{self, BufReader, BufWriter, Read, Write};
+use std::path::PathBuf;
+
+/// Serves the log of a folder, or for reading alone a copy of it in memory. A folder that is
+/// missing is made, except for reading alone.
+pub fn serve_log<H: Sum>(rt: &HostRuntime, request: &Request) -> Result<Status, Status> {
+    let folder = request.file;
+    if !is_folder(rt, folder) {
+        make_folder(rt, request)?;
+    }
+    let given_up = guard_log::<H>(rt, request)?;
+    if request.read_only {
+        let copy = copy_of(rt, folder)?;
+        return serve_folder::<FolderCopy, VecBlob, H>(rt, request, &given_up, copy);
+    }
+    match FileFolder::new(rt, folder) {
+        Ok(files) => serve_folder::<FileFolder, FileBlob, H>(rt, request, &given_up, files),
+        Err(error) => Err(fail(rt, folder, error)),
+    }
+}
+
+// Makes the folder, unless something else has its name, or the log is served for reading alone.
+fn make_folder(rt: &HostRuntime, request: &Request) -> Result<(), Status> {
+    let folder = request.file;
+    if fs::exists(rt, folder).unwrap_or(false) {
+        return Err(fail(rt, folder, "it is no folder: 'pagedd serve' serves a file"));
+    }
+    if request.read_only {
+        return Err(fail(rt, folder, "there is no such folder"));
+    }
+    match make_durable(rt, folder) {
+        Ok(()) => Ok(()),
+        Err(error) => Err(fail(rt, folder, error)),
+    }
+}
+
+// Makes a folder, and its name durable.
+fn make_durable(rt: &HostRuntime, path: &str) -> io::Result<()> {
+    fs::create_dir(rt, path)?;
+    let mut above: PathBuf = fs::canonicalize(rt, path)?;
+    above.pop();
+    File::open(rt, above.as_str())?.sync_all()
+}
+
+// Serves the log of a folder.
+fn serve_folder<F: Folder<B> + Drop, B: Blob + Drop, H: Sum>(
+    rt: &HostRuntime,
+    request: &Request,
+    given_up: &GivenUp,
+    folder: F,
+) -> Result<Status, Status> {
+    match SegmentedLog::<F, B, H, H>::open(rt.alloc(), folder, options_of(request)) {
+        Ok(log) => serve_opened(rt, request, given_up, log),
+        Err(error) => Err(refuse(rt, request, &error)),
+    }
+}
+
+// Says why a log isn't opened. A client is greeted with an error of a device, or of memory.
+fn refuse(rt: &HostRuntime, request: &Request, error: &Error) -> Status {
+    if let Error::Layer(why) = error {
+        // Where the output fails too, standard error still says why.
+        let _ = greet_refused(&mut rt.stdout(), status_of(error));
+        return fail_stop(rt, request.file, Stop::Refused(*why));
+    }
+    refuse_log(rt, request, error)
+}
+
+fn serve_opened<F: Folder<B> + Drop, B: Blob + Drop, H: Sum>(
+    rt: &HostRuntime,
+    request: &Request,
+    given_up: &GivenUp,
+    log: SegmentedLog<F, B, H, H>,
+) -> Result<Status, Status>
+    requires log { IsLog H.sum_of H.sum_of log }
+{
+    let mut log = log;
+    serve_streams(rt, request, given_up, &mut log)
+}
+
+fn serve_streams<F: Folder<B> + Drop, B: Blob + Drop, H: Sum>(
+    rt: &HostRuntime,
+    request: &Request,
+    given_up: &GivenUp,
+    log: &mut SegmentedLog<F, B, H, H>,
+) -> Result<Status, Status>
+    requires log { IsLog H.sum_of H.sum_of log.old }
+{
+    let mut input = or_end(
+        rt,
+        BufReader::with_capacity(rt.alloc(), PIECE, Input::of(rt)),
+    )?;
+    let mut out = or_end(
+        rt,
+        BufWriter::with_capacity(rt.alloc(), PIECE, Output::of(rt)),
+    )?;
+    let mut client = Client {
+        version: Version::Two,
+        read_only: request.read_only,
+        lost: None,
+    };
+    let hello = hello_of(request, given_up, log.len().unwrap_or(u64::MAX));
+    let served = serve_client(rt.alloc(), &hello, &mut client, log, &mut input, &mut out);
+    match flushed(served, &mut out) {
+        Ok(()) => end(rt, request, &client),
+        Err(stop) => Err(tell_stop(rt, request, stop, input.get_ref(), out.get_ref())),
+    }
+}
+
+// What a client of version 2 is told of a log with so many records.
+fn hello_of<'a>(request: &'a Request, given_up: &'a GivenUp, records: u64) -> Hello<'a> {
+    Hello {
+        read_only: request.read_only,
+        records,
+        page_size: u64::from(request.shape.page_size.get()),
+        cut: given_up.cut,
+        given_up: given_up.bytes,
+        checksum: request.shape.checksum.name(),
+        copy: match &given_up.copy {
+            Some(copy) => copy.as_str(),
+            None => "",
+        },
+    }
+}
+
+// How the program ends whose requests were all answered.
+fn end(rt: &HostRuntime, request: &Request, client: &Client) -> Result<Status, Status> {
+    match &client.lost {
+        None => Ok(Status::Done),
+        Some(error) => {
+            let words = "what was appended since the last sync may be lost";
+            Err(fail(
+                rt,
+                request.file,
+                format_args!("the log was closed: {error}: {words}"),
+            ))
+        }
+    }
+}
+
+// Greets a client, agrees on a version, and serves it.
+fn serve_client<F: Folder<B> + Drop, B: Blob + Drop, H: Sum, R: Read, W: Write + Drop>(
+    alloc: Global,
+    hello: &Hello<'_>,
+    client: &mut Client,
+    log: &mut SegmentedLog<F, B, H, H>,
+    input: &mut BufReader<R>,
+    out: &mut BufWriter<W>,
+) -> Result<(), Stop>
+    requires log { IsLog H.sum_of H.sum_of log.old }
+{
+    greet(out, hello.records)?;
+    let opening = match read_opening(input) {
+        Ok(opening) => opening,
+        Err(unread) => return Err(tell_flaw(alloc, Version::Two, unread.at(0), out)),
+    };
+    match tell_opening(opening, hello, out)? {
+        Some(version) => {
+            client.version = version;
+            serve_requests(alloc, client, log, input, out)
+        }
+        None => Ok(()),
+    }
+}
+
+// Takes the requests of the input, one after another, and writes an answer to each, up to a close
+// or the end of the input.
+fn serve_requests<F: Folder<B> + Drop, B: Blob + Drop, H: Sum, R: Read, W: Write + Drop>(
+    alloc: Global,
+    client: &mut Client,
+    log: &mut SegmentedLog<F, B, H, H>,
+    input: &mut BufReader<R>,
+    out: &mut BufWriter<W>,
+) -> Result<(), Stop>
+    requires log { IsLog H.sum_of H.sum_of log.old }
+{
+    for number in 1..u64::MAX {
+        let request = match next_request(alloc, client.version, number, input, out) {
+            Ok(Some(LogRequest::Close)) | Ok(None) => return Ok(()),
+            Ok(Some(request)) => request,
+            Err(stop) => return Err(tell_flaw(alloc, client.version, stop, out)),
+        };
+        take_request(alloc, client, log, request, out)?;
+    }
+    Err(Stop::Failed)
+}
+
+// The request of this number. Where it hasn't come whole, what was answered is out before the rest
+// of it is waited for.
+fn next_request<R: Read, W: Write + Drop>(
+    alloc: Global,
+    version: Version,
+    number: u64,
+    input: &mut BufReader<R>,
+    out: &mut BufWriter<W>,
+) -> Result<Option<LogRequest>, Stop> {
+    if !holds_frame(input.buffer()) {
+        out.flush()?;
+    }
+    match read_request(alloc, version, input) {
+        Ok(request) => Ok(request),
+        Err(unread) => Err(unread.at(number)),
+    }
+}
+
+// Whether these bytes begin with a whole frame: then its request is read without waiting.
+fn holds_frame(bytes: &[u8]) -> bool {
+    match bytes.split_first_chunk::<4>() {
+        Some((four, rest)) => rest.len() as u64 >= u64::from(u32::from_le_bytes(*four)),
+        None => false,
+    }
+}
+
+// Tells a client of version 2 what is no request, and answers why the session stops.
+fn tell_flaw<W: Write>(alloc: Global, version: Version, stop: Stop, out: &mut W) -> Stop {
+    match (version, stop) {
+        (Version::Two, Stop::Malformed(_, flaw)) => {
+            let refusal = Refusal {
+                advice: 2,
+                ..Refusal::plain(status_of_flaw(flaw))
+            };
+            match write_refusal(alloc, version, out, refusal) {
+                Ok(()) => stop,
+                Err(other) => other,
+            }
+        }
+        _ => stop,
+    }
+}

@@ -1,0 +1,84 @@
+// What a client is told of an error of the log.
+use crate::log_answer::Refusal;
+use protocol::Flaw;
+use segments::Error;
+use std::io;
+
+/// The log is served for reading alone.
+pub const READ_ONLY: u8 = 22;
+
+/// The fields are no records, or one is longer than a record may be.
+pub const NO_RECORDS: u8 = 23;
+
+/// No frame begins at the place, or no record comes after it.
+pub const AT_END: u8 = 6;
+
+/// The log is closed.
+pub const CLOSED: u8 = 17;
+
+/// No version of an offer is known.
+pub const NO_VERSION: u8 = 24;
+
+/// The refusal of a request after an error of the log, that closed it or didn't, once so many
+/// records of the request were appended.
+pub fn refusal_of(error: &Error, is_closing: bool, taken: u64) -> Refusal<'_> {
+    Refusal {
+        status: status_of(error),
+        advice: advice_after(error, is_closing),
+        taken,
+        cause: cause_of(error),
+    }
+}
+
+/// The status of an error.
+pub fn status_of(error: &Error) -> u8 {
+    match error {
+        Error::Layer(error) => error.number(),
+        Error::Closed => CLOSED,
+        Error::NoSegment(_) => 38,
+        Error::Damaged(_) => 39,
+        Error::System(_) => 40,
+        Error::Unlisted(_) => 41,
+        Error::NumbersExhausted => 42,
+        Error::Missing(_) | Error::Manifest => 43,
+    }
+}
+
+/// The status of what is no request.
+pub fn status_of_flaw(flaw: Flaw) -> u8 {
+    match flaw {
+        Flaw::Cut => 32,
+        Flaw::Empty => 33,
+        Flaw::Kind(_) => 34,
+        Flaw::Length => 35,
+        Flaw::LongRead => 36,
+        Flaw::NoBuffer => 37,
+    }
+}
+
+// What a client may do next: 0 ask for something else, 1 ask again, 2 open anew, 3 give up what
+// wasn't committed, since nobody knows what of it is durable.
+fn advice_after(error: &Error, is_closing: bool) -> u8 {
+    match error {
+        Error::Layer(disk::Error::SyncFailed) => 3,
+        Error::NoSegment(_) | Error::Damaged(_) => 0,
+        Error::Closed
+        | Error::Unlisted(_)
+        | Error::NumbersExhausted
+        | Error::Missing(_)
+        | Error::Manifest => 2,
+        _ if is_closing => 2,
+        Error::System(_) => 1,
+        Error::Layer(disk::Error::ReadFailed | disk::Error::OutOfMemory) => 1,
+        Error::Layer(disk::Error::BlobInsufficientLength | disk::Error::OffsetOverflow) => 0,
+        Error::Layer(_) => 2,
+    }
+}
+
+// The error of the system, where there is one.
+fn cause_of(error: &Error) -> Option<&io::Error> {
+    match error {
+        Error::System(why) => Some(why),
+        _ => None,
+    }
+}

@@ -1,0 +1,261 @@
+// Requests are taken as calls of a log, and answered.
+ghost use Rattle.segments.specs.Log.{IsLog};
+
+use crate::log_answer::{Refusal, write_answer, write_found, write_places, write_refusal};
+use crate::log_records::{Records, length_of, split_record};
+use crate::log_request::LogRequest;
+use crate::log_status::{AT_END, CLOSED, NO_RECORDS, READ_ONLY, refusal_of};
+use disk::Blob;
+use journal::MOST_BYTES;
+use page::Sum;
+use protocol::{Stop, Version};
+use segments::{Error, Folder, Place, SegmentedLog};
+use std::alloc::Global;
+use std::io::Write;
+
+/// Whom a log is served to, and how.
+#[derive(Drop)]
+pub struct Client {
+    pub version: Version,
+    pub read_only: bool,
+    /// The first error that closed the log, if one did.
+    pub lost: Option<Error>,
+}
+
+/// Takes a request, unless it is refused, and writes its answer.
+pub fn take_request<F: Folder<B> + Drop, B: Blob + Drop, H: Sum, W: Write>(
+    alloc: Global,
+    client: &mut Client,
+    log: &mut SegmentedLog<F, B, H, H>,
+    request: LogRequest,
+    out: &mut W,
+) -> Result<(), Stop>
+    requires log { IsLog H.sum_of H.sum_of log.old }
+    ensures log { IsLog H.sum_of H.sum_of log.new }
+{
+    if client.read_only && request.is_change() {
+        return refuse(alloc, client, out, READ_ONLY);
+    }
+    match request {
+        LogRequest::Append(bytes) => take_append(alloc, client, log, bytes.as_slice(), out),
+        LogRequest::AppendTooLong => refuse(alloc, client, out, NO_RECORDS),
+        LogRequest::Records(fields) => {
+            take_records(alloc, client, log, fields.as_slice(), false, out)
+        }
+        LogRequest::RecordsSync(fields) => {
+            take_records(alloc, client, log, fields.as_slice(), true, out)
+        }
+        LogRequest::Sync => take_sync(alloc, client, log, out, false),
+        LogRequest::SyncSize => take_sync(alloc, client, log, out, true),
+        LogRequest::Size => take_size(alloc, client, log, out),
+        LogRequest::Read(place) => take_read(alloc, client, log, place, out),
+        LogRequest::Next(place) => take_next(alloc, client, log, place, out),
+        LogRequest::DropBefore(segment) => take_drop(alloc, client, log, segment, out),
+        LogRequest::Flush => write_flushed(out),
+        LogRequest::Close => Ok(()),
+    }
+}
+
+// Answers a request that can't be met as it stands.
+fn refuse<W: Write>(alloc: Global, client: &Client, out: &mut W, status: u8) -> Result<(), Stop> {
+    write_refusal(alloc, client.version, out, Refusal::plain(status))
+}
+
+// Answers a request that closed the log, once so many of its records were appended.
+fn refuse_closed<W: Write>(
+    alloc: Global,
+    client: &mut Client,
+    out: &mut W,
+    error: Error,
+    taken: u64,
+) -> Result<(), Stop> {
+    let refusal = refusal_of(&error, true, taken);
+    write_refusal(alloc, client.version, out, refusal)?;
+    if client.lost.is_none() {
+        client.lost = Some(error);
+    }
+    Ok(())
+}
+
+// Answers a request after an error that left the log as it was, or closed its manifest alone.
+fn refuse_kept<W: Write>(
+    alloc: Global,
+    client: &Client,
+    out: &mut W,
+    error: &Error,
+    is_closing: bool,
+) -> Result<(), Stop> {
+    let is_closing = is_closing || client.lost.is_some();
+    let refusal = refusal_of(error, is_closing, 0);
+    write_refusal(alloc, client.version, out, refusal)
+}
+
+fn write_flushed<W: Write>(out: &mut W) -> Result<(), Stop> {
+    write_answer(out, &[], &[])?;
+    out.flush()?;
+    Ok(())
+}
+
+fn take_append<F: Folder<B> + Drop, B: Blob + Drop, H: Sum, W: Write>(
+    alloc: Global,
+    client: &mut Client,
+    log: &mut SegmentedLog<F, B, H, H>,
+    bytes: &[u8],
+    out: &mut W,
+) -> Result<(), Stop>
+    requires log { IsLog H.sum_of H.sum_of log.old }
+    ensures log { IsLog H.sum_of H.sum_of log.new }
+{
+    if bytes.len() > MOST_BYTES {
+        return refuse(alloc, client, out, NO_RECORDS);
+    }
+    match log.append(bytes) {
+        Ok(place) => write_answer(out, &[place.segment, place.offset], &[]),
+        Err(error) => refuse_closed(alloc, client, out, error, 0),
+    }
+}
+
+// Appends records, and commits where `syncs` asks. None is appended where the fields tell none.
+fn take_records<F: Folder<B> + Drop, B: Blob + Drop, H: Sum, W: Write>(
+    alloc: Global,
+    client: &mut Client,
+    log: &mut SegmentedLog<F, B, H, H>,
+    fields: &[u8],
+    syncs: bool,
+    out: &mut W,
+) -> Result<(), Stop>
+    requires log { IsLog H.sum_of H.sum_of log.old }
+    ensures log { IsLog H.sum_of H.sum_of log.new }
+{
+    let Some(records) = Records::of(fields) else {
+        return refuse(alloc, client, out, NO_RECORDS);
+    };
+    if client.lost.is_some() {
+        return refuse_kept(alloc, client, out, &Error::Closed, true);
+    }
+    let mut places = Vec::with_capacity(alloc, records.count())?;
+    let appended = append_records::<F, B, H>(log, records, &mut places);
+    let taken = places.len() as u64;
+    let ended = match appended {
+        Ok(()) if syncs => log.commit(),
+        ended => ended,
+    };
+    match ended {
+        Ok(()) => write_places(out, places.as_slice()),
+        Err(error) => refuse_closed(alloc, client, out, error, taken),
+    }
+}
+
+// Appends records up to the first that is refused, and keeps the place of each.
+fn append_records<F: Folder<B> + Drop, B: Blob + Drop, H: Sum>(
+    log: &mut SegmentedLog<F, B, H, H>,
+    records: Records<'_>,
+    places: &mut Vec<Place>,
+) -> Result<(), Error>
+    requires log { IsLog H.sum_of H.sum_of log.old }
+    ensures log { IsLog H.sum_of H.sum_of log.new }
+{
+    let mut rest = records.bytes;
+    for length in records.lengths.chunks_exact(4) {
+        let (record, others) = split_record(rest, length_of(length));
+        let place = log.append(record)?;
+        places.push(place)?;
+        rest = others;
+    }
+    Ok(())
+}
+
+// Commits, and tells how many records there are where `tells` asks.
+fn take_sync<F: Folder<B> + Drop, B: Blob + Drop, H: Sum, W: Write>(
+    alloc: Global,
+    client: &mut Client,
+    log: &mut SegmentedLog<F, B, H, H>,
+    out: &mut W,
+    tells: bool,
+) -> Result<(), Stop>
+    requires log { IsLog H.sum_of H.sum_of log.old }
+    ensures log { IsLog H.sum_of H.sum_of log.new }
+{
+    match log.commit() {
+        Ok(()) if tells => write_answer(out, &[log.len().unwrap_or(u64::MAX)], &[]),
+        Ok(()) => write_answer(out, &[], &[]),
+        Err(error) => refuse_closed(alloc, client, out, error, 0),
+    }
+}
+
+// Once the log is closed nobody knows how many of the last records it keeps.
+fn take_size<F: Folder<B> + Drop, B: Blob + Drop, H: Sum, W: Write>(
+    alloc: Global,
+    client: &Client,
+    log: &SegmentedLog<F, B, H, H>,
+    out: &mut W,
+) -> Result<(), Stop> {
+    if client.lost.is_some() {
+        return refuse_kept(alloc, client, out, &Error::Closed, true);
+    }
+    write_answer(out, &[log.len().unwrap_or(u64::MAX)], &[])
+}
+
+fn take_read<F: Folder<B> + Drop, B: Blob + Drop, H: Sum, W: Write>(
+    alloc: Global,
+    client: &Client,
+    log: &mut SegmentedLog<F, B, H, H>,
+    place: Place,
+    out: &mut W,
+) -> Result<(), Stop>
+    requires log { IsLog H.sum_of H.sum_of log.old }
+    ensures log { IsLog H.sum_of H.sum_of log.new }
+{
+    match log.read(place) {
+        Ok(Some(found)) => match &found.bytes {
+            Some(bytes) => write_found(out, found.end, Some(bytes.as_ref())),
+            None => write_found(out, found.end, None),
+        },
+        Ok(None) => refuse(alloc, client, out, AT_END),
+        Err(error) => refuse_kept(alloc, client, out, &error, false),
+    }
+}
+
+// The place 0, 0 stands for the start of the log, also where segment 0 was dropped.
+fn take_next<F: Folder<B> + Drop, B: Blob + Drop, H: Sum, W: Write>(
+    alloc: Global,
+    client: &Client,
+    log: &mut SegmentedLog<F, B, H, H>,
+    place: Place,
+    out: &mut W,
+) -> Result<(), Stop>
+    requires log { IsLog H.sum_of H.sum_of log.old }
+    ensures log { IsLog H.sum_of H.sum_of log.new }
+{
+    let mut behind = place;
+    if place.segment == 0 && place.offset == 0 {
+        behind = log.start();
+    }
+    match log.next(&mut behind) {
+        Ok(Some((at, bytes))) => {
+            let numbers = [at.segment, at.offset, behind.segment, behind.offset];
+            write_answer(out, &numbers, bytes.as_ref())
+        }
+        Ok(None) => refuse(alloc, client, out, AT_END),
+        Err(error) => refuse_kept(alloc, client, out, &error, false),
+    }
+}
+
+fn take_drop<F: Folder<B> + Drop, B: Blob + Drop, H: Sum, W: Write>(
+    alloc: Global,
+    client: &Client,
+    log: &mut SegmentedLog<F, B, H, H>,
+    segment: u64,
+    out: &mut W,
+) -> Result<(), Stop>
+    requires log { IsLog H.sum_of H.sum_of log.old }
+    ensures log { IsLog H.sum_of H.sum_of log.new }
+{
+    match log.drop_before(segment) {
+        Ok(()) => write_answer(out, &[], &[]),
+        Err(error) => {
+            let is_closing = matches!(error, Error::Layer(_));
+            refuse_kept(alloc, client, out, &error, is_closing)
+        }
+    }
+}

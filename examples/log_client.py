@@ -1,0 +1,106 @@
+"""A log over `pagedd serve-log`: python3 log_client.py PAGEDD FOLDER [RECORD ..]
+
+Appends the records of the command line, commits them, and prints all records of the log in FOLDER, with
+the place of each. FOLDER is made where it is missing. `docs/LOG_PROTOCOL.md` says what each request does.
+"""
+import struct
+import sys
+
+from client import APPEND, CLOSE, READ, SIZE, SYNC, Blob, Refusal, batch
+
+USAGE = "usage: python3 log_client.py PAGEDD FOLDER [RECORD ..]"
+
+# The requests of a log that have other names than those of a blob.
+NEXT, DROP_BEFORE = 7, 27
+# Those of version 2 alone.
+APPEND_RECORDS, APPEND_RECORDS_SYNC, SYNC_SIZE, FLUSH = 17, 18, 21, 25
+
+# Some statuses of refusals.
+AT_END, CLOSED, READ_ONLY, NO_RECORDS = 6, 17, 22, 23
+NO_SEGMENT, DAMAGED, SYSTEM = 38, 39, 40
+
+# From here `next` begins at the first record that the log has.
+START = (0, 0)
+
+
+class Log(Blob):
+    """A log, served by a process. A place is a segment and an offset in it. What the hello told is in `size`, which is
+    the number of records, `page_size`, `checksum`, `read_only`, `cut`, `given_up` and `copy`; of `limits`, `ranges` is
+    the most bytes of a record."""
+
+    def __init__(self, program, folder, *options):
+        self.open([program, "serve-log", *options, folder])
+
+    def append(self, data):
+        """Appends a record, and answers its place."""
+        return struct.unpack("<QQ", self.ask(APPEND, data=data))
+
+    def append_all(self, records):
+        """Appends records and commits: all of them are durable then. Answers their places."""
+        if self.version == 1 or not records:
+            places = [self.append(data) for data in records]
+            self.commit()
+            return places
+        return list(struct.iter_unpack("<QQ", self.ask(APPEND_RECORDS_SYNC, data=batch(records))))
+
+    def commit(self):
+        """Makes all records durable."""
+        self.ask(SYNC)
+
+    def count(self):
+        """How many records the log has."""
+        return struct.unpack("<Q", self.ask(SIZE))[0]
+
+    def read(self, place):
+        """The record at a place, or None where its checksum doesn't fit; and the place behind it."""
+        answer = self.ask(READ, *place)
+        end, is_record = struct.unpack_from("<QB", answer)
+        return answer[9:] if is_record else None, (place[0], end)
+
+    def next(self, place):
+        """The next record from a place on: where it stands, its bytes, and the place behind it. None at the end."""
+        try:
+            answer = self.ask(NEXT, *place)
+        except Refusal as refusal:
+            if refusal.status == AT_END:
+                return None
+            raise
+        at, offset, segment, behind = struct.unpack_from("<4Q", answer)
+        return (at, offset), answer[32:], (segment, behind)
+
+    def records(self, place=START):
+        """Each record from a place on, and where it stands."""
+        found = self.next(place)
+        while found:
+            at, data, place = found
+            yield at, data
+            found = self.next(place)
+
+    def drop_before(self, segment):
+        """Drops the segments before this one."""
+        self.ask(DROP_BEFORE, segment)
+
+    def close(self):
+        """Ends the program, and answers its exit status. It commits nothing."""
+        self.ask(CLOSE)
+        return self.process.wait()
+
+
+def main():
+    if len(sys.argv) < 3:
+        print(USAGE, file=sys.stderr)
+        sys.exit(2)
+    log = Log(sys.argv[1], sys.argv[2])
+    new = [word.encode() for word in sys.argv[3:]]
+    if new:
+        try:
+            log.append_all(new)
+        except Refusal as refusal:
+            raise SystemExit(f"{refusal}\nlog_client: a part of these records may be there: look first") from refusal
+    for (segment, offset), data in log.records():
+        print(f"{segment}:{offset} {data.decode(errors='replace')}")
+    sys.exit(log.close())
+
+
+if __name__ == "__main__":
+    main()

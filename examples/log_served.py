@@ -1,0 +1,472 @@
+"""Plays sessions of `pagedd serve-log`: python3 log_served.py PAGEDD
+
+Each kind of request in both versions, frames that are none, what is refused and how, logs that are served
+for reading alone, two programs at one log, and folders that were changed by hand. The first thing that
+isn't as `docs/LOG_PROTOCOL.md` says ends it. It has no cases of a killed program: `log_kill.py` has them.
+"""
+import json
+import os
+import re
+import resource
+import shutil
+import signal
+import struct
+import subprocess
+import tempfile
+
+import usage
+from client import APPEND, CLOSE, READ, SIZE, SYNC, Refusal, batch
+from log_client import (APPEND_RECORDS, APPEND_RECORDS_SYNC, AT_END, CLOSED, DAMAGED, DROP_BEFORE, FLUSH, NEXT,
+                        NO_RECORDS, NO_SEGMENT, READ_ONLY, SYNC_SIZE, SYSTEM, Log)
+
+SMALL = "--segment-size=300"
+MOST = 65535
+PAGE = os.path.join(os.path.dirname(os.path.abspath(__file__)), "..", "docs", "LOG_PROTOCOL.md")
+OFFER = b"\x02\x02\x01\x02"
+UNLISTED = 41
+
+
+class Session(Log):
+    """A log that is served in a version; what it says on standard error is kept."""
+
+    def __init__(self, program, folder, *options, version=2, **streams):
+        command = [program, "serve-log", *options, folder]
+        if version == 2:
+            self.open(command, stderr=subprocess.PIPE, **streams)
+        else:
+            self.start(command, stderr=subprocess.PIPE, **streams)
+            self.send(b"\x01")
+
+    def ended(self):
+        raise EOFError
+
+    def end(self):
+        """Closes it, and answers its exit status and what it said."""
+        status = self.close()
+        return status, self.process.stderr.read().decode()
+
+    def refusal(self, kind, *numbers, data=b""):
+        """The refusal of a request: its status, and in version 2 what to do next, and how much was taken."""
+        try:
+            self.ask(kind, *numbers, data=data)
+        except Refusal as refused:
+            return refused
+        raise SystemExit(f"NOT SO: the request of kind {kind} is refused")
+
+    def status(self, kind, *numbers, data=b""):
+        return self.refusal(kind, *numbers, data=data).status
+
+
+def expect(holds, what):
+    """Ends the script where it doesn't hold, and else says it."""
+    if not holds:
+        raise SystemExit(f"NOT SO: {what}")
+    print(what)
+
+
+def play(program, *words, given=b"", **options):
+    """The exit status of a command, its output, and what it said on standard error."""
+    ended = subprocess.run([program, *words], input=given, capture_output=True, timeout=120, check=False, **options)
+    return ended.returncode, ended.stdout, ended.stderr.decode(errors="replace")
+
+
+def contents(path):
+    with open(path, "rb") as file:
+        return file.read()
+
+
+def put(path, data):
+    with open(path, "wb") as file:
+        file.write(data)
+    return path
+
+
+def segment(folder, number):
+    return os.path.join(folder, f"{number:020}.segment")
+
+
+def image(folder):
+    """Each file of a folder with its bytes."""
+    return {name: contents(os.path.join(folder, name)) for name in sorted(os.listdir(folder))}
+
+
+def some(number):
+    """A record of about a hundred bytes."""
+    return f"record {number} ".encode() * 8
+
+
+def a_log(program, folder, count=20):
+    """A log of so many records, which fill several segments, and their places."""
+    log = Session(program, folder, SMALL)
+    places = log.append_all([some(number) for number in range(count)])
+    log.end()
+    return places
+
+
+def version_one(program, folder):
+    log = Session(program, folder, SMALL, version=1)
+    expect(log.size == 0, "a new log has no record, says the greeting")
+    places = [log.append(some(number)) for number in range(20)]
+    expect(places == sorted(set(places)) and places[0] == (0, 0) and places[-1][0] > 2,
+           "appends answer places that go on, over several segments")
+    expect(log.ask(SYNC) == b"" and log.count() == 20, "a sync answers nothing, and size counts the records")
+    expect(all(log.read(place)[0] == some(number) for number, place in enumerate(places)),
+           "each record is read at its place")
+    ends = [log.read(place)[1] for place in places]
+    expect(all(end == after or after == (end[0] + 1, 0) for end, after in zip(ends, places[1:])),
+           "a read tells where the next frame begins, or where the segment ends")
+    expect(log.status(READ, *ends[-1]) == AT_END, "a read at the end of the log is refused with 6")
+    expect(list(log.records()) == [(place, some(number)) for number, place in enumerate(places)],
+           "next goes over all records, from the place 0, 0 on")
+    expect(log.status(NEXT, *ends[-1]) == AT_END, "next at the end of the log is refused with 6")
+    expect(log.status(APPEND, data=bytes(MOST + 1)) == NO_RECORDS and log.count() == 20,
+           "a record of 65,536 bytes is refused with 23, and not appended")
+    place = log.append(bytes(MOST))
+    expect(log.read(place)[0] == bytes(MOST) and log.read(log.append(b""))[0] == b"",
+           "a record of 65,535 bytes is appended, and so is one of none")
+    log.drop_before(2)
+    expect(not os.path.exists(segment(folder, 0)) and log.status(READ, 0, 0) == NO_SEGMENT
+           and log.status(NEXT, 1, 0) == NO_SEGMENT,
+           "of a dropped segment the file is gone, and reads are refused with 38")
+    expect(next(log.records())[0] == (2, 0), "next from 0, 0 on begins at the first segment that is left")
+    expect(log.status(DROP_BEFORE, 10 ** 6) == NO_SEGMENT,
+           "a drop before a segment that isn't there yet is refused with 38")
+    expect(log.end() == (0, ""), "a close ends it with status 0")
+    log = Session(program, folder, SMALL, version=1)
+    expect(log.size == sum(at[0] >= 2 for at in places) + 1,
+           "what was committed comes back, by a sync or a rotation; a close commits nothing")
+    expect(log.end() == (0, ""), "and it ends well")
+
+
+def version_two(program, folder):
+    log = Session(program, folder, SMALL)
+    expect((log.version, log.size, log.page_size, log.checksum, log.read_only, log.cut, log.given_up, log.copy)
+           == (2, 0, 4084, "crc32c", False, 0, 0, "")
+           and tuple(log.limits) == (4294967294, 4294967294, MOST, 268435455), "the hello has the fields of a log")
+    records = [some(number) for number in range(12)] + [b""]
+    places = list(struct.iter_unpack("<QQ", log.ask(APPEND_RECORDS, data=batch(records))))
+    expect([log.read(place)[0] for place in places] == records, "append_records answers the place of each record")
+    more = list(struct.iter_unpack("<QQ", log.ask(APPEND_RECORDS_SYNC, data=batch([b"one", b"two"]))))
+    expect([log.read(place)[0] for place in more] == [b"one", b"two"], "so does append_records_sync")
+    expect(log.ask(APPEND_RECORDS, data=batch([])) == b"", "there may be no record")
+    expect(struct.unpack("<Q", log.ask(SYNC_SIZE)) == (15,), "sync_size tells the number of records")
+    expect(log.ask(FLUSH) == b"" and log.ask(SYNC) == b"" and log.count() == 15,
+           "flush, sync and size are as they were")
+    wrong = {"no count": b"\1\0\0", "a length that is missing": struct.pack("<II", 2, 0),
+             "too few bytes": batch([b"abc"])[:-1], "too many bytes": batch([b"abc"]) + b"d",
+             "a record that is too long": batch([b"first", bytes(MOST + 1)])}
+    for what, fields in wrong.items():
+        for kind in (APPEND_RECORDS, APPEND_RECORDS_SYNC):
+            refused = log.refusal(kind, data=fields)
+            expect((refused.status, refused.next, refused.taken, refused.errno, refused.words)
+                   == (NO_RECORDS, 0, 0, 0, "") and log.count() == 15,
+                   f"{what} is refused with 23, and nothing is appended")
+    refused = log.refusal(APPEND, data=bytes(MOST + 1))
+    expect((refused.status, refused.next) == (NO_RECORDS, 0), "a refusal tells the client to ask for something else")
+    expect(log.refusal(READ, 999, 0).status == NO_SEGMENT and log.refusal(READ, 0, 10 ** 9).status == AT_END,
+           "so do those of places that aren't there")
+    log.drop_before(1)
+    expect(log.status(READ, 0, 0) == NO_SEGMENT and next(log.records())[0] == (1, 0), "a drop is as in version 1")
+    expect(log.end() == (0, ""), "a close ends it with status 0")
+
+
+def wrong_frames(program, folder):
+    shutil.rmtree(folder, ignore_errors=True)
+    kinds = {1: (1, 2, 5, 6, 7, 16, 27), 2: (1, 2, 5, 6, 7, 16, 17, 18, 21, 25, 27)}
+    for version, begun in ((1, b"\x01"), (2, OFFER)):
+        hello = len(play(program, "serve-log", folder, given=begun)[1])
+        for kind in range(256):
+            if kind in kinds[version]:
+                continue
+            status, out, said = play(program, "serve-log", folder, given=begun + struct.pack("<IB", 1, kind))
+            told = b"" if version == 1 else struct.pack("<IBBQQ", 18, 34, 2, 0, 0)
+            if (status, out[hello:], said) != (2, told, f"pagedd: request 1: there is no kind {kind}\n"):
+                raise SystemExit(f"NOT SO: kind {kind} of version {version} is refused: {status} {out} {said}")
+        print(f"each kind of version {version} that there isn't ends it with status 2")
+        frames = {33: b"\0\0\0\0", 35: struct.pack("<IBB", 2, SYNC, 0), 32: struct.pack("<IB", 17, READ) + b"\0"}
+        frames = list(frames.items()) + [(35, struct.pack("<IBQ", 9, NEXT, 0)), (35, struct.pack("<IBB", 2, CLOSE, 0)),
+                                         (32, b"\5\0"), (32, b"\5\0\0\0"), (32, struct.pack("<IB", 4, APPEND) + b"ab"),
+                                         (32, struct.pack("<IB", 100000, APPEND) + b"ab"),
+                                         (32, struct.pack("<IBQ", 9, DROP_BEFORE, 0)[:-1]),
+                                         (35, struct.pack("<IB", 1, DROP_BEFORE))]
+        for told, frame in frames:
+            good = struct.pack("<IB", 1, SIZE)
+            status, out, said = play(program, "serve-log", folder, given=begun + good + frame)
+            answer = b"" if version == 1 else struct.pack("<IBBQQ", 18, told, 2, 0, 0)
+            if status != 2 or out[hello + 13:] != answer or not said.startswith("pagedd: request 2: "):
+                raise SystemExit(f"NOT SO: {frame} is no request of version {version}: {status} {out} {said}")
+        print(f"frames that are none end version {version} with status 2, after what came before was answered")
+    greeting = b"\x01" + struct.pack("<IBQ", 9, 0, 0)
+    expect(play(program, "serve-log", folder, given=b"\x03")[:2] == (2, greeting),
+           "another first byte ends it with status 2")
+    expect(play(program, "serve-log", folder, given=b"\x02\x02\x07\x08")[:2]
+           == (2, greeting + b"\3\0\0\0\x18\1\2"), "an offer of versions that aren't known is answered 24")
+    status, out, _ = play(program, "serve-log", folder, given=b"\x02\x05\x01")
+    expect((status, out[len(greeting):]) == (2, struct.pack("<IBBQQ", 18, 32, 2, 0, 0)), "a cut offer is answered 32")
+    expect(play(program, "serve-log", folder, given=b"\x02\x01\x01")[:2] == (0, greeting + b"\2\0\0\0\0\1"),
+           "an offer of version 1 alone is answered with it")
+    expect(play(program, "serve-log", folder)[:2] == (0, greeting), "no input ends it with status 0")
+
+
+def in_order(program, folder):
+    log = Session(program, folder, SMALL)
+    log.send(struct.pack("<IB", 1, SIZE) + b"\1\0")
+    expect(struct.unpack("<Q", log.answer()) == (log.size,),
+           "an answer is out before the rest of the next request has come")
+    log.send(b"\0\0\x05" + struct.pack("<IB", 1, SIZE) * 5000)
+    expect(all(log.answer() for _ in range(5001)), "many requests are answered in order")
+    second = play(program, "serve-log", folder)
+    expect(second[0] == 1 and second[1] == b"", f"a second program ends with status 1: {second[2].strip()}")
+    log.end()
+
+
+def alone(program, folder):
+    shutil.rmtree(folder, ignore_errors=True)
+    status, out, said = play(program, "serve-log", "--read-only", folder)
+    expect(status == 1 and out == b"" and not os.path.exists(folder), f"--read-only makes no folder: {said.strip()}")
+    os.mkdir(folder)
+    status, out, said = play(program, "serve-log", "--read-only", folder)
+    expect(status == 1 and out == b"" and not os.listdir(folder), f"nor a log: {said.strip()}")
+    places = a_log(program, folder)
+    before = image(folder)
+    for version in (1, 2):
+        log = Session(program, folder, "--read-only", version=version)
+        changes = [(APPEND, b"a"), (APPEND, bytes(MOST + 1)), (SYNC, b""), (DROP_BEFORE, bytes(8))]
+        if version == 2:
+            changes += [(APPEND_RECORDS, b"no"), (APPEND_RECORDS_SYNC, batch([b"a"])), (SYNC_SIZE, b"")]
+        expect(all(log.status(kind, data=fields) == READ_ONLY for kind, fields in changes),
+               f"for reading alone each change of version {version} is refused with 22")
+        expect([data for _, data in log.records()] == [some(number) for number in range(20)]
+               and log.read(places[3])[0] == some(3) and log.count() == 20, "and all records are read")
+        expect(log.end() == (0, ""), "and it ends well")
+    expect(image(folder) == before, "and no file changed")
+    status, out, _ = play(program, "serve-log", "--read-only", folder, given=OFFER)
+    expect(status == 0 and out[14 + 4:14 + 7] == b"\0\2\1", "the hello says so")
+
+
+def tampering(program, folder):
+    shutil.rmtree(folder, ignore_errors=True)
+    places = a_log(program, folder)
+    last = places[-1][0]
+    inside = [some(number) for number, place in enumerate(places) if place[0] != 1]
+    good = image(folder)
+
+    def back():
+        shutil.rmtree(folder)
+        os.mkdir(folder)
+        for name, data in good.items():
+            put(os.path.join(folder, name), data)
+
+    def flipped(data, at):
+        return data[:at] + bytes([data[at] ^ 1]) + data[at + 1:]
+
+    whole = contents(segment(folder, 1))
+    cases = {"one bit changed": flipped(whole, 100), "cut": whole[:-1], "emptied": b"", "grown": whole + b"\0",
+             "exchanged for another one": contents(segment(folder, 0)), "missing": None}
+    for what, data in cases.items():
+        back()
+        os.remove(segment(folder, 1))
+        if data is not None:
+            put(segment(folder, 1), data)
+        expected = DAMAGED if data is not None else SYSTEM
+        for options in ([], ["--read-only"]):
+            log = Session(program, folder, SMALL, *options)
+            refused = [log.refusal(READ, 1, 0), log.refusal(NEXT, 1, 0)]
+            first, second = [(it.status, it.next, it.errno) for it in refused]
+            wanted = (DAMAGED, 0, 0) if data is not None else (SYSTEM, 1, 2)
+            others = [log.read(place)[0] for place in places if place[0] != 1]
+            if (first, second) != (wanted, wanted) or others != inside or log.end() != (0, ""):
+                raise SystemExit(f"NOT SO: a segment that is {what} is refused with {expected}: {first} {second}")
+        state = "damaged" if data is not None else "missing"
+        status, out, _ = play(program, "check", folder)
+        told = json.loads(play(program, "check", "--json", folder)[1])
+        states = {it["segment"]: it["state"] for it in told["closed"]}
+        mapped = play(program, "map", folder)[1].decode().split()[-1]
+        written = play(program, "cat", folder)
+        if (status != 3 or f"segment 1: {sum(p[0] == 1 for p in places)} records" not in out.decode()
+                or state not in out.decode() or states != {n: state if n == 1 else "whole" for n in range(last)}
+                or mapped != "#" + ("!" if data is not None else "?") + "#" * (last - 2) + "+"
+                or (written[0], written[1]) != (3, b"".join(it + b"\n" for it in inside))
+                or not written[2].startswith(f"pagedd: {folder}: segment 1: ")):
+            raise SystemExit(f"NOT SO: check, map and cat tell that it is {what}: {out} {told} {mapped} {written}")
+        print(f"a closed segment that is {what}: its reads are refused with {expected}, check, map and cat tell it, "
+              "and the others are read")
+    back()
+    expect(play(program, "check", folder)[0] == 0 and play(program, "cat", folder)[0] == 0
+           and play(program, "map", "--long", folder)[0] == 0, "a whole log is told as such")
+    refused = {
+        "without its manifest": lambda: os.remove(os.path.join(folder, "manifest")),
+        "whose manifest is empty": lambda: put(os.path.join(folder, "manifest"), b""),
+        "whose manifest is damaged": lambda: put(os.path.join(folder, "manifest"), flipped(good["manifest"], 4)),
+        "without its open segment": lambda: os.remove(segment(folder, last)),
+        "with a segment after the open one": lambda: put(segment(folder, last + 3), b"bytes"),
+    }
+    for what, change in refused.items():
+        back()
+        change()
+        before = image(folder)
+        for options in ([], ["--read-only"]):
+            status, out, said = play(program, "serve-log", *options, folder)
+            if (status, out) != (3, b"") or image(folder) != before or not said.startswith(f"pagedd: {folder}: "):
+                raise SystemExit(f"NOT SO: a log {what} is refused: {status} {out} {said}")
+        looked = [play(program, command, folder)[0] for command in ("check", "map", "cat")]
+        expect(looked == [3, 3, 3], f"a log {what} is refused with status 3, and nothing changes: {said.strip()}")
+    back()
+    for options in (["--page-size=1012"], ["--checksum=add"]):
+        status, out, said = play(program, "serve-log", *options, folder)
+        expect((status, out) == (3, b"") and image(folder) == good and "--page-size 4084 --checksum crc32c" in said,
+               f"with {options[0]} it is refused, and told how it was written")
+
+
+def older_manifest(program, folder):
+    shutil.rmtree(folder, ignore_errors=True)
+    a_log(program, folder, 5)
+    old = contents(os.path.join(folder, "manifest"))
+    log = Session(program, folder, SMALL)
+    log.append_all([some(number) for number in range(30)])
+    log.end()
+    put(os.path.join(folder, "manifest"), old)
+    status, out, said = play(program, "serve-log", folder)
+    expect((status, out) == (3, b""), f"a manifest that is an older copy is refused with status 3: {said.strip()}")
+
+
+def torn(program, folder):
+    """What an opening cuts of the open segment is said, and set aside first."""
+    shutil.rmtree(folder, ignore_errors=True)
+    log = Session(program, folder)
+    log.append_all([bytes(3000), bytes(3000)])
+    log.end()
+    path = segment(folder, 0)
+    whole = contents(path)
+    put(path, whole[:5000] + bytes([whole[5000] ^ 1]) + whole[5001:])
+    before = contents(path)
+    status, out, _ = play(program, "check", folder)
+    expect(status == 3 and b"not whole" in out, "check tells an open segment that is damaged")
+    log = Session(program, folder, "--read-only")
+    expect((log.size, log.cut) == (1, 4096) and contents(path) == before and log.copy == "",
+           "for reading alone it is served as a recovery would leave it, and the hello says how much is hidden")
+    expect("aren't served" in log.end()[1], "and so does standard error")
+    log = Session(program, folder)
+    expect((log.size, log.cut, log.given_up) == (1, 4096, 4096) and contents(log.copy) == before[-4096:],
+           "an opening cuts it, and sets aside first what it cuts")
+    expect(log.read((0, 0))[0] == bytes(3000) and log.copy in log.end()[1], "what was before it is read")
+
+
+def begun(program, folder):
+    """What a crash may leave of a segment that follows a closed one: nothing in it was committed yet."""
+    left = {"zeros": bytes(4096), "a part of a page": some(1), "a torn page": some(1).ljust(4096, b"\1")}
+    for what, data in left.items():
+        shutil.rmtree(folder, ignore_errors=True)
+        places = a_log(program, folder)
+        last = places[-1][0]
+        inside = sum(place[0] < last for place in places)
+        put(segment(folder, last), data)
+        log = Session(program, folder, SMALL)
+        copy = b"" if not any(data) else data
+        expect((log.size, log.cut, contents(log.copy) if log.copy else b"") == (inside, len(data), copy),
+               f"an open segment with {what} alone is cut" + (", after a copy was made" if copy else ""))
+        expect(log.append(b"more") == (last, 0) and log.end()[0] == 0, "and the log goes on")
+    shutil.rmtree(folder, ignore_errors=True)
+    os.mkdir(folder)
+    put(os.path.join(folder, "manifest"), bytes(4096))
+    log = Session(program, folder, SMALL)
+    expect(log.size == 0 and log.append(b"first") == (0, 0) and log.end()[0] == 0,
+           "and so does a log that was just begun")
+    shutil.rmtree(folder, ignore_errors=True)
+    log = Session(program, folder)
+    log.append_all([bytes(MOST)] * 20)
+    log.end()
+    whole = contents(segment(folder, 0))
+    put(segment(folder, 0), whole[:5000] + b"\1" + whole[5001:])
+    before = image(folder)
+    status, out, said = play(program, "serve-log", folder)
+    expect((status, out) == (3, b"") and image(folder) == before,
+           f"an open segment of which more than 1 MiB would go is refused with status 3: {said.strip()}")
+    log = Session(program, folder, "--cut")
+    cut = before[os.path.basename(segment(folder, 0))][4096:]
+    expect(log.size == 0 and contents(log.copy) == cut and log.end()[0] == 0, "--cut goes on, after a copy was made")
+
+
+def closed_by_a_failure(program, folder):
+    shutil.rmtree(folder, ignore_errors=True)
+    log = Session(program, folder, SMALL)
+    places = log.append_all([some(number) for number in range(5)])
+    last = places[-1][0]
+    put(segment(folder, last + 1), b"bytes of somebody else")
+    refused = log.refusal(APPEND_RECORDS_SYNC, data=batch([some(number) for number in range(9)]))
+    expect((refused.status, refused.next) == (UNLISTED, 2) and 0 < refused.taken < 9,
+           "a rotation to a file that has bytes is refused with 41, and how many records were appended is told")
+    asked = [log.refusal(kind, data=fields) for kind, fields in (
+        (APPEND, b"a"), (SYNC, b""), (SIZE, b""), (SYNC_SIZE, b""), (APPEND_RECORDS, batch([b"a"])))]
+    expect(all((it.status, it.next) == (CLOSED, 2) for it in asked), "the log is closed then: 17")
+    expect(log.read(places[0])[0] == some(0) and log.refusal(READ, last, 0).status == CLOSED,
+           "records of closed segments are read all the same")
+    status, said = log.end()
+    expect(status == 1 and said.count("\n") == 1, f"it ends with status 1: {said.strip()}")
+    expect(play(program, "serve-log", folder)[0] == 3, "and isn't opened before that file is gone")
+    os.remove(segment(folder, last + 1))
+    log = Session(program, folder, SMALL)
+    expect([data for _, data in log.records()][:5] == [some(number) for number in range(5)], "then it comes back")
+    log.end()
+
+
+def full(program, folder):
+    """A disk that is full, as a limit on the size of files has it."""
+    shutil.rmtree(folder, ignore_errors=True)
+
+    def limit():
+        resource.setrlimit(resource.RLIMIT_FSIZE, (8192, 8192))
+        signal.signal(signal.SIGXFSZ, signal.SIG_IGN)
+
+    log = Session(program, folder, preexec_fn=limit)
+    log.append_all([b"kept"])
+    refused = log.refusal(APPEND_RECORDS_SYNC, data=batch([bytes(20000)]))
+    expect(refused.status in (2, 3) and refused.next == 2, f"a write that fails is refused with 2 or 3: {refused}")
+    expect(log.status(APPEND, data=b"a") == CLOSED, "and closes the log")
+    status, said = log.end()
+    expect(status == 1, f"it ends with status 1: {said.strip()}")
+    log = Session(program, folder)
+    expect([data for _, data in log.records()][0] == b"kept", "what was committed comes back")
+    log.end()
+
+
+def commands(program, folder):
+    shutil.rmtree(folder, ignore_errors=True)
+    a_log(program, folder)
+    file = put(folder + "-file", b"")
+    before = image(folder)
+    for words in (["serve-log", file], ["append", folder], ["salvage", folder, folder + "-out"], ["serve", folder],
+                  [folder], ["cat", "--from", "3", folder], ["cat", "--len", "3", folder],
+                  ["map", "--from", "99", folder]):
+        status, out, said = play(program, *words)
+        expect((status, out, said.count("\n")) == (1, b"", 1), f"pagedd {words[0]} is refused: {said.strip()}")
+    expect(play(program, "map", "--from", "2", "--to", "4", folder)[1].split()[-2:] == [b"2", b"##"],
+           "map draws the segments from one to before another")
+    expect(image(folder) == before, "and nothing changed")
+
+
+def documented(program, folder):
+    """The bytes of the page: of each two blocks the first is written, and the second read."""
+    with open(PAGE, encoding="utf-8") as page:
+        text = page.read().split("## Examples")[1]
+    blocks = [bytes.fromhex("".join(block.split())) for block in re.findall(r"(?:^ {4}[0-9a-f ]+\n)+", text, re.M)]
+    for number, (given, wanted) in enumerate(zip(blocks[::2], blocks[1::2])):
+        ended = play(program, "serve-log", f"{folder}-{number}", given=given)
+        expect(ended == (0, wanted, ""), f"the page's example of version {number + 1} is so")
+    expect(len(blocks) == 4, "and the page has two")
+
+
+def main():
+    made = usage.parser(__doc__)
+    made.add_argument("PAGEDD", type=usage.program)
+    program = made.parse_args().PAGEDD
+    with tempfile.TemporaryDirectory() as room:
+        parts = (version_one, version_two, wrong_frames, in_order, alone, tampering, older_manifest, torn, begun,
+                 closed_by_a_failure, full, commands, documented)
+        for number, part in enumerate(parts):
+            part(program, os.path.join(room, f"log-{number}"))
+    print("all is so")
+
+
+if __name__ == "__main__":
+    main()
