@@ -4,12 +4,14 @@ use Rattle.std.specs.Prelude.{Result, Ok, Err, Vec}
 use Rattle.std.specs.declared.alloc.Global.{Global}
 use Rattle.disk.specs.Disk.{Life}
 use Rattle.disk.specs.declared.error.Error as layer
+use Rattle.disk.specs.declared.started_sync.StartedSync.{StartedSync}
 use Rattle.cache.specs.CacheState.{CacheState}
 use Rattle.cache.specs.Pages.{IsFresh}
 use Rattle.writer_state.specs.WriterState.{WriterState}
 use Rattle.writer_state.specs.Sound.{content}
 use Rattle.journal.specs.declared.frame.Found.{Found}
 use Rattle.journal.specs.Journal.{AppendRecordGoes, CommitGoes, IsJournal, ReadRecordGoes}
+use Rattle.journal.specs.Journal.{StartCommitGoes, WaitForCommitGoes}
 use Rattle.journal.specs.Frame.{records}
 use Rattle.journal.specs.Journal.{CommitsAll, KeepsCommitted, LeavesRecords}
 use Rattle.journal.specs.Journal.{records_in}
@@ -89,6 +91,26 @@ OwnedCommitGoes sum own s t (Err (errors.Layer e)) = HasJournal s.journal (λ w.
     (t.journal ≡ None) × CommitGoes sum own w t.cache s.life t.life (Err e))
 OwnedCommitGoes sum own s t (Err errors.Closed) = (s.journal ≡ None) × (t ≡ s)
 OwnedCommitGoes sum own s t (Err _) = ⊥
+
+-- the start of a commit, by its answer
+abbrev pub OwnedStartGoes : (sum own : List ℕ → ℕ) → OwnedState → OwnedState
+    → Result StartedSync Error → Type 0
+OwnedStartGoes sum own s t (Ok started) = KeepsJournal s.journal t.journal (λ w now.
+    StartCommitGoes sum own w t.cache s.life t.life (Ok (now, started)))
+OwnedStartGoes sum own s t (Err (errors.Layer e)) = HasJournal s.journal (λ w.
+    (t.journal ≡ None) × StartCommitGoes sum own w t.cache s.life t.life (Err e))
+OwnedStartGoes sum own s t (Err errors.Closed) = (s.journal ≡ None) × (t ≡ s)
+OwnedStartGoes sum own s t (Err _) = ⊥
+
+-- a wait for the commit that was started last, by its answer
+abbrev pub OwnedWaitGoes : (sum own : List ℕ → ℕ) → OwnedState → OwnedState
+    → Result (Unit {0}) Error → Type 0
+OwnedWaitGoes sum own s t (Ok _) = KeepsJournal s.journal t.journal (λ w now.
+    WaitForCommitGoes sum own w s.life t.life (Ok now))
+OwnedWaitGoes sum own s t (Err (errors.Layer e)) = HasJournal s.journal (λ w.
+    (t.journal ≡ None) × WaitForCommitGoes sum own w s.life t.life (Err e))
+OwnedWaitGoes sum own s t (Err errors.Closed) = (s.journal ≡ None) × (t ≡ s)
+OwnedWaitGoes sum own s t (Err _) = ⊥
 
 -- what a call of its journal leaves, whatever it answers
 abbrev pub OwnedLeaves : (sum own : List ℕ → ℕ) → List (List ℕ) → OwnedState → OwnedState → Type 0

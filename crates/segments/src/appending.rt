@@ -4,13 +4,14 @@ ghost use Rattle.segments.specs.Log.{AppendHereGoes, CurrentKeeps, HasMore, IsLo
 ghost use Rattle.segments.specs.Log.{IsSameButCurrent};
 ghost use Rattle.segments.specs.Log.{LogAppendGoes};
 ghost use Rattle.segments.specs.Crash.{AppendSurvives, CurrentSurvives};
-ghost use Rattle.segments.specs.Owned.{OwnedCommitGoes, records_now};
+ghost use Rattle.segments.specs.Owned.{OwnedCommitGoes, OwnedStartGoes, OwnedWaitGoes};
+ghost use Rattle.segments.specs.Owned.{records_now};
 
 use crate::error::Error;
 use crate::folder::Folder;
 use crate::log::SegmentedLog;
 use crate::place::Place;
-use disk::Blob;
+use disk::{Blob, StartedSync};
 use page::Sum;
 
 impl<F: Folder<B> + Drop, B: Blob + Drop, H: Sum, R: Sum> SegmentedLog<F, B, H, R> {
@@ -65,5 +66,36 @@ impl<F: Folder<B> + Drop, B: Blob + Drop, H: Sum, R: Sum> SegmentedLog<F, B, H, 
         ensures lasts { CurrentSurvives H.sum_of R.sum_of [] self.old self.new }
     {
         self.current.commit()
+    }
+
+    /// Starts a commit of all records that were appended, and waits for none: others may be appended
+    /// and read meanwhile. They are committed once a wait answered `Ok`, by
+    /// [`wait_for_commit`](SegmentedLog::wait_for_commit), and also once a rotation did.
+    #[tactic(auto, using(crate::proofs::Surviving::survives_same))]
+    pub fn start_commit(&mut self) -> Result<StartedSync, Error>
+        requires log { IsLog H.sum_of R.sum_of self.old }
+        ensures goes { OwnedStartGoes H.sum_of R.sum_of self.old.current self.new.current result }
+        ensures ready { IsLog H.sum_of R.sum_of self.new }
+        ensures rest { IsSameButCurrent self.old self.new }
+        ensures keeps { let all = records_now R.sum_of self.old.current in
+            CurrentKeeps H.sum_of R.sum_of all self.old self.new }
+        ensures lasts { CurrentSurvives H.sum_of R.sum_of [] self.old self.new }
+    {
+        self.current.start_commit()
+    }
+
+    /// Waits for the commit that was started last: what was appended before that start is committed
+    /// then. Where there is none it does nothing.
+    #[tactic(auto, using(crate::proofs::Surviving::survives_same))]
+    pub fn wait_for_commit(&mut self) -> Result<(), Error>
+        requires log { IsLog H.sum_of R.sum_of self.old }
+        ensures goes { OwnedWaitGoes H.sum_of R.sum_of self.old.current self.new.current result }
+        ensures ready { IsLog H.sum_of R.sum_of self.new }
+        ensures rest { IsSameButCurrent self.old self.new }
+        ensures keeps { let all = records_now R.sum_of self.old.current in
+            CurrentKeeps H.sum_of R.sum_of all self.old self.new }
+        ensures lasts { CurrentSurvives H.sum_of R.sum_of [] self.old self.new }
+    {
+        self.current.wait_for_commit()
     }
 }

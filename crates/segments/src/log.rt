@@ -76,6 +76,20 @@ impl<F: Folder<B> + Drop, B: Blob + Drop, H: Sum, R: Sum> SegmentedLog<F, B, H, 
         self.listing.open()
     }
 
+    /// The blob of the open segment: a file's tells why a call of it failed.
+    pub fn blob(&self) -> &B
+        ensures { B.life result.now ≡ self.now.current.life }
+    {
+        self.current.blob()
+    }
+
+    /// The blob of the manifest.
+    pub fn manifest_blob(&self) -> &B
+        ensures { B.life result.now ≡ self.now.manifest.life }
+    {
+        self.manifest.blob()
+    }
+
     /// How many records the open segment has.
     pub fn records(&self) -> u64
         ensures { result ≡ self.now.current.records }

@@ -3,6 +3,7 @@ ghost use Rattle.std.specs.Prelude.{◌≡◌, ◌≤◌, ◌∷◌, ◌++◌, [
 ghost use Rattle.std.specs.Int.NonZero.{non_zero_u16_get};
 ghost use Rattle.segments.specs.Owned.{IsOwned, OwnedAddGoes, OwnedAddKeeps, OwnedAppendGoes};
 ghost use Rattle.segments.specs.Owned.{OwnedCommitGoes, OwnedLeaves};
+ghost use Rattle.segments.specs.Owned.{OwnedStartGoes, OwnedWaitGoes};
 ghost use Rattle.segments.specs.Owned.{OwnedCloseGoes, OwnedKeeps, OwnedReadLeaves, OwnedReadGoes};
 ghost use Rattle.segments.specs.Owned.{OwnedRecoverGoes};
 ghost use Rattle.segments.specs.Owned.{owned_size, records_now, without_journal};
@@ -11,7 +12,7 @@ ghost use Rattle.journal.specs.Calls.{JournalRecoveryLeaves};
 
 use crate::error::Error;
 use cache::CacheRef;
-use disk::{Blob, IoBuf};
+use disk::{Blob, IoBuf, StartedSync};
 use journal::{Found, Journal};
 use page::Sum;
 use std::alloc::Global;
@@ -157,6 +158,48 @@ impl<B: Blob + Drop, H: Sum, R: Sum> OwnedJournal<B, H, R> {
             return Err(Error::Closed);
         };
         match journal.commit(&mut self.blob, &mut self.cache) {
+            Ok(journal) => {
+                self.journal = Some(journal);
+                Ok(())
+            }
+            Err(error) => Err(Error::Layer(error)),
+        }
+    }
+
+    /// Starts a commit of all records.
+    pub fn start_commit(&mut self) -> Result<StartedSync, Error>
+        requires owned { IsOwned H.sum_of R.sum_of self.old }
+        ensures goes { OwnedStartGoes H.sum_of R.sum_of self.old self.new result }
+        ensures ready { IsOwned H.sum_of R.sum_of self.new }
+        ensures leaves { let all = records_now R.sum_of self.old in
+            OwnedLeaves H.sum_of R.sum_of all self.old self.new }
+        ensures page_size { self.new.page_size ≡ self.old.page_size }
+    {
+        let Some(journal) = self.journal.take() else {
+            return Err(Error::Closed);
+        };
+        match journal.start_commit(&mut self.blob, &mut self.cache) {
+            Ok((journal, started)) => {
+                self.journal = Some(journal);
+                Ok(started)
+            }
+            Err(error) => Err(Error::Layer(error)),
+        }
+    }
+
+    /// Waits for the commit that was started last.
+    pub fn wait_for_commit(&mut self) -> Result<(), Error>
+        requires owned { IsOwned H.sum_of R.sum_of self.old }
+        ensures goes { OwnedWaitGoes H.sum_of R.sum_of self.old self.new result }
+        ensures ready { IsOwned H.sum_of R.sum_of self.new }
+        ensures leaves { let all = records_now R.sum_of self.old in
+            OwnedLeaves H.sum_of R.sum_of all self.old self.new }
+        ensures page_size { self.new.page_size ≡ self.old.page_size }
+    {
+        let Some(journal) = self.journal.take() else {
+            return Err(Error::Closed);
+        };
+        match journal.wait_for_commit(&mut self.blob) {
             Ok(journal) => {
                 self.journal = Some(journal);
                 Ok(())
