@@ -33,7 +33,7 @@ use Rattle.paged.specs.Recovers.{Recovers}
 use Rattle.paged.specs.Truncate.{Truncates, KeepsFloorsWithin}
 use Rattle.paged.specs.Writer.{physical_blob_size}
 use Rattle.journal.specs.Frame.{frame, record_len, frame_len, listed, record_of, records, whole_frames, AreWholeFrames, IsPrefix}
-use Rattle.journal.specs.Journal.{IsBetweenCalls, IsJournal, IsNewToJournals, OtherJournalsStay, AllJournalsStay, OnlyReads, LeavesContent, Commits, OnlyRecords, KeepsCommitted, KeepsStarted, LeavesRecords, CommitsAll, IsAppended, AppendRecordGoes, IsCommitted, CommitGoes, BringsRecordsBack, BringsOnlyRecords, MeasuresFrame, RecordReadRefused, ReadsContent, ReadsFrame, IsFound, IsTrimmed, Trims, JournalHasRecovered, RecoversJournal}
+use Rattle.journal.specs.Journal.{IsBetweenCalls, IsJournal, IsNewToJournals, OtherJournalsStay, AllJournalsStay, OnlyReads, LeavesContent, Commits, OnlyRecords, KeepsCommitted, StartsStay, LeavesRecords, CommitsAll, IsAppended, AppendRecordGoes, IsCommitted, CommitGoes, BringsRecordsBack, BringsOnlyRecords, MeasuresFrame, RecordReadRefused, ReadsContent, ReadsFrame, IsFound, IsTrimmed, Trims, JournalHasRecovered, RecoversJournal}
 use Rattle.journal.proofs.Frames.{records-append, records-take, whole_more, whole_is_whole, records-whole, whole_first, length-whole, frame_is_whole, records-frame, record_of-frame, length-frame, record_len-front, record_of-front, records-from}
 
 -- the first of the first are the first
@@ -157,7 +157,7 @@ held_on sum w old more now after new holds ready = record { ready = ready; size 
 -- a record whose frame stands after the content
 pub appended : (sum own : List ℕ → ℕ) (w : WriterState) (bytes : List ℕ) (after : CacheState) (old new : Life) (now : WriterState) (offset : ℕ) → length bytes ≤ 65535 → own bytes < 2 ^ 32
     → AreWholeFrames (content w old.present.readable) → offset ≡ length (content w old.present.readable) → content now new.present.readable ≡ content w old.present.readable ++ frame own bytes → IsSameWriter w now
-    → IsBetweenCalls sum now after new → KeepsStarted sum own w now old new → IsAppended sum own w bytes after old new now offset
+    → IsBetweenCalls sum now after new → StartsStay sum own w now old new → IsAppended sum own w bytes after old new now offset
 appended sum own w bytes after old new now offset short small whole at holds same between starts =
     let before = content w old.present.readable in
     let framed = frame own bytes in
@@ -210,7 +210,7 @@ buffer_refused sum own w now bytes after life e (Err x) is tries =
 
 -- one that it took
 pub buffered : (sum own : List ℕ → ℕ) (w now : WriterState) (bytes : List ℕ) (cache : CacheState) (life : Life) (at : ℕ) (fits : Option ℕ) → length bytes ≤ 65535 → own bytes < 2 ^ 32 → IsJournal sum w cache life
-    → fits ≡ Some at → BuffersOver sum w (frame own bytes) now (Ok fits) → KeepsReads w now → KeepsStarted sum own w now life life → IsAppended sum own w bytes cache life life now at
+    → fits ≡ Some at → BuffersOver sum w (frame own bytes) now (Ok fits) → KeepsReads w now → StartsStay sum own w now life life → IsAppended sum own w bytes cache life life now at
 buffered sum own w now bytes cache life at fits short small journal is buffers keeps starts =
     let ready = ready_of sum w cache life journal in
     let over : BuffersOver sum w (frame own bytes) now (Ok (Some at)) = subst (λ (o : Option ℕ). BuffersOver sum w (frame own bytes) now (Ok o)) is buffers in
@@ -233,7 +233,7 @@ after_append own before bytes short small whole =
 
 -- a commit
 pub committed : (sum own : List ℕ → ℕ) (w : WriterState) (after : CacheState) (old new : Life) (now : WriterState) → IsSound sum w old.present → AreWholeFrames (content w old.present.readable) → IsReady sum now after new → SyncAllGoes sum w old new (Ok now)
-    → KeepsStarted sum own w now old new → IsCommitted sum own w after old new now
+    → StartsStay sum own w now old new → IsCommitted sum own w after old new now
 committed sum own w after old new now sound whole ready goes starts =
     let same : content now new.present.readable ≡ content w old.present.readable = goes.holds.content ∙ append-nil (content w old.present.readable) in
     record {
@@ -268,7 +268,7 @@ brings_back sum own P d image is_image = λ content n commits.
 
 -- an append of a record's frame, by its answer
 pub append_goes : (sum own : List ℕ → ℕ) (w : WriterState) (bytes : List ℕ) (after : CacheState) (old new : Life) (result : Result (WriterState × ℕ) Error) → length bytes ≤ 65535 → own bytes < 2 ^ 32
-    → AreWholeFrames (content w old.present.readable) → AppendGoes sum w (frame own bytes) old new result → IfOk result (λ r. IsReady sum r.0 after new) → IfOk result (λ r. KeepsStarted sum own w r.0 old new) → AppendRecordGoes sum own w bytes after old new result
+    → AreWholeFrames (content w old.present.readable) → AppendGoes sum w (frame own bytes) old new result → IfOk result (λ r. IsReady sum r.0 after new) → IfOk result (λ r. StartsStay sum own w r.0 old new) → AppendRecordGoes sum own w bytes after old new result
 append_goes sum own w bytes after old new (Ok r) short small whole goes ready starts =
     let is = goes.answers in
     appended sum own w bytes after old new r.0 r.1 short small whole is.at_end is.holds.content is.holds.same (held_on sum w old (frame own bytes) r.0 after new is.holds ready) starts
@@ -281,7 +281,7 @@ append_gives sum own w bytes after old new (Err e) is = tt
 
 -- a commit, by its answer
 pub commit_goes : (sum own : List ℕ → ℕ) (w : WriterState) (after : CacheState) (old new : Life) (result : Result WriterState Error) → IsSound sum w old.present → AreWholeFrames (content w old.present.readable)
-    → SyncAllGoes sum w old new result → IfOk result (λ now. IsReady sum now after new) → IfOk result (λ now. KeepsStarted sum own w now old new) → CommitGoes sum own w after old new result
+    → SyncAllGoes sum w old new result → IfOk result (λ now. IsReady sum now after new) → IfOk result (λ now. StartsStay sum own w now old new) → CommitGoes sum own w after old new result
 commit_goes sum own w after old new (Ok now) sound whole goes ready starts = committed sum own w after old new now sound whole ready goes starts
 commit_goes sum own w after old new (Err e) sound whole goes ready starts = not_committed sum own w after old new e goes
 

@@ -36,7 +36,7 @@ use Rattle.std.specs.declared.alloc.Global.{Global}
 use Rattle.journal.specs.Calls.{JournalCallLeaves, JournalCrashGoes, JournalCrashLeaves, RecordReadLeaves, ReaderLeaves, JournalRecoverGoes, JournalRecoveryLeaves}
 use Rattle.journal.specs.declared.frame.Found.{Found}
 use Rattle.journal.specs.Frame.{AreWholeFrames, IsPrefix, listed, records, whole_frames}
-use Rattle.journal.specs.Journal.{BringsRecordsBack, Commits, JournalHasRecovered, RecoversJournal, IsBetweenCalls, IsFound, IsJournal, KeepsStarted, OnlyReads, RecordReadRefused, records_in}
+use Rattle.journal.specs.Journal.{BringsRecordsBack, Commits, JournalHasRecovered, RecoversJournal, IsBetweenCalls, IsFound, IsJournal, StartsStay, OnlyReads, RecordReadRefused, records_in}
 use Rattle.journal.specs.Reader.{ReaderState, AllReadersStay, EachReaderStays, FindsNext, IsNewToReaders, IsNext, IsOpenSnapshot, HasReader, IsReader, JournalsStay, LeavesTheirRecords, OnlyLooks, ViewLeaves, OtherReadersStay, ReadersStay, read_over}
 use Rattle.journal.proofs.Frames.{records-none}
 use Rattle.journal.proofs.Starts.{starts_looked}
@@ -474,7 +474,7 @@ not_some (Some bytes) is = cc
 -- ---- a reader that was made
 
 pub reader_made : (sum own : List ℕ → ℕ) (w : WriterState) (after : CacheState) (old new : Life) (now : WriterState) (t : Tail) → IsSound sum w old.present → AreWholeFrames (content w old.present.readable) → SnapshotGoes sum w after old new (Ok (now, t)) → IsReady sum now after new
-    → KeepsStarted sum own w now old new → HasReader sum own w after old new now (record { tail = t; offset = 0 })
+    → StartsStay sum own w now old new → HasReader sum own w after old new now (record { tail = t; offset = 0 })
 reader_made sum own w after old new now t sound whole goes ready starts =
     let held = content w old.present.readable in
     let holds = goes.holds in

@@ -26,7 +26,7 @@ use Rattle.paged.specs.Owes.{Owes, OwesWaiting, owed_covers, owed_floors}
 use Rattle.paged.specs.Ready.{IsReady}
 use Rattle.paged.specs.Recovery.{IsDurable}
 use Rattle.journal.specs.Frame.{AreWholeFrames, records}
-use Rattle.journal.specs.Journal.{Commits, HasStartedCommit, HasWaitedForCommit, IsJournal, IsStarted, KeepsStarted, PendingCommits, StartCommitGoes, StartedCommits, WaitForCommitGoes, WouldCommit}
+use Rattle.journal.specs.Journal.{Commits, HasStartedCommit, HasWaitedForCommit, IsJournal, IsStarted, StartsStay, PendingCommits, StartCommitGoes, StartedCommits, WaitForCommitGoes, WouldCommit}
 use Rattle.journal.proofs.Journals.{commits_all, commits_longer, front, held_on, is_journal, ready_of, whole_of}
 
 -- committed, or once the sync completed that a writer in this state waits for
@@ -96,7 +96,7 @@ module _ (sum own : List ℕ → ℕ) (P : ℕ) (held : List ℕ) (n : ℕ) (old
 
 -- of a journal, whatever the call
 pub starts_on : (sum own : List ℕ → ℕ) (w now : WriterState) (more : List ℕ) (old new : Life) → content now new.present.readable ≡ content w old.present.readable ++ more → now.page_size ≡ w.page_size
-    → KeepsAllFloors sum w.page_size old new → CoversThrough sum w.page_size (content w old.present.readable) old new → Completed sum w.page_size (content w old.present.readable) w.sync now.sync old new → KeepsStarted sum own w now old new
+    → KeepsAllFloors sum w.page_size old new → CoversThrough sum w.page_size (content w old.present.readable) old new → Completed sum w.page_size (content w old.present.readable) w.sync now.sync old new → StartsStay sum own w now old new
 unfolding IsStarted
 starts_on sum own w now more old new holds size keeps covers done = λ n started.
     let held = content w old.present.readable in
@@ -105,18 +105,18 @@ starts_on sum own w now more old new holds size keeps covers done = λ n started
     (subst (λ (l : List ℕ). Either sum own w.page_size l n now.sync new.present) (sym holds) (either_longer sum own w.page_size held more n now.sync new.present on))
 
 -- one that the writer answered well
-pub starts_held : (sum own : List ℕ → ℕ) (w now : WriterState) (more next : List ℕ) (cache after : CacheState) (old new : Life) → Holds sum w old more now new → Owes sum w next cache after old new → KeepsStarted sum own w now old new
+pub starts_held : (sum own : List ℕ → ℕ) (w now : WriterState) (more next : List ℕ) (cache after : CacheState) (old new : Life) → Holds sum w old more now new → Owes sum w next cache after old new → StartsStay sum own w now old new
 starts_held sum own w now more next cache after old new holds owes =
     let held = content w old.present.readable in
     starts_on sum own w now more old new holds.content holds.same.page_size (owed_floors sum w.page_size w.full_pages held next old new owes.through) (owed_covers sum w.page_size w.full_pages held next old new owes.through) holds.completed
 
 pub append_starts : (sum own : List ℕ → ℕ) (w : WriterState) (bytes next : List ℕ) (cache after : CacheState) (old new : Life) (result : Result (WriterState × ℕ) Error) → AppendGoes sum w bytes old new result → Owes sum w next cache after old new
-    → IfOk result (λ r. KeepsStarted sum own w r.0 old new)
+    → IfOk result (λ r. StartsStay sum own w r.0 old new)
 append_starts sum own w bytes next cache after old new (Ok r) goes owes = starts_held sum own w r.0 bytes next cache after old new goes.answers.holds owes
 append_starts sum own w bytes next cache after old new (Err e) goes owes = tt
 
 pub commit_starts : (sum own : List ℕ → ℕ) (w : WriterState) (next : List ℕ) (cache after : CacheState) (old new : Life) (result : Result WriterState Error) → SyncAllGoes sum w old new result → Owes sum w next cache after old new
-    → IfOk result (λ now. KeepsStarted sum own w now old new)
+    → IfOk result (λ now. StartsStay sum own w now old new)
 commit_starts sum own w next cache after old new (Ok now) goes owes = starts_held sum own w now [] next cache after old new goes.holds owes
 commit_starts sum own w next cache after old new (Err e) goes owes = tt
 
@@ -126,7 +126,7 @@ unwaited sum P held Clean t life same = tt
 unwaited sum P held Dirty t life same = tt
 unwaited sum P held (Pending name) t life same = λ apart. absurd (apart same)
 
-starts_buffered : (sum own : List ℕ → ℕ) (w now : WriterState) (more : List ℕ) (life : Life) → content now life.present.readable ≡ content w life.present.readable ++ more → now.page_size ≡ w.page_size → now.sync ≡ w.sync → KeepsStarted sum own w now life life
+starts_buffered : (sum own : List ℕ → ℕ) (w now : WriterState) (more : List ℕ) (life : Life) → content now life.present.readable ≡ content w life.present.readable ++ more → now.page_size ≡ w.page_size → now.sync ≡ w.sync → StartsStay sum own w now life life
 starts_buffered sum own w now more life holds size same =
     let held = content w life.present.readable in
     starts_on sum own w now more life life holds size (λ other floor within kept. through_start (AllKeep sum w.page_size other floor) life kept)
@@ -134,7 +134,7 @@ starts_buffered sum own w now more life holds size same =
 
 -- bytes that the buffer took
 pub buffered_starts : (sum own : List ℕ → ℕ) (w now : WriterState) (bytes : List ℕ) (cache : CacheState) (life : Life) (at : ℕ) (fits : Option ℕ) → IsJournal sum w cache life → fits ≡ Some at → TryAppendGoes w bytes now (Ok fits) → BuffersOver sum w bytes now (Ok fits)
-    → KeepsStarted sum own w now life life
+    → StartsStay sum own w now life life
 buffered_starts sum own w now bytes cache life at fits journal is tries buffers =
     let tried : TryAppendGoes w bytes now (Ok (Some at)) = subst (λ (o : Option ℕ). TryAppendGoes w bytes now (Ok o)) is tries in
     let over : BuffersOver sum w bytes now (Ok (Some at)) = subst (λ (o : Option ℕ). BuffersOver sum w bytes now (Ok o)) is buffers in
@@ -142,7 +142,7 @@ buffered_starts sum own w now bytes cache life at fits journal is tries buffers 
     starts_buffered sum own w now bytes life goes.content goes.same.page_size (ap (λ (v : WriterState). v.sync) tried.3)
 
 -- one that only looked
-pub starts_looked : (sum own : List ℕ → ℕ) (w : WriterState) (old new : Life) → Looked old new → KeepsStarted sum own w w old new
+pub starts_looked : (sum own : List ℕ → ℕ) (w : WriterState) (old new : Life) → Looked old new → StartsStay sum own w w old new
 unfolding IsStarted
 starts_looked sum own w old new looked = λ n started.
     let held = content w old.present.readable in

@@ -142,8 +142,8 @@ IsStarted sum own w n life =
     ⊎ PendingCommits sum own w.page_size held n w.sync life.present
 
 -- each commit that was started as a call began still is
-abbrev pub KeepsStarted : (sum own : List ℕ → ℕ) → (w now : WriterState) → Life → Life → Type 0
-KeepsStarted sum own w now old new =
+abbrev pub StartsStay : (sum own : List ℕ → ℕ) → (w now : WriterState) → Life → Life → Type 0
+StartsStay sum own w now old new =
     (n : ℕ) → IsStarted sum own w n old → IsStarted sum own now n new
 
 -- what was committed as a call began is committed at each moment since
@@ -175,7 +175,7 @@ pub record IsAppended (sum own : List ℕ → ℕ) (w : WriterState) (bytes : Li
   pub commits : (n : ℕ) (d : Disk)
       → Commits sum own w.page_size (content w old.present.readable) n d
       → Commits sum own now.page_size (content now new.present.readable) n d
-  pub starts : KeepsStarted sum own w now old new
+  pub starts : StartsStay sum own w now old new
 
 abbrev pub AppendRecordGoes : (sum own : List ℕ → ℕ) → WriterState → List ℕ → CacheState → Life
     → Life → Result (WriterState × ℕ) Error → Type 0
@@ -195,7 +195,7 @@ pub record IsCommitted (sum own : List ℕ → ℕ) (w : WriterState) (after : C
   pub all : CommitsAll sum own now.page_size (content now new.present.readable) new.present
   -- and so is all that is readable of the blob: it may be copied, or its digest kept
   pub durable : IsDurable new.present
-  pub starts : KeepsStarted sum own w now old new
+  pub starts : StartsStay sum own w now old new
 
 abbrev pub CommitGoes : (sum own : List ℕ → ℕ) → WriterState → CacheState → Life → Life
     → Result WriterState Error → Type 0
@@ -211,7 +211,7 @@ pub record HasStartedCommit (sum own : List ℕ → ℕ) (w : WriterState) (afte
   pub same : IsSameWriter w now
   pub sync : now.sync ≡ started_state started
   pub all : IsStarted sum own now (length (records_in own w old)) new
-  pub starts : KeepsStarted sum own w now old new
+  pub starts : StartsStay sum own w now old new
   -- so whoever waits for it by its name commits them
   pub named : StartedCommits sum own now.page_size (content now new.present.readable)
       (length (records_in own w old)) started new.present

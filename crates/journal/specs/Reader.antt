@@ -14,7 +14,7 @@ use Rattle.paged_read.specs.Tail.{Tail, logical_bytes, tail_size}
 use Rattle.paged.specs.Calls.{CallCause, IsSameWriter}
 use Rattle.journal.specs.declared.frame.Found.{Found}
 use Rattle.journal.specs.Frame.{listed, records}
-use Rattle.journal.specs.Journal.{IsJournal, KeepsStarted, LeavesItsRecords, RecordReadRefused}
+use Rattle.journal.specs.Journal.{IsJournal, StartsStay, LeavesItsRecords, RecordReadRefused}
 
 -- a snapshot of a journal's blob, and the offset of the frame that is read next
 pub record ReaderState : Type 0 where
@@ -147,7 +147,7 @@ LeavesTheirRecords sum own cache old new =
 
 -- for each journal of the blob: each commit that was started still is
 abbrev pub KeepsTheirStarts : (sum own : List ℕ → ℕ) → Life → Life → Type 0
-KeepsTheirStarts sum own old new = (w : WriterState) → KeepsStarted sum own w w old new
+KeepsTheirStarts sum own old new = (w : WriterState) → StartsStay sum own w w old new
 
 -- a reader of all records of a journal was made: its pages lie below the journal's tip
 pub record HasReader (sum own : List ℕ → ℕ) (w : WriterState) (after : CacheState)
@@ -160,7 +160,7 @@ pub record HasReader (sum own : List ℕ → ℕ) (w : WriterState) (after : Cac
   pub below : r.tail.full_pages ≤ now.full_pages
   pub over : read_over r new ≡ content w old.present.readable
   pub all : left own r new ≡ records own (content w old.present.readable)
-  pub starts : KeepsStarted sum own w now old new
+  pub starts : StartsStay sum own w now old new
 
 abbrev pub ReaderGoes : (sum own : List ℕ → ℕ) → WriterState → CacheState → Life → Life
     → Result (WriterState × ReaderState) Error → Type 0

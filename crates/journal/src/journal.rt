@@ -21,7 +21,7 @@ ghost use Rattle.paged.specs.Caches.{KeepsReads};
 ghost use Rattle.paged_read.specs.Snapshots.{LeavesOthers};
 ghost use Rattle.journal.specs.Journal.{AppendRecordGoes, CommitGoes, ReadRecordGoes, Trims};
 ghost use Rattle.journal.specs.Journal.{IsBetweenCalls, IsJournal, OnlyReads, records_in};
-ghost use Rattle.journal.specs.Journal.{KeepsStarted, StartCommitGoes, WaitForCommitGoes};
+ghost use Rattle.journal.specs.Journal.{StartsStay, StartCommitGoes, WaitForCommitGoes};
 ghost use Rattle.journal.specs.Reader.{IsReader, ReaderGoes};
 ghost use Rattle.journal.specs.Calls.{JournalCallLeaves, JournalRecoverGoes, JournalRecoveryLeaves};
 ghost use Rattle.journal.specs.Calls.{RecordReadLeaves};
@@ -433,7 +433,7 @@ impl<B: Blob, H: Sum, R: Sum> Journal<B, H, R> {
 
         // Each commit that was started still is.
         ensures starts { let old = B.life blob.old in let new = B.life blob.new in
-            KeepsStarted H.sum_of R.sum_of self.now self.now old new }
+            StartsStay H.sum_of R.sum_of self.now self.now old new }
         ensures costs { let old = B.life blob.old in let new = B.life blob.new in
             let held = content self.now old.present.readable in
             FrameCosts (tail_of self.now) held offset cache.old cache.new old new }

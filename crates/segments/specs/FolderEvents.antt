@@ -10,8 +10,8 @@ pub record FolderEvent : Type 0 where
   pub given : List ℕ
 
 -- a call that gives no bytes, with this outcome
-abbrev pub folder_event : FolderCall → Bool → FolderEvent
-folder_event call failed = record { call = call; failed = failed; given = [] }
+abbrev pub plain_event : FolderCall → Bool → FolderEvent
+plain_event call failed = record { call = call; failed = failed; given = [] }
 
 -- an opening of a file that gave these bytes
 abbrev pub opening_with : FolderCall → List ℕ → FolderEvent
@@ -19,10 +19,10 @@ opening_with call given = record { call = call; failed = false; given = given }
 
 -- a call with the outcome that it answered
 abbrev pub folder_outcome : {T E : Type 0} → FolderCall → Result T E → FolderEvent
-folder_outcome call (Ok _) = folder_event call false
-folder_outcome call (Err _) = folder_event call true
+folder_outcome call (Ok _) = plain_event call false
+folder_outcome call (Err _) = plain_event call true
 
 -- an opening with its answer
 abbrev pub opening_outcome : {B E : Type 0} → (B → Life) → FolderCall → Result B E → FolderEvent
 opening_outcome life call (Ok blob) = opening_with call (life blob).present.readable
-opening_outcome life call (Err _) = folder_event call true
+opening_outcome life call (Err _) = plain_event call true

@@ -3,11 +3,11 @@ use Rattle.std.specs.Prelude.{List, [], ◌∷◌, ◌++◌}
 use Rattle.disk.specs.Disk.{Life}
 use Rattle.segments.specs.declared.past.Last.{Last}
 use Rattle.segments.specs.declared.past.Last.TheVariants.{Nothing, After, Opened}
-use Rattle.segments.specs.FolderEvents.{FolderEvent, folder_event, opening_with}
+use Rattle.segments.specs.FolderEvents.{FolderEvent, plain_event, opening_with}
 
 -- a ghost past as a list of calls, the oldest first
 abbrev pub events_of : {B : Type 0} → (B → Life) → Last B → List FolderEvent
 events_of life Nothing = []
-events_of life (After before call failed) = before.value.value ++ folder_event call failed ∷ []
+events_of life (After before call failed) = before.value.value ++ plain_event call failed ∷ []
 events_of life (Opened before call blob) =
     before.value.value ++ opening_with call (life blob.value).present.readable ∷ []

@@ -18,10 +18,11 @@ use Rattle.segments.specs.declared.error.Error.{Error}
 use Rattle.segments.specs.declared.place.Place.{Place}
 use Rattle.segments.specs.declared.error.Error.TheVariants as errors
 use Rattle.segments.specs.Digests.{Collide, IsOf, SameKept}
-use Rattle.segments.specs.FolderEvents.{FolderEvent, folder_event, opening_with}
+use Rattle.segments.specs.FolderEvents.{FolderEvent, plain_event, opening_with}
 use Rattle.segments.specs.Manifest.{ListingState, closed_at, entry_bytes, entry_in, listed_in}
 use Rattle.segments.specs.Manifest.{listed_with, open_in}
-use Rattle.segments.specs.Owned.{content_now, HasJournal, IsOwned, IsShut, KeepsRecords, OwnedAppendGoes}
+use Rattle.segments.specs.Owned.{HasJournal, IsOwned, IsShut, KeepsRecords, OwnedAppendGoes}
+use Rattle.segments.specs.Owned.{content_now}
 use Rattle.segments.specs.Owned.{OwnedCloseGoes}
 use Rattle.segments.specs.Owned.{OwnedReadLeaves, OwnedState}
 use Rattle.segments.specs.Owned.{owned_size, records_now}
@@ -164,14 +165,14 @@ pub record HasOpened (sum own : List ℕ → ℕ) (P : ℕ) (old : Life) (o : Ow
 
 -- the folder refused to open a segment, or to make its name durable
 abbrev pub AsksInVain : ℕ → List FolderEvent → List FolderEvent → Type 0
-AsksInVain number old new = (new ≡ old ++ folder_event (calls.Opens number) true ∷ [])
+AsksInVain number old new = (new ≡ old ++ plain_event (calls.Opens number) true ∷ [])
     ⊎ ((given : List ℕ) × (new ≡ old ++ opening_with (calls.Opens number) given
-    ∷ folder_event calls.Syncs true ∷ []))
+    ∷ plain_event calls.Syncs true ∷ []))
 
 -- what a folder was asked for by the opening of a segment that gave these bytes
 abbrev pub events_for : ℕ → (given : List ℕ) → List FolderEvent
 events_for number given =
-    opening_with (calls.Opens number) given ∷ folder_event calls.Syncs false ∷ []
+    opening_with (calls.Opens number) given ∷ plain_event calls.Syncs false ∷ []
 
 -- and by its answer
 abbrev pub AsksForSegment : {B : Type 0} → (B → Life) → ℕ → List FolderEvent → List FolderEvent
@@ -191,8 +192,8 @@ pub record HasNext (sum own : List ℕ → ℕ) (s t : LogState) (next : OwnedSt
   pub leaves : OnlyRecords sum own s.page_size [] next.life.present
   pub asked : t.asked ≡ s.asked ++ events_for (open_in s.listing + 1) []
 
--- an opening of the next segment is refused: the folder refused it, or its file has bytes, or it can
--- have no number; or the device or memory failed
+-- an opening of the next segment is refused: the folder refused it, or its file has bytes, or it
+-- can have no number; or the device or memory failed
 abbrev pub NextRefused : LogState → LogState → Error → Type 0
 NextRefused s t (errors.Layer e) = Unit {0}
 NextRefused s t (errors.System e) = AsksInVain (open_in s.listing + 1) s.asked t.asked
@@ -332,9 +333,9 @@ IsContentOf sum s segment held =
 abbrev pub IsListed : LogState → ℕ → Type 0
 IsListed s segment = (kept : Closed) × (closed_at s.listing segment ≡ Some kept)
 
--- a read of a segment is refused: there is none of this number; or it is closed, and its file doesn't
--- hold what it held, or the folder refuses the file; or it is the open one, and a call before failed;
--- or the device or memory failed
+-- a read of a segment is refused: there is none of this number; or it is closed, and its file
+-- doesn't hold what it held, or the folder refuses the file; or it is the open one, and a call
+-- before failed; or the device or memory failed
 abbrev pub LogReadRefused : LogState → ℕ → Error → Type 0
 LogReadRefused s segment (errors.NoSegment n) =
     (n ≡ segment) × (segment ≢ open_in s.listing) × (closed_at s.listing segment ≡ None)
@@ -419,7 +420,7 @@ pub record AsksOfOlder (first : ℕ) (old new : List FolderEvent) : Type 0 where
 -- the last thing that it was asked for was a sync, which was done
 abbrev pub EndsSynced : List FolderEvent → Type 0
 EndsSynced events = (before : List FolderEvent)
-    × (events ≡ before ++ folder_event calls.Syncs false ∷ [])
+    × (events ≡ before ++ plain_event calls.Syncs false ∷ [])
 
 -- the listing without the segments before one
 abbrev pub listing_from : ℕ → ListingState → ListingState

@@ -1,5 +1,6 @@
 -- Going over the records of a log: those from a place on.
-use Rattle.std.specs.Prelude.{◌≡◌, ◌⊎◌, ◌≤◌, ◌<◌, ◌+◌, ◌-◌, ◌*◌, ◌++◌, ℕ, suc, List, [], ◌∷◌, drop, nat_lt}
+use Rattle.std.specs.Prelude.{◌≡◌, ◌⊎◌, ◌≤◌, ◌<◌, ◌+◌, ◌-◌, ◌*◌, ◌++◌, ℕ, suc, List, [], ◌∷◌}
+use Rattle.std.specs.Prelude.{drop, nat_lt}
 use Rattle.std.specs.Prelude.{Option, Some, None, Result, Ok, Err, if◌then◌else◌}
 use Rattle.page.specs.Page.{text}
 use Rattle.journal.specs.Frame.{records, whole_frames}
@@ -83,8 +84,8 @@ pub record IsBehind (s : LogState) (from to : Place) : Type 0 where
   pub segment : from.segment ≤ to.segment
   pub nearer : far_from s to < far_from s from
 
--- one frame further, by what is found: a record, and the place behind it; or no record, and where to
--- go on; or the end
+-- one frame further, by what is found: a record, and the place behind it; or no record, and where
+-- to go on; or the end
 abbrev pub StepGoes : (sum own : List ℕ → ℕ) → LogState → Place → Result Step Error → Type 0
 StepGoes sum own s at (Ok (Record bytes behind)) = StandBetween sum own s (bytes ∷ []) at behind
 StepGoes sum own s at (Ok (Passed to)) = StandBetween sum own s [] at to × IsBehind s at to

@@ -2,7 +2,7 @@
 ghost use Rattle.std.specs.Prelude.{◌≡◌, [], ◌∷◌, ◌++◌, IfOk};
 ghost use Rattle.disk.specs.History.{life_of};
 ghost use Rattle.paged.specs.Recovery.{IsDurable};
-ghost use Rattle.segments.specs.FolderEvents.{folder_event, opening_outcome};
+ghost use Rattle.segments.specs.FolderEvents.{plain_event, opening_outcome};
 ghost use Rattle.segments.specs.Folders.{call_for};
 
 use crate::call::FolderCall;
@@ -52,7 +52,7 @@ impl FolderCopy {
 
     // A call more was made.
     fn note(&mut self, call: FolderCall, failed: bool)
-        ensures { self.new ≡ self.old ++ folder_event call failed ∷ [] }
+        ensures { self.new ≡ self.old ++ plain_event call failed ∷ [] }
     {
         self.past = FolderPast::after(&self.past, call, failed);
     }

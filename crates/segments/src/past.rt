@@ -1,6 +1,6 @@
 // What a folder was asked for, as ghost data: nothing of it is left at run time.
 ghost use Rattle.std.specs.Prelude.{◌≡◌, [], ◌∷◌, ◌++◌};
-ghost use Rattle.segments.specs.FolderEvents.{folder_event, opening_with};
+ghost use Rattle.segments.specs.FolderEvents.{plain_event, opening_with};
 
 use crate::call::FolderCall;
 use disk::Blob;
@@ -55,7 +55,7 @@ impl<B: Blob> FolderPast<B> {
 
     /// A call more.
     pub fn after(before: &Snapshot<Self>, call: FolderCall, failed: bool) -> Snapshot<Self>
-        ensures { result.value ≡ before.now.value ++ folder_event call failed ∷ [] }
+        ensures { result.value ≡ before.now.value ++ plain_event call failed ∷ [] }
     {
         let past = FolderPast {
             last: Last::After(Snapshot::of(before), call, failed),
