@@ -19,3 +19,4 @@ pub mod Stepping
 pub mod Joining
 pub mod Loading
 pub mod Refusing
+pub mod DropSurvival

@@ -42,7 +42,7 @@ next_of sum own s now t old next answered view numbered begun leaves durable few
   asked = asked;
 })
 
-only_some : (b : Bool) (l m : ListingState) → (if b then None else Some l) ≡ Some m → m ≡ l
+pub only_some : (b : Bool) (l m : ListingState) → (if b then None else Some l) ≡ Some m → m ≡ l
 only_some true l m is = absurd (none_is m is) where
   none_is : (m : ListingState) → None ≡ Some m → ⊥
   none_is m is = subst (λ (o : Option ListingState). IfSome o (λ l. ⊥)) is tt

@@ -43,7 +43,7 @@ pub durable_image : (d : Disk) (image : List ℕ) → IsDurable d → IsImage d 
 durable_image d image durable is_image = only_image d image durable.since is_image ∙ durable.base
 
 -- what is left of a log whose manifest is durable
-left_of : (sum own : List ℕ → ℕ) (held file : ℕ → List ℕ) (s : LogState) (m : WriterState) → s.manifest.page_size ≡ s.page_size → IsOwnedJournal sum own s.manifest m
+pub left_of : (sum own : List ℕ → ℕ) (held file : ℕ → List ℕ) (s : LogState) (m : WriterState) → s.manifest.page_size ≡ s.page_size → IsOwnedJournal sum own s.manifest m
     → Lists sum own s.page_size s.listing m s.manifest.life → (bytes : List ℕ) → IsImage s.manifest.life.present bytes
     → records_left sum own s.page_size held file bytes
     ≡ Some (closed_records sum own s.page_size held s.listing.first s.listing.closed ++ records own (text sum s.page_size (file (open_in s.listing))))

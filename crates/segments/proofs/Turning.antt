@@ -29,7 +29,7 @@ no_more [] few = refl
 no_more (r ∷ rest) few = absurd (omega (arith, few))
 
 -- a prefix of a list and one more, no shorter than the list: it, or all
-two_cases : (rs : List (List ℕ)) (x : List ℕ) (back : List (List ℕ)) → length rs ≤ length back → (rest : List (List ℕ)) → rs ++ x ∷ [] ≡ back ++ rest
+pub two_cases : (rs : List (List ℕ)) (x : List ℕ) (back : List (List ℕ)) → length rs ≤ length back → (rest : List (List ℕ)) → rs ++ x ∷ [] ≡ back ++ rest
     → (back ≡ rs) ⊎ (back ≡ rs ++ x ∷ [])
 two_cases rs x back long [] is = inr (sym (is ∙ append-nil back))
 two_cases rs x back long (r ∷ rest) is =

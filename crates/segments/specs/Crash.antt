@@ -14,7 +14,8 @@ use Rattle.segments.specs.Digests.{IsOf}
 use Rattle.segments.specs.FolderEvents.{FolderEvent, opening_with}
 use Rattle.segments.specs.Manifest.{ListingState, listed_in, open_in}
 use Rattle.segments.specs.Owned.{HasJournal, content_now, records_now}
-use Rattle.segments.specs.Log.{HasCollision, LogState, closed_records, events_for, log_records}
+use Rattle.segments.specs.Log.{HasCollision, LogState, closed_records, events_for, listing_from}
+use Rattle.segments.specs.Log.{log_records}
 
 -- the records of a log whose manifest lists this, and whose files hold these bytes; each closed
 -- segment held what `held` tells
@@ -118,6 +119,23 @@ abbrev pub AppendSurvives : (sum own : List ℕ → ℕ) → List ℕ → LogSta
 AppendSurvives sum own bytes s t = CurrentSurvives sum own (bytes ∷ []) s t
     ⊎ RotationSurvives sum own s t
     ⊎ ((m : LogState) × RotationSurvives sum own s m × CurrentSurvives sum own (bytes ∷ []) m t)
+
+-- ---- dropping
+
+-- as the manifest is told that a segment is the first one: whatever a crash leaves of its disk,
+-- chance aside, the log has the segments that it had, or those from this one on
+abbrev pub LogDropped : (sum own : List ℕ → ℕ) → ℕ → ListingState → (segment : ℕ) → Disk → Type 0
+LogDropped sum own P l segment m =
+    (manifest : List ℕ) → IsImage m manifest → IsChanceFree sum P m manifest
+    → (held file : ℕ → List ℕ)
+    → (records_left sum own P held file manifest ≡ records_by sum own P held file (Some l))
+    ⊎ (records_left sum own P held file manifest
+    ≡ records_by sum own P held file (Some (listing_from segment l)))
+
+-- a drop, at each moment, whatever it answers
+abbrev pub DropSurvives : (sum own : List ℕ → ℕ) → (segment : ℕ) → LogState → LogState → Type 0
+DropSurvives sum own segment s t = IfSome s.manifest.journal (λ m.
+    Through (LogDropped sum own s.page_size s.listing segment) s.manifest.life t.manifest.life)
 
 -- ---- opening
 

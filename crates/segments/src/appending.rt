@@ -68,8 +68,8 @@ impl<F: Folder<B> + Drop, B: Blob + Drop, H: Sum, R: Sum> SegmentedLog<F, B, H, 
         self.current.commit()
     }
 
-    /// Starts a commit of all records that were appended, and waits for none: others may be appended
-    /// and read meanwhile. They are committed once a wait answered `Ok`, by
+    /// Starts a commit of all records that were appended, and waits for none: others may be
+    /// appended and read meanwhile. They are committed once a wait answered `Ok`, by
     /// [`wait_for_commit`](SegmentedLog::wait_for_commit), and also once a rotation did.
     #[tactic(auto, using(crate::proofs::Surviving::survives_same))]
     pub fn start_commit(&mut self) -> Result<StartedSync, Error>

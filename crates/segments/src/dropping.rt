@@ -1,6 +1,9 @@
 // Dropping the oldest segments.
 ghost use Rattle.std.specs.Prelude.{◌≡◌, IfOk};
 ghost use Rattle.segments.specs.Log.{AsksOfOlder, EndsSynced, IsLog, LogDropGoes, StartFromGoes};
+ghost use Rattle.segments.specs.Log.{Tries};
+ghost use Rattle.segments.specs.Crash.{DropSurvives};
+ghost use Rattle.segments.specs.declared.entry.Entry.TheVariants.{Starts};
 
 use crate::entry::Entry;
 use crate::error::Error;
@@ -18,10 +21,12 @@ impl<F: Folder<B> + Drop, B: Blob + Drop, H: Sum, R: Sum> SegmentedLog<F, B, H, 
     /// `NoSegment` where there is no such segment yet: the open one is never dropped. Nothing is
     /// done then. After any other error the open segment is as it was; open the log again to drop
     /// segments or to rotate.
+    #[tactic(auto, using(crate::proofs::DropSurvival::drop_still, crate::proofs::DropSurvival::drop_tries))]
     pub fn drop_before(&mut self, segment: u64) -> Result<(), Error>
         requires log { IsLog H.sum_of R.sum_of self.old }
         ensures goes { LogDropGoes segment self.old self.new result }
         ensures ready { IsLog H.sum_of R.sum_of self.new }
+        ensures drops { DropSurvives H.sum_of R.sum_of segment self.old self.new }
     {
         if self.listing.open() < segment {
             return Err(Error::NoSegment(segment));
@@ -41,6 +46,8 @@ impl<F: Folder<B> + Drop, B: Blob + Drop, H: Sum, R: Sum> SegmentedLog<F, B, H, 
         requires log { IsLog H.sum_of R.sum_of self.old }
         ensures goes { StartFromGoes segment self.old self.new result }
         ensures ready { IsLog H.sum_of R.sum_of self.new }
+        ensures tries { let entry = Starts segment self.old.page_size in
+            Tries H.sum_of R.sum_of entry self.old self.new }
     {
         let entry = Entry::Starts(segment, self.options.page_size.get());
         match self.enter(&entry) {

@@ -35,13 +35,13 @@ impl<F: Folder<B> + Drop, B: Blob + Drop, H: Sum, R: Sum> SegmentedLog<F, B, H, 
     }
 
     /// The next record from a place on, and where it stands; `None` after the last. The place goes
-    /// on behind the record. At the end of a closed segment the next one follows; a frame that is no
-    /// record is passed over. At the end of the log the place stays where the next append puts its
-    /// record, unless that rotates; so whoever comes back later reads on from there.
+    /// on behind the record. At the end of a closed segment the next one follows; a frame that is
+    /// no record is passed over. At the end of the log the place stays where the next append puts
+    /// its record, unless that rotates; so whoever comes back later reads on from there.
     ///
     /// A place is one that an append or this call answered, or [`start`](SegmentedLog::start). The
-    /// errors are those of [`read`](SegmentedLog::read); each leaves the place where it was, so that
-    /// the call can be made again.
+    /// errors are those of [`read`](SegmentedLog::read); each leaves the place where it was, so
+    /// that the call can be made again.
     pub fn next(&mut self, place: &mut Place) -> Result<Option<(Place, IoBuf)>, Error>
         requires log { IsLog H.sum_of R.sum_of self.old }
         ensures goes { NextGoes H.sum_of R.sum_of self.old place.old place.new result }

@@ -5,9 +5,9 @@ ghost use Rattle.crc32c.specs.Crc.{crc32c};
 ghost use Rattle.segments.specs.Log.{IsLog};
 
 use crc32c::Crc32c;
-use disk::IoBuf;
+use disk::{Blob, IoBuf, VecBlob};
 use file::FileBlob;
-use segments::{Error, FileFolder, Options, Place, SegmentedLog};
+use segments::{Error, FileFolder, Folder, FolderCopy, Options, Place, SegmentedLog};
 use std::fs::OpenOptions;
 use std::num::{NonZeroU16, NonZeroUsize};
 use std::os::unix::fs::FileExt;
@@ -40,7 +40,9 @@ fn are_placed(log: &mut Log) -> Result<bool, Error>
     ensures { IsLog crc32c crc32c log.new }
 {
     let first = log.append(b"the first of records")?;
+    log.start_commit()?;
     let second = log.append(b"the second of records")?;
+    log.wait_for_commit()?;
     let third = log.append(b"the third of records")?;
     log.commit()?;
     Ok([first, second, third] == PLACES)
@@ -107,6 +109,79 @@ fn come_back(log: &mut Log) -> Result<bool, Error>
     )
 }
 
+// Whether the next record stands at a place, and has these bytes.
+fn comes_next<F: Folder<B> + Drop, B: Blob + Drop>(
+    log: &mut SegmentedLog<F, B, Crc32c, Crc32c>,
+    place: &mut Place,
+    at: Place,
+    bytes: &[u8],
+) -> Result<bool, Error>
+    requires { IsLog crc32c crc32c log.old }
+    ensures { IsLog crc32c crc32c log.new }
+{
+    match log.next(place) {
+        Ok(Some((stands, record))) => Ok(stands == at && record.as_ref() == bytes),
+        Ok(None) => Ok(false),
+        Err(error) => Err(error),
+    }
+}
+
+// Whether no record comes next.
+fn ends<F: Folder<B> + Drop, B: Blob + Drop>(
+    log: &mut SegmentedLog<F, B, Crc32c, Crc32c>,
+    place: &mut Place,
+) -> Result<bool, Error>
+    requires { IsLog crc32c crc32c log.old }
+    ensures { IsLog crc32c crc32c log.new }
+{
+    match log.next(place) {
+        Ok(found) => Ok(found.is_none()),
+        Err(error) => Err(error),
+    }
+}
+
+// Whether the three records come one after the other, and no other does.
+fn goes_over<F: Folder<B> + Drop, B: Blob + Drop>(
+    log: &mut SegmentedLog<F, B, Crc32c, Crc32c>,
+) -> Result<bool, Error>
+    requires { IsLog crc32c crc32c log.old }
+{
+    let [first, second, third] = PLACES;
+    let mut place = log.start();
+    let is_all = log.len() == Some(3);
+    Ok(is_all
+        && comes_next(log, &mut place, first, b"the first of records")?
+        && comes_next(log, &mut place, second, b"the second of records")?
+        && comes_next(log, &mut place, third, b"the third of records")?
+        && ends(log, &mut place)?)
+}
+
+// Whether a copy of the folder has the three records.
+fn is_copied(rt: &HostRuntime, path: &str) -> io::Result<bool> {
+    let folder = FolderCopy::new(rt, path)?;
+    match SegmentedLog::<FolderCopy, VecBlob, Crc32c, Crc32c>::open(rt.alloc(), folder, options(84))
+    {
+        Ok(log) => Ok(is_gone_over(log)),
+        Err(_) => Ok(false),
+    }
+}
+
+fn is_gone_over(log: SegmentedLog<FolderCopy, VecBlob, Crc32c, Crc32c>) -> bool
+    requires { IsLog crc32c crc32c log }
+{
+    let mut log = log;
+    is_over(&mut log)
+}
+
+fn is_over(log: &mut SegmentedLog<FolderCopy, VecBlob, Crc32c, Crc32c>) -> bool
+    requires { IsLog crc32c crc32c log.old }
+{
+    match goes_over(log) {
+        Ok(is) => is,
+        Err(_) => false,
+    }
+}
+
 // Changes a bit of a file.
 fn change(rt: &HostRuntime, path: &str) -> io::Result<()> {
     let file = OpenOptions::new().read(true).write(true).open(rt, path)?;
@@ -118,12 +193,76 @@ fn change(rt: &HostRuntime, path: &str) -> io::Result<()> {
 const DAMAGED: &str =
     "segment 0 doesn't hold what it held when it was closed: bring it back from a copy";
 
-// Whether the first segment is refused, and the next one is read.
-fn is_one_refused(rt: &HostRuntime, log: &mut Log) -> Result<bool, Error>
+const GONE: &str = "No such file or directory (os error 2)";
+
+// Whether the first segment is refused in these words, and the next one is read.
+fn is_one_refused(rt: &HostRuntime, log: &mut Log, words: &str) -> Result<bool, Error>
     requires { IsLog crc32c crc32c log.old }
 {
     let [first, _, third] = PLACES;
-    Ok(is_refused(rt, log, first, DAMAGED)? && holds(log, third, b"the third of records")?)
+    Ok(is_refused(rt, log, first, words)? && holds(log, third, b"the third of records")?)
+}
+
+// What is done to the file of a closed segment.
+#[derive(Clone, Copy)]
+enum Harm {
+    Changed,
+    Cut,
+    Grown,
+    Exchanged,
+    Removed,
+}
+
+const HARMS: [Harm; 5] = [
+    Harm::Changed,
+    Harm::Cut,
+    Harm::Grown,
+    Harm::Exchanged,
+    Harm::Removed,
+];
+
+fn harm(rt: &HostRuntime, harm: Harm) -> io::Result<()> {
+    let [old, last] = SEGMENTS;
+    let kept = fs::read(rt, old)?;
+    match harm {
+        Harm::Changed => change(rt, old),
+        Harm::Cut => {
+            let cut = kept.get(1..).unwrap_or_default();
+            fs::write(rt, old, cut)
+        }
+        Harm::Grown => OpenOptions::new()
+            .write(true)
+            .open(rt, old)?
+            .write_all_at(b"x".as_slice(), kept.len() as u64),
+        Harm::Exchanged => {
+            fs::copy(rt, last, old)?;
+            Ok(())
+        }
+        Harm::Removed => fs::remove_file(rt, old),
+    }
+}
+
+// Whether the first segment is refused once this was done to it; it is brought back.
+fn is_harm_told(rt: &HostRuntime, path: &str, how: Harm) -> io::Result<bool> {
+    let [old, _] = SEGMENTS;
+    let kept = fs::read(rt, old)?;
+    harm(rt, how)?;
+    let words = match how {
+        Harm::Removed => GONE,
+        _ => DAMAGED,
+    };
+    let is_told = is_so(rt, path, What::IsOneRefused(words));
+    fs::write(rt, old, kept.as_slice())?;
+    Ok(is_told && is_so(rt, path, What::ComesBack))
+}
+
+fn is_each_harm_told(rt: &HostRuntime, path: &str) -> io::Result<bool> {
+    for how in HARMS {
+        if !is_harm_told(rt, path, how)? {
+            return Ok(false);
+        }
+    }
+    Ok(true)
 }
 
 // Whether the first segment is gone once it was dropped.
@@ -143,7 +282,8 @@ fn is_one_dropped(rt: &HostRuntime, log: &mut Log) -> Result<bool, Error>
 enum What {
     IsWritten,
     ComesBack,
-    IsOneRefused,
+    IsGoneOver,
+    IsOneRefused(&'static str),
     IsOneDropped,
 }
 
@@ -153,7 +293,8 @@ fn ask(rt: &HostRuntime, log: &mut Log, what: What) -> Result<bool, Error>
     match what {
         What::IsWritten => are_placed(log),
         What::ComesBack => come_back(log),
-        What::IsOneRefused => is_one_refused(rt, log),
+        What::IsGoneOver => goes_over(log),
+        What::IsOneRefused(words) => is_one_refused(rt, log, words),
         What::IsOneDropped => is_one_dropped(rt, log),
     }
 }
@@ -205,9 +346,11 @@ const UNLISTED: &str =
 // Whether a log comes back, a changed segment is refused, and a dropped one is gone.
 fn goes_through(rt: &HostRuntime, path: &str) -> io::Result<bool> {
     let [old, _] = SEGMENTS;
-    let is_kept = is_so(rt, path, What::IsWritten) && is_so(rt, path, What::ComesBack);
-    change(rt, old)?;
-    let is_told = is_so(rt, path, What::IsOneRefused) && is_so(rt, path, What::IsOneDropped);
+    let is_kept = is_so(rt, path, What::IsWritten)
+        && is_so(rt, path, What::ComesBack)
+        && is_so(rt, path, What::IsGoneOver)
+        && is_copied(rt, path)?;
+    let is_told = is_each_harm_told(rt, path)? && is_so(rt, path, What::IsOneDropped);
     Ok(is_kept && is_told && !fs::exists(rt, old)?)
 }
 
