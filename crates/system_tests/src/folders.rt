@@ -221,7 +221,7 @@ const HARMS: [Harm; 5] = [
     Harm::Removed,
 ];
 
-fn harm(rt: &HostRuntime, harm: Harm) -> io::Result<()> {
+fn do_harm(rt: &HostRuntime, harm: Harm) -> io::Result<()> {
     let [old, last] = SEGMENTS;
     let kept = fs::read(rt, old)?;
     match harm {
@@ -246,7 +246,7 @@ fn harm(rt: &HostRuntime, harm: Harm) -> io::Result<()> {
 fn is_harm_told(rt: &HostRuntime, path: &str, how: Harm) -> io::Result<bool> {
     let [old, _] = SEGMENTS;
     let kept = fs::read(rt, old)?;
-    harm(rt, how)?;
+    do_harm(rt, how)?;
     let words = match how {
         Harm::Removed => GONE,
         _ => DAMAGED,
