@@ -1,5 +1,5 @@
 -- What comes back of a log after a crash in a drop.
-use Rattle.std.specs.Prelude.{◌≡◌, ◌⊎◌, ◌++◌, ◌||◌, ℕ, List, [], ◌∷◌, length, nat_lt, Some, None, Option, IfSome}
+use Rattle.std.specs.Prelude.{◌≡◌, ◌++◌, ◌||◌, ℕ, List, [], ◌∷◌, length, nat_lt, Some, None, Option, IfSome}
 use Rattle.std.proofs.Common.{ap, sym, ◌∙◌, refl, subst, inl, inr}
 use Rattle.disk.specs.Disk.{Disk, Life}
 use Rattle.crash.specs.Kept.{Through}
@@ -13,8 +13,8 @@ use Rattle.journal.specs.Journal.{Commits, OnlyRecords, records_in}
 use Rattle.journal.proofs.Journals.{brings_back}
 use Rattle.segments.specs.declared.entry.Entry.TheVariants.{Starts}
 use Rattle.segments.specs.Manifest.{ListingState, entry_bytes, entry_in, listed_in, listed_with, open_in}
-use Rattle.segments.specs.Owned.{IsOwnedJournal, KeepsRecords, OwnedState, records_now, records_of}
-use Rattle.segments.specs.Log.{IsLog, IsTried, Lists, LogState, Tries, listing_from}
+use Rattle.segments.specs.Owned.{IsOwnedJournal, KeepsRecords, OwnedState, records_of}
+use Rattle.segments.specs.Log.{IsLog, Lists, LogState, Tries, listing_from}
 use Rattle.segments.specs.Crash.{DropSurvives, LogDropped, records_by}
 use Rattle.segments.proofs.Listings.{listed_more}
 use Rattle.segments.proofs.Rotating.{only_some}
