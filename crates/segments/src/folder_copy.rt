@@ -59,8 +59,8 @@ impl FolderCopy {
 
     // A file more was opened, or wasn't.
     fn note_opening(&mut self, file: Asked, opened: &io::Result<VecBlob>)
-        ensures { let event = opening_outcome (λ b. life_of b.history) (call_for file) opened.now
-            in
+        ensures { let call = call_for file in
+            let event = opening_outcome (λ b. life_of b.history) call opened.now in
             self.new ≡ self.old ++ event ∷ [] }
     {
         let call = file.call();
