@@ -4,7 +4,7 @@ ghost use Rattle.segments.specs.Log.{IsLog};
 use crate::ending::or_end;
 use crate::log_files::{copy_of, manifest_in, options_of, segment_in};
 use crate::log_parts::{Kept, Part};
-use crate::log_refusing::refuse_log;
+use crate::log_refusing::{Why, fit_of, status_after};
 use crate::log_report::{print_closed, print_ending, print_heading, print_unopened};
 use crate::request::Request;
 use crate::status::Status;
@@ -132,9 +132,27 @@ fn check_closed<H: Sum>(
 
 // Tells why a log can't be opened.
 fn check_unopened(rt: &HostRuntime, request: &Request, error: &Error) -> Result<Status, Status> {
-    let status = refuse_log(rt, request, error);
+    let why = Why(error);
     if request.json {
-        print_unopened(rt, request, error)?;
+        print_unopened(rt, request, why)?;
+    } else {
+        or_end(
+            rt,
+            println!(rt; "{}: the log can't be opened: {why}", request.file),
+        )?;
+        if matches!(error, Error::Manifest) {
+            tell_manifest(rt, request)?;
+        }
     }
-    Err(status)
+    Ok(status_after(error))
+}
+
+// Tells with which page size and checksum the manifest can be read, if there are such.
+fn tell_manifest(rt: &HostRuntime, request: &Request) -> Result<(), Status> {
+    let path = manifest_in(rt.alloc(), request.file)?;
+    let told = match fit_of(rt, request, path.as_str())? {
+        Some(fit) => println!(rt; "manifest: {fit}"),
+        None => println!(rt; "manifest: see 'pagedd check {path}'"),
+    };
+    or_end(rt, told)
 }
