@@ -9,7 +9,8 @@ use Rattle.writer_state.specs.Sound.{content}
 use Rattle.journal.specs.Frame.{records}
 use Rattle.journal.specs.Journal.{Commits, CommitsAll, IsAppended, IsCommitted, OnlyRecords, records_in}
 use Rattle.journal.specs.Calls.{JournalCallLeaves}
-use Rattle.segments.specs.Owned.{IsAdded, IsOwned, IsOwnedJournal, KeepsJournal, KeepsRecords, OwnedAddKeeps, OwnedAppendGoes, OwnedLeaves, OwnedState, records_now, records_of}
+use Rattle.segments.proofs.Closing.{pages_of}
+use Rattle.segments.specs.Owned.{IsAdded, IsOwned, KeepsJournal, KeepsRecords, OwnedAddKeeps, OwnedAppendGoes, OwnedLeaves, OwnedState, records_now, records_of}
 
 -- one stretch of a life after another
 pub keeps_joins : (sum own : List ℕ → ℕ) (P : ℕ) (all : List (List ℕ)) (old mid new : Life)
@@ -46,10 +47,6 @@ add_by sum own P bytes (Some w) (Some now) cache after later old half new offset
     let all = records_in own w old ++ bytes ∷ [] in
     keeps_joins sum own P all old half new (leaves_keep sum own P w all all cache after old half page refl first)
     (leaves_keep sum own P now (records_in own now half) all after later half new (is.same.page_size ∙ page) is.added second)
-
-pages_of : (sum own : List ℕ → ℕ) (s : OwnedState) (j : Option WriterState) → IfSome j (λ w. IsOwnedJournal sum own s w) → IfSome j (λ w. w.page_size ≡ s.page_size)
-pages_of sum own s None owned = tt
-pages_of sum own s (Some w) owned = owned.page_size
 
 pub add_keeps : (sum own : List ℕ → ℕ) (bytes : List ℕ) (s m t : OwnedState) (offset : ℕ) → IsOwned sum own s → OwnedAppendGoes sum own bytes s m (Ok offset)
     → OwnedLeaves sum own (records_now own s ++ bytes ∷ []) s m → OwnedLeaves sum own (records_now own m) m t

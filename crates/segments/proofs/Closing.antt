@@ -63,7 +63,7 @@ closes_by sum own P (Some w) None cache after old new image page is leaves = abs
 closes_by sum own P (Some w) (Some now) cache after old new image page is leaves =
     subst (λ P. IsShut sum own P (records_in own w old) new) page (shut_by sum own w now cache after old new image is leaves)
 
-keeps_by : (sum own : List ℕ → ℕ) (P : ℕ) (j : Option WriterState) (all : List (List ℕ)) (cache after : CacheState) (old new : Life)
+pub keeps_by : (sum own : List ℕ → ℕ) (P : ℕ) (j : Option WriterState) (all : List (List ℕ)) (cache after : CacheState) (old new : Life)
     → IfSome j (λ w. w.page_size ≡ P)
     → IfSome j (λ w. JournalCallLeaves sum own w all cache after old new)
     → IfSome j (λ w. KeepsRecords sum own P all old new)
@@ -81,7 +81,7 @@ has_then : (P Q : WriterState → Type 0) (j : Option WriterState) → ((w : Wri
 has_then P Q None then is = is
 has_then P Q (Some w) then is = then w is
 
-pages_of : (sum own : List ℕ → ℕ) (s : OwnedState) (j : Option WriterState) → IfSome j (λ w. IsOwnedJournal sum own s w) → IfSome j (λ w. w.page_size ≡ s.page_size)
+pub pages_of : (sum own : List ℕ → ℕ) (s : OwnedState) (j : Option WriterState) → IfSome j (λ w. IsOwnedJournal sum own s w) → IfSome j (λ w. w.page_size ≡ s.page_size)
 pages_of sum own s None owned = tt
 pages_of sum own s (Some w) owned = owned.page_size
 

@@ -1,5 +1,5 @@
 -- Reads, one after another.
-use Rattle.std.specs.Prelude.{◌≡◌, ◌⊎◌, ℕ, List, [], ◌∷◌, length, Some, None, Option, IfSome}
+use Rattle.std.specs.Prelude.{◌≡◌, ◌⊎◌, ℕ, List, Some, None, Option, IfSome}
 use Rattle.std.proofs.Common.{ap, sym, ◌∙◌, subst, inl, inr, refl}
 use Rattle.disk.specs.Disk.{Disk, Life}
 use Rattle.cache.specs.CacheState.{CacheState}
@@ -11,7 +11,7 @@ use Rattle.journal.specs.Frame.{records}
 use Rattle.journal.specs.Journal.{Commits, OnlyRecords, records_in}
 use Rattle.journal.specs.Calls.{JournalCallLeaves, RecordReadLeaves}
 use Rattle.segments.specs.Owned.{OwnedReadLeaves, OwnedState, content_of}
-use Rattle.segments.specs.Log.{IsSameButCurrent, IsSameButLoaded, LeavesReading, LogState}
+use Rattle.segments.specs.Log.{IsSameButCurrent, LeavesReading, LogState}
 
 -- two calls of a journal, as one
 call_joins : (sum own : List ℕ → ℕ) (w : WriterState) (all : List (List ℕ)) (cache mid after : CacheState) (old half new : Life)

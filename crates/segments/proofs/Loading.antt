@@ -1,5 +1,5 @@
 -- A closed segment in memory.
-use Rattle.std.specs.Prelude.{◌≡◌, ℕ, List, Some, None, Option, Result, Ok, Err, IfSome}
+use Rattle.std.specs.Prelude.{◌≡◌, ℕ, List, Some, None, Option, Result, Ok, Err}
 use Rattle.std.proofs.Common.{ap, sym, ◌∙◌, subst, inr}
 use Rattle.disk.specs.Disk.{Life}
 use Rattle.page.specs.Page.{text}

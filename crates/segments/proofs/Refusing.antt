@@ -1,9 +1,8 @@
 -- Why a rotation is refused.
-use Rattle.std.specs.Prelude.{◌≡◌, ◌≢◌, ◌++◌, ◌==◌, ℕ, List, [], ◌∷◌, Some, None, Option, IfSome, Result, Ok, Err, Bool, true, false, if◌then◌else◌}
+use Rattle.std.specs.Prelude.{◌≡◌, ◌≢◌, ◌++◌, ◌==◌, ℕ, List, [], ◌∷◌, Some, None, Option, IfSome, Result, Ok, Err, Bool, false, if◌then◌else◌}
 use Rattle.std.specs.Result.{IsErrAnd}
 use Rattle.std.proofs.Common.{ap, sym, ◌∙◌, subst, inl, inr}
 use Rattle.std.proofs.lemmas.Bool.{ne_eqb}
-use Rattle.writer_state.specs.WriterState.{WriterState}
 use Rattle.segments.specs.declared.closed.Closed.{Closed}
 use Rattle.segments.specs.declared.entry.Entry.TheVariants.{Closes}
 use Rattle.segments.specs.declared.error.Error.{Error}
@@ -56,9 +55,8 @@ pub enter_refused : (sum own : List ℕ → ℕ) (s m n t : LogState) (next : Ow
 enter_refused sum own s m n t next kept e first none has asks last goes =
     let manifest : n.manifest ≡ s.manifest = ap (λ (l : LogState). l.manifest) asks ∙ first.manifest in
     let current : t.current ≡ m.current = last.current ∙ ap (λ (l : LogState). l.current) asks in
-    let listing : n.listing ≡ m.listing = ap (λ (l : LogState). l.listing) asks in
-    (
+    let listing : n.listing ≡ m.listing = ap (λ (l : LogState). l.listing) asks in (
       ap (λ (o : OwnedState). o.journal) current ∙ none,
       entry_cause s n t kept e (ap (λ (o : OwnedState). o.journal) manifest)
-      (λ full. has.numbered (ap (λ (l : ListingState). open_in l) (sym listing) ∙ full)) goes.1,
+          (λ full. has.numbered (ap (λ (l : ListingState). open_in l) (sym listing) ∙ full)) goes.1,
     )

@@ -1,7 +1,7 @@
 -- Going over the records of a log.
 use Rattle.std.specs.Prelude.{◌≡◌, ◌≢◌, ◌⊎◌, ◌≤◌, ◌<◌, ◌+◌, ◌-◌, ◌*◌, ◌++◌, ℕ, zero, suc, List, [], ◌∷◌, length, drop, nat_lt, slice_get, Some, None, Option, IfSome, Result, Ok, Err, Bool, true, false, if◌then◌else◌}
 use Rattle.std.specs.Result.{IsErrAnd}
-use Rattle.std.proofs.Common.{ap, sym, ◌∙◌, refl, subst, inl, inr, append_assoc, append-nil, arith, min}
+use Rattle.std.proofs.Common.{ap, sym, ◌∙◌, refl, subst, inl, inr, append_assoc, append-nil, arith}
 use Rattle.std.proofs.lemmas.List.{drop_all}
 use Rattle.std.proofs.lemmas.Bool.{cases_lt, lt-ltb, le-ltb, ltb-false}
 use Rattle.page.specs.Page.{text}
@@ -18,7 +18,7 @@ use Rattle.segments.specs.declared.error.Error.TheVariants as errors
 use Rattle.segments.specs.declared.place.Place.{Place}
 use Rattle.segments.specs.Digests.{IsOf}
 use Rattle.segments.specs.Manifest.{ListingState, closed_at, open_in}
-use Rattle.segments.specs.Owned.{HasJournal, OwnedState, content_now, content_of, records_now, records_of}
+use Rattle.segments.specs.Owned.{HasJournal, content_now, content_of, records_of}
 use Rattle.segments.specs.Log.{HasCollision, IsContentOf, LeavesReading, LogReadGoes, LogReadRefused, LogState, TellHeld, closed_records}
 use Rattle.segments.specs.Scan.{ComesFirst, IsBehind, IsEnd, NextGoes, StandBetween, StandBy, held_content, records_after, records_at}
 use Rattle.segments.proofs.Records.{judged}
@@ -54,6 +54,7 @@ tells_at held first (c ∷ cs) zero kept tells is =
       some_or : Option Closed → Closed → Closed
       some_or None d = d
       some_or (Some c) d = c
+
       some_is : (c kept : Closed) → Some c ≡ Some kept → c ≡ kept
       some_is c kept is = ap (λ o. some_or o c) is
 tells_at held first (c ∷ cs) (suc k) kept tells is =
@@ -135,16 +136,16 @@ next_first sum own P held l content n after before = elim (cases_lt n (open_in l
       ∙ ap (λ rs. rs ++ (rest ++ records own content)) (sym (records-whole own (text sum P (held n))))
       ∙ ap (λ j. records own here ++ (closed_records sum own P held (suc n) (drop j l.closed) ++ records own content)) (sym more)
       ∙ ap (λ bytes. records own bytes ++ (closed_records sum own P held (suc n) (drop (suc n - l.first) l.closed) ++ records own content))
-        (sym (pick_true (nat_lt n (open_in l)) here content is))
+      (sym (pick_true (nat_lt n (open_in l)) here content is))
       ∙ ap (λ rs. records own (held_content sum P held l content n) ++ rs)
-        (sym (pick_true (nat_lt n (open_in l)) (closed_records sum own P held (suc n) (drop (suc n - l.first) l.closed) ++ records own content) [] is))
+      (sym (pick_true (nat_lt n (open_in l)) (closed_records sum own P held (suc n) (drop (suc n - l.first) l.closed) ++ records own content) [] is))
   | inr long ↦
       let is = le-ltb n (open_in l) long in
       ap (λ cs. closed_records sum own P held n cs ++ records own content) (drop_all (n - l.first) l.closed (omega (arith, after, long)))
       ∙ sym (append-nil (records own content))
       ∙ ap (λ bytes. records own bytes ++ []) (sym (pick_false (nat_lt n (open_in l)) (whole_frames (text sum P (held n))) content is))
       ∙ ap (λ rs. records own (held_content sum P held l content n) ++ rs)
-        (sym (pick_false (nat_lt n (open_in l)) (closed_records sum own P held (suc n) (drop (suc n - l.first) l.closed) ++ records own content) [] is))
+      (sym (pick_false (nat_lt n (open_in l)) (closed_records sum own P held (suc n) (drop (suc n - l.first) l.closed) ++ records own content) [] is))
 ]
 
 none_there : (own : List ℕ → ℕ) (held C : List ℕ) (offset : ℕ) → held ≡ C → length C ≤ offset → records own (drop offset held) ≡ []
@@ -204,8 +205,7 @@ pub step_found : (sum own : List ℕ → ℕ) (s : LogState) (at : Place) (f : F
     × IsBehind s at (record { segment = at.segment; offset = f.end })
 step_found sum own s at f fits is =
     let found = is.2 in
-    let inside = is_inside sum s at.segment is.0 is.1 in
-    (
+    let inside = is_inside sum s at.segment is.0 is.1 in (
       found_between sum own s at f.end f.bytes is.0 is.1 found,
       record {
         segment = omega arith;
@@ -219,8 +219,7 @@ passed_by : (sum own : List ℕ → ℕ) (s : LogState) (at : Place) (C : List �
     × IsBehind s at (record { segment = at.segment + 1; offset = 0 }) × (at.segment < open_in s.listing)
 passed_by sum own s at C fits other (inl last) le = absurd (other last.0)
 passed_by sum own s at C fits other (inr closed) le =
-    let here = within s.listing at.segment closed.0 closed.1 in
-    (
+    let here = within s.listing at.segment closed.0 closed.1 in (
       closed_between sum own s at closed.0 C closed.1 (inr closed) le,
       record { segment = omega arith; nearer = omega (arith, fits, here.before) },
       here.before,

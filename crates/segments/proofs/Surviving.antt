@@ -12,10 +12,10 @@ use Rattle.journal.specs.Frame.{IsPrefix, records}
 use Rattle.journal.specs.Journal.{Commits, OnlyRecords, records_in}
 use Rattle.journal.proofs.Journals.{between_of, brings_back, leaves_still}
 use Rattle.segments.specs.Manifest.{ListingState, listed_in, open_in}
-use Rattle.segments.specs.Owned.{IsOwnedJournal, KeepsRecords, OwnedState, records_now}
+use Rattle.segments.specs.Owned.{IsOwned, IsOwnedJournal, KeepsRecords, OwnedLeaves, OwnedState, records_now}
 use Rattle.segments.specs.Log.{CurrentKeeps, IsLog, Lists, LogState, closed_records, log_records}
 use Rattle.segments.specs.Crash.{AreFirstOf, BeginWith, CurrentSurvives, KeepsLog, LogKept, LogOnly, records_by, records_left}
-use Rattle.segments.proofs.Closing.{chance_free, whole_prefix}
+use Rattle.segments.proofs.Closing.{chance_free, keeps_by, pages_of, whole_prefix}
 
 -- where all is durable what is readable is an image, and the only one
 pub image_of : (d : Disk) → IsDurable d → IsImage d d.readable
@@ -109,3 +109,19 @@ pub survives_same : (sum own : List ℕ → ℕ) (s t : LogState) → IsLog sum 
     → CurrentSurvives sum own [] s t
 survives_same sum own s t log keeps =
     survives sum own [] s t log (subst (λ all. CurrentKeeps sum own all s t) (sym (append-nil (records_now own s.current))) keeps)
+
+current_pages : (sum own : List ℕ → ℕ) (P : ℕ) (o : OwnedState) → IsOwned sum own o → o.page_size ≡ P → IfSome o.journal (λ w. w.page_size ≡ P)
+current_pages sum own P o owned is = subst (λ P. IfSome o.journal (λ w. w.page_size ≡ P)) is (pages_of sum own o o.journal owned.1)
+
+survives_of : (sum own : List ℕ → ℕ) (s : LogState) (o : OwnedState) → IsLog sum own s → OwnedLeaves sum own (records_now own s.current) s.current o
+    → CurrentSurvives sum own [] s (record s { current = o })
+survives_of sum own s o log leaves =
+    survives_same sum own s (record s { current = o }) log
+    (keeps_by sum own s.page_size s.current.journal (records_now own s.current) s.current.cache o.cache s.current.life o.life (current_pages sum own s.page_size s.current log.current log.current_pages) leaves)
+
+-- the same by what the call of the journal leaves
+pub survives_call : (sum own : List ℕ → ℕ) (view s : LogState) (o : OwnedState) → view ≡ s → IsLog sum own s → OwnedLeaves sum own (records_now own view.current) view.current o
+    → CurrentSurvives sum own [] s (record view { current = o })
+survives_call sum own view s o is log leaves =
+    subst (λ v. CurrentSurvives sum own [] s (record v { current = o })) (sym is)
+    (survives_of sum own s o log (subst (λ v. OwnedLeaves sum own (records_now own v.current) v.current o) is leaves))

@@ -28,7 +28,7 @@ abbrev pub records_after : (sum own : List ℕ → ℕ) → ℕ → (held : ℕ 
     → (content : List ℕ) → ℕ → List (List ℕ)
 records_after sum own P held l content segment =
     if nat_lt segment (open_in l) then closed_records sum own P held (suc segment)
-      (drop (suc segment - l.first) l.closed) ++ records own content
+    (drop (suc segment - l.first) l.closed) ++ records own content
     else []
 
 -- the records from a place on

@@ -1,4 +1,4 @@
-use Rattle.std.specs.Prelude.{◌≡◌, ◌∷◌, [], Ok}
+use Rattle.std.specs.Prelude.{◌∷◌, [], Ok}
 use Rattle.std.proofs.Common.{refl, inl, subst, arith}
 use Rattle.segments.specs.declared.scanning.Step.{Step}
 use Rattle.segments.specs.Scan.{StepGoes}
@@ -28,8 +28,7 @@ pub returns-in-Record-clause-goes : goal.returns-in-Record-clause-goes
 returns-in-Record-clause-goes g c =
     let sum = g.H.Sum.sum_of in
     let own = g.R.Sum.sum_of in
-    let goes = subst (λ (s : Step). StepGoes sum own c.loop-bytes.self c.loop-bytes.at (Ok s)) c.in-Record.is c.in_ok-bytes.ensures.goes in
-    (
+    let goes = subst (λ (s : Step). StepGoes sum own c.loop-bytes.self c.loop-bytes.at (Ok s)) c.in-Record.is c.in_ok-bytes.ensures.goes in (
       c.loop-bytes.invariant.so_far,
       between_back sum own c.args.self.now c.loop-bytes.self (c.in-Record.bytes ∷ []) c.loop-bytes.at c.in-Record.behind c.loop-bytes.invariant.leaves goes,
     )

@@ -1,9 +1,9 @@
-use Rattle.std.specs.Prelude.{◌≡◌, ◌∷◌, [], List, ℕ, Some, None, Ok, Option}
+use Rattle.std.specs.Prelude.{◌∷◌, [], List, ℕ, Ok, Option}
 use Rattle.std.proofs.Common.{subst, sym, arith}
 use Rattle.journal.specs.Frame.{listed}
 use Rattle.journal.specs.declared.frame.Found.{Found}
 use Rattle.segments.specs.Log.{LogReadGoes}
-use Rattle.segments.specs.Scan.{IsBehind, StandBetween, place_at}
+use Rattle.segments.specs.Scan.{StandBetween, place_at}
 use Rattle.segments.proofs.Stepping.{step_found}
 use Rattle.segments.proofs.log.SegmentedLog.step.Goals as goal
 
