@@ -272,7 +272,14 @@ fn take_drop<F: Folder<B> + Drop, B: Blob + Cause + Drop, H: Sum, W: Write>(
         Ok(()) => write_answer(out, &[], &[]),
         Err(error) => {
             let is_closing = matches!(error, Error::Layer(_));
-            refuse_kept(alloc, client, out, &error, is_closing, log.manifest_blob().cause())
+            refuse_kept(
+                alloc,
+                client,
+                out,
+                &error,
+                is_closing,
+                log.manifest_blob().cause(),
+            )
         }
     }
 }
