@@ -247,15 +247,17 @@ def alone(program, folder):
 
 
 def expect_told(program, folder, status, said):
-    """Check tells why the log can't be opened, in the words that a refused serve-log said on standard error."""
+    """Check tells why the log can't be opened, in the words that a refused serve-log said on standard error; there too
+    where the status is 1."""
+    line = said if status == 1 else ""
     why = said.split("\n")[0].removeprefix(f"pagedd: {folder}: ").removesuffix("; nothing was changed")
-    ended, out, silent = play(program, "check", folder)
-    if (ended, silent) != (status, "") or out.decode().split("\n")[0] != f"{folder}: the log can't be opened: {why}":
-        raise SystemExit(f"NOT SO: check tells that it can't be opened, since {why}: {ended} {out} {silent}")
-    ended, out, silent = play(program, "check", "--json", folder)
+    ended, out, also = play(program, "check", folder)
+    if (ended, also) != (status, line) or out.decode().split("\n")[0] != f"{folder}: the log can't be opened: {why}":
+        raise SystemExit(f"NOT SO: check tells that it can't be opened, since {why}: {ended} {out} {also}")
+    ended, out, also = play(program, "check", "--json", folder)
     told = json.loads(out)
-    if (ended, silent, told["error"]) != (status, "", why) or set(told) != {"file", "page_size", "checksum", "error"}:
-        raise SystemExit(f"NOT SO: check --json tells that it can't be opened, since {why}: {ended} {out} {silent}")
+    if (ended, also, told["error"]) != (status, line, why) or set(told) != {"file", "page_size", "checksum", "error"}:
+        raise SystemExit(f"NOT SO: check --json tells that it can't be opened, since {why}: {ended} {out} {also}")
     print("and check says so in its own output")
 
 

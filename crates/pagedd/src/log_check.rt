@@ -2,7 +2,7 @@
 use crate::ending::or_end;
 use crate::log_files::{copy_of, manifest_in, segment_in};
 use crate::log_parts::{Kept, Part};
-use crate::log_refusing::{Why, fit_of, status_after};
+use crate::log_refusing::{Why, fit_of, refuse_log};
 use crate::log_report::{print_closed, print_ending, print_heading, print_unopened};
 use crate::log_told::LogCopy;
 use crate::request::Request;
@@ -106,7 +106,7 @@ fn check_closed<H: Sum>(
     Ok(are_whole)
 }
 
-/// Tells why a log can't be opened.
+/// Tells why a log can't be opened. Where the status is 1, standard error says it too.
 pub fn check_unopened(
     rt: &HostRuntime,
     request: &Request,
@@ -124,7 +124,10 @@ pub fn check_unopened(
             tell_manifest(rt, request)?;
         }
     }
-    Ok(status_after(error))
+    match error {
+        Error::System(_) | Error::Layer(_) => Ok(refuse_log(rt, request, error)),
+        _ => Ok(Status::NotWhole),
+    }
 }
 
 // Tells with which page size and checksum the manifest can be read, if there are such.

@@ -26,14 +26,6 @@ impl fmt::Display for Why<'_> {
 const NO_LOG: &str =
     "there is no log in it, or its first file isn't there: 'pagedd serve-log' begins one";
 
-/// The status of a command whose log isn't opened.
-pub fn status_after(error: &Error) -> Status {
-    match error {
-        Error::System(_) | Error::Layer(_) => Status::Failed,
-        _ => Status::NotWhole,
-    }
-}
-
 /// Says in a line why a log isn't opened, and what can be done, and answers the status. Nothing was
 /// changed.
 pub fn refuse_log(rt: &HostRuntime, request: &Request, error: &Error) -> Status {
