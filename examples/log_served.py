@@ -4,6 +4,7 @@ Each kind of request in both versions, frames that are none, what is refused and
 for reading alone, two programs at one log, and folders that were changed by hand. The first thing that
 isn't as `docs/LOG_PROTOCOL.md` says ends it. It has no cases of a killed program: `log_kill.py` has them.
 """
+import errno
 import json
 import os
 import re
@@ -227,6 +228,7 @@ def alone(program, folder):
     os.mkdir(folder)
     status, out, said = play(program, "serve-log", "--read-only", folder)
     expect(status == 1 and out == b"" and not os.listdir(folder), f"nor a log: {said.strip()}")
+    expect_told(program, folder, 1, said)
     places = a_log(program, folder)
     before = image(folder)
     for version in (1, 2):
@@ -242,6 +244,21 @@ def alone(program, folder):
     expect(image(folder) == before, "and no file changed")
     status, out, _ = play(program, "serve-log", "--read-only", folder, given=OFFER)
     expect(status == 0 and out[14 + 4:14 + 7] == b"\0\2\1", "the hello says so")
+
+
+def expect_told(program, folder, status, said):
+    """Check tells why the log can't be opened, in the words that a refused serve-log said on standard error; there too
+    where the status is 1."""
+    line = said if status == 1 else ""
+    why = said.split("\n")[0].removeprefix(f"pagedd: {folder}: ").removesuffix("; nothing was changed")
+    ended, out, also = play(program, "check", folder)
+    if (ended, also) != (status, line) or out.decode().split("\n")[0] != f"{folder}: the log can't be opened: {why}":
+        raise SystemExit(f"NOT SO: check tells that it can't be opened, since {why}: {ended} {out} {also}")
+    ended, out, also = play(program, "check", "--json", folder)
+    told = json.loads(out)
+    if (ended, also, told["error"]) != (status, line, why) or set(told) != {"file", "page_size", "checksum", "error"}:
+        raise SystemExit(f"NOT SO: check --json tells that it can't be opened, since {why}: {ended} {out} {also}")
+    print("and check says so in its own output")
 
 
 def tampering(program, folder):
@@ -311,6 +328,7 @@ def tampering(program, folder):
                 raise SystemExit(f"NOT SO: a log {what} is refused: {status} {out} {said}")
         looked = [play(program, command, folder)[0] for command in ("check", "map", "cat")]
         expect(looked == [3, 3, 3], f"a log {what} is refused with status 3, and nothing changes: {said.strip()}")
+        expect_told(program, folder, 3, said)
     back()
     for options in (["--page-size=1012"], ["--checksum=add"]):
         status, out, said = play(program, "serve-log", *options, folder)
@@ -421,7 +439,9 @@ def full(program, folder):
     log = Session(program, folder, preexec_fn=limit)
     log.append_all([b"kept"])
     refused = log.refusal(APPEND_RECORDS_SYNC, data=batch([bytes(20000)]))
-    expect(refused.status in (2, 3) and refused.next == 2, f"a write that fails is refused with 2 or 3: {refused}")
+    expect(refused.status in (2, 3) and refused.next == 2 and refused.errno == errno.EFBIG
+           and refused.words.startswith(os.strerror(errno.EFBIG)),
+           f"a write that fails is refused with 2 or 3, and the system's number and words for it: {refused}")
     expect(log.status(APPEND, data=b"a") == CLOSED, "and closes the log")
     status, said = log.end()
     expect(status == 1, f"it ends with status 1: {said.strip()}")
@@ -440,6 +460,11 @@ def commands(program, folder):
                   ["map", "--from", "99", folder]):
         status, out, said = play(program, *words)
         expect((status, out, said.count("\n")) == (1, b"", 1), f"pagedd {words[0]} is refused: {said.strip()}")
+    status, out, said = play(program, "serve-log", "--segment-size=0", folder)
+    expect((status, out) == (1, b"") and "--segment-size" in said, f"a segment has a byte at least: {said.strip()}")
+    for size in ("1", "18446744073709551615"):
+        log = Session(program, folder, f"--segment-size={size}", "--read-only")
+        expect(log.size == 20 and log.end() == (0, ""), f"and it may have {size}")
     expect(play(program, "map", "--from", "2", "--to", "4", folder)[1].split()[-2:] == [b"2", b"##"],
            "map draws the segments from one to before another")
     expect(image(folder) == before, "and nothing changed")

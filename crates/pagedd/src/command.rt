@@ -60,6 +60,8 @@ enum Takes {
     Number,
     /// A number of bytes or pages, at least one.
     Size,
+    /// The same, and as great as a number may be.
+    Length,
     /// The content bytes of a page.
     PageSize,
     /// The name of a checksum function.
@@ -122,7 +124,7 @@ const ROWS: [Row; 21] = [
     },
     Row {
         name: "segment-size",
-        takes: Takes::Number,
+        takes: Takes::Length,
         default: Some("67108864"),
         help: "from how many content bytes on a segment is closed",
         commands: &["serve-log"],
@@ -294,6 +296,10 @@ fn option_of<'a>(alloc: Global, row: Row) -> Arg<'a> {
             .long(row.name)
             .value_name("N")
             .value_parser(value_parser!(usize).range(1..=MOST)),
+        Takes::Length => option
+            .long(row.name)
+            .value_name("N")
+            .value_parser(value_parser!(u64).range(1..)),
         Takes::PageSize => option
             .long(row.name)
             .value_name("N")

@@ -2,10 +2,9 @@
 ghost use Rattle.segments.specs.Log.{IsLog};
 
 use crate::ending::{or_end, tell};
-use crate::log_check::LogCopy;
-use crate::log_files::{copy_of, manifest_in, options_of, segment_in};
+use crate::log_files::{manifest_in, segment_in};
 use crate::log_parts::Part;
-use crate::log_refusing::refuse_log;
+use crate::log_told::LogCopy;
 use crate::request::Request;
 use crate::status::Status;
 use page::Sum;
@@ -14,26 +13,7 @@ use std::io::{self, BufWriter, Stdout, Write};
 
 /// Writes the bytes of each record of a log to standard output, with a line end after it. A segment
 /// that can't be read is left out, with a line on standard error.
-pub fn cat_log<H: Sum>(rt: &HostRuntime, request: &Request) -> Result<Status, Status> {
-    let folder = copy_of(rt, request.file)?;
-    match LogCopy::<H>::open(rt.alloc(), folder, options_of(request)) {
-        Ok(log) => cat_opened::<H>(rt, request, log),
-        Err(error) => Err(refuse_log(rt, request, &error)),
-    }
-}
-
-fn cat_opened<H: Sum>(
-    rt: &HostRuntime,
-    request: &Request,
-    log: LogCopy<H>,
-) -> Result<Status, Status>
-    requires log { IsLog H.sum_of H.sum_of log }
-{
-    let mut log = log;
-    cat_segments::<H>(rt, request, &mut log)
-}
-
-fn cat_segments<H: Sum>(
+pub fn cat_log<H: Sum>(
     rt: &HostRuntime,
     request: &Request,
     log: &mut LogCopy<H>,

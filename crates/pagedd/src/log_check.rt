@@ -1,44 +1,20 @@
 // Telling what the folder of a log holds.
-ghost use Rattle.segments.specs.Log.{IsLog};
-
 use crate::ending::or_end;
-use crate::log_files::{copy_of, manifest_in, options_of, segment_in};
+use crate::log_files::{copy_of, manifest_in, segment_in};
 use crate::log_parts::{Kept, Part};
-use crate::log_refusing::refuse_log;
+use crate::log_refusing::{Why, fit_of, refuse_log};
 use crate::log_report::{print_closed, print_ending, print_heading, print_unopened};
+use crate::log_told::LogCopy;
 use crate::request::Request;
 use crate::status::Status;
-use disk::VecBlob;
 use page::Sum;
-use segments::{Error, FolderCopy, SegmentedLog};
+use segments::Error;
 use std::io;
-
-/// A log over a copy of its folder.
-pub type LogCopy<H> = SegmentedLog<FolderCopy, VecBlob, H, H>;
 
 /// Tells what a log has, and which of its files aren't whole. It is whole where each closed segment
 /// holds what it held when it was closed, and a recovery of the manifest and of the open segment
 /// gives up nothing.
-pub fn check_log<H: Sum>(rt: &HostRuntime, request: &Request) -> Result<Status, Status> {
-    let folder = copy_of(rt, request.file)?;
-    match LogCopy::<H>::open(rt.alloc(), folder, options_of(request)) {
-        Ok(log) => check_opened::<H>(rt, request, log),
-        Err(error) => check_unopened(rt, request, &error),
-    }
-}
-
-// Tells of a log that was opened.
-fn check_opened<H: Sum>(
-    rt: &HostRuntime,
-    request: &Request,
-    log: LogCopy<H>,
-) -> Result<Status, Status>
-    requires log { IsLog H.sum_of H.sum_of log }
-{
-    check_parts::<H>(rt, request, &log)
-}
-
-fn check_parts<H: Sum>(
+pub fn check_log<H: Sum>(
     rt: &HostRuntime,
     request: &Request,
     log: &LogCopy<H>,
@@ -130,11 +106,36 @@ fn check_closed<H: Sum>(
     Ok(are_whole)
 }
 
-// Tells why a log can't be opened.
-fn check_unopened(rt: &HostRuntime, request: &Request, error: &Error) -> Result<Status, Status> {
-    let status = refuse_log(rt, request, error);
+/// Tells why a log can't be opened. Where the status is 1, standard error says it too.
+pub fn check_unopened(
+    rt: &HostRuntime,
+    request: &Request,
+    error: &Error,
+) -> Result<Status, Status> {
+    let why = Why(error);
     if request.json {
-        print_unopened(rt, request, error)?;
+        print_unopened(rt, request, why)?;
+    } else {
+        or_end(
+            rt,
+            println!(rt; "{}: the log can't be opened: {why}", request.file),
+        )?;
+        if matches!(error, Error::Manifest) {
+            tell_manifest(rt, request)?;
+        }
     }
-    Err(status)
+    match error {
+        Error::System(_) | Error::Layer(_) => Ok(refuse_log(rt, request, error)),
+        _ => Ok(Status::NotWhole),
+    }
+}
+
+// Tells with which page size and checksum the manifest can be read, if there are such.
+fn tell_manifest(rt: &HostRuntime, request: &Request) -> Result<(), Status> {
+    let path = manifest_in(rt.alloc(), request.file)?;
+    let told = match fit_of(rt, request, path.as_str())? {
+        Some(fit) => println!(rt; "manifest: {fit}"),
+        None => println!(rt; "manifest: see 'pagedd check {path}'"),
+    };
+    or_end(rt, told)
 }

@@ -1,9 +1,9 @@
 // A look at a log before it is opened: nothing of it goes before that is said, and is set aside.
 ghost use Rattle.segments.specs.Log.{IsLog};
 
-use crate::log_check::LogCopy;
 use crate::log_files::{copy_of, manifest_in, options_of, segment_in};
 use crate::log_refusing::refuse_log;
+use crate::log_told::LogCopy;
 use crate::look::{Look, looked, read};
 use crate::opening::{allow, open};
 use crate::request::Request;

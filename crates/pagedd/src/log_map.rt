@@ -1,12 +1,9 @@
 // A picture of a log's segments.
-ghost use Rattle.segments.specs.Log.{IsLog};
-
 use crate::ending::{fail, or_end};
-use crate::log_check::LogCopy;
-use crate::log_files::{copy_of, options_of};
+use crate::log_files::copy_of;
 use crate::log_parts::Kept;
-use crate::log_refusing::refuse_log;
 use crate::log_report::print_log_map;
+use crate::log_told::LogCopy;
 use crate::request::Request;
 use crate::status::Status;
 use page::Sum;
@@ -33,31 +30,8 @@ pub struct Drawn {
 pub fn map_log<H: Sum>(
     rt: &HostRuntime,
     request: &Request,
-    drawn: Drawn,
-) -> Result<Status, Status> {
-    let folder = copy_of(rt, request.file)?;
-    match LogCopy::<H>::open(rt.alloc(), folder, options_of(request)) {
-        Ok(log) => map_opened::<H>(rt, request, drawn, log),
-        Err(error) => Err(refuse_log(rt, request, &error)),
-    }
-}
-
-fn map_opened<H: Sum>(
-    rt: &HostRuntime,
-    request: &Request,
-    drawn: Drawn,
-    log: LogCopy<H>,
-) -> Result<Status, Status>
-    requires log { IsLog H.sum_of H.sum_of log }
-{
-    map_segments::<H>(rt, request, drawn, &log)
-}
-
-fn map_segments<H: Sum>(
-    rt: &HostRuntime,
-    request: &Request,
-    drawn: Drawn,
     log: &LogCopy<H>,
+    drawn: Drawn,
 ) -> Result<Status, Status> {
     let last = log.last_segment();
     let first = drawn.from.max(log.first_segment());

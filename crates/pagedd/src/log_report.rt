@@ -1,10 +1,11 @@
 // What check and map answer of a log in JSON: one line, whose members stand in a fixed order.
 use crate::ending::or_end;
 use crate::log_parts::{Kept, Part};
+use crate::log_refusing::Why;
 use crate::report::quoted;
 use crate::request::Request;
 use crate::status::Status;
-use segments::{Closed, Error};
+use segments::Closed;
 use std::fmt;
 
 /// What is known of a file that an opening recovers, as members of an object.
@@ -81,11 +82,11 @@ pub fn print_ending(
 }
 
 /// Prints why a log can't be opened.
-pub fn print_unopened(rt: &HostRuntime, request: &Request, error: &Error) -> Result<(), Status> {
+pub fn print_unopened(rt: &HostRuntime, request: &Request, why: Why<'_>) -> Result<(), Status> {
     let file = quoted(rt, request.file)?;
     let page_size = request.shape.page_size;
     let checksum = request.shape.checksum.name();
-    let words = error.to_string(rt.alloc())?;
+    let words = why.to_string(rt.alloc())?;
     let words = quoted(rt, words.as_str())?;
     let printed = println!(rt;
         "{{\"file\":{file},\"page_size\":{page_size},\"checksum\":\"{checksum}\",\

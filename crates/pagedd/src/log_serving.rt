@@ -17,7 +17,7 @@ use crate::streams::{Input, Output};
 use disk::{Blob, VecBlob};
 use file::FileBlob;
 use page::Sum;
-use protocol::{Stop, Version};
+use protocol::{Cause, Stop, Version};
 use segments::{Error, FileFolder, Folder, FolderCopy, SegmentedLog};
 use std::alloc::Global;
 use std::fs::{self, File};
@@ -66,7 +66,7 @@ fn make_durable(rt: &HostRuntime, path: &str) -> io::Result<()> {
 }
 
 // Serves the log of a folder.
-fn serve_folder<F: Folder<B> + Drop, B: Blob + Drop, H: Sum>(
+fn serve_folder<F: Folder<B> + Drop, B: Blob + Cause + Drop, H: Sum>(
     rt: &HostRuntime,
     request: &Request,
     given_up: &GivenUp,
@@ -88,7 +88,7 @@ fn refuse(rt: &HostRuntime, request: &Request, error: &Error) -> Status {
     refuse_log(rt, request, error)
 }
 
-fn serve_opened<F: Folder<B> + Drop, B: Blob + Drop, H: Sum>(
+fn serve_opened<F: Folder<B> + Drop, B: Blob + Cause + Drop, H: Sum>(
     rt: &HostRuntime,
     request: &Request,
     given_up: &GivenUp,
@@ -100,7 +100,7 @@ fn serve_opened<F: Folder<B> + Drop, B: Blob + Drop, H: Sum>(
     serve_streams(rt, request, given_up, &mut log)
 }
 
-fn serve_streams<F: Folder<B> + Drop, B: Blob + Drop, H: Sum>(
+fn serve_streams<F: Folder<B> + Drop, B: Blob + Cause + Drop, H: Sum>(
     rt: &HostRuntime,
     request: &Request,
     given_up: &GivenUp,
@@ -161,7 +161,7 @@ fn end(rt: &HostRuntime, request: &Request, client: &Client) -> Result<Status, S
 }
 
 // Greets a client, agrees on a version, and serves it.
-fn serve_client<F: Folder<B> + Drop, B: Blob + Drop, H: Sum, R: Read, W: Write + Drop>(
+fn serve_client<F: Folder<B> + Drop, B: Blob + Cause + Drop, H: Sum, R: Read, W: Write + Drop>(
     alloc: Global,
     hello: &Hello<'_>,
     client: &mut Client,
@@ -187,7 +187,7 @@ fn serve_client<F: Folder<B> + Drop, B: Blob + Drop, H: Sum, R: Read, W: Write +
 
 // Takes the requests of the input, one after another, and writes an answer to each, up to a close
 // or the end of the input.
-fn serve_requests<F: Folder<B> + Drop, B: Blob + Drop, H: Sum, R: Read, W: Write + Drop>(
+fn serve_requests<F: Folder<B> + Drop, B: Blob + Cause + Drop, H: Sum, R: Read, W: Write + Drop>(
     alloc: Global,
     client: &mut Client,
     log: &mut SegmentedLog<F, B, H, H>,

@@ -19,14 +19,22 @@ pub const CLOSED: u8 = 17;
 /// No version of an offer is known.
 pub const NO_VERSION: u8 = 24;
 
+// The last status of a call of a file that failed.
+const LAST_OF_FILE: u8 = 4;
+
 /// The refusal of a request after an error of the log, that closed it or didn't, once so many
-/// records of the request were appended.
-pub fn refusal_of(error: &Error, is_closing: bool, taken: u64) -> Refusal<'_> {
+/// records of the request were appended. `failure` is why a file of the log failed, if one did.
+pub fn refusal_of<'a>(
+    error: &'a Error,
+    is_closing: bool,
+    taken: u64,
+    failure: Option<&'a io::Error>,
+) -> Refusal<'a> {
     Refusal {
         status: status_of(error),
         advice: advice_after(error, is_closing),
         taken,
-        cause: cause_of(error),
+        cause: cause_of(error, failure),
     }
 }
 
@@ -75,10 +83,11 @@ fn advice_after(error: &Error, is_closing: bool) -> u8 {
     }
 }
 
-// The error of the system, where there is one.
-fn cause_of(error: &Error) -> Option<&io::Error> {
+// The error of the system, where there is one: of the folder, or of a file that failed.
+fn cause_of<'a>(error: &'a Error, failure: Option<&'a io::Error>) -> Option<&'a io::Error> {
     match error {
         Error::System(why) => Some(why),
+        Error::Layer(error) if error.number() <= LAST_OF_FILE => failure,
         _ => None,
     }
 }

@@ -8,10 +8,10 @@ use crate::log_status::{AT_END, CLOSED, NO_RECORDS, READ_ONLY, refusal_of};
 use disk::Blob;
 use journal::MOST_BYTES;
 use page::Sum;
-use protocol::{Stop, Version};
+use protocol::{Cause, Stop, Version};
 use segments::{Error, Folder, Place, SegmentedLog};
 use std::alloc::Global;
-use std::io::Write;
+use std::io::{self, Write};
 
 /// Whom a log is served to, and how.
 #[derive(Drop)]
@@ -23,7 +23,7 @@ pub struct Client {
 }
 
 /// Takes a request, unless it is refused, and writes its answer.
-pub fn take_request<F: Folder<B> + Drop, B: Blob + Drop, H: Sum, W: Write>(
+pub fn take_request<F: Folder<B> + Drop, B: Blob + Cause + Drop, H: Sum, W: Write>(
     alloc: Global,
     client: &mut Client,
     log: &mut SegmentedLog<F, B, H, H>,
@@ -61,6 +61,16 @@ fn refuse<W: Write>(alloc: Global, client: &Client, out: &mut W, status: u8) -> 
     write_refusal(alloc, client.version, out, Refusal::plain(status))
 }
 
+// Why a file of the log failed, if one did. The open segment's tells it before the manifest does.
+fn failure_of<F: Folder<B> + Drop, B: Blob + Cause + Drop, H: Sum>(
+    log: &SegmentedLog<F, B, H, H>,
+) -> Option<&io::Error> {
+    match log.blob().cause() {
+        Some(error) => Some(error),
+        None => log.manifest_blob().cause(),
+    }
+}
+
 // Answers a request that closed the log, once so many of its records were appended.
 fn refuse_closed<W: Write>(
     alloc: Global,
@@ -68,8 +78,9 @@ fn refuse_closed<W: Write>(
     out: &mut W,
     error: Error,
     taken: u64,
+    failure: Option<&io::Error>,
 ) -> Result<(), Stop> {
-    let refusal = refusal_of(&error, true, taken);
+    let refusal = refusal_of(&error, true, taken, failure);
     write_refusal(alloc, client.version, out, refusal)?;
     if client.lost.is_none() {
         client.lost = Some(error);
@@ -84,10 +95,16 @@ fn refuse_kept<W: Write>(
     out: &mut W,
     error: &Error,
     is_closing: bool,
+    failure: Option<&io::Error>,
 ) -> Result<(), Stop> {
     let is_closing = is_closing || client.lost.is_some();
-    let refusal = refusal_of(error, is_closing, 0);
+    let refusal = refusal_of(error, is_closing, 0, failure);
     write_refusal(alloc, client.version, out, refusal)
+}
+
+// Answers a request of which the log can't tell anything, since it is closed.
+fn refuse_lost<W: Write>(alloc: Global, client: &Client, out: &mut W) -> Result<(), Stop> {
+    refuse_kept(alloc, client, out, &Error::Closed, true, None)
 }
 
 fn write_flushed<W: Write>(out: &mut W) -> Result<(), Stop> {
@@ -96,7 +113,7 @@ fn write_flushed<W: Write>(out: &mut W) -> Result<(), Stop> {
     Ok(())
 }
 
-fn take_append<F: Folder<B> + Drop, B: Blob + Drop, H: Sum, W: Write>(
+fn take_append<F: Folder<B> + Drop, B: Blob + Cause + Drop, H: Sum, W: Write>(
     alloc: Global,
     client: &mut Client,
     log: &mut SegmentedLog<F, B, H, H>,
@@ -111,12 +128,12 @@ fn take_append<F: Folder<B> + Drop, B: Blob + Drop, H: Sum, W: Write>(
     }
     match log.append(bytes) {
         Ok(place) => write_answer(out, &[place.segment, place.offset], &[]),
-        Err(error) => refuse_closed(alloc, client, out, error, 0),
+        Err(error) => refuse_closed(alloc, client, out, error, 0, failure_of(log)),
     }
 }
 
 // Appends records, and commits where `syncs` asks. None is appended where the fields tell none.
-fn take_records<F: Folder<B> + Drop, B: Blob + Drop, H: Sum, W: Write>(
+fn take_records<F: Folder<B> + Drop, B: Blob + Cause + Drop, H: Sum, W: Write>(
     alloc: Global,
     client: &mut Client,
     log: &mut SegmentedLog<F, B, H, H>,
@@ -131,7 +148,7 @@ fn take_records<F: Folder<B> + Drop, B: Blob + Drop, H: Sum, W: Write>(
         return refuse(alloc, client, out, NO_RECORDS);
     };
     if client.lost.is_some() {
-        return refuse_kept(alloc, client, out, &Error::Closed, true);
+        return refuse_lost(alloc, client, out);
     }
     let mut places = Vec::with_capacity(alloc, records.count())?;
     let appended = append_records::<F, B, H>(log, records, &mut places);
@@ -142,12 +159,12 @@ fn take_records<F: Folder<B> + Drop, B: Blob + Drop, H: Sum, W: Write>(
     };
     match ended {
         Ok(()) => write_places(out, places.as_slice()),
-        Err(error) => refuse_closed(alloc, client, out, error, taken),
+        Err(error) => refuse_closed(alloc, client, out, error, taken, failure_of(log)),
     }
 }
 
 // Appends records up to the first that is refused, and keeps the place of each.
-fn append_records<F: Folder<B> + Drop, B: Blob + Drop, H: Sum>(
+fn append_records<F: Folder<B> + Drop, B: Blob + Cause + Drop, H: Sum>(
     log: &mut SegmentedLog<F, B, H, H>,
     records: Records<'_>,
     places: &mut Vec<Place>,
@@ -166,7 +183,7 @@ fn append_records<F: Folder<B> + Drop, B: Blob + Drop, H: Sum>(
 }
 
 // Commits, and tells how many records there are where `tells` asks.
-fn take_sync<F: Folder<B> + Drop, B: Blob + Drop, H: Sum, W: Write>(
+fn take_sync<F: Folder<B> + Drop, B: Blob + Cause + Drop, H: Sum, W: Write>(
     alloc: Global,
     client: &mut Client,
     log: &mut SegmentedLog<F, B, H, H>,
@@ -179,24 +196,24 @@ fn take_sync<F: Folder<B> + Drop, B: Blob + Drop, H: Sum, W: Write>(
     match log.commit() {
         Ok(()) if tells => write_answer(out, &[log.len().unwrap_or(u64::MAX)], &[]),
         Ok(()) => write_answer(out, &[], &[]),
-        Err(error) => refuse_closed(alloc, client, out, error, 0),
+        Err(error) => refuse_closed(alloc, client, out, error, 0, failure_of(log)),
     }
 }
 
 // Once the log is closed nobody knows how many of the last records it keeps.
-fn take_size<F: Folder<B> + Drop, B: Blob + Drop, H: Sum, W: Write>(
+fn take_size<F: Folder<B> + Drop, B: Blob + Cause + Drop, H: Sum, W: Write>(
     alloc: Global,
     client: &Client,
     log: &SegmentedLog<F, B, H, H>,
     out: &mut W,
 ) -> Result<(), Stop> {
     if client.lost.is_some() {
-        return refuse_kept(alloc, client, out, &Error::Closed, true);
+        return refuse_lost(alloc, client, out);
     }
     write_answer(out, &[log.len().unwrap_or(u64::MAX)], &[])
 }
 
-fn take_read<F: Folder<B> + Drop, B: Blob + Drop, H: Sum, W: Write>(
+fn take_read<F: Folder<B> + Drop, B: Blob + Cause + Drop, H: Sum, W: Write>(
     alloc: Global,
     client: &Client,
     log: &mut SegmentedLog<F, B, H, H>,
@@ -212,12 +229,12 @@ fn take_read<F: Folder<B> + Drop, B: Blob + Drop, H: Sum, W: Write>(
             None => write_found(out, found.end, None),
         },
         Ok(None) => refuse(alloc, client, out, AT_END),
-        Err(error) => refuse_kept(alloc, client, out, &error, false),
+        Err(error) => refuse_kept(alloc, client, out, &error, false, failure_of(log)),
     }
 }
 
 // The place 0, 0 stands for the start of the log, also where segment 0 was dropped.
-fn take_next<F: Folder<B> + Drop, B: Blob + Drop, H: Sum, W: Write>(
+fn take_next<F: Folder<B> + Drop, B: Blob + Cause + Drop, H: Sum, W: Write>(
     alloc: Global,
     client: &Client,
     log: &mut SegmentedLog<F, B, H, H>,
@@ -237,11 +254,11 @@ fn take_next<F: Folder<B> + Drop, B: Blob + Drop, H: Sum, W: Write>(
             write_answer(out, &numbers, bytes.as_ref())
         }
         Ok(None) => refuse(alloc, client, out, AT_END),
-        Err(error) => refuse_kept(alloc, client, out, &error, false),
+        Err(error) => refuse_kept(alloc, client, out, &error, false, failure_of(log)),
     }
 }
 
-fn take_drop<F: Folder<B> + Drop, B: Blob + Drop, H: Sum, W: Write>(
+fn take_drop<F: Folder<B> + Drop, B: Blob + Cause + Drop, H: Sum, W: Write>(
     alloc: Global,
     client: &Client,
     log: &mut SegmentedLog<F, B, H, H>,
@@ -255,7 +272,14 @@ fn take_drop<F: Folder<B> + Drop, B: Blob + Drop, H: Sum, W: Write>(
         Ok(()) => write_answer(out, &[], &[]),
         Err(error) => {
             let is_closing = matches!(error, Error::Layer(_));
-            refuse_kept(alloc, client, out, &error, is_closing)
+            refuse_kept(
+                alloc,
+                client,
+                out,
+                &error,
+                is_closing,
+                log.manifest_blob().cause(),
+            )
         }
     }
 }

@@ -38,6 +38,7 @@ mod log_request;
 mod log_serving;
 mod log_status;
 mod log_taking;
+mod log_told;
 mod look;
 mod map;
 mod opening;
@@ -57,11 +58,9 @@ use crate::cat::cat;
 use crate::check::check;
 use crate::command::{VERSION, command};
 use crate::ending::{end, or_end};
-use crate::log_cat::cat_log;
-use crate::log_check::check_log;
 use crate::log_files::{fail_folder, is_folder};
-use crate::log_map::{Drawn, map_log};
 use crate::log_serving::serve_log;
+use crate::log_told::tell_log;
 use crate::look::read;
 use crate::map::map;
 use crate::request::{Checksum, Request, Task, Told, set_aside_in};
@@ -101,19 +100,10 @@ fn perform<H: Sum>(
 fn perform_on_folder<H: Sum>(rt: &HostRuntime, request: &Request) -> Result<Status, Status> {
     let folder = request.file;
     match request.task {
-        Task::Tell(Told::Check) => check_log::<H>(rt, request),
-        Task::Tell(Told::Map { from, to, long }) => {
-            map_log::<H>(rt, request, Drawn { from, to, long })
-        }
-        Task::Tell(
-            Told::Cat {
-                from: 0,
-                len: u64::MAX,
-            },
-        ) => cat_log::<H>(rt, request),
-        Task::Tell(Told::Cat { .. }) => {
+        Task::Tell(Told::Cat { from, len }) if from > 0 || len < u64::MAX => {
             Err(fail_folder(rt, folder, "--from and --len are of a file's content"))
         }
+        Task::Tell(told) => tell_log::<H>(rt, request, told),
         Task::Serve { .. } => {
             Err(fail_folder(rt, folder, "'pagedd serve-log' serves the log in it"))
         }
