@@ -1,4 +1,5 @@
 // The commands and their options.
+use clap::builder::ValueParser;
 use clap::{Arg, ArgAction, Command, value_parser};
 use std::alloc::{AllocError, Global};
 
@@ -288,24 +289,17 @@ fn option_of<'a>(alloc: Global, row: Row) -> Arg<'a> {
         Takes::Word => option.required(true),
         Takes::Words => option.num_args(0..).action(ArgAction::Append),
         Takes::Nothing => option.long(row.name).action(ArgAction::SetTrue),
-        Takes::Number => option
-            .long(row.name)
-            .value_name("N")
-            .value_parser(value_parser!(u64)),
-        Takes::Size => option
-            .long(row.name)
-            .value_name("N")
-            .value_parser(value_parser!(usize).range(1..=MOST)),
-        Takes::Length => option
-            .long(row.name)
-            .value_name("N")
-            .value_parser(value_parser!(u64).range(1..)),
-        Takes::PageSize => option
-            .long(row.name)
-            .value_name("N")
-            .value_parser(value_parser!(u16).range(1..)),
+        Takes::Number => with_number(option, row.name, value_parser!(u64)),
+        Takes::Size => with_number(option, row.name, value_parser!(usize).range(1..=MOST)),
+        Takes::Length => with_number(option, row.name, value_parser!(u64).range(1..)),
+        Takes::PageSize => with_number(option, row.name, value_parser!(u16).range(1..)),
         Takes::Checksum => option
             .long(row.name)
             .value_parser(["add", "crc32c"].as_slice()),
     }
+}
+
+// The option with this name, which a number follows.
+fn with_number<'a>(option: Arg<'a>, name: &'a str, number: ValueParser<'a>) -> Arg<'a> {
+    option.long(name).value_name("N").value_parser(number)
 }
