@@ -132,11 +132,11 @@ class Disk:
     def meant(self, path):
         """What a path means: a file's name, the folder itself, or the one above it."""
         path = path.decode(errors="replace").rstrip("/")
-        above, name = os.path.split(self.folder)
-        if path in (self.folder, above):
-            return "the folder" if path == self.folder else "the folder above"
-        above, name = os.path.split(path)
-        return name if above == self.folder else None
+        if path == self.folder:
+            return "the folder"
+        if path == os.path.dirname(self.folder):
+            return "the folder above"
+        return os.path.basename(path) if os.path.dirname(path) == self.folder else None
 
     def take(self, name, number, words, texts, result):
         """Takes a call. Answers a line about it if it changed anything, or made it durable."""
@@ -327,8 +327,7 @@ def compare(due, log):
     for number, ((at, data), (place, other)) in enumerate(zip(wanted, found), gone):
         if data != other or at not in (None, place):
             raise Wrong(f"record {number} at {place} has {other.hex()}, and should be {data.hex()}, at {at}")
-    if not due.committed <= max(gone + len(found), due.committed if gone >= due.committed else 0) \
-            or len(found) > len(wanted):
+    if gone + len(found) < due.committed or len(found) > len(wanted):
         raise Wrong(f"{len(found)} records from {gone} on; {due.committed} were committed, and {due.sent} sent")
     return found, dropped
 
