@@ -77,6 +77,10 @@ class Wrong(Exception):
     """Something isn't as it is to be."""
 
 
+# How a program shows that it doesn't do what it is to.
+FAILURES = (Wrong, Refusal, EOFError, struct.error)
+
+
 def unhex(text):
     return bytes.fromhex(text.replace("\\x", ""))
 
@@ -132,11 +136,11 @@ class Disk:
     def meant(self, path):
         """What a path means: a file's name, the folder itself, or the one above it."""
         path = path.decode(errors="replace").rstrip("/")
-        above, name = os.path.split(self.folder)
-        if path in (self.folder, above):
-            return "the folder" if path == self.folder else "the folder above"
-        above, name = os.path.split(path)
-        return name if above == self.folder else None
+        if path == self.folder:
+            return "the folder"
+        if path == os.path.dirname(self.folder):
+            return "the folder above"
+        return os.path.basename(path) if os.path.dirname(path) == self.folder else None
 
     def take(self, name, number, words, texts, result):
         """Takes a call. Answers a line about it if it changed anything, or made it durable."""
@@ -327,8 +331,7 @@ def compare(due, log):
     for number, ((at, data), (place, other)) in enumerate(zip(wanted, found), gone):
         if data != other or at not in (None, place):
             raise Wrong(f"record {number} at {place} has {other.hex()}, and should be {data.hex()}, at {at}")
-    if not due.committed <= max(gone + len(found), due.committed if gone >= due.committed else 0) \
-            or len(found) > len(wanted):
+    if gone + len(found) < due.committed or len(found) > len(wanted):
         raise Wrong(f"{len(found)} records from {gone} on; {due.committed} were committed, and {due.sent} sent")
     return found, dropped
 
@@ -425,13 +428,28 @@ def go_on(program, folder, shape, found, dropped, rng):
     return len(left)
 
 
+def keep(moments, at, files, error):
+    """Keeps an image that doesn't pass, and the calls before it; says so, and ends the script."""
+    why = f"{type(error).__name__}: {error}"
+    kept = tempfile.mkdtemp(prefix="log-tear-")
+    place_in(os.path.join(kept, "image"), files)
+    due = moments[at].due
+    with open(os.path.join(kept, "calls"), "w", encoding="ascii") as file:
+        file.writelines(f"{moment.call}\n" for moment in moments[:at + 1])
+    with open(os.path.join(kept, "records"), "w", encoding="ascii") as file:
+        file.write(f"{due.sent} sent, {due.committed} committed; dropped before {due.dropped}, or {due.tried}\n")
+        file.writelines(f"{place} {data.hex()}\n" for place, data in due.records[:due.sent])
+    sys.exit(f"NOT SO after call {at} ({moments[at].call[:80]}): {why}\nthe image and the calls are in {kept}")
+
+
 class Run:
     """Several sessions of a log, and each moment of them."""
 
     def __init__(self, program, room, shape, rng):
         self.program, self.shape, self.rng = program, shape, rng
         self.folder, self.trace = os.path.join(room, "log"), os.path.join(room, "trace")
-        self.disk, self.moments = Disk(self.folder), []
+        # (what the folder had before this session)
+        self.disk, self.moments, self.files = Disk(self.folder), [], None
         due = Due([], 0, 0, 0, 0)
         for _ in range(SESSIONS):
             due = self.between(self.session(due, self.rng.randrange(REQUESTS)))
@@ -441,6 +459,13 @@ class Run:
     def session(self, due, requests):
         """Plays a session of a log of which this was asked before, and answers its moments."""
         self.moments.append(self.disk.moment("a session begins", due))
+        try:
+            return self.played(due, requests)
+        except FAILURES as error:
+            keep(self.moments, len(self.moments) - 1, self.files, error)
+
+    def played(self, due, requests):
+        """Plays a session under strace."""
         log = Traced(self.program, self.folder, self.trace, options(self.shape))
         found, dropped = compare(due, log)
         asked = Asked(found, dropped)
@@ -475,29 +500,18 @@ class Run:
             files = newest(moment)
             self.disk.back(moment)
             self.disk.durable = self.disk.there
+        self.files = files
         place_in(self.folder, files)
         return moment.due
 
     def opening(self, files, due):
         """Opens the log of an image, and answers which of the moments may be torn."""
         self.disk.hold(files)
+        self.files = files
         place_in(self.folder, files)
         begun = len(self.moments)
         self.session(due, 0)
         return [at for at in range(begun, len(self.moments)) if not is_settled(self.moments[at])]
-
-
-def keep(moments, at, files, why):
-    """Keeps an image that doesn't pass, and the calls before it; says so, and ends the script."""
-    kept = tempfile.mkdtemp(prefix="log-tear-")
-    place_in(os.path.join(kept, "image"), files)
-    due = moments[at].due
-    with open(os.path.join(kept, "calls"), "w", encoding="ascii") as file:
-        file.writelines(f"{moment.call}\n" for moment in moments[:at + 1])
-    with open(os.path.join(kept, "records"), "w", encoding="ascii") as file:
-        file.write(f"{due.sent} sent, {due.committed} committed; dropped before {due.dropped}, or {due.tried}\n")
-        file.writelines(f"{place} {data.hex()}\n" for place, data in due.records[:due.sent])
-    sys.exit(f"NOT SO after call {at} ({moments[at].call[:80]}): {why}\nthe image and the calls are in {kept}")
 
 
 class Trials:
@@ -527,8 +541,8 @@ class Trials:
             if goes_on:
                 self.left += go_on(self.program, self.folder, run.shape, found, dropped, self.rng) > 0
             self.most = max(self.most, listed(files.get("manifest", b""), run.shape.page)[1] + 1 if files else 0)
-        except (Wrong, Refusal, EOFError, struct.error) as error:
-            keep(run.moments, at, files, f"{type(error).__name__}: {error}")
+        except FAILURES as error:
+            keep(run.moments, at, files, error)
         self.ways += ways
         self.images += 1
         self.copies += copies
