@@ -31,6 +31,9 @@ pub fn serve_log<H: Sum>(rt: &HostRuntime, request: &Request) -> Result<Status, 
     if !is_folder(rt, folder) {
         make_folder(rt, request)?;
     }
+    if !request.read_only {
+        keep_name(rt, folder)?;
+    }
     let given_up = guard_log::<H>(rt, request)?;
     if request.read_only {
         let copy = copy_of(rt, folder)?;
@@ -51,15 +54,22 @@ fn make_folder(rt: &HostRuntime, request: &Request) -> Result<(), Status> {
     if request.read_only {
         return Err(fail(rt, folder, "there is no such folder"));
     }
-    match make_durable(rt, folder) {
+    match fs::create_dir(rt, folder) {
         Ok(()) => Ok(()),
         Err(error) => Err(fail(rt, folder, error)),
     }
 }
 
-// Makes a folder, and its name durable.
-fn make_durable(rt: &HostRuntime, path: &str) -> io::Result<()> {
-    fs::create_dir(rt, path)?;
+// Makes the folder's name durable, each time: whoever made it may have ended before that was done.
+fn keep_name(rt: &HostRuntime, folder: &str) -> Result<(), Status> {
+    match sync_above(rt, folder) {
+        Ok(()) => Ok(()),
+        Err(error) => Err(fail(rt, folder, error)),
+    }
+}
+
+// Makes the names durable in the folder above a path.
+fn sync_above(rt: &HostRuntime, path: &str) -> io::Result<()> {
     let mut above: PathBuf = fs::canonicalize(rt, path)?;
     above.pop();
     File::open(rt, above.as_str())?.sync_all()

@@ -1,5 +1,5 @@
 // Dropping the oldest segments.
-ghost use Rattle.std.specs.Prelude.{◌≡◌, IfOk};
+ghost use Rattle.std.specs.Prelude.{IfOk};
 ghost use Rattle.segments.specs.Log.{AsksOfOlder, EndsSynced, IsLog, LogDropGoes, StartFromGoes};
 ghost use Rattle.segments.specs.Log.{Tries};
 ghost use Rattle.segments.specs.Crash.{DropSurvives};
@@ -57,26 +57,18 @@ impl<F: Folder<B> + Drop, B: Blob + Drop, H: Sum, R: Sum> SegmentedLog<F, B, H, 
     }
 }
 
-// Removes the files of the segments before one, the oldest first, as far down as they are there.
+// Removes the files of the segments before one that are there, the oldest first.
 #[tactic(auto, using(crate::proofs::Removals::asks_none, crate::proofs::Removals::asks_removal, crate::proofs::Removals::asks_sync, crate::proofs::Removals::ends_synced))]
 fn remove_before<F: Folder<B>, B: Blob>(folder: &mut F, first: u64) -> io::Result<()>
     ensures below { AsksOfOlder first (F.asked folder.old) (F.asked folder.new) }
     ensures synced { IfOk result (λ u. EndsSynced (F.asked folder.new)) }
 {
-    let oldest = oldest_before::<F, B>(folder, first)?;
+    let oldest = folder.first()?.unwrap_or(first);
     for number in oldest..first {
-        folder.remove(number)?;
+        // A crash may have left older files than some that are gone.
+        if folder.has(Asked::Segment(number))? {
+            folder.remove(number)?;
+        }
     }
     folder.sync()
-}
-
-// The oldest of the segments that are there without a gap before one.
-fn oldest_before<F: Folder<B>, B: Blob>(folder: &mut F, first: u64) -> io::Result<u64>
-    ensures { F.asked folder.new ≡ F.asked folder.old }
-{
-    let mut oldest = first;
-    while oldest > 0 && folder.has(Asked::Segment(oldest - 1))? {
-        oldest -= 1;
-    }
-    Ok(oldest)
 }

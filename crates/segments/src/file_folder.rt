@@ -103,6 +103,10 @@ impl Folder<FileBlob> for FileFolder {
         self.names.has(file)
     }
 
+    fn first(&mut self) -> io::Result<Option<u64>> {
+        self.names.first()
+    }
+
     fn last_with_bytes(&mut self) -> io::Result<Option<u64>> {
         self.names.last_with_bytes()
     }

@@ -59,6 +59,10 @@ pub trait Folder<B: Blob> {
     fn has(&mut self, file: Asked) -> io::Result<bool>
         ensures asked { asked self.new ≡ asked self.old };
 
+    /// The least number of a segment whose file is there.
+    fn first(&mut self) -> io::Result<Option<u64>>
+        ensures asked { asked self.new ≡ asked self.old };
+
     /// The greatest number of a segment whose file has bytes.
     fn last_with_bytes(&mut self) -> io::Result<Option<u64>>
         ensures asked { asked self.new ≡ asked self.old };

@@ -92,6 +92,10 @@ impl Folder<VecBlob> for FolderCopy {
         self.names.has(file)
     }
 
+    fn first(&mut self) -> io::Result<Option<u64>> {
+        self.names.first()
+    }
+
     fn last_with_bytes(&mut self) -> io::Result<Option<u64>> {
         self.names.last_with_bytes()
     }

@@ -51,6 +51,21 @@ impl Names {
         fs::exists(&self.rt, self.path_of(file)?.as_str())
     }
 
+    /// The least number of a segment whose file is there.
+    pub fn first(&self) -> io::Result<Option<u64>> {
+        let mut first = None;
+        for entry in fs::read_dir(&self.rt, self.path.as_str())? {
+            let Some(number) = number_of(entry?.file_name()) else {
+                continue;
+            };
+            first = match first {
+                Some(least) if least < number => Some(least),
+                _ => Some(number),
+            };
+        }
+        Ok(first)
+    }
+
     /// The greatest number of a segment whose file has bytes.
     pub fn last_with_bytes(&self) -> io::Result<Option<u64>> {
         let mut last = None;
