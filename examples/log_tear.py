@@ -24,9 +24,8 @@ of segments: records within a page and over many, and entries of the manifest ov
 
 It shows that an opening stands such images. It doesn't show that a disk leaves no others: none is made
 where synced bytes or names are gone, or where bytes stand that were never written. What wasn't synced is
-always less than --cut-limit, beyond which a log may be refused. No call of the system fails here. Where the
-program is killed after it made the folder, and before it synced the one above, the folder is taken to
-stay, since no later session syncs that one. An image that doesn't pass is kept, with all calls before it.
+always less than --cut-limit, beyond which a log may be refused. No call of the system fails here. An image
+that doesn't pass is kept, with all calls before it.
 """
 import os
 import re
@@ -403,9 +402,7 @@ def numbers_of(names):
 
 
 def go_on(program, folder, shape, found, dropped, rng):
-    """Appends to a log that was opened after a crash, drops, and opens it again. Answers how many files of segments
-    stay that were dropped before the crash: those below one that is missing."""
-    before = numbers_of(os.listdir(folder))
+    """Appends to a log that was opened after a crash, drops, and opens it again. No file of a dropped segment stays."""
     log = opened(program, folder, shape)
     asked = Asked(found, dropped)
     made = asked.send(4, shape, rng)
@@ -423,9 +420,8 @@ def go_on(program, folder, shape, found, dropped, rng):
     if whole.returncode != 0:
         raise Wrong(f"check says: {whole.stdout.decode()}")
     left = {number for number in numbers_of(os.listdir(folder)) if number < asked.dropped}
-    if any(before.issuperset(range(number, dropped)) for number in left):
+    if left:
         raise Wrong(f"a drop before {asked.dropped} leaves the files of {sorted(left)}")
-    return len(left)
 
 
 def keep(moments, at, files, error):
@@ -499,7 +495,6 @@ class Run:
         else:
             files = newest(moment)
             self.disk.back(moment)
-            self.disk.durable = self.disk.there
         self.files = files
         place_in(self.folder, files)
         return moment.due
@@ -520,7 +515,7 @@ class Trials:
     def __init__(self, program, room, rng):
         self.program, self.rng = program, rng
         self.folder = os.path.join(room, "image")
-        self.ways, self.images, self.most, self.copies, self.left = Counter(), 0, 0, 0, 0
+        self.ways, self.images, self.most, self.copies = Counter(), 0, 0, 0
 
     def run(self, run, count):
         """Tries so many images of a run, and those of some openings."""
@@ -539,7 +534,7 @@ class Trials:
         try:
             found, copies, dropped = hold(self.program, self.folder, run.shape, files, moment.due)
             if goes_on:
-                self.left += go_on(self.program, self.folder, run.shape, found, dropped, self.rng) > 0
+                go_on(self.program, self.folder, run.shape, found, dropped, self.rng)
             self.most = max(self.most, listed(files.get("manifest", b""), run.shape.page)[1] + 1 if files else 0)
         except FAILURES as error:
             keep(run.moments, at, files, error)
@@ -563,8 +558,7 @@ def main():
             shutil.rmtree(run.folder, ignore_errors=True)
     each = ", ".join(f"{trials.ways[how]} by {how}" for how in WAYS)
     print(f"{trials.images} images at {calls} calls, of up to {trials.most} segments; files torn: {each}: nothing"
-          f" committed was lost, and {trials.copies} files are beside that have what was cut; in {trials.left} folders"
-          " files of dropped segments stay, below one that is gone")
+          f" committed was lost, and {trials.copies} files are beside that have what was cut")
 
 
 if __name__ == "__main__":
