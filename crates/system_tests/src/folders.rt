@@ -149,18 +149,23 @@ fn goes_over<F: Folder<B> + Drop, B: Blob + Drop>(
     let [first, second, third] = PLACES;
     let mut place = log.start();
     let is_all = log.len() == Some(3);
-    Ok(is_all
-        && comes_next(log, &mut place, first, b"the first of records")?
-        && comes_next(log, &mut place, second, b"the second of records")?
-        && comes_next(log, &mut place, third, b"the third of records")?
-        && ends(log, &mut place)?)
+    Ok(
+        is_all
+            && comes_next(log, &mut place, first, b"the first of records")?
+            && comes_next(log, &mut place, second, b"the second of records")?
+            && comes_next(log, &mut place, third, b"the third of records")?
+            && ends(log, &mut place)?,
+    )
 }
 
 // Whether a copy of the folder has the three records.
 fn is_copied(rt: &HostRuntime, path: &str) -> io::Result<bool> {
     let folder = FolderCopy::new(rt, path)?;
-    match SegmentedLog::<FolderCopy, VecBlob, Crc32c, Crc32c>::open(rt.alloc(), folder, options(84))
-    {
+    match SegmentedLog::<FolderCopy, VecBlob, Crc32c, Crc32c>::open(
+        rt.alloc(),
+        folder,
+        options(84),
+    ) {
         Ok(log) => Ok(is_gone_over(log)),
         Err(_) => Ok(false),
     }
