@@ -19,6 +19,7 @@ import usage
 from client import APPEND, CLOSE, READ, SIZE, SYNC, Refusal, batch
 from log_client import (APPEND_RECORDS, APPEND_RECORDS_SYNC, AT_END, CLOSED, DAMAGED, DROP_BEFORE, FLUSH, NEXT,
                         NO_RECORDS, NO_SEGMENT, READ_ONLY, SYNC_SIZE, SYSTEM, Log)
+from statuses import contents, put
 
 SMALL = "--segment-size=300"
 MOST = 65535
@@ -69,17 +70,6 @@ def play(program, *words, given=b"", **options):
     """The exit status of a command, its output, and what it said on standard error."""
     ended = subprocess.run([program, *words], input=given, capture_output=True, timeout=120, check=False, **options)
     return ended.returncode, ended.stdout, ended.stderr.decode(errors="replace")
-
-
-def contents(path):
-    with open(path, "rb") as file:
-        return file.read()
-
-
-def put(path, data):
-    with open(path, "wb") as file:
-        file.write(data)
-    return path
 
 
 def segment(folder, number):

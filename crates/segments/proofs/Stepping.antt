@@ -284,7 +284,8 @@ refused_back sum own s m segment (errors.NoSegment n) leaves is =
 refused_back sum own s m segment errors.NumbersExhausted leaves is = absurd is
 
 pub next_refused : (sum own : List ℕ → ℕ) (s m : LogState) (from at place : Place) (e : Error) (result : Result (Option (Place × List ℕ)) Error) → LeavesReading sum own s m
-    → from.segment ≤ at.segment → place ≡ from → IsErrAnd result (λ x. x ≡ e) → LogReadRefused m at.segment e → NextGoes sum own s from place result
-next_refused sum own s m from at place e (Ok r) leaves further same is refused = absurd is
-next_refused sum own s m from at place e (Err x) leaves further same is refused =
-    (same, (at.segment, further, subst (λ y. LogReadRefused s at.segment y) (sym is) (refused_back sum own s m at.segment e leaves refused)))
+    → from.segment ≤ at.segment → StandBetween sum own s [] from at → place ≡ from → IsErrAnd result (λ x. x ≡ e) → LogReadRefused m at.segment e
+    → NextGoes sum own s from place result
+next_refused sum own s m from at place e (Ok r) leaves further so_far same is refused = absurd is
+next_refused sum own s m from at place e (Err x) leaves further so_far same is refused =
+    (same, (at, further, so_far, subst (λ y. LogReadRefused s at.segment y) (sym is) (refused_back sum own s m at.segment e leaves refused)))

@@ -92,14 +92,14 @@ StepGoes sum own s at (Ok (Passed to)) = StandBetween sum own s [] at to × IsBe
 StepGoes sum own s at (Ok End) = IsEnd sum own s at
 StepGoes sum own s at (Err e) = LogReadRefused s at.segment e
 
--- a segment from a place on can't be read
-abbrev pub IsRefusedFrom : LogState → Place → Error → Type 0
-IsRefusedFrom s p e =
-    (segment : ℕ) × (p.segment ≤ segment) × LogReadRefused s segment e
+-- a segment from a place on can't be read, and no record stands before it
+abbrev pub IsRefusedFrom : (sum own : List ℕ → ℕ) → LogState → Place → Error → Type 0
+IsRefusedFrom sum own s p e = (at : Place) × (p.segment ≤ at.segment)
+    × StandBetween sum own s [] p at × LogReadRefused s at.segment e
 
 -- a read of the next record, by its answer; one that is refused leaves the place where it was
 abbrev pub NextGoes : (sum own : List ℕ → ℕ) → LogState → (old new : Place)
     → Result (Option (Place × List ℕ)) Error → Type 0
 NextGoes sum own s old new (Ok None) = StandBetween sum own s [] old new × IsEnd sum own s new
 NextGoes sum own s old new (Ok (Some r)) = IsNextAt sum own s old r.0 new r.1
-NextGoes sum own s old new (Err e) = (new ≡ old) × IsRefusedFrom s old e
+NextGoes sum own s old new (Err e) = (new ≡ old) × IsRefusedFrom sum own s old e

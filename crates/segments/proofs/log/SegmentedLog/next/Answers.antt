@@ -18,7 +18,7 @@ loop-bytes-init g c = record {
 pub returns-in_err-bytes-clause-goes : goal.returns-in_err-bytes-clause-goes
 returns-in_err-bytes-clause-goes g c =
     next_refused g.H.Sum.sum_of g.R.Sum.sum_of c.args.self.now c.loop-bytes.self c.args.place.now c.loop-bytes.at c.loop-bytes.place c.in_err-bytes.field-0.0 c.from_residual.result
-    c.loop-bytes.invariant.leaves c.loop-bytes.invariant.further c.loop-bytes.invariant.same c.from_residual.ensures.1 c.in_err-bytes.ensures.goes
+    c.loop-bytes.invariant.leaves c.loop-bytes.invariant.further c.loop-bytes.invariant.so_far c.loop-bytes.invariant.same c.from_residual.ensures.1 c.in_err-bytes.ensures.goes
 
 pub returns-in_err-bytes-clause-leaves : goal.returns-in_err-bytes-clause-leaves
 returns-in_err-bytes-clause-leaves g c =
