@@ -29,7 +29,7 @@ TURNS = re.compile(r"""
   | \b[Ss]o\ (?:does|do|is|are)\ (?:this|these|that|those)\b
   | \b[Uu]ntold\b
   | \b(?:[Tt]old|[Tt]ells?|[Tt]elling)\b(?!\ (?:to\ [a-z]|otherwise\b))(?!\ (?:\S+\ ){0,4}apart\b)
-    (?!\ (?:\S+\ ){0,4}from\b)
+    (?!\ (?:\S+\ ){1,4}from\b)
   | \b(?:[Oo]wes|[Oo]wed|[Oo]we)\b
   | (?<!\bis\ )(?<!\bare\ )(?<!\bbe\ )(?<!\bwas\ )(?<!\bwere\ )\b[Aa]ll\ the\ same\b
   | (?:^|(?<=[.:;]\ ))[Tt]he\ same\.
