@@ -62,12 +62,13 @@ def prose(path):
     """The lines of a page without its code: each with its number. A row of a table is a paragraph of its own."""
     found, fenced, code, empty = [], False, False, True
     for number, line in enumerate(read(path), 1):
+        line = re.sub(r"^> ?", "", line)
         fence = line.lstrip().startswith("```")
         fenced ^= fence
         code = not fence and line.startswith("    ") and (code or empty)
         if fence or fenced or code:
             line = ""
-        elif re.match(r"\s*(?:[|#>]|[-*] |\d+\. )", line):
+        elif re.match(r"\s*(?:[|#]|[-*] |\d+\. )", line):
             found.append((number, ""))
         found.append((number, line))
         empty = not line.strip()
@@ -89,9 +90,9 @@ def paragraphs(lines):
 def turns(lines):
     """The odd turns of some lines: the line on which each begins, and the words with what stands around them."""
     for text, places in paragraphs(lines):
-        text = re.sub(r"`[^`]*`", lambda name: "`" * len(name[0]), text)
-        for match in TURNS.finditer(text):
-            if match[0].startswith("but") and NOT_BUT.search(text[:match.start()]):
+        plain = re.sub(r"`[^`]*`", lambda name: "`" * len(name[0]), text)
+        for match in TURNS.finditer(plain):
+            if match[0].startswith("but") and NOT_BUT.search(plain[:match.start()]):
                 continue
             yield places[match.start()], text[max(match.start() - 40, 0):match.end() + 40].strip()
 
