@@ -5,8 +5,8 @@ docs/*.md, and the comments of crates/*/{src,specs,proofs}: `//` in .rt and `--`
 backticks aren't looked at, since they are names and labels, nor are blocks of code: lines between fences, or with four
 blanks in front after an empty line. A turn may run over the end of a line. The turns, and what is meant instead:
 
-- "but where", "but of", "but by", "but for", "but at", "but as" for *unless* or *except*. "Not X but Y" with no comma is
-  plain, and so are "But where", which begins a sentence, and "but at most".
+- "but where", "but of", "but by", "but for", "but at", "but as" for *unless* or *except*. "Not X but Y" with no comma
+  is plain, and so are "But where", which begins a sentence, and "but at most".
 - "nor is it", "nor does it": *and it isn't*, or a sentence of its own.
 - "so does this one", "so is that": name what is the same.
 - "tells", "told": a call *reports*, an answer *states*, and a caller *gives*. To tell things apart, to tell one from
