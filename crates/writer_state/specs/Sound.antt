@@ -119,8 +119,8 @@ pub record Consistency (sum : List ℕ → ℕ) (w : WriterState) (d : Disk) : T
   pub stands : IsWrittenOut sum w d
   pub safe : IsSafe sum w (content w d.readable) d
   pub truthful : IsTruthful sum w.page_size (content w d.readable) d
-  -- slots are vouched for: in each whole state a slot verifies over its length, or has a length that
-  -- none can verify over, or is the base's in a page whose payload no operation writes
+  -- slots are vouched for: in each whole state a slot verifies over its length, or has a length
+  -- that none can verify over, or is the base's in a page whose payload no operation writes
   pub vouched : IsVouched sum w.page_size d
   pub good : IsGoodFrom sum w.page_size w.full_pages d
 
