@@ -2,9 +2,9 @@
 //! on to the file.
 //!
 //! [`Mirror`] is proved: for every [`Host`] it keeps each law of [`disk::Blob`], and asks the host
-//! for exactly the writes, resizes and syncs that the blob's life needs, up to the first call of the
-//! host that failed. No clause can say what the file itself holds: [`FileHost`] is short, and is to be
-//! read.
+//! for exactly the writes, resizes and syncs that the blob's life needs, up to the first call of
+//! the host that failed. No clause can say what the file itself holds: [`FileHost`] is short, and
+//! is to be read.
 #![tactic(auto)]
 
 mod host;

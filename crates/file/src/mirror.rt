@@ -25,10 +25,10 @@ use std::marker::Model;
 ///
 /// **After the first call of the host that failed, each later call fails** with its own error: a
 /// write with `WriteFailed`, and so on. A start of a sync still answers `Ok`, and the wait for that
-/// sync fails. The host is asked for nothing more. After a failed write the host may hold any
-/// part of that write, so a later sync that answers `Ok` would call durable what isn't there. After
-/// a failed sync a system may have dropped what it was to write.
-/// [`failure`](Mirror::failure) says why the host failed. Open the host anew then, and recover.
+/// sync fails. The host is asked for nothing more. After a failed write the host may hold any part
+/// of that write, so a later sync that answers `Ok` would call durable what isn't there. After a
+/// failed sync a system may have dropped what it was to write. [`failure`](Mirror::failure) reports
+/// why the host failed. Open the host anew then, and recover.
 #[derive(Drop)]
 pub struct Mirror<S: Host> {
     host: S,
