@@ -1,4 +1,5 @@
--- Each definition of pages, computed on a few bytes. Pages have 4 bytes, and the checksum is the sum of the bytes.
+-- Each definition of pages, computed on a few bytes. Pages have 4 bytes, and the checksum is the
+-- sum of the bytes.
 use Rattle.std.proofs.Common.{◌≡◌, ◌%◌, ◌^◌, ◌+◌, ◌*◌, ◌<◌, ◌≤◌, ℕ, zero, suc, arith, List, [], ◌∷◌, ◌++◌, length, refl, lit<, lit≤}
 use Rattle.std.specs.Prelude.{Some, None, Ok, Err, true, false, replicate, nat_le}
 use Rattle.std.specs.Int.{w16, to_be_bytes}

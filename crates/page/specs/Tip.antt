@@ -96,9 +96,9 @@ abbrev pub page_limit : List ℕ → ℕ → ℕ
 page_limit [] P = 0
 page_limit (byte ∷ bytes) P = P
 
--- how many bytes the next tail has room for, after so many bytes in whole pages, where this many
--- more are needed: as many as are buffered already, within the capacity; at least a page and what
--- is needed; in whole pages
+-- how many bytes the next tail has room for, after `filled` bytes in whole pages, where `needed`
+-- bytes more come: as many as are buffered already, within the capacity; or a page or the needed
+-- bytes, where that is more; rounded up to whole pages
 abbrev pub grown_limit : (filled needed capacity P : ℕ) → ℕ
 grown_limit filled needed capacity P =
     next_multiple_of (max (max needed P) (min filled (capacity - filled))) P

@@ -15,8 +15,8 @@ use std::mem;
 /// A tip: bytes that are appended after a logical offset of a blob, in pages of one size.
 ///
 /// The bytes stand in frozen chunks, each a whole number of pages, and one tail after them that
-/// still grows. An append copies each byte once, and full pages are handed out where they stand.
-/// After an error the buffer is as it was.
+/// still grows. An append copies each byte once. Full pages are handed out where they stand. After
+/// an error the buffer is as it was.
 #[derive(Drop)]
 pub struct Buffer {
     alloc: Global,

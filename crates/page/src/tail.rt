@@ -18,9 +18,9 @@ pub(crate) struct Tail {
 }
 
 /// How many bytes the next tail has room for, where a tip of `filled` bytes in whole pages gets
-/// `needed` bytes more. It is as many as are buffered already, so that the chunks grow with the
-/// tip, though not past the capacity; but at least a page and the needed bytes; in whole pages.
-/// `OutOfMemory` where that passes `usize`.
+/// `needed` bytes more. The answer is as many as are buffered already, so that the chunks grow with
+/// the tip, and not past the capacity. Where a page or the needed bytes are more, it is that. It is
+/// rounded up to whole pages. `OutOfMemory` where the answer passes `usize`.
 pub(crate) fn next_limit(
     filled: usize,
     needed: usize,
