@@ -186,7 +186,8 @@ fixed_in_image d offset bytes image fixed is_image =
     let inside : i < length bytes = slice_get_within bytes i byte is in
     slice_get-take (length bytes) (drop offset image) i inside ∙ slice_get-drop offset image i ∙ fixed_byte d offset bytes image fixed is_image i byte is))
 
--- an operation leaves the bytes at an offset: it ends no earlier than they do, and each byte that it writes there is theirs
+-- an operation leaves the bytes at an offset: it ends no earlier than they do, and each byte that
+-- it writes there is theirs
 pub record Leaves (o : Operation) (offset : ℕ) (bytes : List ℕ) : Type 0 where
   pub reaches : (old : List ℕ) → offset + length bytes ≤ length old → offset + length bytes ≤ length (applied o old)
   pub repeats : (i byte other : ℕ) → slice_get bytes i ≡ Some byte → Writes o (offset + i) other → other ≡ byte

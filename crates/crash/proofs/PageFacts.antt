@@ -1,5 +1,5 @@
--- What the laws of the promise need of pages: where a page stands in the blob's bytes, when a slot verifies, and how
--- the text begins.
+-- What the laws of the promise need of pages: where a page stands in the blob's bytes, when a slot
+-- verifies, and how the text begins.
 use Rattle.std.proofs.Common.{◌≡◌, ◌⊎◌, inl, inr, ℕ, zero, suc, ◌+◌, ◌-◌, ◌*◌, ◌<◌, ◌≤◌, min, ◌==◌, if◌then◌else◌, cond, ◌&&◌, leb, eqb, List, [], ◌∷◌, ◌++◌, length, take, drop, slice_get, Some, refl, sym, ap, ap₂, ◌∙◌, arith, length-append, length-take, length-take-le, length-drop}
 use Rattle.std.proofs.lemmas.Bool.{cases_lt, cases_eq, cond-true, cond-false, eq-eqb, ne_eqb}
 use Rattle.std.proofs.lemmas.Bool.Decides.{nat_tests}
