@@ -203,7 +203,8 @@ one_is_pending = it_is_pending
 pub a_dirty_one_has_none : StartsFit flush_started Dirty → ⊥
 a_dirty_one_has_none fits = one_is_not_settled fits
 
--- where something is unsynced a flush repeats the durable slot, and not the one that was written last
+-- where something is unsynced a flush repeats the durable slot, and not the one that was written
+-- last
 pub it_repeats_ef : IsRepeated Dirty (Some efg_slot) (Some ef_slot) (Some ef_slot)
 it_repeats_ef = refl
 

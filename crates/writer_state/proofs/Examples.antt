@@ -1,5 +1,5 @@
--- Each definition that the promise rests on, at a few bytes. Pages have 4 bytes, and the checksum is their sum, where it
--- isn't said otherwise.
+-- Each definition that the promise rests on, at a few bytes. Pages have 4 bytes, and the checksum
+-- is their sum, where it isn't said otherwise.
 use Rattle.std.proofs.Common.{◌≡◌, ◌⊎◌, inl, inr, ℕ, zero, suc, ◌+◌, ◌*◌, ◌<◌, ◌≤◌, List, [], ◌∷◌, ◌++◌, length, take, drop, refl, sym, ◌∙◌, ap, subst, arith, length-take-le, lit<}
 use Rattle.std.specs.Prelude.{Some, None, Ok, true, false, slice_get, get_or}
 use Rattle.std.proofs.lemmas.Option.{same_Some}
@@ -195,7 +195,8 @@ six_are_guarded = guards_at_rest add_sum 4 durable (omega arith) refl
 
 -- ---- writers
 
--- the writer of that blob once "g" was appended: one full page, a tip of "efg", of which "ef" was written
+-- the writer of that blob once "g" was appended: one full page, a tip of "efg", of which "ef" was
+-- written
 abbrev pub with_g : WriterState
 with_g = record { page_size = 4; id = 0; capacity = 8; full_pages = 1; tip = 101 ∷ 102 ∷ 103 ∷ []; flushed = Some ef_slot; durable = Some ef_slot; sync = Clean }
 
@@ -518,7 +519,8 @@ three_bytes = 1 ∷ 0 ∷ 9 ∷ 0 ∷ 0 ∷ 2 ∷ 0 ∷ 0 ∷ 0 ∷ 1 ∷ 0 ∷ 
 abbrev pub longer : Disk
 longer = and_then (Write 0 three_bytes) (WriteAt 0 16 false) (at_rest two_bytes)
 
--- of that write only the slot's length is done: the second slot has the new length and the old checksum
+-- of that write only the slot's length is done: the second slot has the new length and the old
+-- checksum
 abbrev pub mixed : List ℕ
 mixed = 1 ∷ 0 ∷ 0 ∷ 0 ∷ 0 ∷ 2 ∷ 0 ∷ 0 ∷ 0 ∷ 1 ∷ 0 ∷ 3 ∷ 0 ∷ 0 ∷ 0 ∷ 1 ∷ []
 
@@ -658,7 +660,8 @@ none_is_pending pending = absurd (cc (pending.named))
 pub all_is_covered : WouldKeep add_sum 4 seven 0 7 flush_started
 all_is_covered = record { covers = (1, abcd_page ++ efg_page); named = refl; keeps = keeps_at_rest add_sum 4 (disk_settled_to (1, abcd_page ++ efg_page) flush_started) refl }
 
--- a sync that was started before the flush covers "abcdef" alone: a crash may leave the flush undone
+-- a sync that was started before the flush covers "abcdef" alone: a crash may leave the flush
+-- undone
 pub g_is_not_covered : WouldKeep add_sum 4 seven 0 7 (and_then (Write 16 efg_page) (WriteAt 16 16 false) (starts false durable)) → ⊥
 g_is_not_covered would =
     let d = and_then (Write 16 efg_page) (WriteAt 16 16 false) (starts false durable) in

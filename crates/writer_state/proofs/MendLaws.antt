@@ -1,4 +1,5 @@
--- Emptying a bad slot of the last page that has a value: what it leaves readable, and what each moment of it holds.
+-- Emptying a bad slot of the last page that has a value: what it leaves readable, and what each
+-- moment of it holds.
 use Rattle.std.proofs.Common.{◌≡◌, ◌⊎◌, inl, inr, ℕ, suc, ◌+◌, ◌*◌, ◌/◌, ◌<◌, ◌≤◌, List, [], ◌∷◌, ◌++◌, length, take, drop, slice_get, Some, Result, Bool, true, false, refl, sym, ap, ◌∙◌, subst, arith, mul-le-mul_right, ap₂, length-take, length-take-le, length-drop}
 use Rattle.std.specs.Prelude.{Option, None, not, ◌&&◌, ◌==◌, if◌then◌else◌, nat_le}
 use Rattle.std.proofs.lemmas.Bool.Decides.{nat_tests}

@@ -106,7 +106,8 @@ holds_at_rest sum P R F d some at_rest base few =
 
 -- ---- what is held is kept, and a chance-free image has nothing else
 
--- the text is a beginning of a content where each page's value is the content's, as far as the content reaches
+-- the text is a beginning of a content where each page's value is the content's, as far as the
+-- content reaches
 text_within_reach : (sum : List ℕ → ℕ) (P : ℕ) (ps : List (List ℕ)) (told : List ℕ) → ((q : ℕ) (page : List ℕ) → slice_get ps q ≡ Some page → P ≤ length page)
     → ((p : ℕ) (page : List ℕ) → slice_get ps p ≡ Some page → p * P ≤ length told → take (value_len sum P page) page ≡ take (value_len sum P page) (drop (p * P) told))
     → text_of_pages sum P ps ≡ take (length (text_of_pages sum P ps)) told

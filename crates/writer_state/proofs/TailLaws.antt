@@ -1,4 +1,5 @@
--- Emptying a slot that verifies over nothing leaves what other slots hold, whatever else is unsynced.
+-- Emptying a slot that verifies over nothing leaves what other slots hold, whatever else is
+-- unsynced.
 use Rattle.std.proofs.Common.{◌≡◌, inl, inr, ℕ, suc, ◌+◌, ◌*◌, ◌≤◌, List, [], ◌∷◌, ◌++◌, length, take, drop, refl, ap, ◌∙◌, subst, arith, mul-le-mul_right}
 use Rattle.std.proofs.lemmas.Bool.{cases_order}
 use Rattle.disk.specs.Disk.{Disk, IsImage}
