@@ -82,7 +82,8 @@ small_later k x small =
     bytes_apart x z ∙ ap₂ (λ n s. bit_xor (after_bits n x) s) e (zeros_leave k) ∙ xor_zero_r (after_bits (8 * k) x) in
     subst (λ s. s < 2 ^ 32) same (small_bytes z x small)
 
--- what a row leaves with so many zero bytes and three after it: the bytes of its states, as four messages
+-- what a row leaves with so many zero bytes and three after it: the bytes of its states, as four
+-- messages
 row_flat : (k : ℕ) (v : List ℕ) → Each1 (λ x. x < 256) v
     → after_bits (8 * k + 24) (after_bytes 0 v) ≡ flat (map (state_byte (8 * k) 0) v) (map (state_byte (8 * k) 1) v) (map (state_byte (8 * k) 2) v) (map (state_byte (8 * k) 3) v)
 unfolding flat
