@@ -49,8 +49,8 @@ put_is_held key bytes old new puts = (put_weakly key bytes old new puts).here
 
 -- ---- true pages
 
--- (a) a put of a page of the content, below which the pages are true, makes the pages below the next
--- one true
+-- (a) a put of a page of the content, below which the pages are true, makes the pages below the
+-- next one true
 pub put_true : (id page : ℕ) (content bytes : List ℕ) (old new : CacheState) → bytes ≡ page_of_content old.page_size content page → PutWeakly (id, page) bytes old new
     → IsTrueFor id content page old → IsTrueFor id content (page + 1) new
 put_true id page content bytes old new is puts true_old p held_bytes below there = elim (cases_order p page) [

@@ -1,4 +1,5 @@
--- The chains through a put: a slot joins the used ones, or leaves its chain, and stands then in front of another.
+-- The chains through a put: a slot joins the used ones, or leaves its chain, and stands then in
+-- front of another.
 use Rattle.std.proofs.Common.{◌≡◌, ◌≢◌, ◌⊎◌, inl, inr, ℕ, ◌+◌, ◌<◌, ◌≤◌, List, [], ◌∷◌, ◌++◌, length, refl, sym, ap, ◌∙◌, subst, arith, append_assoc}
 use Rattle.std.specs.Prelude.{slice_index_or, slice_set, Option, Some, None}
 use Rattle.std.proofs.lemmas.Bool.{cases_eq}
