@@ -156,8 +156,7 @@ abbrev pub delivery : (backwards : Bool) → List (ℕ × ℕ) → List ℕ → 
 delivery false ranges readable = enumerate_from 0 (bytes_of ranges readable)
 delivery true ranges readable = reverse (enumerate_from 0 (bytes_of ranges readable))
 
--- the bytes of several ranges; or a range passes the end; or memory was refused, where all are
--- within
+-- the bytes of several ranges; or a range passes the end; or memory was refused for ranges within
 abbrev pub AreRanges : List (ℕ × ℕ) → List ℕ → List (ℕ × List ℕ) → Result (Unit {0}) Error → Type 0
 AreRanges ranges readable out (Ok _) = IsWithin ranges readable × Delivers ranges readable out
 AreRanges ranges readable out (Err BlobInsufficientLength) = IsWithin ranges readable → ⊥

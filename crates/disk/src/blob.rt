@@ -11,7 +11,7 @@ use std::alloc::Global;
 /// How a read is to be done.
 #[derive(Clone, Copy, Debug, Default, PartialEq, Eq)]
 pub struct ReadOptions {
-    /// What is read need not be kept in a cache of the device. It changes no answer.
+    /// What is read need not be kept in a cache of the device. This option changes no answer.
     pub dont_cache: bool,
 }
 
@@ -20,7 +20,7 @@ pub struct ReadOptions {
 pub struct WriteOptions {
     /// The write is durable when it answers `Ok`.
     pub sync: bool,
-    /// What is written need not be kept in a cache of the device. It changes no answer.
+    /// What is written need not be kept in a cache of the device. This option changes no answer.
     pub dont_cache: bool,
 }
 
@@ -74,7 +74,7 @@ pub trait Blob {
 
     /// Starts a read of each of the ranges, an offset and a length in bytes, in one device call.
     /// The answer keeps the bytes of each range, in the order of the ranges and as they were at the
-    /// start. The call itself never fails: the wait reports the error. That is
+    /// start. The call itself never fails: the wait reports an error. It answers
     /// `BlobInsufficientLength` where a range passes the end, `OutOfMemory` only where none does,
     /// and `ReadFailed` where the device failed. For the first two no device was asked.
     fn start_read_many(

@@ -152,11 +152,11 @@ impl MemBlob {
         self.backwards = backwards;
     }
 
-    /// Crashes, and begins a new life with what is left. That is the durable bytes, and after them
-    /// the operations that aren't durable, in order: of a write each byte whose flag is true, and a
-    /// resize if its flag is true. `keep` holds one flag for each byte of a write and one for each
-    /// resize. A missing flag is false. Until something is written, a later crash leaves nothing
-    /// that this one might not have left.
+    /// Crashes, and begins a new life with what is left. That is the durable bytes, once a part of
+    /// each operation that isn't durable is done to them, in order: of a write each byte whose flag
+    /// is true, and a resize if its flag is true. `keep` holds one flag for each byte of a write
+    /// and one for each resize. A missing flag is false. Until something is written, a later crash
+    /// leaves nothing that this one might not have left.
     ///
     /// The only error is `OutOfMemory`, and then nothing changed.
     pub fn crash(&mut self, keep: &[bool]) -> Result<(), Error>
