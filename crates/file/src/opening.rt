@@ -23,7 +23,7 @@ use std::{fs, io};
 ///
 /// Each error says what to do where the system's own words don't:
 /// - `IsADirectory`: the path names a folder. `InvalidInput`: it names a fifo, a socket or a
-///   device. Neither is opened.
+///   device. None of these is opened.
 /// - `WouldBlock`: another process has the file open, or has just replaced it.
 /// - `OutOfMemory`: memory was refused for the file's bytes, or for the runs that the blob will
 ///   write. No byte was read.
