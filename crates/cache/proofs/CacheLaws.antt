@@ -8,11 +8,12 @@ use Rattle.cache.specs.CacheState.{CacheState, cached_page, empty_cache, SameSet
 use Rattle.cache.specs.Pages.{page_of_content, IsTrueFor, IsFresh, CachesOnly}
 use Rattle.cache.proofs.Found.{either_key}
 
--- what one put does to a key: the page is held, or nothing; each other key stays or goes
+-- what one put does to a key: what is held under it stays or goes, or it is the key of the put and
+-- the page is held
 abbrev pub PutKey : ℕ × ℕ → List ℕ → ℕ × ℕ → CacheState → CacheState → Type 0
 PutKey key bytes other old new = (cached_page new other ≡ cached_page old other) ⊎ (cached_page new other ≡ None) ⊎ ((other ≡ key) × (cached_page new other ≡ Some bytes))
 
--- in a relation that forgets which key went, and why
+-- a put, by a relation that leaves out which key went, and why
 pub record PutWeakly (key : ℕ × ℕ) (bytes : List ℕ) (old new : CacheState) : Type 0 where
   pub settings : SameSettings old new
   pub here : cached_page new key ≡ Some bytes
@@ -42,13 +43,14 @@ put_weakly key bytes old new puts = by_held (cached_page old key) refl puts
     by_held None is (inl (room, goes)) = held_weakly key key bytes (length old.pages + 1) old new (inl refl) goes
     by_held None is (inr (full, (gone, there, none, goes))) = held_weakly key gone bytes old.capacity old new (inr none) goes
 
--- the page put last is held
+-- a page that was just put is held
 pub put_is_held : (key : ℕ × ℕ) (bytes : List ℕ) (old new : CacheState) → Puts key bytes old new → cached_page new key ≡ Some bytes
 put_is_held key bytes old new puts = (put_weakly key bytes old new puts).here
 
 -- ---- true pages
 
--- (a) a put of a page of the content keeps the pages true, and makes those below the next one so
+-- (a) a put of a page of the content, below which the pages are true, makes the pages below the
+-- next one true
 pub put_true : (id page : ℕ) (content bytes : List ℕ) (old new : CacheState) → bytes ≡ page_of_content old.page_size content page → PutWeakly (id, page) bytes old new
     → IsTrueFor id content page old → IsTrueFor id content (page + 1) new
 put_true id page content bytes old new is puts true_old p held_bytes below there = elim (cases_order p page) [
@@ -63,7 +65,8 @@ put_true id page content bytes old new is puts true_old p held_bytes below there
   | inr (inr more) ↦ absurd (omega (arith, below, more))
 ]
 
--- (c), (d) a call of another blob, or one that puts only pages from the tip on, keeps them true
+-- (c), (d) a call of another blob, or one that puts only pages from the tip on, keeps the pages of
+-- a blob true
 pub caches_true : (id from : ℕ) (content : List ℕ) (mine : ℕ) (my_content : List ℕ) (tip : ℕ) (old new : CacheState) → CachesOnly id from content old new → (mine ≢ id) ⊎ (tip ≤ from)
     → IsTrueFor mine my_content tip old → IsTrueFor mine my_content tip new
 caches_true id from content mine my_content tip old new caches apart true_old p bytes below there = elim (caches.each (mine, p)) [
@@ -75,7 +78,7 @@ caches_true id from content mine my_content tip old new caches apart true_old p 
   ]
 ]
 
--- a read of this blob keeps them true: it puts pages of the content
+-- a read of this blob keeps its pages true: it puts pages of the content
 pub read_true : (id : ℕ) (content : List ℕ) (tip from : ℕ) (old new : CacheState) → CachesOnly id from content old new → IsTrueFor id content tip old → IsTrueFor id content tip new
 read_true id content tip from old new caches true_old p bytes below there = elim (caches.each (id, p)) [
   | inl stays ↦ true_old p bytes below (sym stays ∙ there) ∙ ap (λ (P : ℕ). page_of_content P content p) (sym caches.settings.page_size)
@@ -83,22 +86,22 @@ read_true id content tip from old new caches true_old p bytes below there = elim
   | inr (inr (same, after, full, now)) ↦ same_Some bytes (page_of_content old.page_size content p) (sym there ∙ now) ∙ ap (λ (P : ℕ). page_of_content P content p) (sym caches.settings.page_size)
 ]
 
--- the content may grow: what is below the tip is the beginning that it was
+-- pages stay true when the content grows: what is below the tip stays as it was
 pub longer_true : (id : ℕ) (content longer : List ℕ) (tip : ℕ) (cache : CacheState) → ((page : ℕ) → page < tip → page_of_content cache.page_size longer page ≡ page_of_content cache.page_size content page)
     → IsTrueFor id content tip cache → IsTrueFor id longer tip cache
 longer_true id content longer tip cache same true_old p bytes below there = true_old p bytes below there ∙ sym (same p below)
 
--- an id that is still to be given holds nothing, so whatever the content
+-- under an id that is still to be given nothing is held, so its pages are true for any content
 pub fresh_true : (content : List ℕ) (tip : ℕ) (cache : CacheState) → IsFresh cache → IsTrueFor cache.ids_given content tip cache
 fresh_true content tip cache fresh p bytes below there = absurd (cc (fresh (cache.ids_given, p) (omega arith), there))
 
 -- ---- calls that put pages of the content
 
--- no call
+-- a call that puts nothing
 pub caches_none : (id from : ℕ) (content : List ℕ) (cache : CacheState) → CachesOnly id from content cache cache
 caches_none id from content cache = record { settings = record { page_size = refl; capacity = refl; ids_given = refl }; each = λ key. inl refl }
 
--- one put
+-- a call that puts one page of the content
 pub caches_put : (id from page : ℕ) (content bytes : List ℕ) (old new : CacheState) → from ≤ page → (page + 1) * old.page_size ≤ length content → bytes ≡ page_of_content old.page_size content page → PutWeakly (id, page) bytes old new → CachesOnly id from content old new
 caches_put id from page content bytes old new after full is puts = record {
   settings = puts.settings;
@@ -110,7 +113,7 @@ caches_put id from page content bytes old new after full is puts = record {
   ];
 }
 
--- one call after another
+-- two calls in turn that put pages of the content
 pub caches_join : (id from : ℕ) (content : List ℕ) (old mid new : CacheState) → CachesOnly id from content old mid → CachesOnly id from content mid new → CachesOnly id from content old new
 caches_join id from content old mid new first second = record {
   settings = record {
@@ -132,7 +135,7 @@ caches_join id from content old mid new first second = record {
 
 -- ---- wrong bodies
 
--- a cache that skips keys that are present
+-- a cache that skips keys that are present doesn't put
 pub never_skips_present : (key : ℕ × ℕ) (was bytes : List ℕ) (cache : CacheState) → cached_page cache key ≡ Some was → was ≢ bytes → Puts key bytes cache cache → ⊥
 never_skips_present key was bytes cache there other puts = by_held (cached_page cache key) there puts
   where
@@ -140,11 +143,11 @@ never_skips_present key was bytes cache there other puts = by_held (cached_page 
     by_held (Some page) is goes = other (same_Some was bytes (sym there ∙ goes.here))
     by_held None is goes = absurd (cc is)
 
--- a cache that holds nothing
+-- a cache that holds nothing doesn't put
 pub never_drops : (key : ℕ × ℕ) (bytes : List ℕ) (old new : CacheState) → cached_page new key ≡ None → Puts key bytes old new → ⊥
 never_drops key bytes old new none puts = absurd (cc (none, put_is_held key bytes old new puts))
 
--- a cache that empties itself before each put
+-- a cache that empties itself before each put doesn't put
 pub never_empties : (key other : ℕ × ℕ) (was bytes : List ℕ) (old new : CacheState) → other ≢ key → cached_page old other ≡ Some was → length old.pages < old.capacity → cached_page new other ≡ None → Puts key bytes old new → ⊥
 never_empties key other was bytes old new apart there room none puts = by_held (cached_page old key) puts
   where
@@ -163,7 +166,7 @@ page_next P page content =
     let offset : page * P + P ≡ (page + 1) * P = omega arith in
     drop-drop P (page * P) content ∙ ap (λ (n : ℕ). drop n content) offset
 
--- the settings stay
+-- puts in a row leave the settings
 pub put_all_settings : (id page count : ℕ) (bytes : List ℕ) (old new : CacheState) → PutsAll id page count bytes old new → SameSettings old new
 put_all_settings id page zero bytes old new same = record { page_size = ap (λ (c : CacheState). c.page_size) same; capacity = ap (λ (c : CacheState). c.capacity) same; ids_given = ap (λ (c : CacheState). c.ids_given) same }
 put_all_settings id page (suc count) bytes old new (mid, first, more) =
@@ -175,7 +178,7 @@ put_all_settings id page (suc count) bytes old new (mid, first, more) =
       ids_given = rest.ids_given ∙ weak.settings.ids_given;
     }
 
--- one page more
+-- puts in a row with one page more
 pub puts_one_more : (id page count : ℕ) (bytes : List ℕ) (old mid new : CacheState) → PutsAll id page count bytes old mid
     → Puts (id, page + count) (take old.page_size (drop (count * old.page_size) bytes)) mid new → PutsAll id page (suc count) bytes old new
 puts_one_more id page zero bytes old mid new same last =
@@ -213,7 +216,7 @@ puts_all_true id page (suc count) content old new (mid, first, more) true_old =
     (puts_all_true id (page + 1) count content mid new rest
     (put_true id page content (page_of_content old.page_size content page) old mid refl weak true_old))
 
--- and all that it does to the cache is that
+-- an append puts pages of the content and does nothing else to the cache
 pub puts_all_caches : (id from page count : ℕ) (content : List ℕ) (old new : CacheState) → from ≤ page → (page + count) * old.page_size ≤ length content
     → PutsAll id page count (drop (page * old.page_size) content) old new → CachesOnly id from content old new
 puts_all_caches id from page zero content old new after within same = subst (λ (c : CacheState). CachesOnly id from content old c) (sym same) (caches_none id from content old)

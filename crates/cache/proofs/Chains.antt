@@ -1,4 +1,4 @@
--- Chains: how one is walked, and what a change of one slot's next one leaves of them.
+-- Chains: how one is walked, and what is left of chains when one slot's next one changes.
 use Rattle.std.proofs.Common.{◌≡◌, ◌≢◌, ◌⊎◌, inl, inr, ℕ, ◌+◌, ◌<◌, ◌≤◌, List, [], ◌∷◌, ◌++◌, length, refl, sym, ap, ◌∙◌, subst, arith, append_assoc, append-nil, length-append, Bool, true, false}
 use Rattle.std.specs.Prelude.{nat_eq, slice_index_or, ◌&&◌, ◌||◌, Option, Some, None}
 use Rattle.std.specs.List.{AllByRecursion, IsDistinct, list_any}
@@ -19,7 +19,7 @@ module _ (nexts : List ℕ) (capacity : ℕ) where
       let tails : xs ≡ ys = chain_once (slice_index_or nexts x 0) xs ys rest (subst (λ (k : ℕ). IsChain nexts capacity (slice_index_or nexts k 0) ys) (sym same) rest_too) in
       cc (same, tails)
 
-  -- from a slot of a chain on the rest of it is one
+  -- from each slot of a chain on, the rest of the chain is a chain
   pub record Rest (s most : ℕ) : Type 0 where
     pub slots : List ℕ
     pub chain : IsChain nexts capacity s slots
@@ -53,7 +53,7 @@ module _ (nexts : List ℕ) (capacity : ℕ) where
   chain_distinct from [] chain = tt
   chain_distinct from (x ∷ xs) chain = IsDistinct-cons nat_eq x xs (all_apart x xs (chain_no_cycle from x xs chain)) (chain_distinct (slice_index_or nexts x 0) xs chain.2)
 
-  -- each of its slots is below the capacity
+  -- each slot of a chain is below the capacity
   chain_below : (from : ℕ) (xs : List ℕ) → IsChain nexts capacity from xs → (q : ℕ) → list_any (nat_eq q) xs ≡ true → q < capacity
   chain_below from [] chain q any = absurd (cc any)
   chain_below from (x ∷ xs) (is, below, rest) q any = elim (cases_eq q x) [
@@ -61,11 +61,11 @@ module _ (nexts : List ℕ) (capacity : ℕ) where
     | inr other ↦ chain_below (slice_index_or nexts x 0) xs rest q (sym (ap (λ (b : Bool). b || list_any (nat_eq q) xs) (ne_eqb q x other)) ∙ any)
   ]
 
-  -- so they are at most as many
+  -- so a chain has at most as many slots as the capacity
   pub chain_few : (from : ℕ) (xs : List ℕ) → IsChain nexts capacity from xs → length xs ≤ capacity
   chain_few from xs chain = length-le_from_distinct_below xs capacity (chain_distinct from xs chain) (chain_below from xs chain)
 
-  -- the slot in the middle of one
+  -- a slot in the middle of a chain is below the capacity
   pub chain_middle : (from : ℕ) (xs : List ℕ) (s : ℕ) (ys : List ℕ) → IsChain nexts capacity from (xs ++ s ∷ ys) → s < capacity
   chain_middle from [] s ys (is, below, rest) = below
   chain_middle from (x ∷ xs) s ys (is, below, rest) = chain_middle (slice_index_or nexts x 0) xs s ys rest
@@ -89,7 +89,7 @@ stands_either (x ∷ xs) ys s (inr later) = elim (stands_either xs ys s later) [
   | inr right ↦ inr right
 ]
 
--- a slot of a chain is in no other place of it
+-- a slot of a chain stands in no other place of it
 pub chain_apart_middle : (nexts : List ℕ) (capacity from : ℕ) (xs : List ℕ) (s : ℕ) (ys : List ℕ) → IsChain nexts capacity from (xs ++ s ∷ ys) → IsAmong (xs ++ ys) s → ⊥
 chain_apart_middle nexts capacity from [] s ys chain stands = chain_no_cycle nexts capacity from s ys chain stands
 chain_apart_middle nexts capacity from (x ∷ xs) s ys chain (inl same) = chain_no_cycle nexts capacity from x (xs ++ s ∷ ys) chain (stands_right xs (s ∷ ys) x (inl (sym same)))
@@ -97,7 +97,8 @@ chain_apart_middle nexts capacity from (x ∷ xs) s ys chain (inr later) = chain
 
 -- ---- a walk
 
--- one that stands at this slot: those that it passed don't hold the key, and the rest is a chain from here
+-- a walk that stands at this slot: the slots that it passed don't hold the key, and the rest is a
+-- chain from this slot on
 pub record Walked (keys : List (ℕ × ℕ)) (nexts : List ℕ) (capacity first : ℕ) (key : ℕ × ℕ) (before : Option ℕ) (slot count : ℕ) : Type 0 where
   pub passed : List ℕ
   pub rest : List ℕ
@@ -111,7 +112,7 @@ none_joined : (keys : List (ℕ × ℕ)) (key : ℕ × ℕ) (xs ys : List ℕ) �
 none_joined keys key [] ys first second = second
 none_joined keys key (x ∷ xs) ys first second = (first.0, none_joined keys key xs ys first.1 second)
 
--- keys that are told apart
+-- keys that the test finds different aren't equal
 pub key_ne : (a b : ℕ × ℕ) → (nat_eq a.0 b.0 && nat_eq a.1 b.1) ≡ false → a ≢ b
 key_ne a b apart same =
     let one : nat_eq b.0 b.0 ≡ true = eq-eqb b.0 b.0 refl in
@@ -131,7 +132,7 @@ module _ (keys : List (ℕ × ℕ)) (nexts : List ℕ) (capacity first : ℕ) (k
   pub walk_begins : HasChain nexts capacity first → Walked keys nexts capacity first key None first 0
   walk_begins has = record { passed = []; rest = has.0; whole = has.1; chain = has.1; missed = tt; last = refl; many = refl }
 
-  -- at the chain's end none holds it
+  -- where the walk comes to the chain's end, no slot of the chain holds the key
   pub walk_ends : (before : Option ℕ) (slot count : ℕ) → Walked keys nexts capacity first key before slot count → capacity ≤ slot → (slots : List ℕ) → IsChain nexts capacity first slots → NoneHolds keys key slots
   walk_ends before slot count w past slots chain = by_rest w.rest w.chain w.whole
     where
@@ -141,7 +142,7 @@ module _ (keys : List (ℕ × ℕ)) (nexts : List ℕ) (capacity first : ℕ) (k
           subst (λ (l : List ℕ). NoneHolds keys key l) same w.missed
       by_rest (x ∷ xs) (is, below, rest) whole = absurd (omega (arith, past, is, below))
 
-  -- nor once as many were passed as there are
+  -- where the walk passed as many slots as there are, no slot of the chain holds the key
   pub walk_passed : (before : Option ℕ) (slot count : ℕ) → Walked keys nexts capacity first key before slot count → capacity ≤ count → (slots : List ℕ) → IsChain nexts capacity first slots → NoneHolds keys key slots
   walk_passed before slot count w many slots chain =
       let few = chain_few nexts capacity first (w.passed ++ w.rest) w.whole in
@@ -151,7 +152,7 @@ module _ (keys : List (ℕ × ℕ)) (nexts : List ℕ) (capacity first : ℕ) (k
       no_more [] chain few = chain
       no_more (x ∷ xs) chain few = absurd (omega (arith, few))
 
-  -- the slot where it stands
+  -- where the walk stands at a slot with the key, that slot is the link
   pub walk_finds : (before : Option ℕ) (slot count : ℕ) → Walked keys nexts capacity first key before slot count → slot < capacity → slice_index_or keys slot (0, 0) ≡ key → (slots : List ℕ) → IsChain nexts capacity first slots
       → IsLink keys key slots (record { before = before; slot = slot })
   walk_finds before slot count w below here slots chain = by_rest w.rest w.chain w.whole
@@ -166,7 +167,7 @@ module _ (keys : List (ℕ × ℕ)) (nexts : List ℕ) (capacity first : ℕ) (k
         holds = here;
       }
 
-  -- one slot further
+  -- the walk goes one slot further
   pub walk_goes : (before : Option ℕ) (slot count : ℕ) → Walked keys nexts capacity first key before slot count → slot < capacity → slice_index_or keys slot (0, 0) ≢ key
       → Walked keys nexts capacity first key (Some slot) (slice_index_or nexts slot 0) (count + 1)
   walk_goes before slot count w below apart = by_rest w.rest w.chain w.whole
@@ -186,7 +187,7 @@ module _ (keys : List (ℕ × ℕ)) (nexts : List ℕ) (capacity first : ℕ) (k
             many = omega (arith, length-append w.passed (slot ∷ []), w.many);
           }
 
--- a slot of a chain doesn't hold a key that none of them holds
+-- where no slot of a chain holds a key, each of them holds another
 pub none_stands : (keys : List (ℕ × ℕ)) (key : ℕ × ℕ) (slots : List ℕ) (s : ℕ) → NoneHolds keys key slots → IsAmong slots s → slice_index_or keys s (0, 0) ≢ key
 none_stands keys key [] s none stands = absurd stands
 none_stands keys key (x ∷ xs) s none (inl same) = λ is. none.0 (ap (λ (k : ℕ). slice_index_or keys k (0, 0)) (sym same) ∙ is)
@@ -202,7 +203,7 @@ module _ (nexts now : List ℕ) (capacity slot : ℕ) (others : (k : ℕ) → k 
       let other : x ≢ slot = λ same. apart (inl (sym same)) in
       (is, below, subst (λ (k : ℕ). IsChain now capacity k xs) (sym (others x other)) (chain_apart (slice_index_or nexts x 0) xs (λ stands. apart (inr stands)) rest))
 
-  -- where the slot's next one is now what that one's was, the next one is out
+  -- where the slot's next one is now the one after that, the old next one is out of the chain
   pub chain_unlinked : (from gone : ℕ) (xs ys : List ℕ) → slice_index_or now slot 0 ≡ slice_index_or nexts gone 0
       → IsChain nexts capacity from (xs ++ slot ∷ gone ∷ ys) → IsChain now capacity from (xs ++ slot ∷ ys)
   chain_unlinked from gone [] ys is (here, below, (there, below_gone, rest)) =

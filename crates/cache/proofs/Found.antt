@@ -1,4 +1,4 @@
--- What the used slots' keys say of the finite map.
+-- What the used slots' keys mean for the finite map.
 use Rattle.std.proofs.Common.{◌≡◌, ◌≢◌, ◌⊎◌, inl, inr, ℕ, zero, suc, ◌+◌, ◌*◌, ◌<◌, ◌≤◌, List, [], ◌∷◌, length, take, drop, refl, sym, ap, ◌∙◌, arith, true, false}
 use Rattle.std.specs.Prelude.{slice_index_or, Some, None}
 use Rattle.std.specs.Map.{lookup}
@@ -29,13 +29,13 @@ either_key (a, p) (b, q) = elim (cases_eq a b) [
   | inr other ↦ inr (λ same. other (ap (λ (k : ℕ × ℕ). k.0) same))
 ]
 
--- as many pages as used slots
+-- the map has as many pages as there are used slots
 pub pages_many : (n P : ℕ) (keys : List (ℕ × ℕ)) (bytes : List ℕ) → n ≤ length keys → length (pages_in n P keys bytes) ≡ n
 pages_many zero P keys bytes within = refl
 pages_many (suc n) P [] bytes within = absurd (omega (arith, within))
 pages_many (suc n) P (k ∷ keys) bytes within = ap (λ (m : ℕ). suc m) (pages_many n P keys (drop P bytes) (omega (arith, within)))
 
--- no slot that is used has the key: nothing is held under it
+-- where no used slot has a key, nothing is held under it
 pub lookup_none : (n P : ℕ) (keys : List (ℕ × ℕ)) (bytes : List ℕ) (key : ℕ × ℕ) → ((s : ℕ) → s < n → slice_index_or keys s (0, 0) ≢ key) → lookup (same_key key) (pages_in n P keys bytes) ≡ None
 lookup_none zero P keys bytes key apart = refl
 lookup_none (suc n) P [] bytes key apart = refl
@@ -44,7 +44,7 @@ lookup_none (suc n) P (k ∷ keys) bytes key apart =
     cond-false (same_key key k) (Some (take P bytes)) rest (same_key_ne key k (apart 0 (omega arith)))
     ∙ lookup_none n P keys (drop P bytes) key (λ s below. apart (suc s) (omega (arith, below)))
 
--- the first that has it holds its page
+-- the first slot that has a key holds its page
 lookup_first : (n P : ℕ) (keys : List (ℕ × ℕ)) (bytes : List ℕ) (key : ℕ × ℕ) (s : ℕ) → s < n → n ≤ length keys → slice_index_or keys s (0, 0) ≡ key → ((u : ℕ) → u < s → slice_index_or keys u (0, 0) ≢ key)
     → lookup (same_key key) (pages_in n P keys bytes) ≡ Some (page_of_slot P bytes s)
 lookup_first zero P keys bytes key s below many here apart = absurd (omega (arith, below))
@@ -59,11 +59,11 @@ lookup_first (suc n) P (k ∷ keys) bytes key (suc s) below many here apart =
     ∙ lookup_first n P keys (drop P bytes) key s (omega (arith, below)) (omega (arith, many)) here (λ u less. apart (suc u) (omega (arith, less)))
     ∙ ap (λ (l : List ℕ). Some (take P l)) (drop-drop (s * P) P bytes ∙ ap (λ (j : ℕ). drop j bytes) further)
 
--- no key stands in two of the first slots
+-- no two of the first slots have the same key
 abbrev pub IsOnce : (n : ℕ) → List (ℕ × ℕ) → Type 0
 IsOnce n keys = (s u : ℕ) → s < n → u < n → slice_index_or keys s (0, 0) ≡ slice_index_or keys u (0, 0) → s ≡ u
 
--- so each that has it holds its page
+-- so each slot that has a key holds its page
 pub lookup_some : (n P : ℕ) (keys : List (ℕ × ℕ)) (bytes : List ℕ) (key : ℕ × ℕ) (s : ℕ) → IsOnce n keys → s < n → n ≤ length keys → slice_index_or keys s (0, 0) ≡ key
     → lookup (same_key key) (pages_in n P keys bytes) ≡ Some (page_of_slot P bytes s)
 lookup_some n P keys bytes key s once below many here =
@@ -102,7 +102,7 @@ pub record Changes (n m P : ℕ) (keys later : List (ℕ × ℕ)) (bytes now : L
   pub keys_stay : (s : ℕ) → s ≢ slot → slice_index_or later s (0, 0) ≡ slice_index_or keys s (0, 0)
   pub pages_stay : (s : ℕ) → s < n → s ≢ slot → page_of_slot P now s ≡ page_of_slot P bytes s
 
--- a slot got a page under a key; the other slots stayed as they were
+-- the map after such a change
 module _ (n m P : ℕ) (keys later : List (ℕ × ℕ)) (bytes now : List ℕ) (slot : ℕ) (key : ℕ × ℕ) (page : List ℕ) (c : Changes n m P keys later bytes now slot key page) where
   pub changes_here : lookup (same_key key) (pages_in m P later now) ≡ Some page
   changes_here = lookup_some m P later now key slot c.later_once c.taken c.later_within c.here ∙ ap (λ (l : List ℕ). Some l) c.page_is
@@ -123,7 +123,7 @@ module _ (n m P : ℕ) (keys later : List (ℕ × ℕ)) (bytes now : List ℕ) (
         ∙ sym (lookup_none n P keys bytes other none)
   ]
 
-  -- and that one is gone
+  -- the slot's old key has no page any more
   pub changes_gone : slot < n → slice_index_or keys slot (0, 0) ≢ key → lookup (same_key (slice_index_or keys slot (0, 0))) (pages_in m P later now) ≡ None
   changes_gone old apart = lookup_none m P later now (slice_index_or keys slot (0, 0)) (λ s below is. elim (cases_eq s slot) [
     | inl same ↦ apart (sym is ∙ ap (λ (k : ℕ). slice_index_or later k (0, 0)) same ∙ c.here)

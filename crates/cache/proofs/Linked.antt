@@ -1,4 +1,5 @@
--- The chains through a put: a slot joins the used ones, or leaves its chain, and stands then in front of another.
+-- The chains through a put: a slot joins the used ones, or leaves its chain, and stands then in
+-- front of another.
 use Rattle.std.proofs.Common.{◌≡◌, ◌≢◌, ◌⊎◌, inl, inr, ℕ, ◌+◌, ◌<◌, ◌≤◌, List, [], ◌∷◌, ◌++◌, length, refl, sym, ap, ◌∙◌, subst, arith, append_assoc}
 use Rattle.std.specs.Prelude.{slice_index_or, slice_set, Option, Some, None}
 use Rattle.std.proofs.lemmas.Bool.{cases_eq}
@@ -9,7 +10,7 @@ use Rattle.cache.proofs.Chains.{none_stands, stands_left, stands_right, stands_e
 
 -- ---- finding
 
--- what a walk through the chain of a key's place says of all used slots
+-- what a walk through the chain of a key's place finds for all used slots
 module _ (keys : List (ℕ × ℕ)) (nexts firsts : List ℕ) (capacity places used : ℕ) (within : used ≤ capacity) (are : AreLinked keys nexts firsts capacity places used capacity) (key : ℕ × ℕ) (home : ℕ) (home_is : place_of places key ≡ home) (below : home < places) where
   pub nowhere : ((slots : List ℕ) → IsChain nexts capacity (slice_index_or firsts home 0) slots → NoneHolds keys key slots) → (s : ℕ) → s < used → slice_index_or keys s (0, 0) ≢ key
   nowhere none s low is =
@@ -54,7 +55,7 @@ module _ (keys : List (ℕ × ℕ)) (nexts firsts : List ℕ) (capacity places u
   unlinked_once : (s u : ℕ) → s < used → u < used → s ≢ slot → u ≢ slot → slice_index_or keys s (0, 0) ≡ slice_index_or keys u (0, 0) → s ≡ u
   unlinked_once s u low_s low_u apart apart_too same = are.once s u low_s low_u (λ is. omega (arith, is, low_s, within)) (λ is. omega (arith, is, low_u, within)) same
 
-  -- a chain that hasn't the slot is one without it
+  -- a chain of a place where the slot doesn't stand is one without the slot
   without : (now : List ℕ) (place from : ℕ) → place ≢ home → ChainOf (IsAt keys used capacity places place) now capacity from → ChainOf (IsAt keys used slot places place) now capacity from
   without now place from apart chain = record {
     slots = chain.slots;
@@ -63,7 +64,7 @@ module _ (keys : List (ℕ × ℕ)) (nexts firsts : List ℕ) (capacity places u
     all = λ s at. chain.all s (at.0, (λ same. omega (arith, same, at.0, within)), at.2);
   }
 
-  -- the chain from which it is taken
+  -- the chain from which the slot is taken
   taken : (now : List ℕ) (from : ℕ) (front back : List ℕ) → (are.chains home below).slots ≡ front ++ slot ∷ back → IsChain now capacity from (front ++ back) → ChainOf (IsAt keys used slot places home) now capacity from
   taken now from front back is chain =
       let whole = are.chains home below in
@@ -84,7 +85,7 @@ module _ (keys : List (ℕ × ℕ)) (nexts firsts : List ℕ) (capacity places u
       less s other (inr (inl same)) = absurd (other same)
       less s other (inr (inr right)) = stands_right front back s right
 
-  -- it was the first one
+  -- the slot was the first of its chain
   unlinked_first : (back : List ℕ) → length firsts ≡ places → (are.chains home below).slots ≡ slot ∷ back → AreLinked keys nexts (slice_set firsts home (slice_index_or nexts slot 0)) capacity places used slot
   unlinked_first back size is = record {
     chains = λ place low_place. elim (cases_eq place home) [
@@ -102,7 +103,7 @@ module _ (keys : List (ℕ × ℕ)) (nexts firsts : List ℕ) (capacity places u
           let whole : IsChain nexts capacity (slice_index_or firsts home 0) (slot ∷ back) = subst (λ (l : List ℕ). IsChain nexts capacity (slice_index_or firsts home 0) l) is (are.chains home below).chain in
           taken nexts (slice_index_or now home 0) [] back is (subst (λ (k : ℕ). IsChain nexts capacity k back) (sym (get_or-set_same firsts home (slice_index_or nexts slot 0) 0 (omega (arith, size, below)))) whole.2)
 
-  -- it stood after this one
+  -- the slot stood after this one in its chain
   unlinked_after : (before : ℕ) (front back : List ℕ) → length nexts ≡ capacity → (are.chains home below).slots ≡ (front ++ before ∷ []) ++ slot ∷ back → AreLinked keys (slice_set nexts before (slice_index_or nexts slot 0)) firsts capacity places used slot
   unlinked_after before front back size is = record {
     chains = λ place low_place. elim (cases_eq place home) [
@@ -170,7 +171,7 @@ module _ (keys : List (ℕ × ℕ)) (nexts firsts : List ℕ) (capacity places u
         let front_is : (front : List ℕ) × (l.front ≡ front ++ before ∷ []) = subst (λ (o : Option ℕ). IsLast l.front o) is l.before in
         unlinked_after before front_is.0 l.back size (slots_are (front_is.0 ++ before ∷ []) front_is.1)
 
-    -- and the one before it is a slot too
+    -- the slot before it in the chain is below the capacity
     pub before_below : (before : ℕ) → link.before ≡ Some before → before < capacity
     before_below before is =
         let front_is : (front : List ℕ) × (l.front ≡ front ++ before ∷ []) = subst (λ (o : Option ℕ). IsLast l.front o) is l.before in
@@ -194,7 +195,7 @@ module _ (keys : List (ℕ × ℕ)) (nexts firsts : List ℕ) (capacity places u
       let chain = are.chains place low_place in
       chain_apart nexts (slice_set nexts slot (slice_index_or firsts home 0)) capacity slot others (slice_index_or firsts place 0) chain.slots (λ stands. (chain.only slot stands).1 refl) chain.chain
 
-  -- what stood in a chain has its place still
+  -- each other slot stands at the place where it stood
   still : (place s : ℕ) → IsAt keys used slot places place s → IsAt (slice_set keys slot key) used capacity places place s
   still place s at = (at.0, (λ same. omega (arith, same, at.0, within)), ap (place_of places) (key_other s at.1) ∙ at.2)
 

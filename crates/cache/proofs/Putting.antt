@@ -13,7 +13,7 @@ use Rattle.cache.proofs.Found.{Changes, changes_here, changes_others, changes_go
 use Rattle.cache.proofs.Table.{held_none, held_page, keys_once}
 use Rattle.cache.proofs.Written.{page_written, page_stays, pages_long}
 
--- other bytes, as many, in as much room
+-- a table stays well with other bytes, as many, in as much room
 pub rewritten : (t : Slots) (but : ℕ) (bytes : Vec ℕ Global) → AreSlotsBut but t → length bytes.items ≡ length t.bytes.items → vec_capacity bytes ≡ vec_capacity t.bytes → AreSlotsBut but (record t { bytes = bytes })
 rewritten t but bytes are size room = record {
   some = are.some;
@@ -39,7 +39,7 @@ module _ (t : Slots) (slot : ℕ) (page : List ℕ) (new : Slots) (but : ℕ) (a
   pub overwritten_others : (s : ℕ) → s ≢ slot → page_of_slot (non_zero_u16_get t.page_size) new.bytes.items s ≡ page_of_slot (non_zero_u16_get t.page_size) t.bytes.items s
   overwritten_others s other = ap (λ (b : List ℕ). page_of_slot (non_zero_u16_get t.page_size) b s) over.written ∙ page_stays (non_zero_u16_get t.page_size) t.used slot page t.bytes.items size low are.bytes s other
 
--- the hand goes on
+-- a table stays well when the hand moves on
 pub handed : (t : Slots) (but hand : ℕ) → AreSlotsBut but t → hand < length t.keys.items → AreSlotsBut but (record t { hand = hand })
 handed t but hand are low = record {
   some = are.some;
@@ -53,7 +53,7 @@ handed t but hand are low = record {
   linked = are.linked;
 }
 
--- a slot was taken out of its chain, the hand went on, and the page was written over the slot's
+-- a slot was taken out of its chain, the hand moved on, and the page was written over the slot's
 pub taken_over : (old mid turned new : Slots) (slot hand : ℕ) (page : List ℕ) → AreSlotsBut slot mid → Unlinked old mid → hand < length mid.keys.items → turned ≡ record mid { hand = hand } → slot < old.used
     → length page ≡ non_zero_u16_get old.page_size → Overwritten slot page turned new → Taken slot page old new
 taken_over old mid turned new slot hand page are unlinked low_hand turned_is low size over =
@@ -104,7 +104,7 @@ module _ (ids : ℕ) (old new : Slots) (slot : ℕ) (key : ℕ × ℕ) (page : L
 old_many : (t : Slots) → AreSlots t → length (cached_pages t) ≡ t.used
 old_many t are = pages_many t.used (non_zero_u16_get t.page_size) t.keys.items t.bytes.items are.within
 
--- a page that is held was written over
+-- a put where a page is held under the key: that page was written over
 pub puts_over : (ids : ℕ) (old new : Slots) (slot : ℕ) (key : ℕ × ℕ) (page : List ℕ) → AreSlots old → HoldsKey old key slot → length page ≡ non_zero_u16_get old.page_size → Overwritten slot page old new
     → Puts key page (cache_of ids old) (cache_of ids new)
 puts_over ids old new slot key page are holds size over =
@@ -138,7 +138,7 @@ puts_over ids old new slot key page are holds size over =
       pages_stay = λ s low other. overwritten_others old slot page new (length old.keys.items) are holds.0 size over s other;
     }
 
--- a slot was taken for the page, and got the key
+-- a put where none is held: a slot was taken for the page, and got the key
 module _ (ids : ℕ) (old mid new : Slots) (slot : ℕ) (key : ℕ × ℕ) (page : List ℕ) (are : AreSlots old) (nowhere : IsNowhere old key) (taken : Taken slot page old mid) (linked : Linked slot key mid new) (are_new : AreSlots new) (low : slot < new.used) (stay : (s : ℕ) → s < old.used → s < new.used) (was : (s : ℕ) → s < new.used → s ≢ slot → s < old.used) where
   keys_old : mid.keys.items ≡ old.keys.items
   keys_old = ap (λ (v : Vec (ℕ × ℕ) Global). v.items) taken.keys
@@ -170,14 +170,14 @@ module _ (ids : ℕ) (old mid new : Slots) (slot : ℕ) (key : ℕ × ℕ) (page
     pages_stay = λ s below other. ap (λ (b : List ℕ). page_of_slot (non_zero_u16_get old.page_size) b s) bytes_new ∙ taken.others s below other;
   }
 
-  -- a free one
+  -- the slot was a free one
   pub puts_free : slot ≡ old.used → new.used ≡ old.used + 1 → Puts key page (cache_of ids old) (cache_of ids new)
   puts_free slot_is used_is =
       let room : length (cached_pages old) < length old.keys.items = omega (arith, old_many old are, slot_is, low, are_new.within, as_many) in
       subst (λ (o : Option (List ℕ)). PutGoes o key page (cache_of ids old) (cache_of ids new)) (sym (held_none old key nowhere))
       (inl (room, now_held ids old new slot key page size_new as_many changed key (length (cached_pages old) + 1) (λ below. absurd (omega (arith, below, slot_is))) (omega (arith, used_is, old_many old are))))
 
-  -- or one whose page went for it
+  -- the slot was one whose page went for the new one
   pub puts_used : slot < old.used → old.used ≡ length old.keys.items → new.used ≡ old.used → Puts key page (cache_of ids old) (cache_of ids new)
   puts_used below full used_is =
       let gone : ℕ × ℕ = key_at old slot in

@@ -14,7 +14,7 @@ use Rattle.cache.specs.declared.piece.Piece.{Piece}
 use Rattle.std.proofs.lemmas.List.{take_more, take-append-drop}
 use Rattle.disk.proofs.Lists.{joined_element, taken_element, slice_get-drop}
 
--- an offset of the same page
+-- an offset and one a few bytes later, in the same page
 same_page : (P a j : ℕ) → 0 < P → a % P + j < P → ((a + j) / P ≡ a / P) × ((a + j) % P ≡ a % P + j)
 same_page P a j some low =
     let split : a + j ≡ a % P + j + a / P * P = omega (arith, mod-add-div' a P) in (
@@ -75,7 +75,8 @@ copied_more cache id offset done len page before so_far there some fits size wit
     mid : List ℕ
     mid = take len (drop skip page)
 
--- how much of a read has come: its bytes are those of pages that are held, the rest is as it was
+-- how far a read has come: its first bytes are those of pages that are held, and the rest of the
+-- buffer is as it was
 pub record HasCome (cache : CacheState) (id offset most done : ℕ) (before now : List ℕ) : Type 0 where
   pub within : done ≤ most
   pub size : length now ≡ length before
@@ -83,7 +84,7 @@ pub record HasCome (cache : CacheState) (id offset most done : ℕ) (before now 
       → HoldsByte cache id (offset + i) byte
   pub rest : drop done now ≡ drop done before
 
--- the length stays
+-- bytes put within a buffer leave its length
 pub put_length : (offset : ℕ) (bytes buf : List ℕ) → offset + length bytes ≤ length buf
     → length (put_at offset bytes buf) ≡ length buf
 put_length offset bytes buf fits =
@@ -104,7 +105,7 @@ put_rest offset bytes buf fits =
     ap (λ n. drop n (put_at offset bytes buf)) (sym front)
     ∙ drop-append_seam (take offset buf ++ bytes) (drop (offset + length bytes) buf)
 
--- one page more of it
+-- a read that has come one page further
 pub come_more : (cache : CacheState) (id offset most done len p skip : ℕ)
     (page before now after : List ℕ) → HasCome cache id offset most done before now
     → p ≡ (offset + done) / cache.page_size → skip ≡ (offset + done) % cache.page_size
@@ -151,7 +152,7 @@ left_one cache id piece = by_held (cached_page cache (id, piece.page)) refl
     by_held None is = rw is (refl)
     by_held (Some page) is = rw is (refl)
 
--- one piece more
+-- the pieces left of the first ones, with one piece more
 pub left_more : (cache : CacheState) (id : ℕ) (pieces : List Piece) (i : ℕ) (d : Piece)
     → i < length pieces
     → pieces_left cache id (take (i + 1) pieces)
@@ -178,7 +179,7 @@ with_more cache id pieces i d buf below =
     ap (λ l. with_pieces cache id l buf) (take_more pieces i d below)
     ∙ with_joined cache id (take i pieces) (slice_index_or pieces i d) buf
 
--- a piece whose page is held
+-- a piece whose page is held is copied, and isn't left
 pub held_step : (cache : CacheState) (id : ℕ) (pieces left : List Piece) (i : ℕ) (d : Piece)
     (page buf now after : List ℕ) → i < length pieces
     → cached_page cache (id, (slice_index_or pieces i d).page) ≡ Some page
@@ -197,7 +198,7 @@ held_step cache id pieces left i d page buf now after below there is_left is_now
           ∙ ap (λ o. with_piece o piece (with_pieces cache id (take i pieces) buf)) there),
     )
 
--- a piece whose page isn't
+-- a piece whose page isn't held is left
 pub missing_step : (cache : CacheState) (id : ℕ) (pieces left more : List Piece) (i : ℕ) (d : Piece)
     (buf now : List ℕ) → i < length pieces
     → cached_page cache (id, (slice_index_or pieces i d).page) ≡ None
@@ -216,7 +217,7 @@ missing_step cache id pieces left more i d buf now below there is_left is_now is
           ∙ ap (λ o. with_piece o piece (with_pieces cache id (take i pieces) buf)) there),
     )
 
--- a piece of an absent page among the first of them is among all of them
+-- a piece of an absent page among the first pieces is among all of them
 pub some_left : (cache : CacheState) (id : ℕ) (pieces left : List Piece) (piece : Piece) (n : ℕ)
     → left ++ piece ∷ [] ≡ pieces_left cache id (take n pieces) → pieces_left cache id pieces ≢ []
 some_left cache id pieces left piece n first = λ none.
@@ -227,7 +228,7 @@ some_left cache id pieces left piece n first = λ none.
     let both = length-append (pieces_left cache id (take n pieces)) (pieces_left cache id (drop n pieces)) in
     absurd (omega (arith, long, both, ap length first, ap length all, ap length none))
 
--- then memory may be refused
+-- where a piece's page is absent, memory may be refused
 pub unread : (cache : CacheState) (id : ℕ) (pieces : List Piece) (old new : List ℕ) (result : Result (Vec Piece Global) Error) → IsErrAnd result (λ e. e ≡ OutOfMemory)
     → length new ≡ length old → pieces_left cache id pieces ≢ [] → ReadsPieces cache id pieces old new result
 unread cache id pieces old new (Ok left) is long some = absurd is

@@ -14,11 +14,11 @@ use Rattle.cache.proofs.Found.{IsOnce, lookup_none, lookup_some}
 pub keys_once : (t : Slots) → AreSlots t → IsOnce t.used t.keys.items
 keys_once t are s u low low_too same = are.linked.once s u low low_too (λ is. omega (arith, is, low, are.within)) (λ is. omega (arith, is, low_too, are.within)) same
 
--- a slot with the key holds the page that is held
+-- a slot with a key holds the page that is held under it
 pub held_page : (t : Slots) (key : ℕ × ℕ) (slot : ℕ) → AreSlots t → HoldsKey t key slot → lookup (same_key key) (cached_pages t) ≡ Some (page_of_slot (non_zero_u16_get t.page_size) t.bytes.items slot)
 held_page t key slot are holds = lookup_some t.used (non_zero_u16_get t.page_size) t.keys.items t.bytes.items key slot (keys_once t are) holds.0 are.within holds.1
 
--- and where none has it, none is
+-- where no slot has a key, no page is held under it
 pub held_none : (t : Slots) (key : ℕ × ℕ) → IsNowhere t key → lookup (same_key key) (cached_pages t) ≡ None
 held_none t key nowhere = lookup_none t.used (non_zero_u16_get t.page_size) t.keys.items t.bytes.items key nowhere
 

@@ -27,7 +27,7 @@ same_key a b = nat_eq a.0 b.0 && nat_eq a.1 b.1
 abbrev pub cached_page : CacheState → ℕ × ℕ → Option (List ℕ)
 cached_page cache key = lookup (same_key key) cache.pages
 
--- the ids given before this one is next
+-- how many ids were given, by the next one: all 2^64 of them where there is no next one
 abbrev pub ids_given : Option ℕ → ℕ
 ids_given None = 2 ^ 64
 ids_given (Some next) = next
@@ -48,7 +48,7 @@ empty_cache page_size capacity = record {
 
 -- ---- a page is put
 
--- one cache's settings are the other's
+-- two caches have the same page size and capacity, and have given as many ids
 pub record SameSettings (old new : CacheState) : Type 0 where
   pub page_size : new.page_size ≡ old.page_size
   pub capacity : new.capacity ≡ old.capacity
@@ -59,7 +59,8 @@ abbrev pub OthersStay : ℕ × ℕ → ℕ × ℕ → CacheState → CacheState 
 OthersStay key gone old new =
     (other : ℕ × ℕ) → other ≢ key → other ≢ gone → cached_page new other ≡ cached_page old other
 
--- the page is held now, one key alone may be gone for it, and so many are held
+-- the page is held now, no key except `gone` may have lost its page for it, and so many pages are
+-- held
 pub record IsHeld (key gone : ℕ × ℕ) (bytes : List ℕ) (many : ℕ) (old new : CacheState)
     : Type 0 where
   pub settings : SameSettings old new
@@ -67,7 +68,7 @@ pub record IsHeld (key gone : ℕ × ℕ) (bytes : List ℕ) (many : ℕ) (old n
   pub others : OthersStay key gone old new
   pub count : length new.pages ≡ many
 
--- in a full cache one held key goes, and no second one
+-- in a full cache the page of one key goes for the new one, and no second page
 abbrev pub Evicts : ℕ × ℕ → List ℕ → CacheState → CacheState → Type 0
 Evicts key bytes old new =
     (gone : ℕ × ℕ) × (is_some (cached_page old gone) ≡ true) × (cached_page new gone ≡ None)
@@ -84,7 +85,8 @@ PutGoes None key bytes old new =
 abbrev pub Puts : ℕ × ℕ → List ℕ → CacheState → CacheState → Type 0
 Puts key bytes old new = PutGoes (cached_page old key) key bytes old new
 
--- so many whole pages that these bytes begin with are put in order, the first under this number
+-- `count` whole pages that these bytes begin with are put in order, the first under this page
+-- number
 abbrev pub PutsAll : (id page count : ℕ) → List ℕ → CacheState → CacheState → Type 0
 PutsAll id page zero bytes old new = new ≡ old
 PutsAll id page (suc count) bytes old new =
@@ -92,19 +94,19 @@ PutsAll id page (suc count) bytes old new =
     (mid : CacheState) × Puts (id, page) (take P bytes) old mid
     × PutsAll id (page + 1) count (drop P bytes) mid new
 
--- how many whole pages of so many bytes are put from this number on: none after the greatest
+-- how many whole pages of `len` bytes are put from this page number on: none after the greatest
 abbrev pub put_count : (P page len : ℕ) → ℕ
 put_count P page len = min (len / P) (2 ^ 64 - page)
 
 -- ---- what is looked up
 
--- the byte at a logical offset of a blob
+-- a page that is held has this byte at a logical offset of a blob
 abbrev pub HoldsByte : CacheState → (id offset byte : ℕ) → Type 0
 HoldsByte cache id offset byte =
     (page : List ℕ) × (cached_page cache (id, offset / cache.page_size) ≡ Some page)
     × (slice_get page (offset % cache.page_size) ≡ Some byte)
 
--- no page holds it, or there is no such offset
+-- the page of a logical offset isn't held, or the offset passes the greatest one
 abbrev pub IsMissing : CacheState → (id offset : ℕ) → Type 0
 IsMissing cache id offset =
     (2 ^ 64 ≤ offset) ⊎ (cached_page cache (id, offset / cache.page_size) ≡ None)
@@ -121,7 +123,7 @@ pub record ReadsCached (cache : CacheState) (id offset : ℕ) (old new : List �
   pub ends : (count ≡ length old)
       ⊎ ((count < length old) × IsMissing cache id (offset + count))
 
--- bytes of a page for an offset of a buffer
+-- a buffer with these bytes written over it at an offset
 abbrev pub put_at : (offset : ℕ) → List ℕ → List ℕ → List ℕ
 put_at offset bytes buf = take offset buf ++ bytes ++ drop (offset + length bytes) buf
 
@@ -130,7 +132,7 @@ pub record IsPiece (P room : ℕ) (piece : Piece) : Type 0 where
   pub within : piece.skip + piece.len ≤ P
   pub fits : piece.buf_offset + piece.len ≤ room
 
--- a piece of a page that is held is copied, any other leaves the buffer
+-- the buffer after a piece: a piece of a page that is held is copied into it, any other leaves it
 abbrev pub with_piece : Option (List ℕ) → Piece → List ℕ → List ℕ
 with_piece None piece buf = buf
 with_piece (Some page) piece buf =
@@ -148,7 +150,8 @@ abbrev pub pieces_left : CacheState → (id : ℕ) → List Piece → List Piece
 pieces_left cache id pieces =
     filter (λ piece. not (is_some (cached_page cache (id, piece.page)))) pieces
 
--- the pieces whose pages are held are copied, the others are answered in order
+-- the pieces whose pages are held are copied, and the others are answered in order; the only error
+-- is `OutOfMemory`, and only where some page isn't held
 abbrev pub ReadsPieces : CacheState → (id : ℕ) → List Piece → List ℕ → List ℕ
     → Result (Vec Piece Global) Error → Type 0
 ReadsPieces cache id pieces old new (Ok left) =

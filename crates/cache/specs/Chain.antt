@@ -9,13 +9,13 @@ abbrev pub place_of : (places : ℕ) → ℕ × ℕ → ℕ
 place_of places key =
     bit_and ((key.1 + key.0 * 11400714819323198485 % 2 ^ 64) % 2 ^ 64) (places - 1)
 
--- from this slot on each has its next one, up to a number that is no slot's
+-- from this slot on each slot leads to its next one, and the last to a number that is no slot's
 abbrev pub IsChain : (nexts : List ℕ) → (capacity from : ℕ) → (slots : List ℕ) → Type 0
 IsChain nexts capacity from [] = capacity ≤ from
 IsChain nexts capacity from (s ∷ ss) =
     (from ≡ s) × (s < capacity) × IsChain nexts capacity (slice_index_or nexts s 0) ss
 
--- there is one
+-- from this slot on there is a chain
 abbrev pub HasChain : (nexts : List ℕ) → (capacity from : ℕ) → Type 0
 HasChain nexts capacity from = (slots : List ℕ) × IsChain nexts capacity from slots
 
@@ -54,8 +54,8 @@ abbrev pub IsAt : (keys : List (ℕ × ℕ)) → (used but places place s : ℕ)
 IsAt keys used but places place s =
     (s < used) × (s ≢ but) × (place_of places (slice_index_or keys s (0, 0)) ≡ place)
 
--- each place has the chain of the used slots whose keys stand there, and no key stands in two; all
--- this without one slot
+-- each place has the chain of the used slots whose keys stand there, and no two used slots have the
+-- same key; the slot `but` is left out of all this
 pub record AreLinked (keys : List (ℕ × ℕ)) (nexts firsts : List ℕ) (capacity places used but : ℕ)
     : Type 0 where
   pub chains : (place : ℕ) → place < places

@@ -3,12 +3,12 @@ use Rattle.std.specs.Prelude.{◌≡◌, ◌⊎◌, ◌+◌, ◌*◌, ◌<◌, �
 use Rattle.std.specs.Prelude.{Some, None}
 use Rattle.cache.specs.CacheState.{cached_page, CacheState, SameSettings}
 
--- a page of a blob's content
+-- the logical bytes of a page of a blob's content
 abbrev pub page_of_content : (P : ℕ) → List ℕ → (page : ℕ) → List ℕ
 page_of_content P content page = take P (drop (page * P) content)
 
--- each page that is held of this blob, and lies below a tip that begins after so many pages, is
--- the content's
+-- each page of this blob that is held, and lies below the tip, is the content's page of that
+-- number; the tip begins after `tip` pages
 abbrev pub IsTrueFor : (id : ℕ) → List ℕ → (tip : ℕ) → CacheState → Type 0
 IsTrueFor id content tip cache =
     (page : ℕ) (bytes : List ℕ) → page < tip → cached_page cache (id, page) ≡ Some bytes
@@ -18,8 +18,8 @@ IsTrueFor id content tip cache =
 abbrev pub IsFresh : CacheState → Type 0
 IsFresh cache = (key : ℕ × ℕ) → cache.ids_given ≤ key.0 → cached_page cache key ≡ None
 
--- what a call of a blob's writer or reader does to one key: what it held it holds, or nothing; or
--- it is of this blob, numbered from here on, of a full page, and holds the content's page
+-- what a call of a blob's writer or reader does to one key: what is held under it stays or goes; or
+-- the key is of this blob, of a full page numbered from `from` on, and the content's page is held
 abbrev pub KeyGoes : (id from : ℕ) → List ℕ → ℕ × ℕ → CacheState → CacheState → Type 0
 KeyGoes id from content key old new =
     (cached_page new key ≡ cached_page old key) ⊎ (cached_page new key ≡ None)

@@ -34,8 +34,8 @@ cache_of ids t = record {
   pages = cached_pages t;
 }
 
--- what holds of the table, without one slot. Of the hints nothing is asked except that there are
--- as many as places: each is tried before it is believed.
+-- the table's invariant, with one slot left out of the chains. The hints have only to be as many as
+-- the places: each is tried before it is believed.
 pub record AreSlotsBut (but : ℕ) (t : Slots) : Type 0 where
   pub some : 0 < length t.keys.items
   pub nexts : length t.nexts.items ≡ length t.keys.items
@@ -73,8 +73,8 @@ pub record Overwritten (slot : ℕ) (bytes : List ℕ) (old new : Slots) : Type 
       ≡ put_at (slot * non_zero_u16_get old.page_size) bytes old.bytes.items
   pub room : vec_capacity new.bytes ≡ vec_capacity old.bytes
 
--- a slot was taken for a page: no chain has it yet, its key is the one before, and each other page
--- stays in its slot
+-- a slot was taken for a page: no chain has the slot yet, its key is still the old one, and each
+-- other page stays in its slot
 pub record Taken (slot : ℕ) (bytes : List ℕ) (old new : Slots) : Type 0 where
   pub are : AreSlotsBut slot new
   pub page_size : new.page_size ≡ old.page_size
@@ -84,11 +84,11 @@ pub record Taken (slot : ℕ) (bytes : List ℕ) (old new : Slots) : Type 0 wher
       → page_of_slot (non_zero_u16_get old.page_size) new.bytes.items s
       ≡ page_of_slot (non_zero_u16_get old.page_size) old.bytes.items s
 
--- the chains alone changed
+-- nothing changed except the chains
 abbrev pub Unlinked : (old new : Slots) → Type 0
 Unlinked old new = new ≡ record old { firsts = new.firsts; nexts = new.nexts }
 
--- the slot got this key
+-- the slot got this key, and the pages stay where they are
 pub record Linked (slot : ℕ) (key : ℕ × ℕ) (old new : Slots) : Type 0 where
   pub page_size : new.page_size ≡ old.page_size
   pub bytes : new.bytes ≡ old.bytes

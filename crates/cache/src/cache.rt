@@ -15,8 +15,9 @@ use std::num::{NonZeroU16, NonZeroUsize};
 /// logical pages, without their footers, and at most as many as its capacity: a page goes only
 /// where a new one meets a full cache.
 ///
-/// What is put under a blob's id must be that blob's own pages: its writer and its readers see to
-/// that, and what they read is then true. A cache finds no fault with what it is given.
+/// What is put under a blob's id must be that blob's own pages, so that its readers read what the
+/// blob holds: the blob's writer and its readers see to that. A cache doesn't check what it is
+/// given.
 #[derive(Drop)]
 pub struct CacheRef {
     pub(crate) alloc: Global,
@@ -38,8 +39,8 @@ impl Model for CacheRef {
 
 impl CacheRef {
     /// A cache of at most `capacity` pages of `page_size` logical bytes, which holds none and has
-    /// given no id. It takes the memory for that many pages and never more, and answers
-    /// `OutOfMemory` alone.
+    /// given no id. It takes the memory for that many pages and never more. The only error is
+    /// `OutOfMemory`.
     pub fn new(alloc: Global, page_size: NonZeroU16, capacity: NonZeroUsize) -> Result<Self, Error>
         ensures made { let most = non_zero_usize_get capacity in
             IfOk result (λ c. c ≡ empty_cache (non_zero_u16_get page_size) most) }
@@ -53,7 +54,7 @@ impl CacheRef {
         })
     }
 
-    /// How many pages it holds, of all blobs.
+    /// How many pages the cache holds, of all blobs.
     pub fn len(&self) -> usize
         ensures len { result ≡ length self.now.pages }
         ensures within { result ≤ self.now.capacity }
@@ -61,28 +62,29 @@ impl CacheRef {
         self.slots.used
     }
 
-    /// Whether it holds a page of a blob.
+    /// Whether the cache holds the page of this number of the blob with this id.
     pub fn holds(&self, id: u64, page: u64) -> bool
         ensures { result ≡ is_some (cached_page self.now (id, page)) }
     {
         self.slots.get((id, page)).is_some()
     }
 
-    /// How many pages it left out for want of memory: always 0, since a put takes none.
+    /// How many pages the cache left out for want of memory: always 0, since a put takes none.
     pub fn skipped(&self) -> u64
         ensures { result ≡ 0 }
     {
         0
     }
 
-    /// The logical bytes of a page.
+    /// The logical size of a page, in bytes.
     pub fn page_size(&self) -> NonZeroU16
         ensures { non_zero_u16_get result ≡ self.now.page_size }
     {
         self.slots.page_size
     }
 
-    /// The page of a logical offset, and how many bytes of that page stand before it.
+    /// The number of the page of a logical offset, and how many bytes of that page stand before the
+    /// offset.
     pub fn offset_to_page(&self, offset: u64) -> (u64, u64)
         ensures page { result.0 ≡ offset / self.now.page_size }
         ensures skip { result.1 ≡ offset % self.now.page_size }

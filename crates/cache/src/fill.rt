@@ -21,8 +21,8 @@ pub(crate) fn copy_at(buf: &mut [u8], buf_offset: usize, bytes: &[u8])
 }
 
 impl Slots {
-    /// All that it will ever need, with no page. `OutOfMemory` alone. The memory of a page is
-    /// touched only once the page is put.
+    /// A table with no page, and with all the memory that it will ever need. The only error is
+    /// `OutOfMemory`. The memory of a page is touched only once the page is put.
     pub(crate) fn new(
         alloc: Global,
         page_size: NonZeroU16,
@@ -54,7 +54,7 @@ impl Slots {
         })
     }
 
-    /// Writes over the page of a slot.
+    /// Writes these bytes, a page, over the page of a slot.
     fn overwrite(&mut self, slot: usize, bytes: &[u8])
         requires slot { slot < self.old.used }
         requires size { length bytes.now ≡ non_zero_u16_get self.old.page_size }
@@ -76,14 +76,15 @@ impl Slots {
         ensures taken { Taken result bytes.now self.old self.new }
     {
         let slot = self.used;
-        // There has been room for it since the table was made, so this can't be refused.
+        // There has been room for the page since the table was made, so this can't fail.
         if self.bytes.extend_from_slice(bytes).is_ok() {
             self.used = slot + 1;
         }
         slot
     }
 
-    /// Takes the slot under the hand for a page, out of the chain of its key.
+    /// Takes the slot under the hand out of its key's chain, puts a page's bytes into the slot, and
+    /// moves the hand on.
     fn take_used(&mut self, bytes: &[u8]) -> usize
         requires are { AreSlots self.old }
         requires full { self.old.used ≡ length self.old.keys.items }
@@ -136,8 +137,8 @@ impl Slots {
         self.hints[place] = slot;
     }
 
-    /// Puts a page, of just the page size: over the one that is held under the key, or in a free
-    /// slot, or in the slot under the hand, whose page goes.
+    /// Puts a page of exactly the page size: over the one that is held under the key; or else in a
+    /// free slot; or else in the slot under the hand, whose page goes.
     pub(crate) fn put(&mut self, key: Key, bytes: &[u8])
         requires are { AreSlots self.old }
         requires size { length bytes.now ≡ non_zero_u16_get self.old.page_size }

@@ -1,14 +1,14 @@
 // Pieces of pages.
 
-/// Some bytes of a page, for an offset of a buffer.
+/// Some logical bytes of a page, and the place in a buffer where they are to go.
 #[derive(Clone, Copy, Debug, PartialEq, Eq)]
 pub struct Piece {
-    /// The page.
+    /// The page's number.
     pub page: u64,
-    /// The byte of the page with which they begin.
+    /// The byte of the page with which the piece begins.
     pub skip: usize,
-    /// Their offset in the buffer.
+    /// The piece's offset in the buffer.
     pub buf_offset: usize,
-    /// How many they are.
+    /// How many bytes the piece has.
     pub len: usize,
 }

@@ -8,7 +8,7 @@ use crate::piece::Piece;
 use disk::Error;
 
 impl CacheRef {
-    /// A page that is held.
+    /// The page of a blob, if it is held.
     fn page(&self, id: u64, page: u64) -> Option<&[u8]>
         ensures page { option_copied result ≡ cached_page self.now (id, page) }
         ensures size { IfSome result (λ bytes. length bytes.now ≡ self.now.page_size) }
@@ -16,9 +16,9 @@ impl CacheRef {
         self.slots.get((id, page))
     }
 
-    /// Copies the bytes of a blob from `offset` on into `buf`, as far as pages that are held have
-    /// them and no further than the greatest offset, and answers how many. The rest of `buf` stays
-    /// as it was. It takes no memory.
+    /// Copies the bytes of a blob from the logical `offset` on into `buf`, and answers how many. It
+    /// stops at the first byte whose page isn't held, or after the greatest offset. The rest of
+    /// `buf` stays as it was. It takes no memory.
     pub fn read_cached(&self, id: u64, buf: &mut [u8], offset: u64) -> usize
         ensures { ReadsCached self.now id offset buf.old buf.new result }
     {
@@ -38,8 +38,8 @@ impl CacheRef {
         done
     }
 
-    /// Copies each piece whose page is held into its place of `buf`, and answers the others in
-    /// their order. Its only error is `OutOfMemory`, and then what `buf` holds says nothing.
+    /// Copies each piece whose page is held into its place of `buf`, and answers the other pieces
+    /// in their order. The only error is `OutOfMemory`; after it `buf` may hold anything.
     pub fn read_cached_many(
         &self,
         id: u64,

@@ -8,8 +8,8 @@ pub(crate) type Key = (u64, u64);
 /// No slot.
 pub(crate) const NONE: usize = usize::MAX;
 
-/// The pages by their keys. A new page gets a free slot, and none is ever given back: where none is
-/// free, the page under the hand goes for the new one.
+/// The pages by their keys. A new page gets a free slot, and no slot is ever given back: where none
+/// is free, the page in the slot under the hand goes for the new one.
 #[derive(Drop)]
 pub(crate) struct Slots {
     pub(crate) page_size: NonZeroU16,

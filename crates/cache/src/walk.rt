@@ -20,7 +20,7 @@ pub(crate) fn place(key: Key, places: usize) -> usize
     (mixed as usize) & (places - 1)
 }
 
-/// The slot of a chain that holds a key.
+/// The slot of the chain from `first` on that holds a key, and the slot before it in the chain.
 pub(crate) fn walk(keys: &[Key], nexts: &[usize], first: usize, key: Key) -> Option<Link>
     requires nexts { length nexts.now ≡ length keys.now }
     requires chain { HasChain nexts.now (length keys.now) first }
@@ -44,7 +44,8 @@ pub(crate) fn walk(keys: &[Key], nexts: &[usize], first: usize, key: Key) -> Opt
 }
 
 impl Slots {
-    /// The slot of the chain of a key's place that holds the key.
+    /// The slot that holds a key in the chain of the key's place, and the slot before it in the
+    /// chain.
     pub(crate) fn link_at(&self, place: usize, key: Key) -> Option<Link>
         requires are { AreSlots self.now }
         requires place { place_of (length self.now.firsts.items) key ≡ place }
@@ -57,7 +58,7 @@ impl Slots {
         walk(&self.keys, &self.nexts, self.firsts[place], key)
     }
 
-    /// The slot of a key: that of the hint, where it holds the key, and else the chain's that does.
+    /// The slot that holds a key: the hinted one, if it does, and else the one that the chain has.
     pub(crate) fn find(&self, key: Key) -> Option<usize>
         requires { AreSlots self.now }
         ensures { MatchOption result (IsNowhere self.now key) (λ slot. HoldsKey self.now key slot) }

@@ -1,4 +1,4 @@
--- The pages of a flush: what they say, and their bytes joined.
+-- The pages of a flush: the slots that they hold, and their bytes joined.
 use Rattle.std.proofs.Common.{◌≡◌, ℕ, zero, suc, ◌+◌, ◌-◌, ◌*◌, ◌^◌, ◌<◌, ◌≤◌, List, ◌∷◌, ◌++◌, length, take, drop, refl, sym, ◌∙◌, ap, arith, length-append, length-drop, length-take}
 use Rattle.std.specs.Prelude.{slice_get, Option, Some, None, replicate, ◌==◌, nat_le, ◌&&◌, if◌then◌else◌}
 use Rattle.std.specs.List.{flat_map}
@@ -16,11 +16,11 @@ use Rattle.crash.proofs.Lists.{drop_past}
 use Rattle.std.proofs.Math.Seq.{take-add}
 use Rattle.page.proofs.Values.{verified_len-le_said}
 
--- the length that a written slot says
+-- the length that a written slot holds
 pub slot_len_of : (len crc : ℕ) → len < 2 ^ 16 → slot_len (slot_bytes len crc) ≡ len
 slot_len_of len crc lt = from_be_bytes-to_be_bytes_2 len lt
 
--- the checksum that a written slot says
+-- the checksum that a written slot holds
 pub slot_crc_of : (len crc : ℕ) → crc < 2 ^ 32 → slot_crc (slot_bytes len crc) ≡ crc
 slot_crc_of len crc lt = from_be_bytes-to_be_bytes_4 crc lt
 
@@ -29,7 +29,7 @@ pub length-kept_bytes : (durable : Option ActiveChecksum) → length (kept_bytes
 length-kept_bytes None = refl
 length-kept_bytes (Some w) = refl
 
--- the length that the kept slot says
+-- the length that the kept slot holds
 pub slot_len_kept : (durable : Option ActiveChecksum) → kept_len durable < 2 ^ 16 → slot_len (kept_bytes durable) ≡ kept_len durable
 slot_len_kept None lt = slot_len_of 0 0 lt
 slot_len_kept (Some w) lt = slot_len_of w.len w.crc lt
@@ -54,7 +54,7 @@ greatest : (sum : List ℕ → ℕ) (P n : ℕ) (s : Slot) (page : List ℕ) →
 greatest sum P n First page a b = omega arith
 greatest sum P n Second page a b = omega arith
 
--- a length that passes the tests
+-- a length from 1 to P with the right checksum passes the tests of a slot
 passes : (v P a b : ℕ) → 0 < v → v ≤ P → a ≡ b → (if nat_le 1 v && nat_le v P && (a == b) then v else 0) ≡ v
 passes v P a b some small same = grind (arith, nat_tests)
 
@@ -105,7 +105,7 @@ module _ (sum : List ℕ → ℕ) (P : ℕ) (durable : Option ActiveChecksum) (c
   unfolding end
   slot_new = slot_parts (other (kept_slot durable)) ∙ footer_new (kept_slot durable) (kept_bytes durable) (slot_bytes (length chunk) (sum chunk)) (length-kept_bytes durable) refl
 
--- the checksum function gives what a slot holds
+-- each checksum fits the 32 bits that a slot holds
 abbrev pub IsSmall : (List ℕ → ℕ) → Type 0
 IsSmall sum = (bytes : List ℕ) → sum bytes < 2 ^ 32
 
@@ -121,7 +121,7 @@ module _ (sum : List ℕ → ℕ) (P : ℕ) (durable : Option ActiveChecksum) (c
       ap (λ (n : ℕ). sum (take n page)) len ∙ ap sum (page_begins sum P durable chunk fits) ∙ sym crc in
       passes (slot_len slot) P (sum (take (slot_len slot) page)) (slot_crc slot) (omega (arith, len)) (omega (arith, len)) same ∙ len
 
-  -- the kept slot verifies over no more than it says
+  -- the kept slot verifies over no more bytes than its length
   pub verified_kept : verified_len sum P (kept_slot durable) (page_of sum P durable chunk) ≤ kept_len durable
   verified_kept =
       let page = page_of sum P durable chunk in
@@ -138,7 +138,7 @@ module _ (sum : List ℕ → ℕ) (P : ℕ) (durable : Option ActiveChecksum) (c
 chunk_fits : (P : ℕ) (bytes : List ℕ) → length (take P bytes) ≤ P
 chunk_fits P bytes = omega (arith, length-take P bytes)
 
--- they have P + 12 bytes each
+-- m built pages have P + 12 bytes each
 pub length-built : (sum : List ℕ → ℕ) (P : ℕ) (durable : Option ActiveChecksum) (m : ℕ) (bytes : List ℕ) → length (built sum P durable m bytes) ≡ m * (P + 12)
 length-built sum P durable zero bytes = omega arith
 length-built sum P durable (suc m) bytes =
@@ -162,7 +162,7 @@ pub durable_later : (k : ℕ) → durable_after None k ≡ None
 durable_later zero = refl
 durable_later (suc k) = refl
 
--- a page that was built, by its offset
+-- each built page, by its number
 pub built_pages_at : (sum : List ℕ → ℕ) (P : ℕ) (durable : Option ActiveChecksum) (m i : ℕ) (bytes : List ℕ) → i < m
     → slice_get (built_pages sum P durable m bytes) i ≡ Some (page_of sum P (durable_after durable i) (take P (drop (i * P) bytes)))
 built_pages_at sum P durable zero i bytes lt = absurd (omega arith)
@@ -173,7 +173,7 @@ built_pages_at sum P durable (suc m) (suc i) bytes lt =
     ∙ ap (λ (d : Option ActiveChecksum). Some (page_of sum P d (take P (drop (i * P) (drop P bytes))))) (durable_later i)
     ∙ ap (λ (l : List ℕ). Some (page_of sum P None (take P l))) (drop-drop (i * P) P bytes ∙ ap (λ (n : ℕ). drop n bytes) e)
 
--- the first of the pages
+-- the first of the built pages are built of the same bytes
 pub take-built_pages : (sum : List ℕ → ℕ) (P : ℕ) (durable : Option ActiveChecksum) (k m : ℕ) (bytes : List ℕ) → k ≤ m → take k (built_pages sum P durable m bytes) ≡ built_pages sum P durable k bytes
 take-built_pages sum P durable zero m bytes le = refl
 take-built_pages sum P durable (suc k) zero bytes le = absurd (omega arith)

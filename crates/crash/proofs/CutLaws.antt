@@ -27,7 +27,8 @@ use Rattle.crash.proofs.Moments.{stays_alike, stays_through_joins}
 
 -- ---- where the text of pages ends
 
--- the text of these pages ends within the first k: one of those isn't full, or the next page, if there is one, has no value
+-- the text of these pages ends within the first k: one of those isn't full, or the next page, if
+-- there is one, has no value
 abbrev pub EndsBy : (List ℕ → ℕ) → ℕ → ℕ → List (List ℕ) → Type 0
 EndsBy sum P zero [] = Unit {0}
 EndsBy sum P zero (page ∷ rest) = value_len sum P page ≡ 0
@@ -35,7 +36,7 @@ EndsBy sum P (suc k) [] = Unit {0}
 EndsBy sum P (suc k) (page ∷ rest) = (value_len sum P page < P) ⊎ EndsBy sum P k rest
 
 module _ (sum : List ℕ → ℕ) (P : ℕ) where
-  -- it is then the text of the first k
+  -- a text that ends within the first k pages is the text of those
   pub ends_taken : (k : ℕ) (ps : List (List ℕ)) → 0 < P → EndsBy sum P k ps → text_of_pages sum P ps ≡ text_of_pages sum P (take k ps)
   ends_taken zero [] some ends = refl
   ends_taken zero (page ∷ rest) some ends = text_part sum P page rest (omega (arith, ends)) ∙ ap (λ (n : ℕ). take n page) ends
@@ -44,7 +45,7 @@ module _ (sum : List ℕ → ℕ) (P : ℕ) where
   ends_taken (suc k) (page ∷ rest) some (inr ends) =
       ap (λ (l : List ℕ). value sum P page ++ (if value_len sum P page == P then l else [])) (ends_taken k rest some ends)
 
-  -- and where it is, it ends within those
+  -- where the text of all pages is that of the first k, it ends within those
   pub ends_from : (k : ℕ) (ps : List (List ℕ)) → 0 < P → ((q : ℕ) (page : List ℕ) → slice_get ps q ≡ Some page → P ≤ length page)
       → text_of_pages sum P ps ≡ text_of_pages sum P (take k ps) → EndsBy sum P k ps
   ends_from zero [] some long same = tt
@@ -64,7 +65,8 @@ module _ (sum : List ℕ → ℕ) (P : ℕ) where
         (sym (drop_at (take P page) (text_of_pages sum P rest) P size) ∙ ap (λ (l : List ℕ). drop P l) after ∙ drop_at (take P page) (text_of_pages sum P (take k rest)) P size))
   ]
 
-  -- so does the text of pages of which the first k are the same, and the next has a value only where the one there has
+  -- the text of other pages ends within the first k too, if these are the same, and the next page
+  -- has a value only where the one here has
   pub ends_alike : (k : ℕ) (ps qs : List (List ℕ)) → k ≤ length ps → take k ps ≡ take k qs
       → ((page : List ℕ) → slice_get qs k ≡ Some page → 0 < value_len sum P page → (held : List ℕ) × (slice_get ps k ≡ Some held) × (0 < value_len sum P held))
       → EndsBy sum P k ps → EndsBy sum P k qs
@@ -97,12 +99,12 @@ module _ (sum : List ℕ → ℕ) (P : ℕ) where
 
 -- ---- cuts that leave a blob's text as it is
 
--- where a cut leaves the text, it ends within the pages that are left
+-- where a cut leaves the text as it is, the text ends within the pages that are left
 pub cut_ends : (sum : List ℕ → ℕ) (P k : ℕ) (bytes : List ℕ) → 0 < P → k * (P + 12) ≤ length bytes → text sum P (take (k * (P + 12)) bytes) ≡ text sum P bytes → EndsBy sum P k (pages P bytes)
 cut_ends sum P k bytes some within same = ends_from sum P k (pages P bytes) some (λ q page is. omega (arith, length-page P q bytes page is))
     (sym same ∙ ap (λ (l : List (List ℕ)). text_of_pages sum P l) (pages_of_take P k bytes within))
 
--- and is no longer than their payloads
+-- where a cut leaves the text as it is, the text is no longer than the payloads of the pages left
 pub cut_few : (sum : List ℕ → ℕ) (P k : ℕ) (bytes : List ℕ) → k * (P + 12) ≤ length bytes → length (text sum P (take (k * (P + 12)) bytes)) ≤ k * P
 cut_few sum P k bytes within =
     let few = text_few sum P (take k (pages P bytes)) in
@@ -112,7 +114,8 @@ cut_few sum P k bytes within =
 
 -- ---- one disk
 
--- what keeps and says all of a content owes nothing
+-- `Stays` holds at a disk whose images all keep all of a content, and whose chance-free images have
+-- nothing else as their text
 pub stays_all : (sum : List ℕ → ℕ) (P : ℕ) (content : List ℕ) (d e : Disk) → AllKeep sum P content (length content) e
     → ((image : List ℕ) → IsImage e image → IsChanceFree sum P e image → text sum P image ≡ content) → IsVouched sum P e → Stays sum P content d e
 stays_all sum P content d e keeps only vouched = record {
@@ -127,11 +130,11 @@ stays_all sum P content d e keeps only vouched = record {
 pub rest_keeps : (sum : List ℕ → ℕ) (P : ℕ) (content : List ℕ) (e : Disk) → e.since ≡ [] → text sum P e.base ≡ content → AllKeep sum P content (length content) e
 rest_keeps sum P content e at_rest says = subst (λ (t : List ℕ). AllKeep sum P t (length t) e) says (keeps_at_rest sum P e at_rest)
 
--- and no other
+-- with nothing unsynced no image has another text than the base's
 pub rest_only : (sum : List ℕ → ℕ) (P : ℕ) (content : List ℕ) (e : Disk) (image : List ℕ) → e.since ≡ [] → text sum P e.base ≡ content → IsImage e image → text sum P image ≡ content
 rest_only sum P content e image at_rest says is_image = ap (λ (l : List ℕ). text sum P l) (only_image e image at_rest is_image) ∙ says
 
--- so it owes nothing
+-- so `Stays` holds at a disk with nothing unsynced whose base has the content as its text
 pub rest_stays : (sum : List ℕ → ℕ) (P : ℕ) (content : List ℕ) (d e : Disk) → e.since ≡ [] → text sum P e.base ≡ content → Stays sum P content d e
 rest_stays sum P content d e at_rest says =
     stays_all sum P content d e (rest_keeps sum P content e at_rest says) (λ image is_image free. rest_only sum P content e image at_rest says is_image) (vouched_at_rest sum P e at_rest)
@@ -170,7 +173,7 @@ cut_after sum P k e image page since within free is some =
           absurd (omega (arith, size, page_fits P k was.0 held was.3))
     ]
 
--- chance aside every image has the text, and no other
+-- every chance-free image has the text, and no other
 pub cut_only : (sum : List ℕ → ℕ) (P k : ℕ) (content : List ℕ) (e : Disk) (image : List ℕ) → 0 < P → e.since ≡ Resize (k * (P + 12)) ∷ [] → k * (P + 12) ≤ length e.base
     → text sum P e.base ≡ content → text sum P (take (k * (P + 12)) e.base) ≡ content → IsImage e image → IsChanceFree sum P e image → text sum P image ≡ content
 cut_only sum P k content e image some since within says cut_says is_image free =
@@ -184,7 +187,7 @@ cut_only sum P k content e image some since within says cut_says is_image free =
     ∙ sym (ends_taken sum P k (pages P e.base) some ends)
     ∙ says
 
--- so it owes nothing
+-- so `Stays` holds after a cut that isn't durable, done or failed
 pub cut_stays : (sum : List ℕ → ℕ) (P k : ℕ) (content : List ℕ) (d e : Disk) → 0 < P → e.since ≡ Resize (k * (P + 12)) ∷ [] → k * (P + 12) ≤ length e.base
     → text sum P e.base ≡ content → text sum P (take (k * (P + 12)) e.base) ≡ content → Stays sum P content d e
 cut_stays sum P k content d e some since within says cut_says =
@@ -228,7 +231,7 @@ cut_partial len old new within partial =
           ]),
     )
 
--- so the text of what is readable is the same
+-- so the text of what is readable after such a cut is the same
 pub partial_says : (sum : List ℕ → ℕ) (P k : ℕ) (content old new : List ℕ) → 0 < P → k * (P + 12) ≤ length old → text sum P old ≡ content → text sum P (take (k * (P + 12)) old) ≡ content
     → IsPartial (Resize (k * (P + 12))) old new → text sum P new ≡ content
 partial_says sum P k content old new some within says cut_says partial =
@@ -243,7 +246,7 @@ failed_resize : (len : ℕ) (old new : Life) (e : Error) → (e ≡ ResizeFailed
 failed_resize len old new e (is, (d, goes, operated)) =
     inr (d, goes, operated_base (Resize len) (ResizeTo len) true old.present d operated, operated_since (Resize len) (ResizeTo len) true old.present d operated, operated.readable)
 
--- a resize changes nothing, or is one moment more, in which it isn't durable
+-- a resize changes nothing, or adds one moment, at which it isn't durable
 pub resize_cases : (len : ℕ) (old new : Life) (answer : Result (Unit {0}) Error) → ResizeGoes len old new answer
     → (new ≡ old) ⊎ ((d : Disk) × (new ≡ next old d) × (d.base ≡ old.present.base) × (d.since ≡ old.present.since ++ Resize len ∷ []) × IsPartial (Resize len) old.present.readable d.readable)
 resize_cases len old new (Ok done) (d, goes, operated) =
@@ -272,23 +275,23 @@ sync_cases old new (Err BlobInsufficientLength) goes = absurd goes
 sync_cases old new (Err OffsetOverflow) goes = absurd goes
 sync_cases old new (Err IdsExhausted) goes = absurd goes
 
--- nothing was asked for
+-- `Stays` holds at each moment of a call that asked for nothing
 pub stays_through_none : (sum : List ℕ → ℕ) (P : ℕ) (content : List ℕ) (old new : Life) → Stays sum P content old.present old.present → new ≡ old → StaysThrough sum P content old new
 stays_through_none sum P content old new owes same =
     subst (λ (life : Life). StaysThrough sum P content old life) (sym same) (through_start (Stays sum P content old.present) old owes)
 
--- one moment passed
+-- `Stays` holds at each moment of a call that added one at which it holds
 pub stays_through_one : (sum : List ℕ → ℕ) (P : ℕ) (content : List ℕ) (old new : Life) (d : Disk) → Stays sum P content old.present old.present → new ≡ next old d → Stays sum P content old.present d → StaysThrough sum P content old new
 stays_through_one sum P content old new d owes goes stays =
     subst (λ (life : Life). StaysThrough sum P content old life) (sym goes) (through_more (Stays sum P content old.present) old old d (through_start (Stays sum P content old.present) old owes) stays)
 
--- reads owe nothing
+-- `Stays` holds at each moment of calls that only read
 pub looked_stays : (sum : List ℕ → ℕ) (P : ℕ) (content : List ℕ) (old new : Life) → Stays sum P content old.present old.present → Looked old new → StaysThrough sum P content old new
 looked_stays sum P content old new owes looked =
     through_then (SameButLog old.present) (Stays sum P content old.present) old new
     (λ d same. stays_alike sum P content old.present old.present d (ap (λ (x : Disk). x.base) same) (ap (λ (x : Disk). x.since) same) owes) looked.through
 
--- a sync owes nothing where what is readable has the text
+-- `Stays` holds at each moment of a sync, where what is readable has the text
 pub sync_stays : (sum : List ℕ → ℕ) (P : ℕ) (content : List ℕ) (old new : Life) (answer : Result (Unit {0}) Error) → Stays sum P content old.present old.present → text sum P old.present.readable ≡ content
     → SyncGoes old new answer → StaysThrough sum P content old new
 sync_stays sum P content old new answer owes says goes = elim (sync_cases old new answer goes) [
@@ -297,7 +300,7 @@ sync_stays sum P content old new answer owes says goes = elim (sync_cases old ne
   | inr (d, is, readable, inr (base, since)) ↦ stays_through_one sum P content old new d owes is (rest_stays sum P content old.present d since (ap (λ (l : List ℕ). text sum P l) base ∙ says))
 ]
 
--- what owes another moment nothing owes itself nothing
+-- a moment at which `Stays` holds by another moment is one at which it holds by itself
 pub stays_then_itself : (sum : List ℕ → ℕ) (P : ℕ) (content : List ℕ) (d e : Disk) → Stays sum P content d e → Stays sum P content e e
 stays_then_itself sum P content d e stays = record {
   vouched = stays.vouched;
@@ -305,19 +308,20 @@ stays_then_itself sum P content d e stays = record {
   only = stays.only;
 }
 
--- nor do reads
+-- `Stays` holds at each moment of reads of a blob with nothing unsynced
 pub rest_looked_stays : (sum : List ℕ → ℕ) (P : ℕ) (content : List ℕ) (old new : Life) → old.present.since ≡ [] → old.present.base ≡ old.present.readable
     → text sum P old.present.readable ≡ content → Looked old new → StaysThrough sum P content old new
 rest_looked_stays sum P content old new at_rest base says looked =
     looked_stays sum P content old new (rest_stays sum P content old.present old.present at_rest (ap (λ (l : List ℕ). text sum P l) base ∙ says)) looked
 
--- nor no call at all
+-- `Stays` holds before any call on a blob with nothing unsynced
 pub rest_through_start : (sum : List ℕ → ℕ) (P : ℕ) (content : List ℕ) (life : Life) → life.present.since ≡ [] → life.present.base ≡ life.present.readable
     → text sum P life.present.readable ≡ content → StaysThrough sum P content life life
 rest_through_start sum P content life at_rest base says =
     through_start (Stays sum P content life.present) life (rest_stays sum P content life.present life.present at_rest (ap (λ (l : List ℕ). text sum P l) base ∙ says))
 
--- a cut that leaves the text of a blob with nothing unsynced owes nothing, whatever its answer
+-- `Stays` holds at each moment of a cut that leaves the text of a blob with nothing unsynced,
+-- whatever its answer
 pub resize_stays : (sum : List ℕ → ℕ) (P k : ℕ) (content : List ℕ) (old new : Life) (answer : Result (Unit {0}) Error) → 0 < P → old.present.since ≡ [] → old.present.base ≡ old.present.readable
     → k * (P + 12) ≤ length old.present.readable → text sum P old.present.readable ≡ content → text sum P (take (k * (P + 12)) old.present.readable) ≡ content
     → ResizeGoes (k * (P + 12)) old new answer → StaysThrough sum P content old new
@@ -331,7 +335,7 @@ resize_stays sum P k content old new answer some at_rest base within says cut_sa
           stays_through_one sum P content old new d owes is (cut_stays sum P k content old.present d some only (rw was within) (rw was says) (rw was cut_says))
     ]
 
--- and what is readable has that text
+-- what is readable after such a cut has that text
 pub resize_says : (sum : List ℕ → ℕ) (P k : ℕ) (content : List ℕ) (old new : Life) (answer : Result (Unit {0}) Error) → 0 < P
     → k * (P + 12) ≤ length old.present.readable → text sum P old.present.readable ≡ content → text sum P (take (k * (P + 12)) old.present.readable) ≡ content
     → ResizeGoes (k * (P + 12)) old new answer → text sum P new.present.readable ≡ content
@@ -341,14 +345,14 @@ resize_says sum P k content old new answer some within says cut_says goes = elim
       ap (λ (life : Life). text sum P life.present.readable) is ∙ partial_says sum P k content old.present.readable d.readable some within says cut_says partial
 ]
 
--- and so do reads
+-- after reads a blob with nothing unsynced still has nothing unsynced
 pub rest_looked_rests : (old new : Life) → old.present.since ≡ [] → old.present.base ≡ old.present.readable → Looked old new
     → (new.present.since ≡ []) × (new.present.base ≡ new.present.readable) × (new.present.readable ≡ old.present.readable)
 rest_looked_rests old new at_rest base looked =
     let readable : new.present.readable ≡ old.present.readable = ap (λ (x : Disk). x.readable) looked.same in
     (ap (λ (x : Disk). x.since) looked.same ∙ at_rest, ap (λ (x : Disk). x.base) looked.same ∙ base ∙ sym readable, readable)
 
--- a cut and then a sync owe nothing, whatever their answers
+-- `Stays` holds at each moment of a cut and then a sync, whatever their answers
 pub cut_sync_stays : (sum : List ℕ → ℕ) (P k : ℕ) (content : List ℕ) (old mid new : Life) (cut synced : Result (Unit {0}) Error) → 0 < P → old.present.since ≡ [] → old.present.base ≡ old.present.readable
     → k * (P + 12) ≤ length old.present.readable → text sum P old.present.readable ≡ content → text sum P (take (k * (P + 12)) old.present.readable) ≡ content
     → ResizeGoes (k * (P + 12)) old mid cut → SyncGoes mid new synced → StaysThrough sum P content old new
@@ -358,4 +362,4 @@ cut_sync_stays sum P k content old mid new cut synced some at_rest base within s
     let second = sync_stays sum P content mid new synced (stays_then_itself sum P content old.present mid.present reached) (resize_says sum P k content old mid cut some within says cut_says cuts) syncs in
     stays_through_joins sum P content old mid new first second
 
--- ---- what that says of each moment
+-- ---- what `Stays` means at each moment

@@ -1,4 +1,5 @@
--- Laws of disks: what the images of a disk have in common, and what an operation or a sync leaves of that.
+-- Laws of disks: what the images of a disk have in common, and what of that an operation or a sync
+-- leaves.
 use Rattle.std.proofs.Common.{◌≡◌, ◌⊎◌, inl, inr, ℕ, ◌+◌, ◌-◌, ◌<◌, ◌≤◌, max, List, [], ◌∷◌, ◌++◌, length, take, drop, replicate, slice_get, Some, refl, sym, ap, ◌∙◌, subst, arith, Bool, le_refl, append-nil, append_assoc, length-append, length-take, length-drop}
 use Rattle.std.proofs.lemmas.Bool.{cases_lt}
 use Rattle.std.proofs.lemmas.Option.{slice_get_within, same_Some}
@@ -55,7 +56,7 @@ pub base_is_whole : (base : List ℕ) (os : List Operation) → IsWhole base os 
 base_is_whole base [] = refl
 base_is_whole base (o ∷ os) = inl refl
 
--- so is the state in which all is done
+-- the state in which all is done is a whole state
 pub latest_is_whole : (base : List ℕ) (os : List Operation) → IsWhole base os (latest base os)
 latest_is_whole base [] = refl
 latest_is_whole base (o ∷ os) = inr (latest_is_whole (applied o base) os)
@@ -93,7 +94,7 @@ writes_before [] ps at byte none = elim none [ ]
 writes_before (o ∷ os) ps at byte (inl first) = inl first
 writes_before (o ∷ os) ps at byte (inr later) = inr (writes_before os ps at byte later)
 
--- and of those in front of them
+-- a write of some operations is one of theirs and of those in front of them
 pub writes_after : (os ps : List Operation) (at byte : ℕ) → SomeWrites ps at byte → SomeWrites (os ++ ps) at byte
 writes_after [] ps at byte some = some
 writes_after (o ∷ os) ps at byte some = inr (writes_after os ps at byte some)
@@ -107,14 +108,14 @@ writes_cases (o ∷ os) ps at byte (inr later) = elim (writes_cases os ps at byt
   | inr after ↦ inr after
 ]
 
--- a whole state is one also of more operations
+-- a whole state is still one with more operations after it
 pub whole_before : (base : List ℕ) (os ps : List Operation) (whole : List ℕ) → IsWhole base os whole → IsWhole base (os ++ ps) whole
 whole_before base [] [] whole is_whole = is_whole
 whole_before base [] (p ∷ ps) whole is_whole = inl is_whole
 whole_before base (o ∷ os) ps whole (inl is_base) = inl is_base
 whole_before base (o ∷ os) ps whole (inr is_whole) = inr (whole_before (applied o base) os ps whole is_whole)
 
--- and so is one of the operations after
+-- a whole state of the operations after the first ones is one of all of them
 pub whole_after : (base : List ℕ) (os ps : List Operation) (whole : List ℕ) → IsWhole (latest base os) ps whole → IsWhole base (os ++ ps) whole
 whole_after base [] ps whole is_whole = is_whole
 whole_after base (o ∷ os) ps whole is_whole = inr (whole_after (applied o base) os ps whole is_whole)
@@ -136,7 +137,7 @@ one_more_whole base os o whole is_whole = elim (whole_cases base os (o ∷ []) w
   | inr (inr is_new) ↦ inr is_new
 ]
 
--- which is one
+-- the state after one operation more is a whole state
 pub new_is_whole : (base : List ℕ) (os : List Operation) (o : Operation) → IsWhole base (os ++ o ∷ []) (applied o (latest base os))
 new_is_whole base os o = whole_after base os (o ∷ []) (applied o (latest base os)) (inr refl)
 
@@ -145,7 +146,7 @@ pub latest-append : (base : List ℕ) (os ps : List Operation) → latest base (
 latest-append base [] ps = refl
 latest-append base (o ∷ os) ps = latest-append (applied o base) os ps
 
--- a whole state and a write, over to a disk with one operation more
+-- a whole state of a disk is one of a disk with one operation more
 pub whole_kept : (d e : Disk) (o : Operation) → e.base ≡ d.base → e.since ≡ d.since ++ o ∷ [] → (whole : List ℕ) → IsWhole d.base d.since whole → IsWhole e.base e.since whole
 whole_kept d e o base since whole is_whole = rw (base, since) (whole_before d.base d.since (o ∷ []) whole is_whole)
 
@@ -185,33 +186,34 @@ fixed_in_image d offset bytes image fixed is_image =
     let inside : i < length bytes = slice_get_within bytes i byte is in
     slice_get-take (length bytes) (drop offset image) i inside ∙ slice_get-drop offset image i ∙ fixed_byte d offset bytes image fixed is_image i byte is))
 
--- an operation leaves the bytes at an offset: it ends no earlier than they do, and each byte that it writes there is theirs
+-- an operation leaves the bytes at an offset: it ends no earlier than they do, and each byte that
+-- it writes there is theirs
 pub record Leaves (o : Operation) (offset : ℕ) (bytes : List ℕ) : Type 0 where
   pub reaches : (old : List ℕ) → offset + length bytes ≤ length old → offset + length bytes ≤ length (applied o old)
   pub repeats : (i byte other : ℕ) → slice_get bytes i ≡ Some byte → Writes o (offset + i) other → other ≡ byte
 
--- a resize does where it isn't shorter
+-- a resize leaves bytes that end within the new length
 pub resize_leaves : (len offset : ℕ) (bytes : List ℕ) → offset + length bytes ≤ len → Leaves (Resize len) offset bytes
 resize_leaves len offset bytes enough = record {
   reaches = λ old there. omega (arith, length-applied_resize len old);
   repeats = λ i byte other is none. elim none [ ];
 }
 
--- a write does after them
+-- a write leaves the bytes in front of it
 pub write_after_leaves : (at : ℕ) (written : List ℕ) (offset : ℕ) (bytes : List ℕ) → offset + length bytes ≤ at → Leaves (Write at written) offset bytes
 write_after_leaves at written offset bytes after = record {
   reaches = λ old there. omega (arith, length-applied_write at written old);
   repeats = λ i byte other is wrote. absurd (omega (arith, slice_get_within bytes i byte is, wrote.0));
 }
 
--- and in front of them
+-- a write leaves the bytes after it
 pub write_in_front_leaves : (at : ℕ) (written : List ℕ) (offset : ℕ) (bytes : List ℕ) → at + length written ≤ offset → Leaves (Write at written) offset bytes
 write_in_front_leaves at written offset bytes in_front = record {
   reaches = λ old there. omega (arith, length-applied_write at written old);
   repeats = λ i byte other is wrote. absurd (omega (arith, slice_get_within written (offset + i - at) other wrote.1, wrote.0));
 }
 
--- and where it repeats them, from its k-th byte on
+-- a write leaves bytes that it repeats, from its k-th byte on
 pub write_again_leaves : (at : ℕ) (written : List ℕ) (offset : ℕ) (bytes : List ℕ) (k : ℕ) → offset ≡ at + k → take (length bytes) (drop k written) ≡ bytes → Leaves (Write at written) offset bytes
 write_again_leaves at written offset bytes k is_offset again = record {
   reaches = λ old there. omega (arith, length-applied_write at written old);
@@ -255,7 +257,7 @@ pub fixed_settles : (d e : Disk) (offset : ℕ) (bytes : List ℕ) → IsImage d
 fixed_settles d e offset bytes is_image at_rest fixed =
     fixed_at_rest e offset bytes at_rest (fixed_length d offset bytes e.base fixed is_image) (fixed_in_image d offset bytes e.base fixed is_image)
 
--- what is fixed says nothing of what is readable, of the started syncs and of the log
+-- whether bytes are fixed depends on the base and on what is unsynced alone
 pub fixed_alike : (d e : Disk) (offset : ℕ) (bytes : List ℕ) → e.base ≡ d.base → e.since ≡ d.since → Fixed d offset bytes → Fixed e offset bytes
 fixed_alike d e offset bytes base since fixed = record {
   base = λ i byte is. ap (λ (l : List ℕ). slice_get l (offset + i)) base ∙ fixed.base i byte is;
@@ -263,7 +265,7 @@ fixed_alike d e offset bytes base since fixed = record {
   within = λ whole is_whole. fixed.within whole (rw (base, since) at is_whole);
 }
 
--- with one operation more there is a whole state no longer than that operation leaves an image
+-- with one operation more some whole state is no longer than what that operation leaves of an image
 shorter_whole : (d e : Disk) (o : Operation) (old whole : List ℕ) → e.base ≡ d.base → e.since ≡ d.since ++ o ∷ [] → IsWhole d.base d.since whole → length whole ≤ length old
     → (bytes : List ℕ) × IsWhole e.base e.since bytes × (length bytes ≤ length (applied o old))
 shorter_whole d e (Write offset written) old whole base since is_whole le =
@@ -271,7 +273,8 @@ shorter_whole d e (Write offset written) old whole base since is_whole le =
 shorter_whole d e (Resize len) old whole base since is_whole le =
     (applied (Resize len) (latest d.base d.since), new_whole d e (Resize len) base since, omega (arith, length-applied_resize len old, length-applied_resize len (latest d.base d.since)))
 
--- and one no shorter
+-- with one operation more some whole state is no shorter than what that operation leaves of an
+-- image
 longer_whole : (d e : Disk) (o : Operation) (old whole : List ℕ) → e.base ≡ d.base → e.since ≡ d.since ++ o ∷ [] → IsWhole d.base d.since whole → length old ≤ length whole
     → (bytes : List ℕ) × IsWhole e.base e.since bytes × (length (applied o old) ≤ length bytes)
 longer_whole d e (Write offset written) old whole base since is_whole le = elim (cases_lt (length old) (offset + length written)) [
@@ -282,7 +285,7 @@ longer_whole d e (Write offset written) old whole base since is_whole le = elim 
 longer_whole d e (Resize len) old whole base since is_whole le =
     (applied (Resize len) (latest d.base d.since), new_whole d e (Resize len) base since, omega (arith, length-applied_resize len old, length-applied_resize len (latest d.base d.since)))
 
--- what is readable stays an image through an operation, be it done, cut short or failed
+-- what is readable stays an image through an operation that is done, cut short or failed
 pub readable_stays : (d e : Disk) (o : Operation) (old new : List ℕ) → e.base ≡ d.base → e.since ≡ d.since ++ o ∷ [] → IsPartial o old new → IsImage d old → IsImage e new
 readable_stays d e o old new base since partial is_image =
     let short = is_image.no_shorter in
@@ -316,7 +319,7 @@ readable_stays d e o old new base since partial is_image =
       ];
     }
 
--- the images are those of the base and of what is unsynced
+-- whether bytes are an image depends on the base and on what is unsynced alone
 pub image_alike : (d e : Disk) (image : List ℕ) → e.base ≡ d.base → e.since ≡ d.since → IsImage e image → IsImage d image
 image_alike d e image base since is_image = record {
   no_shorter = (is_image.no_shorter.0, rw (base, since) at is_image.no_shorter.1, is_image.no_shorter.2);
@@ -328,7 +331,7 @@ image_alike d e image base since is_image = record {
   ];
 }
 
--- or be done whole
+-- an operation may be done whole
 pub partial_whole : (o : Operation) (old : List ℕ) → IsPartial o old (applied o old)
 partial_whole o old = record {
   length = elim (cases_lt (length (applied o old)) (length old)) [
@@ -338,7 +341,7 @@ partial_whole o old = record {
   each = λ at byte is. inr is;
 }
 
--- of each operation in turn a part is done, or all, or nothing
+-- of each operation in turn a part is done, or all of it, or nothing
 abbrev pub IsTorn : List ℕ → List Operation → List ℕ → Type 0
 IsTorn base [] bytes = bytes ≡ base
 IsTorn base (o ∷ os) bytes = (mid : List ℕ) × IsPartial o base mid × IsTorn mid os bytes
@@ -360,7 +363,7 @@ torn_is_image d bytes torn =
 pub whole_covered : (d e : Disk) (os ps : List Operation) → d.since ≡ os ++ ps → e.base ≡ latest d.base os → e.since ≡ ps → (whole : List ℕ) → IsWhole e.base e.since whole → IsWhole d.base d.since whole
 whole_covered d e os ps since base rest whole is_whole = rw since (whole_after d.base os ps whole (rw (base, rest) at is_whole))
 
--- and each image too
+-- where the operations that a sync covers become durable, each image was one before
 pub image_covered : (d e : Disk) (os ps : List Operation) → d.since ≡ os ++ ps → e.base ≡ latest d.base os → e.since ≡ ps → (image : List ℕ) → IsImage e image → IsImage d image
 image_covered d e os ps since base rest image is_image =
     let whole = whole_covered d e os ps since base rest in
@@ -374,7 +377,7 @@ image_covered d e os ps since base rest image is_image =
       ];
     }
 
--- so what is fixed stays
+-- so what is fixed stays where the operations that a sync covers become durable
 pub fixed_covered : (d e : Disk) (os ps : List Operation) (offset : ℕ) (bytes : List ℕ) → d.since ≡ os ++ ps → e.base ≡ latest d.base os → e.since ≡ ps → Fixed d offset bytes → Fixed e offset bytes
 fixed_covered d e os ps offset bytes since base rest fixed =
     let whole = whole_covered d e os ps since base rest in
@@ -384,14 +387,14 @@ fixed_covered d e os ps offset bytes since base rest fixed =
       within = λ state is_whole. fixed.within state (whole state is_whole);
     }
 
--- an operation that was asked for leaves the base, and is unsynced
+-- an operation that was asked for leaves the base
 pub operated_base : (o : Operation) (request : Request) (failed : Bool) (d e : Disk) → HasOperated o request failed d e → e.base ≡ d.base
 operated_base o request failed d e operated = ap (λ (x : Disk). x.base) operated.rest
 
 pub operated_since : (o : Operation) (request : Request) (failed : Bool) (d e : Disk) → HasOperated o request failed d e → e.since ≡ d.since ++ o ∷ []
 operated_since o request failed d e operated = ap (λ (x : Disk). x.since) operated.rest
 
--- and leaves what is readable an image
+-- an operation that was asked for leaves what is readable an image
 pub operated_readable : (o : Operation) (request : Request) (failed : Bool) (d e : Disk) → HasOperated o request failed d e → IsImage d d.readable → IsImage e e.readable
 operated_readable o request failed d e operated is_image =
     readable_stays d e o d.readable e.readable (operated_base o request failed d e operated) (operated_since o request failed d e operated) operated.readable is_image

@@ -19,7 +19,7 @@ ReadsImage life = IsImage life.present life.present.readable
 
 -- ---- what is readable stays an image
 
--- an image of a disk with the same operations
+-- an image of a disk is one of another disk with the same base and operations
 image_of : (d e : Disk) (image : List ℕ) → e.base ≡ d.base → e.since ≡ d.since → IsImage d image → IsImage e image
 image_of d e image base since is_image = image_alike e d image (sym base) (sym since) is_image
 
@@ -44,7 +44,7 @@ sync_image old new answer goes image = elim (sync_cases old new answer goes) [
       subst ReadsImage (sym is) (subst (λ (l : List ℕ). IsImage d l) (base ∙ sym readable) (base_is_image d))
 ]
 
--- a sync leaves it as it is
+-- a sync leaves what is readable as it is
 pub sync_readable : (old new : Life) (answer : Result (Unit {0}) Error) → SyncGoes old new answer → new.present.readable ≡ old.present.readable
 sync_readable old new answer goes = elim (sync_cases old new answer goes) [
   | inl none ↦ ap (λ (life : Life). life.present.readable) none
@@ -54,30 +54,30 @@ sync_readable old new answer goes = elim (sync_cases old new answer goes) [
 -- ---- each floor is kept
 
 module _ (sum : List ℕ → ℕ) (P : ℕ) (content : List ℕ) where
-  -- nothing was asked for
+  -- a call that asked for nothing keeps each floor
   pub floors_none : (old new : Life) → new ≡ old → KeepsFloors sum P content old new
   floors_none old new same = λ floor enough keeps.
       subst (λ (life : Life). Through (AllKeep sum P content floor) old life) (sym same) (through_start (AllKeep sum P content floor) old keeps)
 
-  -- one moment passed, at which each floor is kept
+  -- a call that added one moment at which each floor is kept keeps each floor
   floors_one : (old new : Life) (d : Disk) → new ≡ next old d → ((floor : ℕ) → floor ≤ length content → AllKeep sum P content floor old.present → AllKeep sum P content floor d) → KeepsFloors sum P content old new
   floors_one old new d is later = λ floor enough keeps.
       subst (λ (life : Life). Through (AllKeep sum P content floor) old life) (sym is)
       (through_more (AllKeep sum P content floor) old old d (through_start (AllKeep sum P content floor) old keeps) (later floor enough keeps))
 
-  -- one call after another
+  -- two calls in turn that keep each floor do so together
   pub floors_joins : (old mid new : Life) → KeepsFloors sum P content old mid → KeepsFloors sum P content mid new → KeepsFloors sum P content old new
   floors_joins old mid new first second = λ floor enough keeps.
       let reached = first floor enough keeps in
       through_joins (AllKeep sum P content floor) old mid new reached (second floor enough (through_end (AllKeep sum P content floor) old mid reached))
 
-  -- a look
+  -- calls that only read keep each floor
   pub floors_looked : (old new : Life) → Looked old new → KeepsFloors sum P content old new
   floors_looked old new looked = λ floor enough keeps.
       through_then (SameButLog old.present) (AllKeep sum P content floor) old new
       (λ d same. keeps_alike sum P content floor old.present d (ap (λ (x : Disk). x.base) same) (ap (λ (x : Disk). x.since) same) keeps) looked.through
 
-  -- a sync: what is readable, an image until then, becomes the only one
+  -- a sync keeps each floor: what is readable, an image until then, becomes the only one
   pub floors_sync : (old new : Life) (answer : Result (Unit {0}) Error) → ReadsImage old → SyncGoes old new answer → KeepsFloors sum P content old new
   floors_sync old new answer image goes = elim (sync_cases old new answer goes) [
     | inl none ↦ floors_none old new none
@@ -85,7 +85,7 @@ module _ (sum : List ℕ → ℕ) (P : ℕ) (content : List ℕ) where
     | inr (d, is, readable, inr (base, since)) ↦ floors_one old new d is (λ floor enough keeps. keeps_settle sum P content floor old.present d (subst (λ (l : List ℕ). IsImage old.present l) (sym base) image) since keeps)
   ]
 
-  -- a cut that leaves pages enough for the content
+  -- a cut keeps each floor, if it leaves enough pages for the content
   pub floors_resize : (k : ℕ) (old new : Life) (answer : Result (Unit {0}) Error) → ReadsImage old → k * (P + 12) ≤ length old.present.readable → length content ≤ k * P
       → ResizeGoes (k * (P + 12)) old new answer → KeepsFloors sum P content old new
   floors_resize k old new answer image within few goes = elim (resize_cases (k * (P + 12)) old new answer goes) [
@@ -95,13 +95,13 @@ module _ (sum : List ℕ → ℕ) (P : ℕ) (content : List ℕ) where
         (λ told inside guards. guards_below sum P k told floor (k * (P + 12)) old.present d (Resize (k * (P + 12))) base since (resize_leaves_below (k * (P + 12))) (omega arith) (omega (arith, enough, few)) guards) keeps)
   ]
 
-  -- and is then made durable
+  -- such a cut and then a sync keep each floor
   pub floors_cut : (k : ℕ) (old mid new : Life) (cut synced : Result (Unit {0}) Error) → ReadsImage old → k * (P + 12) ≤ length old.present.readable → length content ≤ k * P
       → ResizeGoes (k * (P + 12)) old mid cut → SyncGoes mid new synced → KeepsFloors sum P content old new
   floors_cut k old mid new cut synced image within few cuts syncs =
       floors_joins old mid new (floors_resize k old mid cut image within few cuts) (floors_sync mid new synced (resize_image (k * (P + 12)) old mid cut cuts image) syncs)
 
--- so where each floor of the text of what is readable is kept, each floor of any content is
+-- where each floor of the text of what is readable is kept, each floor of any content is
 pub floors_of_content : (sum : List ℕ → ℕ) (P : ℕ) (content : List ℕ) (old new : Life) → ReadsImage old → KeepsFloors sum P (text sum P old.present.readable) old new → KeepsFloors sum P content old new
 floors_of_content sum P content old new image floors = λ floor enough keeps.
     let readable = text sum P old.present.readable in

@@ -7,7 +7,7 @@ use Rattle.disk.proofs.Logs.{grows_once}
 use Rattle.crash.specs.Kept.{Through}
 use Rattle.crash.specs.Looks.{Looked, looked_start}
 
--- a call in the log
+-- one call in the log, and nothing else changed
 looked_once : (life : Life) (request : Request) (failed : Bool) → Looked life (next life (logged request failed life.present))
 unfolding Through
 looked_once life request failed = record {
@@ -39,7 +39,7 @@ looked_read offset len old new (Err IdsExhausted) goes = absurd goes
 pub looked_readable : (old new : Life) → Looked old new → new.present.readable ≡ old.present.readable
 looked_readable old new looked = ap (λ (d : Disk). d.readable) looked.same
 
--- what a read after a look gave
+-- the bytes that a read gives after calls that only read are those that were readable before them
 pub read_gives : (offset len : ℕ) (start old new : Life) (bytes : List ℕ) → Looked start old → DeviceReadGoes offset len old new (Ok bytes)
     → bytes ≡ take len (drop offset start.present.readable)
 read_gives offset len start old new bytes so_far goes =

@@ -1,5 +1,5 @@
--- What the laws of the promise need of pages: where a page stands in the blob's bytes, when a slot verifies, and how
--- the text begins.
+-- What the laws of the promise need of pages: where a page stands in the blob's bytes, when a slot
+-- verifies, and how the text begins.
 use Rattle.std.proofs.Common.{◌≡◌, ◌⊎◌, inl, inr, ℕ, zero, suc, ◌+◌, ◌-◌, ◌*◌, ◌<◌, ◌≤◌, min, ◌==◌, if◌then◌else◌, cond, ◌&&◌, leb, eqb, List, [], ◌∷◌, ◌++◌, length, take, drop, slice_get, Some, refl, sym, ap, ap₂, ◌∙◌, arith, length-append, length-take, length-take-le, length-drop}
 use Rattle.std.proofs.lemmas.Bool.{cases_lt, cases_eq, cond-true, cond-false, eq-eqb, ne_eqb}
 use Rattle.std.proofs.lemmas.Bool.Decides.{nat_tests}
@@ -15,16 +15,17 @@ use Rattle.crash.proofs.Lists.{within_take}
 use Rattle.crash.proofs.Pages.{page_is}
 use Rattle.crash.proofs.Texts.{verified_len_le, value_len_le}
 
--- what a test of a slot tells
+-- a test of a slot gives 0, or its length, which is then from 1 to P and has the right checksum
 tested : (len P found said : ℕ) → (cond (leb 1 len && leb len P && eqb found said) len 0 ≡ 0) ⊎ ((cond (leb 1 len && leb len P && eqb found said) len 0 ≡ len) × (0 < len) × (len ≤ P) × (found ≡ said))
 tested len P found said = grind (arith, nat_tests)
 
--- a slot verifies over nothing, or over the length that it says, which is from 1 to P, and its checksum is right
+-- a slot verifies over nothing, or over its own length, which is from 1 to P, and its checksum is
+-- right
 pub verified_cases : (sum : List ℕ → ℕ) (P : ℕ) (s : Slot) (page : List ℕ) → (verified_len sum P s page ≡ 0)
     ⊎ ((verified_len sum P s page ≡ slot_len (slot_of P s page)) × (0 < slot_len (slot_of P s page)) × (slot_len (slot_of P s page) ≤ P) × (sum (take (slot_len (slot_of P s page)) page) ≡ slot_crc (slot_of P s page)))
 verified_cases sum P s page = tested (slot_len (slot_of P s page)) P (sum (take (slot_len (slot_of P s page)) page)) (slot_crc (slot_of P s page))
 
--- where a slot says the length and the checksum of the page's first bytes, it verifies over those
+-- where a slot has the length and the checksum of the page's first bytes, it verifies over those
 pub verified_len_held : (sum : List ℕ → ℕ) (P : ℕ) (s : Slot) (page bytes : List ℕ) → IsSlotFor sum bytes (slot_of P s page) → 0 < length bytes → length bytes ≤ P → take (length bytes) page ≡ bytes → verified_len sum P s page ≡ length bytes
 verified_len_held sum P s page bytes is_slot some fits begins =
     let right : sum (take (slot_len (slot_of P s page)) page) ≡ slot_crc (slot_of P s page) =
@@ -34,7 +35,7 @@ verified_len_held sum P s page bytes is_slot some fits begins =
     passed : (len P found said n : ℕ) → len ≡ n → 0 < n → n ≤ P → found ≡ said → cond (leb 1 len && leb len P && eqb found said) len 0 ≡ n
     passed len P found said n is some fits right = grind (arith, nat_tests)
 
--- a slot that verifies says the length and the checksum of the page's first bytes
+-- a slot that verifies has the length and the checksum of the page's first bytes
 pub slot_from_verified : (sum : List ℕ → ℕ) (P : ℕ) (s : Slot) (page : List ℕ) → P + 12 ≤ length page → 0 < verified_len sum P s page → IsSlotFor sum (take (verified_len sum P s page) page) (slot_of P s page)
 slot_from_verified sum P s page whole some = elim (verified_cases sum P s page) [
   | inl none ↦ absurd (omega arith)
@@ -74,14 +75,14 @@ slot_at P p s bytes page is =
 pub page_begins : (P p n : ℕ) (bytes page : List ℕ) → slice_get (pages P bytes) p ≡ Some page → n ≤ P + 12 → take n page ≡ take n (drop (p * (P + 12)) bytes)
 page_begins P p n bytes page is inside = ap (λ (l : List ℕ). take n l) (page_is P p bytes page is) ∙ take-take n (P + 12) (drop (p * (P + 12)) bytes) inside
 
--- a page says what the content has at its offset, as far as the floor goes
+-- the value of page p is the content's part at its offset, as far as the floor goes
 pub record Says (sum : List ℕ → ℕ) (P : ℕ) (content : List ℕ) (floor : ℕ) (ps : List (List ℕ)) (p : ℕ) : Type 0 where
   pub page : List ℕ
   pub there : slice_get ps p ≡ Some page
   pub enough : min P (floor - p * P) ≤ value_len sum P page
   pub begins : take (min P (floor - p * P)) page ≡ take (min P (floor - p * P)) (drop (p * P) content)
 
--- so do the pages after the first of the content after it
+-- the values of the pages after the first are parts of the content after the first page's
 says_after : (sum : List ℕ → ℕ) (P : ℕ) (content : List ℕ) (floor : ℕ) (page : List ℕ) (ps : List (List ℕ)) (p : ℕ) → Says sum P content floor (page ∷ ps) (suc p) → Says sum P (drop P content) (floor - P) ps p
 says_after sum P content floor page ps p says =
     let fewer : min P (floor - P - p * P) ≡ min P (floor - suc p * P) = omega arith in
@@ -93,14 +94,14 @@ says_after sum P content floor page ps p says =
       begins = ap (λ (n : ℕ). take n says.page) fewer ∙ says.begins ∙ ap₂ (λ (n k : ℕ). take n (drop k content)) (sym fewer) (sym further) ∙ ap (λ (l : List ℕ). take (min P (floor - P - p * P)) l) (sym (drop-drop (p * P) P content));
     }
 
--- the floor ends within the first page
+-- where the floor ends within the first page, the text begins with the content up to the floor
 floor_here : (sum : List ℕ → ℕ) (P : ℕ) (content : List ℕ) (floor : ℕ) (page rest : List ℕ) → floor ≤ length content → floor ≤ value_len sum P page → take floor page ≡ take floor content
     → take floor (value sum P page ++ rest) ≡ take floor content
 floor_here sum P content floor page rest enough there begins =
     let whole : floor ≤ length page = omega (arith, simp length-take at (ap length begins)) in
     take-append-le floor (value sum P page) rest (omega (arith, length-take (value_len sum P page) page)) ∙ take-take floor (value_len sum P page) page there ∙ begins
 
--- the floor is past the first page
+-- where the floor is past the first page, the text begins with the content if what follows does
 floor_past : (sum : List ℕ → ℕ) (P : ℕ) (content : List ℕ) (floor : ℕ) (page rest : List ℕ) → floor ≤ length content → P ≤ floor → value_len sum P page ≡ P → take P page ≡ take P content → take (floor - P) rest ≡ take (floor - P) (drop P content)
     → take floor (value sum P page ++ rest) ≡ take floor content
 floor_past sum P content floor page rest enough past full begins after =
@@ -113,7 +114,7 @@ floor_past sum P content floor page rest enough past full begins after =
     ∙ sym (take-add P (floor - P) content)
     ∙ ap (λ (n : ℕ). take n content) (sym same)
 
--- what the first page says
+-- the value of the first page is the content's beginning, as far as the floor goes
 says_first : (sum : List ℕ → ℕ) (P : ℕ) (content : List ℕ) (floor : ℕ) (page : List ℕ) (ps : List (List ℕ)) → Says sum P content floor (page ∷ ps) 0
     → (min P floor ≤ value_len sum P page) × (take (min P floor) page ≡ take (min P floor) content)
 says_first sum P content floor page ps says =
@@ -124,7 +125,8 @@ says_first sum P content floor page ps says =
     let begins : take (min P floor) says.page ≡ take (min P floor) content = ap (λ (n : ℕ). take n says.page) (sym far) ∙ says.begins ∙ ap₂ (λ (n k : ℕ). take n (drop k content)) far start in
     (rw same enough, rw same begins)
 
--- the text begins as the content, as far as the floor goes, where each page that the floor touches says so
+-- the text begins as the content, as far as the floor goes, if the value of each page that the
+-- floor touches does
 pub text_begins : (sum : List ℕ → ℕ) (P : ℕ) (ps : List (List ℕ)) (content : List ℕ) (floor : ℕ) → floor ≤ length content → ((p : ℕ) → p * P < floor → Says sum P content floor ps p)
     → take floor (text_of_pages sum P ps) ≡ take floor content
 text_begins sum P ps content zero enough says = refl
@@ -151,7 +153,7 @@ pub joined_beginning : {X : Type 0} (xs ys zs : List X) → xs ≡ take (length 
 joined_beginning xs ys zs first second =
     ap₂ (λ (first_part second_part : List _). first_part ++ second_part) first second ∙ sym (take-add (length xs) (length ys) zs) ∙ ap (λ (n : ℕ). take n zs) (sym (length-append xs ys))
 
--- a list that is so much of another is as much of it as it is long
+-- a list that is the first n elements of another is its first elements, as many as the list has
 pub own_beginning : {X : Type 0} (n : ℕ) (xs zs : List X) → xs ≡ take n zs → xs ≡ take (length xs) zs
 own_beginning n xs zs is = is ∙ sym (take_min n zs) ∙ ap (λ (k : ℕ). take k zs) (sym (ap length is ∙ length-take n zs))
 
@@ -200,7 +202,7 @@ pub record HasPart (sum : List ℕ → ℕ) (P : ℕ) (whole : List ℕ) (ps : L
 first_part : {X : Type 0} (xs rest whole : List X) (n k : ℕ) → length xs ≡ n → whole ≡ xs ++ rest → k ≡ 0 → xs ≡ take n (drop k whole)
 first_part xs rest whole n k size is start = sym (take_at xs rest n size) ∙ ap₂ (λ (l : List _) (j : ℕ). take n (drop j l)) (sym is) (sym start)
 
--- a part after the first page
+-- a page after the first of which the text has a part
 part_after : (sum : List ℕ → ℕ) (P : ℕ) (first rest whole page : List ℕ) (ps : List (List ℕ)) (p : ℕ) → length first ≡ P → whole ≡ first ++ rest → HasPart sum P rest ps p → HasPart sum P whole (page ∷ ps) (suc p)
 part_after sum P first rest whole page ps p size is part =
     let further : suc p * P ≡ length first + p * P = omega arith in
@@ -215,7 +217,7 @@ part_after sum P first rest whole page ps p size is part =
       enough = omega (arith, part.enough);
     }
 
--- each offset of the text lies in such a page
+-- each offset of the text lies in a page of which the text has a part
 pub has_part : (sum : List ℕ → ℕ) (P : ℕ) (ps : List (List ℕ)) (p : ℕ) → 0 < P → ((q : ℕ) (page : List ℕ) → slice_get ps q ≡ Some page → P ≤ length page)
     → p * P < length (text_of_pages sum P ps) → HasPart sum P (text_of_pages sum P ps) ps p
 has_part sum P [] p some long below = absurd (omega arith)

@@ -79,7 +79,7 @@ length-pages P bytes = length-pieces (length bytes / (P + 12)) (P + 12) bytes
 pub pages_fit : (P k : ℕ) (bytes : List ℕ) → k * (P + 12) ≤ length bytes → k ≤ length bytes / (P + 12)
 pages_fit P k bytes le = le-div k (length bytes) (P + 12) (omega arith) le
 
--- the blob is as long as its pages
+-- a blob is at least as long as its pages
 pub pages_reach : (P k : ℕ) (bytes : List ℕ) → k ≤ length bytes / (P + 12) → k * (P + 12) ≤ length bytes
 pages_reach P k bytes le =
     let q = length bytes / (P + 12) in
@@ -170,11 +170,11 @@ module _ (P q m : ℕ) (new old : List ℕ) (len : length new ≡ m * (P + 12)) 
   pub rewritten : applied (Write (q * (P + 12)) new) old ≡ take (q * (P + 12)) old ++ new
   rewritten = write_at_end (q * (P + 12)) new old begins ends
 
-  -- its length
+  -- the length of a blob whose last pages were written anew
   pub length-rewritten : length (applied (Write (q * (P + 12)) new) old) ≡ (q + m) * (P + 12)
   length-rewritten = ap length rewritten ∙ (let e : length (take (q * (P + 12)) old ++ new) ≡ (q + m) * (P + 12) = omega (arith, length-append (take (q * (P + 12)) old) new, length-take (q * (P + 12)) old) in e)
 
-  -- its pages
+  -- the pages of a blob whose last pages were written anew
   pub pages_of_rewritten : pages P (applied (Write (q * (P + 12)) new) old) ≡ take q (pages P old) ++ pieces m (P + 12) new
   pages_of_rewritten =
       let front : length (take (q * (P + 12)) old) ≡ q * (P + 12) = length-take-le (q * (P + 12)) old begins in
@@ -185,7 +185,7 @@ module _ (P q m : ℕ) (new old : List ℕ) (len : length new ≡ m * (P + 12)) 
 
 -- ---- the payloads of pages, joined
 
--- one page more
+-- the joined payloads with one page more
 pub stored_suc : (P full : ℕ) (readable : List ℕ) → (full + 1) * (P + 12) ≤ length readable → stored P (full + 1) readable ≡ take P readable ++ stored P full (drop (P + 12) readable)
 stored_suc P full readable le =
     let reach : full * (P + 12) ≤ length (drop (P + 12) readable) = omega (arith, length-drop (P + 12) readable) in
@@ -194,7 +194,7 @@ stored_suc P full readable le =
     ∙ ap (λ (l : List ℕ). l ++ flat_map (take P) (pieces full (P + 12) (drop (P + 12) readable))) (take-take P (P + 12) readable (omega arith))
     ∙ ap (λ (l : List (List ℕ)). take P readable ++ flat_map (take P) l) (sym (take-pages P full (drop (P + 12) readable) reach))
 
--- they are as long as so many full pages
+-- the joined payloads are as long as so many full pages
 joined_length : (n P size : ℕ) (bytes : List ℕ) → P ≤ size → n * size ≤ length bytes → length (flat_map (take P) (pieces n size bytes)) ≡ n * P
 joined_length zero P size bytes small le = omega arith
 joined_length (suc n) P size bytes small le =
@@ -224,17 +224,17 @@ joined_within (suc n) P size (suc p) i k bytes small le lt fits =
     ∙ within_drop k (p * size + i) size bytes
     ∙ ap (λ (j : ℕ). take k (drop j bytes)) e
 
--- they are as long as so many full pages
+-- the joined payloads of a blob's first pages are as long as so many full pages
 pub length-stored : (P full : ℕ) (readable : List ℕ) → full * (P + 12) ≤ length readable → length (stored P full readable) ≡ full * P
 length-stored P full readable le =
     ap (λ (l : List (List ℕ)). length (flat_map (take P) l)) (take-pages P full readable le) ∙ joined_length full P (P + 12) readable (omega arith) le
 
--- what stands within a payload of theirs
+-- a part within one payload of the joined ones
 pub stored_within : (P full p i n : ℕ) (readable : List ℕ) → full * (P + 12) ≤ length readable → p < full → i + n ≤ P → take n (drop (p * P + i) (stored P full readable)) ≡ take n (drop (p * (P + 12) + i) readable)
 stored_within P full p i n readable le lt fits =
     ap (λ (l : List (List ℕ)). take n (drop (p * P + i) (flat_map (take P) l))) (take-pages P full readable le) ∙ joined_within full P (P + 12) p i n readable (omega arith) le lt fits
 
--- they are of the bytes that the pages cover
+-- the joined payloads depend on the bytes that the pages cover alone
 pub stored_same : (P full : ℕ) (xs ys : List ℕ) → full * (P + 12) ≤ length xs → take (full * (P + 12)) xs ≡ take (full * (P + 12)) ys → stored P full xs ≡ stored P full ys
 stored_same P full xs ys le same = ap (λ (l : List (List ℕ)). flat_map (take P) l) (take-pages_same P full xs ys le same)
 
@@ -284,6 +284,6 @@ pages_split P k bytes le =
     ∙ ap (λ (l : List (List ℕ)). l ++ rest) (take_pages_more P k bytes le)
     ∙ append_assoc (take k (pages P bytes)) (page ∷ []) rest
 
--- no more pages than fit
+-- a blob has no more pages than fit into its length
 pub pages_below : (P k : ℕ) (bytes : List ℕ) → length bytes < (k + 1) * (P + 12) → length (pages P bytes) ≤ k
 pages_below P k bytes ends = let a : length bytes / (P + 12) < k + 1 = div_below (length bytes) (P + 12) (k + 1) (omega arith) ends in omega (arith, a, length-pages P bytes)

@@ -1,4 +1,5 @@
--- The laws of the promise: what is guarded is kept, and a truthful disk says only the content.
+-- The laws of the promise: what is guarded is kept, and the images of a truthful disk have no other
+-- text than a beginning of the content.
 use Rattle.std.proofs.Common.{◌≡◌, inl, inr, ℕ, ◌+◌, ◌-◌, ◌*◌, ◌<◌, ◌≤◌, min, List, [], ◌∷◌, ◌++◌, length, take, drop, slice_get, Some, refl, sym, ap, ◌∙◌, subst, arith, length-take, length-take-le, length-drop, length-append, mul-le-mul_right, le_trans, Bool, true, false}
 use Rattle.std.specs.Prelude.{if◌then◌else◌, ◌==◌}
 use Rattle.std.proofs.lemmas.Bool.{cases_lt}
@@ -21,12 +22,12 @@ held_page : (sum : List ℕ → ℕ) (P : ℕ) (d : Disk) (p : ℕ) (s : Slot) (
     → slice_get (pages P image) p ≡ Some (take (P + 12) (drop (p * (P + 12)) image))
 held_page sum P d p s slot bytes image held is_image = pages_at P p image (omega (arith, fixed_length d ((p + 1) * (P + 12)) [] image held.end is_image))
 
--- a page that is held begins with its bytes in each image
+-- a page that is pinned begins with its bytes in each image
 pub held_begins : (sum : List ℕ → ℕ) (P : ℕ) (d : Disk) (p : ℕ) (s : Slot) (slot bytes image page : List ℕ) → IsPinned sum P d p s slot bytes → IsImage d image → slice_get (pages P image) p ≡ Some page → take (length bytes) page ≡ bytes
 held_begins sum P d p s slot bytes image page held is_image is =
     page_begins P p (length bytes) image page is (omega (arith, held.fits)) ∙ fixed_in_image d (p * (P + 12)) bytes image held.payload is_image
 
--- and its slot verifies over them
+-- the slot of a page that is pinned verifies over its bytes in each image
 pub held_verifies : (sum : List ℕ → ℕ) (P : ℕ) (d : Disk) (p : ℕ) (s : Slot) (slot bytes image page : List ℕ) → IsPinned sum P d p s slot bytes → IsImage d image → slice_get (pages P image) p ≡ Some page → verified_len sum P s page ≡ length bytes
 held_verifies sum P d p s slot bytes image page held is_image is =
     let same : slot ≡ slot_of P s page =
@@ -34,7 +35,7 @@ held_verifies sum P d p s slot bytes image page held is_image is =
     ∙ ap (λ (n : ℕ). take n (drop (p * (P + 12) + P + slot_offset s) image)) held.is_slot.size ∙ sym (slot_at P p s image page is) in
     verified_len_held sum P s page bytes (subst (λ (l : List ℕ). IsSlotFor sum bytes l) same held.is_slot) held.some held.fits (held_begins sum P d p s slot bytes image page held is_image is)
 
--- a page that is guarded says the content, as far as the floor goes
+-- the value of a page that is guarded is the content's part, as far as the floor goes
 guarded_says : (sum : List ℕ → ℕ) (P : ℕ) (content : List ℕ) (floor : ℕ) (d : Disk) (p : ℕ) (image : List ℕ) → IsGuarded sum P content floor d p → IsImage d image → Says sum P content floor (pages P image) p
 guarded_says sum P content floor d p image g is_image =
     let page = take (P + 12) (drop (p * (P + 12)) image) in
@@ -49,7 +50,7 @@ guarded_says sum P content floor d p image g is_image =
       begins = take_same (min P (floor - p * P)) g.len page (drop (p * P) content) g.enough begins;
     }
 
--- what slots hold is kept
+-- what slots guard, every image keeps
 pub held_is_kept : (sum : List ℕ → ℕ) (P : ℕ) (content : List ℕ) (floor : ℕ) (d : Disk) → AreHeld sum P content floor d → AllKeep sum P content floor d
 held_is_kept sum P content floor d held = record {
   kept = λ image is_image.
@@ -57,23 +58,23 @@ held_is_kept sum P content floor d held = record {
   held = held;
 }
 
--- what is guarded is
+-- what is guarded, every image keeps
 pub guarded_is_kept : (sum : List ℕ → ℕ) (P : ℕ) (content : List ℕ) (floor : ℕ) (d : Disk) → Guards sum P content floor d → floor ≤ length content → AllKeep sum P content floor d
 guarded_is_kept sum P content floor d guards enough = held_is_kept sum P content floor d (record { told = content; within = enough; same = refl; guards = guards })
 
--- a floor that is kept is at most what is durable
+-- a floor that is kept is no more than the base's text has
 pub floor_is_durable : (sum : List ℕ → ℕ) (P : ℕ) (content : List ℕ) (floor : ℕ) (d : Disk) → AllKeep sum P content floor d → floor ≤ length content → floor ≤ length (text sum P d.base)
 floor_is_durable sum P content floor d keeps enough =
     let same = ap length (keeps.kept d.base (base_is_image d)) in
     omega (arith, length-take floor (text sum P d.base), length-take floor content, same)
 
--- an operation leaves a page that is held: its bytes, its slot and its end
+-- an operation leaves a page that is pinned: its bytes, its slot and its end
 pub record LeavesPage (o : Operation) (P p : ℕ) (s : Slot) (slot bytes : List ℕ) : Type 0 where
   pub payload : Leaves o (p * (P + 12)) bytes
   pub fixed_slot : Leaves o (p * (P + 12) + P + slot_offset s) slot
   pub end : Leaves o ((p + 1) * (P + 12)) []
 
--- a page that is held stays so under an operation that leaves it
+-- a page that is pinned stays so under an operation that leaves it
 pub held_stays : (sum : List ℕ → ℕ) (P : ℕ) (d e : Disk) (o : Operation) (p : ℕ) (s : Slot) (slot bytes : List ℕ) → e.base ≡ d.base → e.since ≡ d.since ++ o ∷ [] → LeavesPage o P p s slot bytes → IsPinned sum P d p s slot bytes → IsPinned sum P e p s slot bytes
 held_stays sum P d e o p s slot bytes base since leaves held = record {
   some = held.some;
@@ -84,7 +85,7 @@ held_stays sum P d e o p s slot bytes base since leaves held = record {
   end = fixed_stays d e o ((p + 1) * (P + 12)) [] base since leaves.end held.end;
 }
 
--- and when an image becomes the base
+-- a page that is pinned stays so when an image becomes the base
 pub held_settles : (sum : List ℕ → ℕ) (P : ℕ) (d e : Disk) (p : ℕ) (s : Slot) (slot bytes : List ℕ) → IsImage d e.base → e.since ≡ [] → IsPinned sum P d p s slot bytes → IsPinned sum P e p s slot bytes
 held_settles sum P d e p s slot bytes is_image at_rest held = record {
   some = held.some;
@@ -95,7 +96,7 @@ held_settles sum P d e p s slot bytes is_image at_rest held = record {
   end = fixed_settles d e ((p + 1) * (P + 12)) [] is_image at_rest held.end;
 }
 
--- and where only what is readable, the started syncs or the log differ
+-- a page that is pinned stays so where only what is readable, the started syncs or the log differ
 pub held_alike : (sum : List ℕ → ℕ) (P : ℕ) (d e : Disk) (p : ℕ) (s : Slot) (slot bytes : List ℕ) → e.base ≡ d.base → e.since ≡ d.since → IsPinned sum P d p s slot bytes → IsPinned sum P e p s slot bytes
 held_alike sum P d e p s slot bytes base since held = record {
   some = held.some;
@@ -106,7 +107,7 @@ held_alike sum P d e p s slot bytes base since held = record {
   end = fixed_alike d e ((p + 1) * (P + 12)) [] base since held.end;
 }
 
--- and when the operations that a sync covers become durable
+-- a page that is pinned stays so when the operations that a sync covers become durable
 pub held_covered : (sum : List ℕ → ℕ) (P : ℕ) (d e : Disk) (os ps : List Operation) (p : ℕ) (s : Slot) (slot bytes : List ℕ) → d.since ≡ os ++ ps → e.base ≡ latest d.base os → e.since ≡ ps → IsPinned sum P d p s slot bytes → IsPinned sum P e p s slot bytes
 held_covered sum P d e os ps p s slot bytes since base rest held = record {
   some = held.some;
@@ -117,7 +118,7 @@ held_covered sum P d e os ps p s slot bytes since base rest held = record {
   end = fixed_covered d e os ps ((p + 1) * (P + 12)) [] since base rest held.end;
 }
 
--- a guarded page, over to a disk on which it is held too
+-- a page that is guarded on one disk is guarded on another on which it is pinned too
 guarded_on : (sum : List ℕ → ℕ) (P : ℕ) (content : List ℕ) (floor : ℕ) (d e : Disk) (p : ℕ) (g : IsGuarded sum P content floor d p) → IsPinned sum P e p g.slot g.bytes (take g.len (drop (p * P) content)) → IsGuarded sum P content floor e p
 guarded_on sum P content floor d e p g held = record { slot = g.slot; bytes = g.bytes; len = g.len; enough = g.enough; there = g.there; held = held }
 
@@ -129,19 +130,19 @@ guards_stay sum P content floor d e o base since leaves guards =
     λ p below. let g = guards p below in
     guarded_on sum P content floor d e p g (held_stays sum P d e o p g.slot g.bytes (take g.len (drop (p * P) content)) base since (leaves p below g) g.held)
 
--- and when an image becomes the base
+-- guarded pages stay guarded when an image becomes the base
 pub guards_settle : (sum : List ℕ → ℕ) (P : ℕ) (content : List ℕ) (floor : ℕ) (d e : Disk) → IsImage d e.base → e.since ≡ [] → Guards sum P content floor d → Guards sum P content floor e
 guards_settle sum P content floor d e is_image at_rest guards =
     λ p below. let g = guards p below in
     guarded_on sum P content floor d e p g (held_settles sum P d e p g.slot g.bytes (take g.len (drop (p * P) content)) is_image at_rest g.held)
 
--- and when the operations that a sync covers become durable
+-- guarded pages stay guarded when the operations that a sync covers become durable
 pub guards_covered : (sum : List ℕ → ℕ) (P : ℕ) (content : List ℕ) (floor : ℕ) (d e : Disk) (os ps : List Operation) → d.since ≡ os ++ ps → e.base ≡ latest d.base os → e.since ≡ ps → Guards sum P content floor d → Guards sum P content floor e
 guards_covered sum P content floor d e os ps since base rest guards =
     λ p below. let g = guards p below in
     guarded_on sum P content floor d e p g (held_covered sum P d e os ps p g.slot g.bytes (take g.len (drop (p * P) content)) since base rest g.held)
 
--- and where only what is readable, the started syncs or the log differ
+-- guarded pages stay guarded where only what is readable, the started syncs or the log differ
 pub guards_alike : (sum : List ℕ → ℕ) (P : ℕ) (content : List ℕ) (floor : ℕ) (d e : Disk) → e.base ≡ d.base → e.since ≡ d.since → Guards sum P content floor d → Guards sum P content floor e
 guards_alike sum P content floor d e base since guards =
     λ p below. let g = guards p below in
@@ -151,11 +152,11 @@ guards_alike sum P content floor d e base since guards =
 pub record LeavesBelow (o : Operation) (end : ℕ) : Type 0 where
   pub leaves : (offset : ℕ) (bytes : List ℕ) → offset + length bytes ≤ end → Leaves o offset bytes
 
--- a write does up to where it begins
+-- a write leaves whatever ends where it begins, or before
 pub write_leaves_below : (at : ℕ) (written : List ℕ) → LeavesBelow (Write at written) at
 write_leaves_below at written = record { leaves = λ offset bytes within. write_after_leaves at written offset bytes within }
 
--- a resize does up to the new end
+-- a resize leaves whatever ends at the new end, or before
 pub resize_leaves_below : (len : ℕ) → LeavesBelow (Resize len) len
 resize_leaves_below len = record { leaves = λ offset bytes within. resize_leaves len offset bytes within }
 
@@ -167,7 +168,7 @@ leaves_page_below o P p end s slot bytes below within size fits = record {
   end = below.leaves ((p + 1) * (P + 12)) [] (omega arith);
 }
 
--- so what is guarded up to there stays guarded
+-- so what is guarded up to an offset stays guarded under an operation that leaves what ends there
 pub guards_below : (sum : List ℕ → ℕ) (P full : ℕ) (content : List ℕ) (floor end : ℕ) (d e : Disk) (o : Operation) → e.base ≡ d.base → e.since ≡ d.since ++ o ∷ [] → LeavesBelow o end → full * (P + 12) ≤ end → floor ≤ full * P
     → Guards sum P content floor d → Guards sum P content floor e
 guards_below sum P full content floor end d e o base since below within few guards =
@@ -181,7 +182,7 @@ guards_below sum P full content floor end d e o base since below within few guar
       | inr past ↦ absurd (omega (arith, mul-le-mul_right P past))
     ]
 
--- less is guarded too
+-- what is guarded up to a floor is guarded up to a lower one
 pub guards_less : (sum : List ℕ → ℕ) (P : ℕ) (content : List ℕ) (floor less : ℕ) (d : Disk) → less ≤ floor → Guards sum P content floor d → Guards sum P content less d
 guards_less sum P content floor less d le guards =
     λ p below. let g = guards p (omega arith) in
@@ -244,7 +245,7 @@ keeps_at_rest sum P d at_rest = guarded_is_kept sum P (text sum P d.base) (lengt
   | inr none ↦ λ p below. absurd (omega (arith, below, text_of_none (pages P d.base) none))
 ]) (omega arith)
   where
-    -- pages without a payload say nothing
+    -- pages without a payload have no text
     text_of_none : (ps : List (List ℕ)) → P ≤ 0 → length (text_of_pages sum P ps) ≤ 0
     text_of_none [] none = omega arith
     text_of_none (p ∷ ps) none =
@@ -254,7 +255,7 @@ keeps_at_rest sum P d at_rest = guarded_is_kept sum P (text sum P d.base) (lengt
         at_most true few = few
         at_most false few = omega arith
 
--- what is held on one disk and on another is kept there
+-- a floor that is kept on one disk is kept on another that guards whatever the first guards
 pub keeps_on : (sum : List ℕ → ℕ) (P : ℕ) (content : List ℕ) (floor : ℕ) (d e : Disk) → ((told : List ℕ) → floor ≤ length told → Guards sum P told floor d → Guards sum P told floor e) → AllKeep sum P content floor d → AllKeep sum P content floor e
 keeps_on sum P content floor d e turned keeps =
     let held = keeps.held in
@@ -264,17 +265,17 @@ keeps_on sum P content floor d e turned keeps =
 pub keeps_same : (sum : List ℕ → ℕ) (P : ℕ) (content other : List ℕ) (floor : ℕ) (d : Disk) → take floor content ≡ take floor other → AllKeep sum P content floor d → AllKeep sum P other floor d
 keeps_same sum P content other floor d same keeps = held_is_kept sum P other floor d (record { told = keeps.held.told; within = keeps.held.within; same = keeps.held.same ∙ same; guards = keeps.held.guards })
 
--- and fewer bytes are one
+-- fewer bytes than a floor that is kept are one too
 pub keeps_less : (sum : List ℕ → ℕ) (P : ℕ) (content : List ℕ) (floor less : ℕ) (d : Disk) → less ≤ floor → AllKeep sum P content floor d → AllKeep sum P content less d
 keeps_less sum P content floor less d few keeps =
     let held = keeps.held in
     held_is_kept sum P content less d (record { told = held.told; within = omega (arith, few, held.within); same = take_same less floor held.told content few held.same; guards = guards_less sum P held.told floor less d few held.guards })
 
--- none are
+-- the floor of no bytes is kept
 pub keeps_nothing : (sum : List ℕ → ℕ) (P : ℕ) (content : List ℕ) (d : Disk) → AllKeep sum P content 0 d
 keeps_nothing sum P content d = held_is_kept sum P content 0 d (record { told = []; within = omega arith; same = refl; guards = λ p below. absurd (omega (arith, below)) })
 
--- when an image becomes the base, as after a crash
+-- each floor is kept when an image becomes the base, as after a crash
 pub keeps_settle : (sum : List ℕ → ℕ) (P : ℕ) (content : List ℕ) (floor : ℕ) (d e : Disk) → IsImage d e.base → e.since ≡ [] → AllKeep sum P content floor d → AllKeep sum P content floor e
 keeps_settle sum P content floor d e is_image at_rest keeps = keeps_on sum P content floor d e (λ told within guards. guards_settle sum P told floor d e is_image at_rest guards) keeps
 
@@ -282,7 +283,7 @@ keeps_settle sum P content floor d e is_image at_rest keeps = keeps_on sum P con
 abbrev pub SaysOnly : (List ℕ → ℕ) → ℕ → List ℕ → List ℕ → Type 0
 SaysOnly sum P content whole = (p : ℕ) (page : List ℕ) → slice_get (pages P whole) p ≡ Some page → (s : Slot) → take (verified_len sum P s page) page ≡ take (verified_len sum P s page) (drop (p * P) content)
 
--- chance aside, an image of a truthful disk says only the content
+-- each chance-free image of a truthful disk has as its text a beginning of the content
 pub only_content : (sum : List ℕ → ℕ) (P : ℕ) (content : List ℕ) (d : Disk) (image : List ℕ) → IsTruthful sum P content d → IsChanceFree sum P d image → text sum P image ≡ take (length (text sum P image)) content
 only_content sum P content d image truthful free = text_within sum P (pages P image) content (λ p page is.
     let chosen = value_len_slot sum P page in
@@ -298,11 +299,12 @@ only_content sum P content d image truthful free = text_within sum P (pages P im
           ap (λ (n : ℕ). take n page) zero_len ∙ ap (λ (n : ℕ). take n (drop (p * P) content)) (sym zero_len)
     ])
 
--- no chance is needed at a whole state
+-- a whole state is chance-free
 pub whole_is_chance_free : (sum : List ℕ → ℕ) (P : ℕ) (d : Disk) (whole : List ℕ) → IsWhole d.base d.since whole → IsChanceFree sum P d whole
 whole_is_chance_free sum P d whole is_whole = λ p page is s some. (whole, page, is_whole, is, refl, refl)
 
--- a truthful disk stays so under an operation after which the blob says only the content
+-- a truthful disk stays so under an operation after which each slot that verifies does so over
+-- bytes of the content
 pub truthful_stays : (sum : List ℕ → ℕ) (P : ℕ) (content : List ℕ) (d e : Disk) (o : Operation) → e.base ≡ d.base → e.since ≡ d.since ++ o ∷ [] → SaysOnly sum P content (applied o (latest d.base d.since)) → IsTruthful sum P content d → IsTruthful sum P content e
 truthful_stays sum P content d e o base since says truthful =
     λ whole is_whole. elim (one_more_whole d.base d.since o whole (rw (base, since) at is_whole)) [
@@ -310,16 +312,18 @@ truthful_stays sum P content d e o base since says truthful =
       | inr is_new ↦ subst (λ (bytes : List ℕ). SaysOnly sum P content bytes) (sym is_new) says
     ]
 
--- a disk with nothing unsynced is truthful where its base says only the content
+-- a disk with nothing unsynced is truthful where each slot of its base that verifies does so over
+-- bytes of the content
 pub truthful_at_rest : (sum : List ℕ → ℕ) (P : ℕ) (content : List ℕ) (d : Disk) → d.since ≡ [] → SaysOnly sum P content d.base → IsTruthful sum P content d
 truthful_at_rest sum P content d at_rest says =
     λ whole is_whole. subst (λ (bytes : List ℕ). SaysOnly sum P content bytes) (sym (subst (λ (os : List Operation). IsWhole d.base os whole) at_rest is_whole)) says
 
--- and where only what is readable, the started syncs or the log differ
+-- a truthful disk stays so where only what is readable, the started syncs or the log differ
 pub truthful_alike : (sum : List ℕ → ℕ) (P : ℕ) (content : List ℕ) (d e : Disk) → e.base ≡ d.base → e.since ≡ d.since → IsTruthful sum P content d → IsTruthful sum P content e
 truthful_alike sum P content d e base since truthful = λ whole is_whole. truthful whole (rw (base, since) at is_whole)
 
--- what says only the content says only a longer one
+-- where each slot that verifies does so over bytes of a content, it does so over bytes of a longer
+-- one
 pub says_only_longer : (sum : List ℕ → ℕ) (P : ℕ) (content longer whole : List ℕ) → content ≡ take (length content) longer → SaysOnly sum P content whole → SaysOnly sum P longer whole
 says_only_longer sum P content longer whole begins says = λ p page is s.
     let n = verified_len sum P s page in

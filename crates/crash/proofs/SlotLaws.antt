@@ -23,7 +23,7 @@ use Rattle.crash.proofs.DistinctLaws.{slot_good, void_good, slot_cases, SparesPa
 
 -- ---- a write into one slot
 
--- a write into one slot of a page's footer, after which that slot is good
+-- a write into one slot of a page's footer, after which that slot is good, keeps a disk vouched for
 pub slot_write_vouched : (sum : List ℕ → ℕ) (P page : ℕ) (t : Slot) (written : List ℕ) (d e : Disk) → e.base ≡ d.base → e.since ≡ d.since ++ slot_write P page t written ∷ [] → length written ≤ 6 → (page + 1) * (P + 12) ≤ length (latest d.base d.since)
     → ((held : List ℕ) → slice_get (pages P (applied (slot_write P page t written) (latest d.base d.since))) page ≡ Some held → IsGood sum P t held) → IsVouched sum P d → IsVouched sum P e
 slot_write_vouched sum P page t written d e base since few there new_slot vouched =
@@ -97,11 +97,11 @@ written_slot P page t written old held six there is =
     ∙ ap (λ (n : ℕ). take n (drop at (applied (Write at written) old))) (sym six)
     ∙ inside_write at written old (omega (arith, six, there, slot_offset_le t))
 
--- a slot that gets a checksum, with no length
+-- a slot that gets a checksum with length 0 is good
 pub staged_good : (sum : List ℕ → ℕ) (P page : ℕ) (t : Slot) (crc : ℕ) (old held : List ℕ) → (page + 1) * (P + 12) ≤ length old → slice_get (pages P (applied (slot_write P page t (slot_bytes 0 crc)) old)) page ≡ Some held → IsGood sum P t held
 staged_good sum P page t crc old held there is = void_good sum P t held (ap slot_len (written_slot P page t (slot_bytes 0 crc) old held refl there is) ∙ slot_len_of 0 crc (omega arith))
 
--- one that then gets its length, and tells the page's first bytes
+-- a slot that then gets its length, and has the checksum of the page's first bytes, is good
 pub published_good : (sum : List ℕ → ℕ) (P page : ℕ) (t : Slot) (len crc : ℕ) (old held : List ℕ) → P < 2 ^ 16 → len ≤ P → crc < 2 ^ 32 → (page + 1) * (P + 12) ≤ length old
     → take 6 (drop (page * (P + 12) + P + slot_offset t) old) ≡ slot_bytes 0 crc → crc ≡ sum (take len (drop (page * (P + 12)) old))
     → slice_get (pages P (applied (slot_write P page t (to_be_bytes w16 len)) old)) page ≡ Some held → IsGood sum P t held

@@ -1,4 +1,5 @@
--- What one flush spares: the pages below the tip, and in the tip's page the durable slot and what it covers.
+-- What one flush spares: the pages below the tip, and in the tip's page the durable slot and what
+-- it covers.
 use Rattle.std.proofs.Common.{◌≡◌, inl, inr, ℕ, zero, suc, ◌+◌, ◌*◌, ◌^◌, ◌<◌, ◌≤◌, min, List, [], ◌∷◌, ◌++◌, length, take, drop, slice_get, Option, Some, None, refl, sym, ap, ◌∙◌, subst, arith, length-take, length-take-le, length-drop, mul-le-mul_right, le_refl}
 use Rattle.std.proofs.lemmas.Bool.{cases_order}
 use Rattle.std.proofs.lemmas.List.{take-take, drop-drop, take-append-le}
@@ -29,7 +30,7 @@ built_keeps_slot sum P w m tip =
     within_append 6 (P + slot_offset w.slot) (page_of sum P (Some w) chunk) (built sum P None m (drop P tip)) (omega (arith, length-page_of sum P (Some w) chunk fits, slot_offset_le w.slot))
     ∙ slot_kept sum P (Some w) chunk fits
 
--- and it begins with the tip
+-- the first page that is built begins with the tip
 pub built_begins : (sum : List ℕ → ℕ) (P : ℕ) (durable : Option ActiveChecksum) (m : ℕ) (tip : List ℕ) (n : ℕ) → n ≤ P → n ≤ length tip → take n (built sum P durable (suc m) tip) ≡ take n tip
 built_begins sum P durable m tip n fits there =
     let chunk = take P tip in
@@ -87,7 +88,8 @@ flush_keeps_full sum P full content floor d e written base since few guards =
 abbrev pub PagesSayOnly : (List ℕ → ℕ) → ℕ → List ℕ → List (List ℕ) → Type 0
 PagesSayOnly sum P content ps = (p : ℕ) (page : List ℕ) → slice_get ps p ≡ Some page → (s : Slot) → take (verified_len sum P s page) page ≡ take (verified_len sum P s page) (drop (p * P) content)
 
--- so for the first pages of a blob, and for pages joined
+-- the slots of the first pages of a blob, and of pages joined, that verify do so over bytes of the
+-- content
 pub pages_say_taken : (sum : List ℕ → ℕ) (P : ℕ) (content : List ℕ) (ps : List (List ℕ)) (n : ℕ) → PagesSayOnly sum P content ps → PagesSayOnly sum P content (take n ps)
 pages_say_taken sum P content ps n says = λ p page is s. says p page (taken_element n ps p page is) s
 
@@ -113,7 +115,8 @@ built_within sum P durable chunk t small fits carries =
     ] in
     omega (arith, verified_len-le_said sum P t page, says)
 
--- each slot of the pages that are built says only the bytes that they were built of
+-- each slot of the pages that are built verifies over the bytes that they were built of, if it
+-- verifies
 pub built_say_only : (sum : List ℕ → ℕ) (P : ℕ) (durable : Option ActiveChecksum) (m : ℕ) (tip : List ℕ) → P < 2 ^ 16 → kept_len durable ≤ P → kept_len durable ≤ length tip → PagesSayOnly sum P tip (built_pages sum P durable m tip)
 built_say_only sum P durable zero tip small fits there p page is s = absurd (cc is)
 built_say_only sum P durable (suc m) tip small fits there zero page is s =
@@ -131,7 +134,8 @@ built_say_only sum P durable (suc m) tip small fits there (suc p) page is s =
     ∙ ap (λ (l : List ℕ). take (verified_len sum P s page) l) (drop-drop (p * P) P tip)
     ∙ ap (λ (k : ℕ). take (verified_len sum P s page) (drop k tip)) further
 
--- a flush says only the content: the pages below the tip are as they were, and the others are built of the tip
+-- after a flush each slot that verifies does so over bytes of the content: the pages below the tip
+-- are as they were, and the others are built of the tip
 pub flush_says_only : (sum : List ℕ → ℕ) (P full : ℕ) (content old new : List ℕ) (durable : Option ActiveChecksum) (m : ℕ) (tip : List ℕ) → P < 2 ^ 16 → kept_len durable ≤ P → kept_len durable ≤ length tip
     → drop (full * P) content ≡ tip → full ≤ length (pages P old) → pages P new ≡ take full (pages P old) ++ built_pages sum P durable m tip → SaysOnly sum P content old → SaysOnly sum P content new
 flush_says_only sum P full content old new durable m tip small fits there after enough new_pages says =

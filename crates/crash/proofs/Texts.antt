@@ -59,33 +59,33 @@ module _ (sum : List ℕ → ℕ) (P : ℕ) where
   AreFull-append [] back full rest = rest
   AreFull-append (page ∷ front) back full rest = (full.0, AreFull-append front back full.1 rest)
 
-  -- the first of full pages
+  -- the first of full pages are full
   pub AreFull-take : (k : ℕ) (some : List (List ℕ)) → AreFull sum P some → AreFull sum P (take k some)
   AreFull-take zero some full = tt
   AreFull-take (suc k) [] full = tt
   AreFull-take (suc k) (page ∷ some) full = (full.0, AreFull-take k some full.1)
 
-  -- fewer of the first pages
+  -- fewer of the first pages are full too
   pub AreFull_fewer : (k n : ℕ) (some : List (List ℕ)) → k ≤ n → AreFull sum P (take n some) → AreFull sum P (take k some)
   AreFull_fewer k n some le full = rw (take-take k n some le) at (AreFull-take k (take n some) full)
 
-  -- a page among full ones
+  -- a page among full ones is full
   pub AreFull_at : (some : List (List ℕ)) (i : ℕ) (page : List ℕ) → AreFull sum P some → slice_get some i ≡ Some page → value_len sum P page ≡ P
   AreFull_at [] i page full is = absurd (cc)
   AreFull_at (head ∷ some) zero page full is = rw (← same_Some head page is) full.0
   AreFull_at (head ∷ some) (suc i) page full is = AreFull_at some i page full.1 is
 
-  -- a page below the first that is not full
+  -- a page below so many full ones is full
   pub AreFull_page : (full p : ℕ) (bytes : List ℕ) → AreFull sum P (take full (pages P bytes)) → full * (P + 12) ≤ length bytes → p < full → value_len sum P (take (P + 12) (drop (p * (P + 12)) bytes)) ≡ P
   AreFull_page full p bytes are reach lt =
       let fits : (p + 1) * (P + 12) ≤ length bytes = fewer_fit P (p + 1) full bytes (omega arith) reach in
       AreFull_at (take full (pages P bytes)) p (take (P + 12) (drop (p * (P + 12)) bytes)) are (slice_get-take full (pages P bytes) p lt ∙ pages_at P p bytes fits)
 
-  -- the first pages of a blob that begins alike
+  -- the first pages are full in a blob that begins with the same bytes
   pub AreFull_same : (k : ℕ) (xs ys : List ℕ) → k * (P + 12) ≤ length xs → take (k * (P + 12)) xs ≡ take (k * (P + 12)) ys → AreFull sum P (take k (pages P xs)) → AreFull sum P (take k (pages P ys))
   AreFull_same k xs ys reach same full = subst (λ (l : List (List ℕ)). AreFull sum P l) (take-pages_same P k xs ys reach same) full
 
-  -- the text of a blob that ends before the next page does
+  -- the text of a blob of full pages that ends before the next page does
   pub text_of_whole : (k : ℕ) (bytes : List ℕ) → AreFull sum P (take k (pages P bytes)) → k * (P + 12) ≤ length bytes → length bytes < (k + 1) * (P + 12) → text sum P bytes ≡ stored P k bytes
   text_of_whole k bytes full reach ends =
       let all : take k (pages P bytes) ≡ pages P bytes = take_all k (pages P bytes) (pages_below P k bytes ends) in
@@ -97,7 +97,8 @@ module _ (sum : List ℕ → ℕ) (P : ℕ) where
   pub text_exact : (k : ℕ) (bytes : List ℕ) → AreFull sum P (take k (pages P bytes)) → length bytes ≡ k * (P + 12) → text sum P bytes ≡ stored P k bytes
   text_exact k bytes full len = text_of_whole k bytes full (omega arith) (omega arith)
 
-  -- the text of a blob whose first pages are full and whose next one isn't: it ends with that one's value
+  -- the text of a blob whose first pages are full and whose next page isn't: it ends with the value
+  -- of that next page
   pub text_of_part : (k : ℕ) (bytes : List ℕ) → AreFull sum P (take k (pages P bytes)) → (k + 1) * (P + 12) ≤ length bytes
       → value_len sum P (take (P + 12) (drop (k * (P + 12)) bytes)) < P
       → text sum P bytes ≡ stored P k bytes ++ value sum P (take (P + 12) (drop (k * (P + 12)) bytes))
@@ -123,7 +124,8 @@ module _ (sum : List ℕ → ℕ) (P : ℕ) where
       let same : take (k * (P + 12)) front ≡ take (k * (P + 12)) bytes = take_all (k * (P + 12)) front (omega (arith, size)) in
       text_exact k front (AreFull_same k bytes front reach (sym same) full) size ∙ stored_same P k front bytes (omega (arith, size)) same
 
-  -- the blob's text is that of its full pages, where nothing after them has a value: what is after may be cut
+  -- the text of a blob is that of its full pages, where nothing after them has a value: what is
+  -- after them may be cut
   pub text_cut : (k : ℕ) (bytes : List ℕ) → 0 < P → AreFull sum P (take k (pages P bytes)) → k * (P + 12) ≤ length bytes
       → ((k + 1) * (P + 12) ≤ length bytes → value_len sum P (take (P + 12) (drop (k * (P + 12)) bytes)) ≡ 0)
       → text sum P (take (k * (P + 12)) bytes) ≡ text sum P bytes
@@ -152,7 +154,7 @@ module _ (sum : List ℕ → ℕ) (P : ℕ) where
       ∙ (λ i. stored_same P k cut bytes front_cut (sym same) i ++ value sum P (page i))
       ∙ sym (text_of_part k bytes full reach part)
 
--- ---- the slot that tells a page's value
+-- ---- the slot that gives a page's value
 
 passed_len : (v P a b n : ℕ) → (if nat_le 1 v && nat_le v P && (a == b) then v else 0) ≡ n → 0 < n → v ≡ n
 passed_len v P a b n is some = grind (arith, nat_tests)
@@ -168,29 +170,29 @@ none_from : {A : Type 0} (none : Bool) (x : A) → (if none then None else Some 
 none_from true x is = refl
 none_from false x is = absurd (cc)
 
--- the bytes of a buffer
+-- each number of a list is a byte: it is below 256
 abbrev pub AreBytes : List ℕ → Type 0
 AreBytes bytes = (i : ℕ) → get_or bytes i 0 < 256
 
--- each is below 256
+-- what a buffer holds are bytes
 pub bytes_from_all : (bytes : List ℕ) → All (λ byte. byte < 256) bytes → AreBytes bytes
 bytes_from_all bytes all i = elim (cases_lt i (length bytes)) [
   | inl within ↦ All-get_or (λ byte. byte < 256) bytes i 0 within all
   | inr past ↦ omega (arith, get_or_past bytes i 0 past)
 ]
 
--- so are those of a beginning
+-- a beginning of bytes is bytes
 pub bytes_of_take : (n : ℕ) (bytes : List ℕ) → AreBytes bytes → AreBytes (take n bytes)
 bytes_of_take n bytes are i = elim (cases_lt i n) [
   | inl within ↦ omega (arith, get_or-take n bytes i 0 within, are i)
   | inr past ↦ omega (arith, get_or_past (take n bytes) i 0 (omega (arith, length-take n bytes)))
 ]
 
--- and those of a rest
+-- a rest of bytes is bytes
 pub bytes_of_drop : (n : ℕ) (bytes : List ℕ) → AreBytes bytes → AreBytes (drop n bytes)
 bytes_of_drop n bytes are i = omega (arith, get_or-drop n bytes i 0, are (n + i))
 
--- six bytes are a slot of what they say
+-- six bytes are the slot of the length and the checksum that they hold
 pub slot_said : (slot : List ℕ) → length slot ≡ 6 → AreBytes slot → slot_bytes (slot_len slot) (slot_crc slot) ≡ slot
 slot_said slot six are =
     let len : to_be_bytes w16 (slot_len slot) ≡ take 2 slot = be_bytes_2 (take 2 slot) (slot_len slot) (omega (arith, length-take 2 slot)) (bytes_of_take 2 slot are) refl in
@@ -202,7 +204,7 @@ pub length_slot : (P : ℕ) (s : Slot) (page : List ℕ) → length page ≡ P +
 length_slot P First page size = omega (arith, length-take 6 (drop (P + 0) page), length-drop (P + 0) page)
 length_slot P Second page size = omega (arith, length-take 6 (drop (P + 6) page), length-drop (P + 6) page)
 
--- what tells a page's value: its slot verifies over the value's bytes
+-- a slot that gives a page's value: it verifies over the value's bytes
 pub record IsActive (sum : List ℕ → ℕ) (P : ℕ) (page : List ℕ) (a : ActiveChecksum) : Type 0 where
   pub len : a.len ≡ value_len sum P page
   pub some : 0 < a.len
@@ -228,7 +230,7 @@ module _ (sum : List ℕ → ℕ) (P : ℕ) where
             ap (λ (s : Slot). verified_len sum P s page) is ∙ omega arith
       ]
 
-  -- what a page's value is told by
+  -- the slot that `active` finds gives the page's value
   pub active_is : (page : List ℕ) (a : ActiveChecksum) → active sum P page ≡ Some a → IsActive sum P page a
   active_is page a is =
       let v = value_len sum P page in
@@ -247,14 +249,14 @@ module _ (sum : List ℕ → ℕ) (P : ℕ) where
         holds = refl;
       })
 
-  -- no slot of the page verifies
+  -- where `active` finds no slot, the page has no value
   pub active_none : (page : List ℕ) → active sum P page ≡ None → value_len sum P page ≡ 0
   active_none page is =
       let v = value_len sum P page in
       let s = value_slot sum P page in
       eqb-true v 0 (none_from (v == 0) (record { slot = s; len = v; crc = slot_crc (slot_of P s page) }) is)
 
-  -- a page has a value
+  -- where a page has a value, `active` finds a slot
   pub active_some : (page : List ℕ) → 0 < value_len sum P page → (a : ActiveChecksum) × (active sum P page ≡ Some a)
   active_some page some =
       let v = value_len sum P page in

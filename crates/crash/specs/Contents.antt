@@ -4,7 +4,7 @@ use Rattle.std.specs.List.{flat_map}
 use Rattle.disk.specs.Disk.{Operation, applied}
 use Rattle.page.specs.Page.{pages}
 
--- the last whole state: every operation done
+-- the last whole state: the bytes after every operation is done
 abbrev pub latest : List ℕ → List Operation → List ℕ
 latest base [] = base
 latest base (o ∷ os) = latest (applied o base) os

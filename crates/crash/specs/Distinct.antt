@@ -13,8 +13,8 @@ IsCutZero d at byte =
     (byte ≡ 0) × (at < length d.base) ×
     ((whole : List ℕ) × IsWhole d.base d.since whole × (length whole ≤ at))
 
--- of page p of an image, and a slot of it that verifies over the page's first n bytes: what the
--- checksum is asked to tell apart, in three parts
+-- what the checksum must distinguish for a slot of page p of an image that verifies over the page's
+-- first n bytes, in three parts
 pub record SlotIsDistinct (sum : List ℕ → ℕ) (P : ℕ) (d : Disk) (p : ℕ) (page : List ℕ) (s : Slot)
     (n : ℕ) : Type 0 where
   -- (a) the slot held these six bytes in a whole state
@@ -26,7 +26,7 @@ pub record SlotIsDistinct (sum : List ℕ → ℕ) (P : ℕ) (d : Disk) (p : ℕ
   -- (b) where it verified there, other bytes have another checksum
   pub apart : 0 < verified_len sum P s held → sum (take n page) ≡ sum (take n held)
       → take n page ≡ take n held
-  -- (c) where each byte is the base's or a zero of a resize, each is the base's
+  -- (c) where each of the n bytes is the base's or a zero of a resize, each is the base's
   pub uncut : ((i byte : ℕ) → slice_get (take n page) i ≡ Some byte
       → (slice_get d.base (p * (P + 12) + i) ≡ Some byte) ⊎ IsCutZero d (p * (P + 12) + i) byte)
       → (i byte : ℕ) → slice_get (take n page) i ≡ Some byte
@@ -38,16 +38,16 @@ IsDistinct sum P d image =
     (p : ℕ) (page : List ℕ) → slice_get (pages P image) p ≡ Some page → (s : Slot)
     → 0 < verified_len sum P s page → SlotIsDistinct sum P d p page s (verified_len sum P s page)
 
--- ---- what makes that enough
+-- ---- what makes `IsDistinct` enough for an image to be chance-free
 
--- a slot of a page isn't bad: it verifies over the length that it says, or says none that a slot
--- may say, so that it verifies over no bytes
+-- a slot of a page is good: it verifies over its length, or its length is 0 or more than P, so that
+-- it verifies over no bytes
 abbrev pub IsGood : (List ℕ → ℕ) → ℕ → Slot → List ℕ → Type 0
 IsGood sum P s page =
     0 < slot_len (slot_of P s page) → slot_len (slot_of P s page) ≤ P
     → verified_len sum P s page ≡ slot_len (slot_of P s page)
 
--- a slot is the base's, in a page whose payload no operation writes
+-- a slot is old: it is the base's, in a page whose payload no operation since writes
 pub record IsOld (P : ℕ) (d : Disk) (p : ℕ) (s : Slot) (page : List ℕ) : Type 0 where
   pub old : List ℕ
   pub there : slice_get (pages P d.base) p ≡ Some old
@@ -61,17 +61,17 @@ IsVouched sum P d =
     → slice_get (pages P whole) p ≡ Some page → (s : Slot)
     → IsGood sum P s page ⊎ IsOld P d p s page
 
--- both slots of this page of some bytes are good, if they have it
+-- both slots of page p of some bytes are good, if the bytes have that page
 abbrev pub PageIsGood : (List ℕ → ℕ) → (P p : ℕ) → List ℕ → Type 0
 PageIsGood sum P p bytes =
     (page : List ℕ) → slice_get (pages P bytes) p ≡ Some page → (s : Slot) → IsGood sum P s page
 
--- in each whole state the slots of each page from this one on are: a flush may write there
+-- in each whole state both slots of each page from page `full` on are good: a flush may write there
 abbrev pub IsGoodFrom : (List ℕ → ℕ) → (P full : ℕ) → Disk → Type 0
 IsGoodFrom sum P full d =
     (whole : List ℕ) → IsWhole d.base d.since whole → (p : ℕ) → full ≤ p → PageIsGood sum P p whole
 
--- what a flush repeats of the tip's page has the checksum of the tip's first bytes
+-- the slot that a flush repeats has the checksum of the tip's first bytes, as many as its length
 abbrev pub DurableTells : (List ℕ → ℕ) → List ℕ → Option ActiveChecksum → Type 0
 DurableTells sum tip None = Unit {0}
 DurableTells sum tip (Some w) = w.crc ≡ sum (take w.len tip)

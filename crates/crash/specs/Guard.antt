@@ -1,5 +1,5 @@
--- Why a crash keeps what was synced: what every image of a disk holds, and what each whole state
--- says.
+-- Why a crash keeps what was synced: what every image of a disk holds, and which bytes the slots of
+-- each whole state verify over.
 use Rattle.std.specs.Prelude.{◌≡◌, ◌≤◌, ◌<◌, ◌*◌, ◌+◌, ◌-◌, ℕ, List, [], take, drop, length}
 use Rattle.std.specs.Prelude.{slice_get, Option, Some, None, min}
 use Rattle.disk.specs.Disk.{Disk, IsWhole, SomeWrites}
@@ -18,7 +18,7 @@ pub record Fixed (d : Disk) (offset : ℕ) (bytes : List ℕ) : Type 0 where
   pub within : (whole : List ℕ) → IsWhole d.base d.since whole
       → offset + length bytes ≤ length whole
 
--- six bytes that say this length and the checksum of these bytes
+-- the six bytes of a slot with the length and the checksum of these bytes
 pub record IsSlotFor (sum : List ℕ → ℕ) (bytes slot : List ℕ) : Type 0 where
   pub size : length slot ≡ 6
   pub len : slot_len slot ≡ length bytes
@@ -34,19 +34,20 @@ pub record IsPinned (sum : List ℕ → ℕ) (P : ℕ) (d : Disk) (p : ℕ) (s :
   pub fixed_slot : Fixed d (p * (P + 12) + P + slot_offset s) slot
   pub end : Fixed d ((p + 1) * (P + 12)) []
 
--- this slot of page full stays whatever a crash does, and the bytes under it
+-- this slot of page `full` stays whatever a crash does, and so do the bytes that it verifies over
 pub record SlotGuard (sum : List ℕ → ℕ) (P : ℕ) (content : List ℕ) (d : Disk) (full : ℕ)
     (f : ActiveChecksum) : Type 0 where
   pub there : full * P + f.len ≤ length content
   pub held :
       IsPinned sum P d full f.slot (slot_bytes f.len f.crc) (take f.len (drop (full * P) content))
 
--- the same of an optional slot of that page; `None` asks for nothing
+-- `SlotGuard` for an optional slot of page `full`; `None` asks for nothing
 abbrev pub TipGuard : (List ℕ → ℕ) → ℕ → List ℕ → Disk → ℕ → Option ActiveChecksum → Type 0
 TipGuard sum P content d full None = Unit {0}
 TipGuard sum P content d full (Some f) = SlotGuard sum P content d full f
 
--- a page's part of the content, held as far as the floor goes
+-- page p's part of the content is pinned as far as the floor goes: the floor is a durable prefix of
+-- the content, in bytes
 pub record IsGuarded (sum : List ℕ → ℕ) (P : ℕ) (content : List ℕ) (floor : ℕ) (d : Disk) (p : ℕ) :
     Type 0 where
   pub slot : Slot
@@ -56,7 +57,7 @@ pub record IsGuarded (sum : List ℕ → ℕ) (P : ℕ) (content : List ℕ) (fl
   pub there : p * P + len ≤ length content
   pub held : IsPinned sum P d p slot bytes (take len (drop (p * P) content))
 
--- each page that the content's first bytes touch
+-- each page that the content's first bytes touch, as many as the floor, is guarded
 abbrev pub Guards : (List ℕ → ℕ) → ℕ → List ℕ → ℕ → Disk → Type 0
 Guards sum P content floor d = (p : ℕ) → p * P < floor → IsGuarded sum P content floor d p
 
@@ -67,8 +68,8 @@ IsTruthful sum P content d =
     slice_get (pages P whole) p ≡ Some page → (s : Slot) →
     take (verified_len sum P s page) page ≡ take (verified_len sum P s page) (drop (p * P) content)
 
--- each slot of the image that verifies did so in a whole state, in the same place over the same
--- bytes
+-- an image is chance-free: each slot of it that verifies did so in a whole state, in the same place
+-- over the same bytes; so none verifies by a checksum collision
 abbrev pub IsChanceFree : (List ℕ → ℕ) → ℕ → Disk → List ℕ → Type 0
 IsChanceFree sum P d image =
     (p : ℕ) (page : List ℕ) → slice_get (pages P image) p ≡ Some page → (s : Slot) →

@@ -5,11 +5,12 @@ use Rattle.page.specs.Page.{text}
 use Rattle.crash.specs.Guard.{Guards, IsChanceFree}
 use Rattle.crash.specs.Distinct.{IsVouched}
 
--- the text of an image begins with the content's first bytes
+-- the text of an image begins with the content's first bytes, as many as the floor
 abbrev pub ImageKeeps : (List ℕ → ℕ) → ℕ → List ℕ → ℕ → List ℕ → Type 0
 ImageKeeps sum P content floor image = take floor (text sum P image) ≡ take floor content
 
--- slots hold the content's first bytes: the first of some bytes that begin alike
+-- slots guard the content's first bytes, as many as the floor; the guarded bytes may go on after
+-- the floor otherwise than the content does
 pub record AreHeld (sum : List ℕ → ℕ) (P : ℕ) (content : List ℕ) (floor : ℕ) (d : Disk)
     : Type 0 where
   pub told : List ℕ
@@ -17,14 +18,15 @@ pub record AreHeld (sum : List ℕ → ℕ) (P : ℕ) (content : List ℕ) (floo
   pub same : take floor told ≡ take floor content
   pub guards : Guards sum P told floor d
 
--- whatever a crash leaves does; and slots hold these bytes, which a recovery leaves alone
+-- every image keeps the content's first bytes, as many as the floor; and slots guard these bytes,
+-- which a recovery leaves alone
 pub record AllKeep (sum : List ℕ → ℕ) (P : ℕ) (content : List ℕ) (floor : ℕ) (d : Disk)
     : Type 0 where
   pub kept : (image : List ℕ) → IsImage d image → ImageKeeps sum P content floor image
   pub held : AreHeld sum P content floor d
 
--- chance aside, the text of whatever a crash leaves is a prefix of the content before, or of that
--- after; and where no checksum collides there is no chance
+-- the text of each chance-free image is a prefix of the content before, or of the content after;
+-- and slots are vouched for, so that an image in which no checksum collides is chance-free
 pub record AllOnly (sum : List ℕ → ℕ) (P : ℕ) (before after : List ℕ) (d : Disk) : Type 0 where
   pub only : (image : List ℕ) → IsImage d image → IsChanceFree sum P d image
       → (text sum P image ≡ take (length (text sum P image)) before) ⊎
@@ -43,6 +45,6 @@ pub record Moments (Q : Disk → Type 0) (old new : Life) : Type 0 where
   pub start : Q old.present
   pub each : Each Q moments
 
--- the word for it in contracts: a caller hands it on, and has no need to go through the moments
+-- the word for `Moments` in contracts: a caller hands it on, and has no need to look at the moments
 unfoldable pub Through : (Disk → Type 0) → Life → Life → Type 0
 Through Q old new = Moments Q old new

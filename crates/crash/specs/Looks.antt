@@ -10,13 +10,13 @@ abbrev pub SameButLog : Disk → Disk → Type 0
 SameButLog d e = e ≡ record d { log = e.log }
 
 -- the device was only read: at each moment since, the disk is the same except for its log, which
--- goes on
+-- may have grown
 pub record Looked (old new : Life) : Type 0 where
   pub same : SameButLog old.present new.present
   pub log : LogGrows old.present new.present
   pub through : Through (SameButLog old.present) old new
 
--- no call
+-- before any call nothing has changed
 pub looked_start : (life : Life) → Looked life life
 looked_start life = record {
   same = refl;
@@ -28,14 +28,14 @@ looked_start life = record {
 same_later : (a b d : Disk) → SameButLog a b → SameButLog b d → SameButLog a d
 same_later a b d first second = second ∙ ap (λ (x : Disk). record x { log = d.log }) first
 
--- a log that goes on, and goes on
+-- a log that grows in each of two steps grows in both together
 grows_later : (a b d : Disk) → LogGrows a b → LogGrows b d → LogGrows a d
 grows_later a b d first second = (
   first.0 ++ second.0,
   second.1 ∙ ap (λ l. l ++ second.0) first.1 ∙ append_assoc a.log first.0 second.0,
 )
 
--- one call after another
+-- two calls in turn that only read are one
 pub looked_joins : (old mid new : Life) → Looked old mid → Looked mid new → Looked old new
 looked_joins old mid new first second = record {
   same = same_later old.present mid.present new.present first.same second.same;

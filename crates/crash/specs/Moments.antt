@@ -5,7 +5,7 @@ use Rattle.std.proofs.Common.{refl, sym, ap, ◌∙◌, subst}
 use Rattle.disk.specs.Disk.{Disk, Life, next, life_after}
 use Rattle.crash.specs.Kept.{Each, Through}
 
--- moments joined are the first and then the others
+-- a life after two lists of moments, joined, is the life after the first list and then the second
 pub life_after-append : (life : Life) (ds es : List Disk)
     → life_after life (ds ++ es) ≡ life_after (life_after life ds) es
 life_after-append life [] es = refl
@@ -16,7 +16,7 @@ each-append : (Q : Disk → Type 0) (ds es : List Disk) → Each Q ds → Each Q
 each-append Q [] es first second = second
 each-append Q (d ∷ ds) es first second = (first.0, each-append Q ds es first.1 second)
 
--- what follows at each moment
+-- what follows from something at each moment holds at each, where that does
 pub each_then : (Q R : Disk → Type 0) (ds : List Disk) → ((d : Disk) → Q d → R d) → Each Q ds
     → Each R ds
 each_then Q R [] then each = each
@@ -28,12 +28,12 @@ pub each_last : (Q : Disk → Type 0) (life : Life) (ds : List Disk) → Q life.
 each_last Q life [] start each = start
 each_last Q life (d ∷ ds) start each = each_last Q (next life d) ds each.0 each.1
 
--- no moment has passed
+-- what holds now holds at each moment since now
 pub through_start : (Q : Disk → Type 0) (life : Life) → Q life.present → Through Q life life
 unfolding Through
 through_start Q life start = record { moments = []; goes = refl; start = start; each = tt }
 
--- one moment more
+-- what held at each moment, and holds at one more, holds at each moment since
 pub through_more : (Q : Disk → Type 0) (old new : Life) (d : Disk) → Through Q old new → Q d
     → Through Q old (next new d)
 unfolding Through
@@ -46,7 +46,7 @@ through_more Q old new d through holds = record {
   each = each-append Q through.moments (d ∷ []) through.each (holds, tt);
 }
 
--- one call after another
+-- what holds at each moment of two calls in turn holds at each moment of both
 pub through_joins : (Q : Disk → Type 0) (old mid new : Life) → Through Q old mid → Through Q mid new
     → Through Q old new
 unfolding Through
@@ -66,7 +66,7 @@ through_end Q old new through =
     subst (λ (life : Life). Q life.present) (sym through.goes)
     (each_last Q old through.moments through.start through.each)
 
--- what follows from it holds at each moment too
+-- what follows from something that holds at each moment holds at each moment too
 pub through_then : (Q R : Disk → Type 0) (old new : Life) → ((d : Disk) → Q d → R d)
     → Through Q old new → Through R old new
 unfolding Through

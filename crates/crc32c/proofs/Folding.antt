@@ -36,7 +36,7 @@ slide at n d done y long within room =
     ∙ take_at (front ++ y) rest d all
     ∙ ap (λ k. k ++ y) here
 
--- only a window is read
+-- the next bytes of the quotient depend on the window alone
 pub quotient_of_window : (n d : ℕ) (ss : List ℕ) → Each1 (λ s. s + n ≤ d) ss → (h x : List ℕ) → next_quotient n ss (take d h) x ≡ next_quotient n ss h x
 quotient_of_window n d [] all h x = refl
 quotient_of_window n d (s ∷ ss) all h x =
@@ -45,7 +45,7 @@ quotient_of_window n d (s ∷ ss) all h x =
     ap₂ (zip2 bit_xor) (quotient_of_window n d ss all.1 h x)
     (ap (λ k. take n (drop s (take k h))) one ∙ ap (take n) (drop-take s (d - s) h) ∙ take-take n (d - s) (drop s h) (omega arith))
 
--- zeros add nothing
+-- zeros that are added change nothing
 xored_none : (xs : List ℕ) (k : ℕ) → xored xs (replicate k 0) ≡ xs
 xored_none [] k = refl
 xored_none (x ∷ xs) zero = refl
@@ -122,7 +122,7 @@ within_each n d k (s ∷ ss) less all = let fits = all.0 in (omega arith, within
 pub to_end : (i n : ℕ) (xs : List ℕ) → length xs ≡ n → take (n - i) (drop i xs) ≡ drop i xs
 to_end i n xs is = take_all (n - i) (drop i xs) (omega (arith, length-drop i xs))
 
--- so the window slides over the next bytes of the quotient
+-- a step of the code slides the window over the next bytes of the quotient
 pub step_slides : (at n d : ℕ) (ss : List ℕ) (taken x y : List ℕ) → Each1 (λ s. s + n ≤ d) ss → n ≤ d → at + d + n ≤ length taken → n ≤ length x
     → y ≡ next_quotient n ss (take (length taken - at) (drop at taken)) (take n x)
     → chunk (at + n) d (put_chunk (at + d) taken y) ≡ drop n (chunk at d taken) ++ next_quotient n ss (chunk at d taken) (take n x)
@@ -134,7 +134,7 @@ step_slides at n d ss taken x y all within room next is =
     let of_y : length y ≡ n = ap length same ∙ length-quotient n d ss all h (take n x) of_h (length-take-le n x next) in
     slide at n d taken y of_y within room ∙ ap (λ k. drop n h ++ k) same
 
--- and the state is kept
+-- a step of the code keeps the state that is left
 pub step_keeps : (n d : ℕ) (ss : List ℕ) → ((t : ℕ) → t < 2 ^ 32 → IsMultiple d ss t) → Each1 (λ s. s + n ≤ d) ss → (h after front back rest : List ℕ)
     → length h ≡ d → n ≤ d → n + d ≤ length rest → front ≡ take n rest → back ≡ drop n rest → after ≡ drop n h ++ next_quotient n ss h (take n front)
     → after_bytes 0 (remaining ss after back) ≡ after_bytes 0 (remaining ss h rest)
@@ -146,7 +146,7 @@ step_keeps n d ss law all h after front back rest of_h within long is_front is_b
     ∙ divides n d ss law all h x (drop n rest) of_h of_x within (omega (arith, length-drop n rest))
     ∙ ap (λ k. after_bytes 0 (remaining ss h k)) (take-append-drop n rest)
 
--- more of the remainder
+-- 32 bytes more of the remainder
 pub end_step : (i n d k : ℕ) (ss : List ℕ) (left before taken bytes y : List ℕ) → Each1 (λ s. s + n ≤ d) ss → k ≤ length left → i + n ≤ k → length taken ≡ d → length bytes ≡ k
     → before ≡ taken ++ drop (length taken) (replicate (d + k) 0) → y ≡ next_quotient n ss (take (d + k - i) (drop i before)) (take n (take (length bytes - i) (drop i bytes)))
     → take i left ≡ take i (remaining ss taken bytes) → take (i + n) (put_chunk i left y) ≡ take (i + n) (remaining ss taken bytes)
@@ -173,7 +173,7 @@ unfolding after_byte after_bits
 zeros_leave zero = refl
 zeros_leave (suc k) = zeros_leave k
 
--- the bytes of a state leave what it leaves
+-- the bytes of a state, as a message, leave the state 32 bits later
 pub four_leave : (state : ℕ) → state < 2 ^ 32 → after_bytes 0 (to_le_bytes w32 state) ≡ after_bits 32 state
 four_leave state small =
     let a = state % 256 in
@@ -193,7 +193,7 @@ four_leave state small =
     ∙ ap (bit_xor (after_bits 16 c)) (ap (after_bits 8) two ∙ byte_out 0 (state / 16777216)
     ∙ ap (bit_xor (after_bits 8 d)) (ap (after_bits 0) none ∙ no_bits 0) ∙ xor_zero_r (after_bits 8 d)))))
 
--- with zeros after them neither
+-- zeros leave the state 0, also with some bits shifted out
 quiet : (n k j : ℕ) → after_bits n (after_bytes 0 (drop j (replicate k 0))) ≡ 0
 quiet n k j = ap (λ l. after_bits n (after_bytes 0 l)) (drop-replicate j k 0) ∙ ap (after_bits n) (zeros_leave (k - j)) ∙ zero_bits n
 
@@ -255,17 +255,17 @@ far_window (a ∷ b ∷ c ∷ []) is = absurd (omega arith)
 far_window (a ∷ b ∷ c ∷ d ∷ []) is = refl
 far_window (a ∷ b ∷ c ∷ d ∷ e ∷ q) is = absurd (omega arith)
 
--- what is put first leaves the length
+-- bytes that are put first leave the length
 pub stays_long : (q done : List ℕ) → length q ≤ length done → length (q ++ drop (length q) done) ≡ length done
 stays_long q done less = omega (arith, length-append q (drop (length q) done), length-drop (length q) done)
 
--- the check of bytes, and of bytes in two parts
+-- the checksum of bytes is their inverted state
 pub checked : (bytes : List ℕ) (state : ℕ) → state ≡ after_bytes 4294967295 bytes → 4294967295 - state ≡ crc32c bytes
 unfolding crc32c
 checked bytes state is =
     inverted state (subst (λ s. s < 2 ^ 32) (sym is) (small_bytes bytes 4294967295 (lit< tt))) ∙ ap (λ s. bit_xor s 4294967295) is
 
--- the check of bytes, given that of the first of them
+-- the checksum of bytes, given that of the first of them
 pub goes_on : (bytes : List ℕ) (k check state : ℕ) → check ≡ crc32c (take k bytes) → state ≡ after_bytes (4294967295 - check) (drop k bytes)
     → 4294967295 - state ≡ crc32c bytes
 goes_on bytes k check state is_check is =

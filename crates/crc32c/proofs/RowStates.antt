@@ -37,14 +37,14 @@ leaves_flat a b c d =
     ap (λ n. bit_xor n s) three ∙ xor_assoc (after_bits 24 p) (bit_xor (after_bits 16 q) (after_bits 8 r)) s
     ∙ ap (bit_xor (after_bits 24 p)) (xor_assoc (after_bits 16 q) (after_bits 8 r) s)
 
--- four sums of two
+-- four sums of two parts are the sums of the first parts and of the second parts
 four_swap : (a b c d p q r s : ℕ) → bit_xor (bit_xor a p) (bit_xor (bit_xor b q) (bit_xor (bit_xor c r) (bit_xor d s))) ≡ bit_xor (bit_xor a (bit_xor b (bit_xor c d))) (bit_xor p (bit_xor q (bit_xor r s)))
 four_swap a b c d p q r s =
     ap (bit_xor (bit_xor a p))
     (ap (bit_xor (bit_xor b q)) (xor_swap c r d s) ∙ xor_swap b q (bit_xor c d) (bit_xor r s))
     ∙ xor_swap a p (bit_xor b (bit_xor c d)) (bit_xor q (bit_xor r s))
 
--- four messages that are added to four others
+-- what four messages leave that are added to four others
 flat_xor : (a b c d p q r s : List ℕ) → length a ≡ length p → length b ≡ length q → length c ≡ length r → length d ≡ length s
     → flat (zip2 bit_xor a p) (zip2 bit_xor b q) (zip2 bit_xor c r) (zip2 bit_xor d s) ≡ bit_xor (flat a b c d) (flat p q r s)
 unfolding flat
@@ -57,7 +57,7 @@ flat_xor a b c d p q r s ea eb ec ed =
 
 -- ---- one row
 
--- a state of four bytes is the sum of them
+-- a state of four bytes is the sum of its bytes, each in its place
 four_bytes : (r y : ℕ) → y < 2 ^ 32
     → after_bits (32 + r) y ≡ bit_xor (after_bits (32 + r) (y / 1 % 256)) (bit_xor (after_bits (24 + r) (y / 256 % 256)) (bit_xor (after_bits (16 + r) (y / 65536 % 256)) (after_bits (8 + r) (y / 16777216 % 256))))
 four_bytes r y small =
@@ -82,7 +82,8 @@ small_later k x small =
     bytes_apart x z ∙ ap₂ (λ n s. bit_xor (after_bits n x) s) e (zeros_leave k) ∙ xor_zero_r (after_bits (8 * k) x) in
     subst (λ s. s < 2 ^ 32) same (small_bytes z x small)
 
--- what a row leaves with so many zero bytes and three after it: the bytes of its states, as four messages
+-- what a row leaves with so many zero bytes and three after it: the bytes of its states, as four
+-- messages
 row_flat : (k : ℕ) (v : List ℕ) → Each1 (λ x. x < 256) v
     → after_bits (8 * k + 24) (after_bytes 0 v) ≡ flat (map (state_byte (8 * k) 0) v) (map (state_byte (8 * k) 1) v) (map (state_byte (8 * k) 2) v) (map (state_byte (8 * k) 3) v)
 unfolding flat

@@ -67,19 +67,19 @@ byte_of index n = n / 256 ^ index % 256
 row_of : List ℕ → List ℕ
 row_of states = map (λ j. byte_of (j / 32) (get_or states (j % 32) 0)) (range_with_len 0 128)
 
--- those of the next row have the states after sixteen bytes more
+-- the tables of the next row have the states after sixteen bytes more
 rows_of : ℕ → List ℕ → List (List ℕ)
 rows_of zero states = []
 rows_of (suc n) states = row_of states ∷ rows_of n (map (after_bits 128) states)
 
--- the low four bits, and the high ones
+-- the sixteen numbers of the low four bits, and then those of the high ones
 bits_of : ℕ → ℕ
 bits_of j = j % 16 * 16 ^ (j / 16)
 
 states : List ℕ
 states = map (λ j. after_bits 104 (bits_of j)) (range_with_len 0 32)
 
--- the code's tables are these
+-- the tables of the code are these
 are_rows : ROWS ≡ rows_of 39 states
 unfolding rows_of row_of states bits_of after_bits
 are_rows = refl
@@ -133,7 +133,7 @@ in_high k index i d few less small =
     let at : 32 * index + 16 + i ≡ 32 * index + j = omega arith in
     ap (λ n. get_or (get_or ROWS k d) n 0) at ∙ entry k index j d few less (omega arith) ∙ ap (state_byte (128 * k + 104) index) (ap (λ q. j % 16 * 16 ^ q) first ∙ same)
 
--- a byte of what two numbers leave
+-- a byte of what the sum of two numbers leaves
 byte_xor : (index a b : ℕ) → index < 4 → byte_of index (bit_xor a b) ≡ bit_xor (byte_of index a) (byte_of index b)
 byte_xor zero a b less = ap (λ n. n % 256) (xor_shr a b 0) ∙ xor_mod (a / 1) (b / 1) 8
 byte_xor (suc zero) a b less = ap (λ n. n % 256) (xor_shr a b 8) ∙ xor_mod (a / 256) (b / 256) 8
@@ -141,7 +141,7 @@ byte_xor (suc (suc zero)) a b less = ap (λ n. n % 256) (xor_shr a b 16) ∙ xor
 byte_xor (suc (suc (suc zero))) a b less = ap (λ n. n % 256) (xor_shr a b 24) ∙ xor_mod (a / 16777216) (b / 16777216) 8
 byte_xor (suc (suc (suc (suc index)))) a b less = absurd (omega arith)
 
--- so of the low four bits and of the high ones
+-- a byte of what a number leaves is the sum of what its low and its high four bits leave
 nibbles : (bits index x : ℕ) → index < 4 → bit_xor (state_byte bits index (x % 16)) (state_byte bits index (16 * (x / 16))) ≡ state_byte bits index x
 nibbles bits index x less =
     let back : bit_xor (x % 16) (16 * (x / 16)) ≡ x =

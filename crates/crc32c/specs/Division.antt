@@ -8,8 +8,8 @@ use Rattle.std.specs.Simd.Lanes.{zip2, chunk}
 abbrev pub far : List ℕ
 far = 0 ∷ 32 ∷ 107 ∷ 113 ∷ 136 ∷ []
 
--- the next n bytes of the quotient: those of the message, and added to them n bytes of the window
--- from each exponent on; the window has the quotient's bytes before, as many as the degree
+-- the next n bytes of the quotient: those of the message, to which n bytes of the window from each
+-- exponent on are added; the window holds the bytes of the quotient before, as many as the degree
 abbrev pub next_quotient : ℕ → List ℕ → List ℕ → List ℕ → List ℕ
 next_quotient n [] window bytes = bytes
 next_quotient n (exponent ∷ exponents) window bytes =
@@ -21,8 +21,8 @@ xored [] more = []
 xored (byte ∷ bytes) [] = byte ∷ bytes
 xored (byte ∷ bytes) (other ∷ more) = bit_xor byte other ∷ xored bytes more
 
--- what is left of the message's bytes, once the quotient up to the window was taken off: those of
--- the window from each exponent on are added to the first of them
+-- what is left of the message's bytes once the quotient up to the window is taken off: the window's
+-- bytes from each exponent on are added to the first of the message's
 abbrev pub remaining : List ℕ → List ℕ → List ℕ → List ℕ
 remaining [] window bytes = bytes
 remaining (exponent ∷ exponents) window bytes =

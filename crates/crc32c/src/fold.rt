@@ -1,8 +1,8 @@
 // Folding: long division of a message by a sparse multiple of the polynomial, with no table.
 //
-// The eighth power of a sum of powers of x is the sum of their eighth powers: its exponents are
-// whole bytes. So the division goes by bytes, by exclusive ors alone, and 32 of them at a time,
-// since a byte of the quotient depends on none of the 32 before it.
+// The eighth power of a sum of powers of x is the sum of their eighth powers, so its exponents
+// count whole bytes. The division thus goes by bytes, with nothing but exclusive ors. It takes 32
+// bytes at a time, since a byte of the quotient depends on none of the 32 before it.
 ghost use Rattle.std.specs.Prelude.{◌≡◌, ◌+◌, ◌%◌, ◌≤◌, ◌++◌, length, take, drop, replicate};
 ghost use Rattle.std.specs.Simd.Lanes.{chunk, put_chunk};
 ghost use Rattle.crc32c.specs.Crc.{after_bytes};
@@ -10,7 +10,8 @@ ghost use Rattle.crc32c.specs.Division.{far, next_quotient, remaining};
 
 use std::simd::u8x32;
 
-// The next 32 bytes of the quotient by the far multiple. The window has the 290 before them.
+// The next 32 bytes of the quotient by the far multiple. The window holds the 290 bytes of the
+// quotient before them.
 #[inline(always)]
 fn far_quotient(bytes: &[u8], window: &[u8]) -> u8x32
     requires next { 32 ≤ length bytes.now }
@@ -43,8 +44,8 @@ fn put_first(bytes: &mut [u8], first: &[u8])
     bytes[..first.len()].copy_from_slice(first);
 }
 
-// Divides 32 bytes by the far multiple, and answers those behind them. The window stands at `at`,
-// and slides over the quotient.
+// Divides 32 bytes by the far multiple, and answers the bytes after them. The window begins at byte
+// `at` of the array, and slides over the quotient.
 #[inline(always)]
 fn far_step<'a>(quotient: &mut [u8; 2658], at: usize, bytes: &'a [u8]) -> &'a [u8]
     requires room { at + 322 ≤ 2658 }
@@ -58,7 +59,7 @@ fn far_step<'a>(quotient: &mut [u8; 2658], at: usize, bytes: &'a [u8]) -> &'a [u
     &bytes[32..]
 }
 
-// Divides 128 bytes.
+// Divides 128 bytes by the far multiple, and answers the bytes after them.
 #[inline(always)]
 fn four_steps<'a>(quotient: &mut [u8; 2658], at: usize, bytes: &'a [u8]) -> &'a [u8]
     requires room { at + 418 ≤ 2658 }
@@ -73,8 +74,8 @@ fn four_steps<'a>(quotient: &mut [u8; 2658], at: usize, bytes: &'a [u8]) -> &'a 
     far_step(quotient, at + 96, rest)
 }
 
-// Makes room for four steps: at the array's end the window moves to its front. It answers where the
-// window stands. The last 320 bytes of the array are left for `zeros_behind`.
+// Makes room for four steps: near the array's end the window moves to the array's front. The answer
+// is where the window begins. The last 320 bytes of the array are left for `zeros_behind`.
 #[inline(always)]
 fn make_room(quotient: &mut [u8; 2658], at: usize) -> usize
     requires { at ≤ 2048 }
@@ -88,7 +89,7 @@ fn make_room(quotient: &mut [u8; 2658], at: usize) -> usize
     0
 }
 
-// Zeros stand behind the window: the last 320 bytes add nothing to the quotient.
+// Puts 320 zeros after the window, since the last 320 bytes add nothing to the quotient.
 #[inline(always)]
 fn zeros_behind(quotient: &mut [u8; 2658], at: usize)
     requires { at ≤ 2048 }
@@ -97,7 +98,8 @@ fn zeros_behind(quotient: &mut [u8; 2658], at: usize)
     quotient[at + 290..at + 610].copy_from_slice(&[0; 320]);
 }
 
-// What is left of the last 320 bytes.
+// Leaves in `remainder` what is left of the message's last 320 bytes once the quotient is taken
+// off.
 #[inline(always)]
 fn far_remainder(window: &[u8], bytes: &[u8], remainder: &mut [u8; 352])
     requires window { length window.now ≡ 610 }
@@ -113,14 +115,16 @@ fn far_remainder(window: &[u8], bytes: &[u8], remainder: &mut [u8; 352])
     }
 }
 
-/// Leaves in front 320 bytes that lead from the state 0 to where these lead from `state`.
+/// Folds a message of whole lanes of 32 bytes to 320 bytes, the first of `remainder`: they lead
+/// from the state 0 to the state that `bytes` lead to from `state`.
 pub fn fold(state: u32, bytes: &[u8], remainder: &mut [u8; 352])
     requires lanes { length bytes.now % 32 ≡ 0 }
     requires long { 320 ≤ length bytes.now }
     ensures { after_bytes 0 (take 320 remainder.new) ≡ after_bytes state bytes.now }
 {
     let mut quotient = [0u8; 2658];
-    // 290 bytes ahead of the message, as quotient, the state is added to its first four bytes.
+    // The state is put as quotient bytes, 290 before the message: so it is added to the message's
+    // first four bytes.
     put_first(&mut quotient, &state.to_le_bytes());
     let mut at = 0;
     let mut rest = bytes;

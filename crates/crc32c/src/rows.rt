@@ -1,5 +1,5 @@
-// The checksum by rows of sixteen bytes: what each of them leaves is looked up by four bits at a
-// time, sixteen look-ups at once.
+// The checksum by rows of sixteen bytes: the state that each byte leaves is looked up by four bits
+// at a time, and sixteen look-ups are done at once.
 ghost use Rattle.std.specs.Prelude.{◌≡◌, ◌<◌, ◌≤◌, ◌+◌, ◌-◌, ◌*◌, ◌/◌, ◌%◌, ◌++◌, length, map};
 ghost use Rattle.std.specs.Prelude.{get_or, replicate, take, drop};
 ghost use Rattle.std.specs.Int.Bits.{bit_xor};
@@ -11,9 +11,9 @@ ghost use Rattle.crc32c.specs.Rows.{state_byte, leaves};
 use crate::tables::{sixteen, with_zeros};
 use std::simd::u8x16;
 
-// For the bytes of a row with one row behind it, with two, and so on up to 39: the first byte of the
-// states that the low four bits leave, that of the high four bits, the second byte of both, and so
-// on. The states are those of three bytes fewer, which `last` adds.
+// A table for the bytes of a row with one row after it, one for a row with two, and so on up to 39.
+// Each has the first byte of the states that the low four bits leave, that of the high four bits,
+// the second byte of both, and so on. The states are those of three bytes fewer, which `last` adds.
 const ROWS: [[u8; 128]; 39] = [
     [
         0x00, 0x65, 0xCA, 0xAF, 0x94, 0xF1, 0x5E, 0x3B, 0xD9, 0xBC, 0x13, 0x76, 0x4D, 0x28, 0x87,
@@ -446,7 +446,7 @@ const ROWS: [[u8; 128]; 39] = [
     ],
 ];
 
-// Sixteen lanes, and places ahead and behind that give 0.
+// The indices of sixteen lanes, with sixteen places before and after them that give 0.
 const MOVES: [u8; 48] = [
     128, 128, 128, 128, 128, 128, 128, 128, 128, 128, 128, 128, 128, 128, 128, 128, 0, 1, 2, 3, 4,
     5, 6, 7, 8, 9, 10, 11, 12, 13, 14, 15, 128, 128, 128, 128, 128, 128, 128, 128, 128, 128, 128,
@@ -465,7 +465,7 @@ fn looked_up(row: u8x16, low: &[u8], high: &[u8]) -> u8x16
         ^ u8x16::from_slice(high).swizzle_dyn(row >> u8x16::splat(4))
 }
 
-// Adds byte `index` of the states that a row's bytes leave, with so many rows and one behind it.
+// Adds byte `index` of the states that a row's bytes leave, with `rows + 1` rows after that row.
 #[inline(always)]
 fn with_row(sums: u8x16, row: u8x16, rows: usize, index: usize) -> u8x16
     requires tables { rows < 39 }
@@ -476,7 +476,7 @@ fn with_row(sums: u8x16, row: u8x16, rows: usize, index: usize) -> u8x16
     sums ^ looked_up(row, &tables[32 * index..], &tables[32 * index + 16..])
 }
 
-// A state's bytes, and zeros.
+// A state's four bytes, and zeros after them.
 #[inline(always)]
 fn lanes_of(state: u32) -> u8x16
     ensures { result ≡ to_le_bytes w32 state ++ replicate 12 0 }
@@ -486,7 +486,7 @@ fn lanes_of(state: u32) -> u8x16
     u8x16::from_array(lanes)
 }
 
-// Moves lanes to the place before, the first one out, and adds others.
+// Moves each lane to the place before it, which drops the first lane, and adds other lanes.
 #[inline(always)]
 fn moved(lanes: u8x16, others: u8x16) -> u8x16
     ensures { result ≡ zip2 bit_xor (chunk 1 16 (lanes ++ replicate 16 0)) others }
@@ -497,7 +497,7 @@ fn moved(lanes: u8x16, others: u8x16) -> u8x16
     ) ^ others
 }
 
-// The first so many lanes, moved to the end, and zeros ahead.
+// The first `count` lanes, moved to the end, with zeros before them.
 #[inline(always)]
 fn to_end(lanes: u8x16, count: usize) -> u8x16
     requires { count ≤ 16 }
@@ -506,7 +506,7 @@ fn to_end(lanes: u8x16, count: usize) -> u8x16
     lanes.swizzle_dyn(u8x16::from_slice(&MOVES[count..]))
 }
 
-// The lanes from one on, moved to the front, and zeros behind.
+// The lanes from lane `count` on, moved to the front, with zeros after them.
 #[inline(always)]
 fn from_lane(lanes: u8x16, count: usize) -> u8x16
     requires { count ≤ 16 }
@@ -523,8 +523,9 @@ fn first(lanes: u8x16) -> u8
     lanes.to_array()[0]
 }
 
-// The state that sixteen states leave, each a place behind the one before: lane by lane, their first
-// bytes, their second, third and fourth ones.
+// The state that sixteen states leave together, each one byte of the message after the one before.
+// `a` has their first bytes, one a lane, `b` their second, `c` their third and `d` their fourth
+// ones.
 #[inline(always)]
 fn last(a: u8x16, b: u8x16, c: u8x16, d: u8x16) -> u32
     ensures { result ≡ leaves a b c d }
@@ -536,7 +537,7 @@ fn last(a: u8x16, b: u8x16, c: u8x16, d: u8x16) -> u32
     sixteen(state, &d.to_array())
 }
 
-// How many bytes of a message are in its first row, so that the others are whole.
+// How many bytes of a message its first row has, so that the rows after it are whole.
 #[inline(always)]
 fn in_first(bytes: &[u8]) -> usize
     requires { 32 ≤ length bytes.now }
@@ -546,8 +547,8 @@ fn in_first(bytes: &[u8]) -> usize
     (bytes.len() - 1) % 16 + 1
 }
 
-// The first rows of a message that a state was added to, of which `count` bytes are in the first.
-// Zeros are ahead of these, which leave the state 0 as it is.
+// The first two rows of a message to which a state was added. The first row has `count` bytes of
+// the message, after zeros, which leave the state 0 as it is.
 #[inline(always)]
 fn first_rows(state: u32, bytes: &[u8], count: usize) -> (u8x16, u8x16)
     requires long { 32 ≤ length bytes.now }
@@ -563,7 +564,7 @@ fn first_rows(state: u32, bytes: &[u8], count: usize) -> (u8x16, u8x16)
     (first, second)
 }
 
-/// The state after these bytes.
+/// The state after these bytes, at least 32 and fewer than 640, by rows.
 pub fn by_rows(state: u32, bytes: &[u8]) -> u32
     requires some { 32 ≤ length bytes.now }
     requires tables { length bytes.now < 640 }
@@ -587,6 +588,6 @@ pub fn by_rows(state: u32, bytes: &[u8]) -> u32
         row = u8x16::from_slice(next);
         rest = after;
     }
-    // The last row is its own states' fourth bytes.
+    // The last row has no row after it: its bytes are the fourth bytes of their own states.
     last(a, b, c, d ^ row)
 }

@@ -632,7 +632,8 @@ const TABLES: [[u32; 256]; 16] = [
     ],
 ];
 
-/// The state that a byte and so many zero bytes after it leave, from the state 0.
+/// The state that a byte and so many zero bytes after it leave, from the state 0. At most 15 zero
+/// bytes have a table.
 pub fn with_zeros(byte: u8, zeros: usize) -> u32
     requires { zeros < 16 }
     ensures { result ≡ after_bits (8 * (zeros + 1)) byte }
@@ -640,7 +641,7 @@ pub fn with_zeros(byte: u8, zeros: usize) -> u32
     TABLES[zeros][usize::from(byte)]
 }
 
-// The lowest byte.
+// The lowest byte of a state.
 fn low(state: u32) -> u8
     ensures { result ≡ state % 256 }
 {
@@ -673,7 +674,8 @@ fn eight(state: u32, bytes: &[u8], zeros: usize) -> u32
 pub fn sixteen(state: u32, bytes: &[u8; 16]) -> u32
     ensures { result ≡ after_bytes state bytes.now }
 {
-    // The front needs the state, so it is added last: the rest is summed before the state is known.
+    // Only the front needs the state. It is added last, so that the back is summed before the state
+    // is known.
     let (front, back) = bytes.split_at(8);
     eight(0, back, 0) ^ eight(state, front, 8)
 }
@@ -689,7 +691,7 @@ fn four(state: u32, bytes: &[u8; 4]) -> u32
     with_zeros(low(state) ^ bytes[0], 3) ^ rest
 }
 
-/// The state after these bytes.
+/// The state after these bytes, however many, by tables.
 pub fn by_tables(state: u32, bytes: &[u8]) -> u32
     ensures { result ≡ after_bytes state bytes.now }
 {

@@ -20,7 +20,7 @@ enumerate_push {X} n (y ∷ xs) x =
     let e : n + 1 + length xs ≡ n + suc (length xs) = omega arith in
     ap (λ (l : List (ℕ × X)). (n, y) ∷ l) (enumerate_push (n + 1) xs x ∙ ap (λ (k : ℕ). enumerate_from (n + 1) xs ++ (k, x) ∷ []) e)
 
--- with one range more
+-- the delivery of the first ranges with one more
 pub rising_more : (ranges : List (ℕ × ℕ)) (bytes : List ℕ) (i : ℕ) (d : ℕ × ℕ) → i < length ranges
     → rising (take (i + 1) ranges) bytes ≡ rising (take i ranges) bytes ++ (i, take (slice_index_or ranges i d).1 (drop (slice_index_or ranges i d).0 bytes)) ∷ []
 rising_more ranges bytes i d below =
@@ -33,7 +33,7 @@ rising_more ranges bytes i d below =
     ∙ enumerate_push 0 (bytes_of front bytes) (take r.1 (drop r.0 bytes))
     ∙ ap (λ (k : ℕ). rising front bytes ++ (k, take r.1 (drop r.0 bytes)) ∷ []) last
 
--- the numbers rise from the first
+-- the numbers rise by one from the first on
 numbers_rise : {X : Type 0} (n : ℕ) (xs : List X) → map (λ (r : ℕ × X). r.0) (enumerate_from n xs) ≡ range_with_len n (length xs)
 numbers_rise n [] = refl
 numbers_rise n (x ∷ xs) = ap (λ (l : List ℕ). n ∷ l) (numbers_rise (n + 1) xs)
@@ -50,7 +50,7 @@ rising_differ (suc n) a = (later_differ n (a + 1) a (omega arith), rising_differ
 rising_has : (n i : ℕ) → i < n → Contains (range_with_len 0 n) i
 rising_has n i below = (i, omega (arith, below, length-range_with_len 0 n), get_or-range_with_len 0 n i i below ∙ zero-add i)
 
--- so delivered each comes once
+-- a delivery in rising order has each range once
 pub delivers_rising : (ranges : List (ℕ × ℕ)) (bytes : List ℕ) → Delivers ranges bytes (rising ranges bytes)
 delivers_rising ranges bytes =
     let pieces = bytes_of ranges bytes in
@@ -66,7 +66,7 @@ delivers_rising ranges bytes =
       once = subst (IsDistinct nat_eq) (sym numbers) (rising_differ (length pieces) 0);
     }
 
--- and in any other order
+-- a delivery in any other order has each range once too
 pub delivers_moved : (ranges : List (ℕ × ℕ)) (bytes : List ℕ) (out moved : List (ℕ × List ℕ)) → IsPermutation out moved → Delivers ranges bytes out → Delivers ranges bytes moved
 delivers_moved ranges bytes out moved moves was =
     let number : ℕ × List ℕ → ℕ = λ r. r.0 in

@@ -8,11 +8,11 @@ use Rattle.disk.specs.declared.action.Action.TheVariants as actions
 use Rattle.disk.specs.History.{History, life_of, life_after_action, with_action, operated}
 use Rattle.disk.proofs.Histories.{life_told}
 
--- the life after an action, as it went
+-- the life after an action that is done or fails, whichever is set
 pub life_after : (a : Action) (failed : Bool) (old new : History) → failed ≡ (old.failing == 1) → new ≡ with_action a old → life_of new ≡ life_after_action a failed (life_of old)
 life_after a failed old new e same = rw (same, e) (life_told a old)
 
--- an operation that was done, or failed and left all as it was
+-- an operation that was done, or that failed and left all as it was, went as a device's may
 operated_is : (o : Operation) (request : Request) (failed : Bool) (d : Disk) → HasOperated o request failed d (operated o request failed d)
 operated_is o request true d = record { readable = same_is_partial o d.readable; done = λ h. cc; rest = refl }
 operated_is o request false d = record { readable = done_is_partial o d.readable; done = λ h. refl; rest = refl }

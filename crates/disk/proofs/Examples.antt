@@ -10,7 +10,7 @@ use Rattle.disk.specs.Past.{history_with}
 use Rattle.disk.specs.Torn.{torn}
 use Rattle.disk.proofs.Deliveries.{rising, delivers_rising, delivers_moved}
 
--- of a write of 7, 8 and 9 over 1, 2 and 3 a crash keeps the bytes with a true flag
+-- a crash over 1, 2 and 3 keeps those bytes of a write of 7, 8 and 9 whose flag is true
 pub flagged_bytes : torn (true ∷ false ∷ true ∷ []) (Write 0 (7 ∷ 8 ∷ 9 ∷ []) ∷ []) (1 ∷ 2 ∷ 3 ∷ []) ≡ 7 ∷ 2 ∷ 9 ∷ []
 flagged_bytes = refl
 
@@ -18,7 +18,7 @@ flagged_bytes = refl
 pub missing_flags : torn (true ∷ []) (Write 0 (7 ∷ 8 ∷ 9 ∷ []) ∷ []) (1 ∷ 2 ∷ 3 ∷ []) ≡ 7 ∷ 2 ∷ 3 ∷ []
 missing_flags = refl
 
--- a write takes a flag for each byte, and a resize after it one
+-- a write takes a flag for each byte, and a resize after it takes one flag
 pub flags_in_turn : torn (false ∷ true ∷ []) (Write 0 (7 ∷ []) ∷ Resize 1 ∷ []) (1 ∷ 2 ∷ []) ≡ 1 ∷ []
 flags_in_turn = refl
 
@@ -26,18 +26,18 @@ flags_in_turn = refl
 abbrev pub at_first : History
 at_first = record { first = 1 ∷ []; earlier = []; events = []; failing = 0; backwards = false }
 
--- its life has just begun
+-- the life of that blob has just begun
 pub a_begun_life : life_of at_first ≡ begun (1 ∷ []) []
 a_begun_life = refl
 
--- a write that was done after its byte
+-- a write of one byte after its byte, which was done
 abbrev pub written : History
 written = history_with (actions.Write 1 (7 ∷ []) false) false at_first
 
 pub a_write_went : (life_of written).present.readable ≡ 1 ∷ 7 ∷ []
 a_write_went = refl
 
--- it isn't durable before a sync
+-- that write isn't durable before a sync
 pub not_durable : (life_of written).present.base ≡ 1 ∷ []
 not_durable = refl
 
@@ -51,7 +51,7 @@ a_failed_write = refl
 pub it_is_unsynced : length (life_of (history_with (actions.Write 1 (7 ∷ []) false) true at_first)).present.since ≡ 1
 it_is_unsynced = refl
 
--- the call that is to fail does, and no other
+-- the call that is to fail fails, and no other
 pub a_planned_failure : (with_action actions.Sync (record at_first { failing = 1 })).events ≡ record { action = actions.Sync; failed = true } ∷ []
 a_planned_failure = refl
 
@@ -65,11 +65,11 @@ started = history_with actions.StartSync false written
 pub a_sync_is_started : coverings (life_of started).present ≡ (1, 1 ∷ 7 ∷ []) ∷ []
 a_sync_is_started = refl
 
--- nothing more is durable
+-- nothing more is durable by the start of that sync
 pub only_started : (life_of started).present.base ≡ 1 ∷ []
 only_started = refl
 
--- before a wait: then what it covers is, and a write after the start isn't
+-- a wait for it makes durable what it covers; a write after the start isn't durable
 abbrev pub waited_for_it : History
 waited_for_it = history_with (actions.WaitSync 0) false (history_with (actions.Write 0 (9 ∷ []) false) false started)
 
@@ -79,7 +79,7 @@ a_wait_settles = refl
 pub not_what_came_later : (life_of waited_for_it).present.since ≡ Write 0 (9 ∷ []) ∷ []
 not_what_came_later = refl
 
--- a wait for one that failed to start makes nothing durable
+-- a wait for a sync that failed to start makes nothing durable
 pub a_failed_start : (life_of (history_with (actions.WaitSync 0) false (history_with actions.StartSync true written))).present.base ≡ 1 ∷ []
 a_failed_start = refl
 
@@ -94,14 +94,14 @@ three = (0, 2) ∷ (3, 1) ∷ (4, 0) ∷ []
 abbrev pub four_bytes : List ℕ
 four_bytes = 5 ∷ 6 ∷ 7 ∷ 8 ∷ []
 
--- are delivered in order, or the last one first
+-- these ranges are delivered in order, or the last one first
 pub three_in_order : Delivers three four_bytes ((0, 5 ∷ 6 ∷ []) ∷ (1, 8 ∷ []) ∷ (2, []) ∷ [])
 three_in_order = delivers_rising three four_bytes
 
 pub last_one_first : Delivers three four_bytes ((2, []) ∷ (1, 8 ∷ []) ∷ (0, 5 ∷ 6 ∷ []) ∷ [])
 last_one_first = delivers_moved three four_bytes (rising three four_bytes) ((2, []) ∷ (1, 8 ∷ []) ∷ (0, 5 ∷ 6 ∷ []) ∷ []) (IsPermutation-reverse (rising three four_bytes)) three_in_order
 
--- these are the two orders that can be set
+-- those are the two orders that can be set
 pub it_rises : delivery false three four_bytes ≡ (0, 5 ∷ 6 ∷ []) ∷ (1, 8 ∷ []) ∷ (2, []) ∷ []
 it_rises = refl
 
@@ -112,7 +112,7 @@ it_falls = refl
 pub no_other_number : Delivers ((0, 1) ∷ (1, 1) ∷ []) (5 ∷ 6 ∷ []) ((1, 5 ∷ []) ∷ (0, 6 ∷ []) ∷ []) → ⊥
 no_other_number given = let wrong = given.each 0 (0, []) (omega arith) in cc
 
--- nor twice, where two have the same bytes
+-- no range is delivered twice, though two have the same bytes
 pub not_twice : Delivers ((0, 1) ∷ (1, 1) ∷ []) (5 ∷ 5 ∷ []) ((0, 5 ∷ []) ∷ (0, 5 ∷ []) ∷ []) → ⊥
 not_twice given = true≢false (IsDistinct-head nat_eq 0 (0 ∷ []) given.once).0
 
@@ -120,11 +120,11 @@ not_twice given = true≢false (IsDistinct-head nat_eq 0 (0 ∷ []) given.once).
 pub a_read_of_ranges : life_of (history_with (actions.ReadMany three) false at_first) ≡ next (life_of at_first) (logged (ReadMany three) false (life_of at_first).present)
 a_read_of_ranges = refl
 
--- so does a start of reads, as a call of its own
+-- a start of reads stands in the log as a call of its own, and changes nothing else
 pub a_start_of_reads : life_of (history_with (actions.StartReadMany three) false at_first) ≡ next (life_of at_first) (logged (StartReadMany three) false (life_of at_first).present)
 a_start_of_reads = refl
 
--- what it keeps stands in the order of the ranges
+-- what a started read keeps stands in the order of the ranges
 abbrev pub of_four : Life
 of_four = begun four_bytes []
 

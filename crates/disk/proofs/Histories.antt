@@ -50,7 +50,7 @@ waited_log name d = (same_of d (slice_get d.started name)).1
 pub waited_started : (name : ℕ) (d : Disk) → (waited name false d).started ≡ d.started
 waited_started name d = (same_of d (slice_get d.started name)).2
 
--- what a step leaves readable
+-- what is readable after one action more
 lives_readable : (a : Action) (failed : Bool) (life : Life) → (life_after_action a failed life).present.readable ≡ redone (event a failed) life.present.readable
 lives_readable (actions.Read offset len) true life = refl
 lives_readable (actions.ReadMany ranges) true life = refl
@@ -69,7 +69,7 @@ lives_readable actions.StartSync false life = refl
 lives_readable (actions.WaitSync name) true life = refl
 lives_readable (actions.WaitSync name) false life = waited_readable name life.present
 
--- what a step adds to the log
+-- what one action more adds to the log
 lives_log : (a : Action) (failed : Bool) (life : Life) → (life_after_action a failed life).present.log ≡ life.present.log ++ entry (asked a) failed ∷ []
 lives_log (actions.Read offset len) failed life = refl
 lives_log (actions.ReadMany ranges) failed life = refl
@@ -99,7 +99,7 @@ entries_of-append [] (f ∷ failed) call fault e = absurd (omega arith)
 entries_of-append (c ∷ calls) [] call fault e = absurd (omega arith)
 entries_of-append (c ∷ calls) (f ∷ failed) call fault e = ap (λ v. entry (request_of c) f ∷ v) (entries_of-append calls failed call fault (omega arith))
 
--- the entries are of the calls
+-- the requests of the log's entries are those of the calls
 pub requests_of_entries : (calls : List Call) (failed : List Bool) → length failed ≡ length calls → map request_of calls ≡ map (λ e. e.request) (entries_of calls failed)
 requests_of_entries [] failed e = refl
 requests_of_entries (c ∷ calls) [] e = absurd (omega arith)
@@ -109,7 +109,7 @@ failures-append : (log : List Entry) (request : Request) (failed : Bool) → fai
 failures-append [] request failed = omega arith
 failures-append (e ∷ log) request failed = omega (arith, failures-append log request failed)
 
--- not more calls failed than there were
+-- one call fails at most once
 pub one_at_most : (failed : Bool) → (if failed then 1 else 0) ≤ 1
 one_at_most true = omega arith
 one_at_most false = omega arith
@@ -132,7 +132,7 @@ pub history_more : (first : List ℕ) (earlier : ℕ) (calls : List Call) (faile
 history_more first earlier calls failed events failing backwards a c before outcomes =
     rw (take-append-le earlier calls (c ∷ []) before, take-append-le earlier failed ((failing == 1) ∷ []) (omega arith)) refl
 
--- the same with the fields after it by name
+-- the history of the fields with one event more, where the fields after it have names of their own
 pub told_next : (first : List ℕ) (calls calls' : List Call) (failed failed' : List Bool) (events events' : List Event) (earlier failing failing' : ℕ) (backwards : Bool) (a : Action) (c : Call) (h : History) → earlier ≤ length calls → length failed ≡ length calls → history_of first earlier calls failed events failing backwards ≡ h
     → calls' ≡ calls ++ c ∷ [] → failed' ≡ failed ++ (failing == 1) ∷ [] → events' ≡ events ++ event a (failing == 1) ∷ [] → failing' ≡ failing - 1 → history_of first earlier calls' failed' events' failing' backwards ≡ with_action a h
 told_next first calls calls' failed failed' events events' earlier failing failing' backwards a c h before outcomes same ec ef ee en =
@@ -142,11 +142,11 @@ told_next first calls calls' failed failed' events events' earlier failing faili
 pub life_told : (a : Action) (h : History) → life_of (with_action a h) ≡ life_after_action a (h.failing == 1) (life_of h)
 life_told a h = goes_on-append h.events (begun h.first h.earlier) (event a (h.failing == 1))
 
--- the same, whatever its outcome
+-- the life of a history with one event more, done or failed
 pub life_went : (a : Action) (failed : Bool) (old new : History) → new ≡ history_with a failed old → life_of new ≡ life_after_action a failed (life_of old)
 life_went a failed old new e = rw e (goes_on-append old.events (begun old.first old.earlier) (event a failed))
 
--- what is readable then
+-- what is readable after one event more
 pub reads_went : (a : Action) (failed : Bool) (old new : History) (bytes after : List ℕ) → new ≡ history_with a failed old → bytes ≡ (life_of old).present.readable → after ≡ redone (event a failed) bytes → after ≡ (life_of new).present.readable
 reads_went a failed old new bytes after e same moved =
     moved ∙ ap (redone (event a failed)) same ∙ sym (ap (λ l. l.present.readable) (life_went a failed old new e) ∙ lives_readable a failed (life_of old))
@@ -155,11 +155,11 @@ reads_went a failed old new bytes after e same moved =
 pub readable_is : (h : History) → (life_of h).present.readable ≡ replayed h.events h.first
 readable_is h = goes_on_readable h.events (begun h.first h.earlier)
 
--- the log after it
+-- the log after one event more
 log_more : (h : History) (a : Action) → (life_of (with_action a h)).present.log ≡ (life_of h).present.log ++ entry (asked a) (h.failing == 1) ∷ []
 log_more h a = ap (λ life. life.present.log) (life_told a h) ∙ lives_log a (h.failing == 1) (life_of h)
 
--- so many of the events are what is durable, and those after them what isn't
+-- the first m events are what is durable, and the operations of those after them are what isn't
 record DurableTo (h : History) (m : ℕ) (d : Disk) : Type 0 where
   base : d.base ≡ replayed (take m h.events) h.first
   since : d.since ≡ operations_of (drop m h.events)
@@ -169,7 +169,7 @@ record DurableTo (h : History) (m : ℕ) (d : Disk) : Type 0 where
 abbrev with_event : History → Event → History
 with_event h e = record h { events = h.events ++ e ∷ [] }
 
--- one event more that makes nothing durable
+-- one event more that makes nothing durable: the first m events still are what is durable
 kept_to : (h : History) (e : Event) (m : ℕ) (d f : Disk) → DurableTo h m d → f.base ≡ d.base → f.since ≡ d.since ++ operation_of e.action → f.settled ≡ d.settled → DurableTo (with_event h e) m f
 kept_to h e m d f at base since settled =
     let front : take m (h.events ++ e ∷ []) ≡ take m h.events = take-append-le m h.events (e ∷ []) at.within in
@@ -181,7 +181,7 @@ kept_to h e m d f at base since settled =
       within = omega (arith, at.within, length_push h.events e);
     }
 
--- one that makes all durable
+-- one event more that makes all durable: all events are
 all_to : (h : History) (e : Event) (f : Disk) → f.base ≡ replayed (h.events ++ e ∷ []) h.first → f.since ≡ [] → f.settled ≡ length (operations_of (h.events ++ e ∷ [])) → DurableTo (with_event h e) (length h.events + 1) f
 all_to h e f base since settled =
     let long = length_push h.events e in
@@ -216,7 +216,7 @@ idle_replayed (e ∷ es) bytes none =
     let long = length-append (operation_of e.action) (operations_of es) in
     ap (replayed es) (idle_redone e.action e.failed bytes (omega (arith, none, long))) ∙ idle_replayed es bytes (omega (arith, none, long))
 
--- between two counts of events
+-- what stands between two counts of events
 module _ (es : List Event) (m k : ℕ) (order : m ≤ k) (within : k ≤ length es) where
   abbrev between : List Event
   between = take (k - m) (drop m es)
@@ -291,7 +291,7 @@ module _ (h : History) (m k : ℕ) (d : Disk) (at : DurableTo h m d) (covered : 
   settles_to : DurableTo h (max m k) (disk_settled_to c d)
   settles_to = settles_if (nat_lt d.settled c.0) refl
 
--- what a started sync of these is
+-- a started sync of the fields, as the history has it
 abbrev as_started : History → Option Start → Option Started
 as_started h None = None
 as_started h (Some s) = Some (started_by h s)
@@ -306,7 +306,7 @@ within_at n [] name s are is = absurd (cc)
 within_at n (t ∷ ss) zero s are is = let same : t ≡ s = cc in subst (λ (x : Start). x.events ≤ n) same are.0
 within_at n (t ∷ ss) (suc name) s are is = within_at n ss name s are.1 is
 
--- a wait that goes well
+-- a wait that is done
 module _ (h : History) (m : ℕ) (d : Disk) (at : DurableTo h m d) where
   waits_if : (s : Start) (failed : Bool) → s.events ≤ length h.events → DurableTo h (if failed then m else max m s.events) (if failed then d else disk_settled_to ((started_by h s).covers, (started_by h s).bytes) d)
   waits_if s true within = at
@@ -321,7 +321,7 @@ module _ (h : History) (m : ℕ) (d : Disk) (at : DurableTo h m d) where
       subst (λ (o : Option Started). DurableTo h (settled_for (slice_get starts name) m) (waited_for o d))
       (sym (ap (λ (ss : List Started). slice_get ss name) is ∙ get_started h starts name)) (waits_of starts name (slice_get starts name) refl are)
 
--- all operations
+-- the operations of all events are the durable ones and those that aren't durable
 total : (h : History) (m : ℕ) (d : Disk) → DurableTo h m d → d.settled + length d.since ≡ length (operations_of h.events)
 total h m d at =
     omega (arith, at.count, ap length at.since, length-append (operations_of (take m h.events)) (operations_of (drop m h.events)), ap length (sym (operations_of-append (take m h.events) (drop m h.events)) ∙ ap operations_of (take-append-drop m h.events)))
@@ -338,7 +338,7 @@ module _ (h : History) (starts : List Start) (m : ℕ) (at : DurableTo h m (life
   abbrev next_disk : Action → Bool → Disk
   next_disk a failed = (life_after_action a failed (life_of h)).present
 
-  -- the bytes after it
+  -- what is readable after one event more
   read_next : (a : Action) (failed : Bool) → (next_disk a failed).readable ≡ replayed (h.events ++ event a failed ∷ []) h.first
   read_next a failed = lives_readable a failed (life_of h) ∙ ap (redone (event a failed)) (readable_is h) ∙ sym (replayed-append h.events (event a failed ∷ []) h.first)
 
@@ -436,7 +436,7 @@ module _ (h : History) (starts : List Start) (m : ℕ) (at : DurableTo h m (life
       ap (failed_at name) (is ∙ sym (same_starts h (event (actions.WaitSync name) true) starts are)) ∙ failing_is (with_event h (event (actions.WaitSync name) true)) name starts
   started_more (actions.WaitSync name) false = waited_started name (life_of h).present ∙ is ∙ sym (same_starts h (event (actions.WaitSync name) false) starts are)
 
--- the names after it
+-- how many names were given after one call more
 names_append : (log : List Entry) (e : Entry) → names_in (log ++ e ∷ []) ≡ names_in log + names_in (e ∷ [])
 names_append [] e = omega arith
 names_append (x ∷ log) e = omega (arith, names_append log e)
@@ -477,7 +477,7 @@ kept_more h a readable calls failed faults earlier settled starts c k same =
       failures = ap (λ n. n + (if fails then 1 else 0)) k.failures ∙ sym (ap failures (log_more h a) ∙ failures-append (life_of h).present.log (asked a) fails);
     }
 
--- the fields after one action more
+-- the fields keep a history with one action more
 pub kept_next : (first readable readable' : List ℕ) (calls calls' : List Call) (failed failed' : List Bool) (events events' : List Event) (earlier settled settled' faults faults' failing failing' : ℕ) (backwards : Bool) (starts starts' : List Start) (a : Action) (c : Call)
     → TellsHistory (history_of first earlier calls failed events failing backwards) readable calls failed faults earlier settled starts → request_of c ≡ asked a → calls' ≡ calls ++ c ∷ [] → failed' ≡ failed ++ (failing == 1) ∷ [] → events' ≡ events ++ event a (failing == 1) ∷ [] → readable' ≡ redone (event a (failing == 1)) readable → failing' ≡ failing - 1 → faults' ≡ faults + (if failing == 1 then 1 else 0)
     → settled' ≡ settled_after a (failing == 1) starts settled (length events) → starts' ≡ starts_after a (failing == 1) starts (length events)

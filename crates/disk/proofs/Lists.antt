@@ -18,7 +18,7 @@ taken_element (suc n) [] i x is = is
 taken_element (suc n) (y ∷ xs) zero x is = is
 taken_element (suc n) (y ∷ xs) (suc i) x is = taken_element n xs i x is
 
--- an element of a rest
+-- an element of what is left without the first n is the one n places later in the list
 pub slice_get-drop : {X : Type 0} (n : ℕ) (xs : List X) (i : ℕ) → slice_get (drop n xs) i ≡ slice_get xs (n + i)
 slice_get-drop zero xs i = let e : 0 + i ≡ i = omega arith in rw e
 slice_get-drop (suc n) [] i = refl

@@ -15,19 +15,19 @@ use Rattle.disk.specs.VecBlob.{IsPlain}
 use Rattle.disk.specs.Memory.{failing_at, started_by, AreWell, AreWithin, TellsHistory, entries_of, history_of}
 use Rattle.disk.proofs.Histories.{life_went, reads_went, waited_started}
 
--- one of them is marked
+-- the started sync of a name is marked as failed
 pub failing_set : (starts : List Start) (name : ℕ) (s : Start) → slice_get starts name ≡ Some s → slice_set starts name (record s { failed = true }) ≡ failing_at name starts
 failing_set [] name s is = absurd (cc)
 failing_set (t ∷ ss) zero s is = let same : s ≡ t = cc in ap (λ (x : Start). record x { failed = true } ∷ ss) same
 failing_set (t ∷ ss) (suc name) s is = ap (λ (l : List Start). t ∷ l) (failing_set ss name s is)
 
--- there is none of this name
+-- where no started sync has this name, none is marked
 pub failing_out : (starts : List Start) (name : ℕ) → length starts ≤ name → starts ≡ failing_at name starts
 failing_out [] name out = refl
 failing_out (t ∷ ss) zero out = absurd (omega (arith, out))
 failing_out (t ∷ ss) (suc name) out = ap (λ (l : List Start). t ∷ l) (failing_out ss name (omega (arith, out)))
 
--- those of earlier lives cover nothing
+-- the syncs that were started in earlier lives cover nothing
 pub spent_starts : (h : History) (n : ℕ) → map (started_by h) (replicate n (record { events = 0; failed = true })) ≡ replicate n (spent h.first)
 spent_starts h zero = refl
 spent_starts h (suc n) = ap (λ (l : List Started). spent h.first ∷ l) (spent_starts h n)
@@ -36,13 +36,13 @@ spent_within : (n : ℕ) → AreWithin 0 (replicate n (record { events = 0; fail
 spent_within zero = tt
 spent_within (suc n) = (omega arith, spent_within n)
 
--- a sync that has failed fails again
+-- a sync that has failed is marked already
 failed_again : (ss : List Started) (name : ℕ) → is_failed (slice_get ss name) ≡ true → failed_at name ss ≡ ss
 failed_again [] name is = refl
 failed_again (s ∷ ss) zero is = ap (λ (b : Bool). record s { failed = b } ∷ ss) (sym is)
 failed_again (s ∷ ss) (suc name) is = ap (λ (l : List Started). s ∷ l) (failed_again ss name is)
 
--- and the wait leaves the disk
+-- a wait for a sync that has failed leaves the disk
 waited_in_vain : (d : Disk) (o : Option Started) → is_failed o ≡ true → waited_for o d ≡ d
 waited_in_vain d None is = refl
 waited_in_vain d (Some s) is = ap (λ (b : Bool). if b then d else disk_settled_to (s.covers, s.bytes) d) is
@@ -64,7 +64,7 @@ waits_well name old new (Some s) is well e =
 pub wait_goes : (name : ℕ) (old new : Life) → had_failed old.present.started name ≡ false → new ≡ life_after_action (actions.WaitSync name) false old → WaitGoes name old new (Ok tt)
 wait_goes name old new well e = waits_well name old new (slice_get old.present.started name) refl well e
 
--- a blob of which no start failed
+-- where no started sync has failed, the one of this name hasn't
 pub well_at : (ss : List Started) (name : ℕ) → AreWell ss → name < length ss → is_failed (slice_get ss name) ≡ false
 well_at [] name well below = absurd (omega (arith, below))
 well_at (s ∷ ss) zero well below = well.0
@@ -79,7 +79,7 @@ well_more : (ss : List Started) (s : Started) → AreWell ss → s.failed ≡ fa
 well_more [] s well is = (is, tt)
 well_more (t ∷ ss) s well is = (well.0, well_more ss s well.1 is)
 
--- a write starts none
+-- a write starts no sync
 pub write_keeps : (offset : ℕ) (bytes : List ℕ) (sync failed : Bool) (life : Life) → (life_after_action (actions.Write offset bytes sync) failed life).present.started ≡ life.present.started
 write_keeps offset bytes true true life = refl
 write_keeps offset bytes true false life = refl
@@ -94,7 +94,7 @@ length-failed_at name [] = refl
 length-failed_at zero (s ∷ ss) = refl
 length-failed_at (suc name) (s ∷ ss) = ap (λ n. suc n) (length-failed_at name ss)
 
--- it is asked for something that starts no sync, and waits for none
+-- one event more that starts no sync, and waits for none, leaves the started syncs
 pub plain_went : (a : Action) (stopped : Bool) (old new : History) (bytes after : List ℕ) (n : ℕ) → ((life : Life) → (life_after_action a stopped life).present.started ≡ life.present.started) → new ≡ history_with a stopped old → IsPlain (life_of old).present bytes n stopped
     → after ≡ redone (record { action = a; failed = stopped }) bytes → IsPlain (life_of new).present after n stopped
 plain_went a stopped old new bytes after n keeps e plain moved =
@@ -105,7 +105,7 @@ plain_went a stopped old new bytes after n keeps e plain moved =
       well = λ goes. subst AreWell (sym same) (plain.well goes);
     }
 
--- what reads, and fails or doesn't, leaves the bytes
+-- an action that only reads, done or failed, leaves the bytes
 pub same_bytes : (a : Action) (stopped : Bool) (bytes : List ℕ) → done a bytes ≡ bytes → bytes ≡ redone (record { action = a; failed = stopped }) bytes
 same_bytes a true bytes is = refl
 same_bytes a false bytes is = sym is
@@ -131,7 +131,7 @@ plain_starts stopped old new bytes n e plain =
       well = λ goes. subst AreWell (sym same) (well_more d.started s (plain.well goes) goes);
     }
 
--- as many as the blob counts
+-- there are as many started syncs as the blob counts
 pub length-started : (h : History) (starts : List Start) → (life_of h).present.started ≡ map (started_by h) starts → length (life_of h).present.started ≡ length starts
 length-started h starts is = ap length is ∙ length-map starts (started_by h)
 

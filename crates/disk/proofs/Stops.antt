@@ -6,7 +6,7 @@ use Rattle.disk.specs.Past.{history_with}
 use Rattle.disk.specs.VecBlob.{VecState}
 use Rattle.disk.proofs.Histories.{life_went}
 
--- its life goes on by one event, which failed where it was stopped
+-- the blob's life goes on by one event, which failed where the blob was stopped
 pub lives_on : (a : Action) (stopped failed : Bool) (past : History) (room : ℕ) (now : VecState) (was new : History) → record { history = past; room = room; stopped = stopped } ≡ now → now.history ≡ was → stopped ≡ failed
     → new ≡ history_with a stopped past → life_of new ≡ life_after_action a failed (life_of was)
 lives_on a stopped failed past room now was new view same is e =

@@ -9,7 +9,7 @@ use Rattle.disk.specs.History.{History, begun, life_after_events, life_of}
 use Rattle.disk.specs.declared.action.Event.{Event}
 use Rattle.disk.specs.Images.{IsTorn, only_image, same_image, base_is_image, torn_image, partial_is_torn, same_is_partial, done_is_partial, length_write, applied_byte}
 
--- one flag more of a write
+-- the flagged bytes of a write, with one flag more
 pub torn_write_more : (keep : List Bool) (bytes image : List ℕ) (offset i : ℕ) → i < length keep → length keep ≤ length bytes → torn_write (drop i keep) (offset + i) (drop i bytes) image ≡ torn_write (drop (i + 1) keep) (offset + (i + 1)) (drop (i + 1) bytes) (if get_or keep i false then applied (Write (offset + i) (get_or bytes i 0 ∷ [])) image else image)
 torn_write_more keep bytes image offset i below fits =
     let p : offset + i + 1 ≡ offset + (i + 1) = omega arith in
@@ -23,7 +23,7 @@ torn_write_taken [] offset (byte ∷ bytes) image = refl
 torn_write_taken (flag ∷ keep) offset [] image = refl
 torn_write_taken (flag ∷ keep) offset (byte ∷ bytes) image = torn_write_taken keep (offset + 1) bytes (if flag then applied (Write offset (byte ∷ [])) image else image)
 
--- a write with its flags, and then the operations after it with theirs
+-- a write with its flags, and then the operations after it with their flags
 pub torn_split : (keep flags rest : List Bool) (offset n : ℕ) (bytes image new : List ℕ) (os : List Operation) → n ≡ min (length bytes) (length keep) → flags ≡ take n keep → rest ≡ drop n keep → new ≡ torn_write flags offset bytes image → torn keep (Write offset bytes ∷ os) image ≡ torn rest os new
 torn_split keep flags rest offset n bytes image new os e front back done =
     rw (done, front, back, e, take_min (length bytes) keep, drop_min (length bytes) keep, torn_write_taken keep offset bytes image) refl
@@ -37,12 +37,12 @@ record IsFlagged (offset : ℕ) (bytes old new : List ℕ) : Type 0 where
 unflagged : (offset : ℕ) (bytes old : List ℕ) → IsFlagged offset bytes old old
 unflagged offset bytes old = record { grows = omega arith; bound = inl (omega arith); each = λ at byte h. inl h }
 
--- a write of the bytes after the first is one of all
+-- what a write of the bytes after the first writes, a write of all of them writes too
 written_after : (offset first : ℕ) (bytes : List ℕ) (at byte : ℕ) → Writes (Write (offset + 1) bytes) at byte → Writes (Write offset (first ∷ bytes)) at byte
 written_after offset first bytes at byte w =
     (omega (arith, w.0), let e : at - offset ≡ suc (at - (offset + 1)) = omega (arith, w.0) in rw e w.1)
 
--- a write of the first byte is one of all
+-- what a write of the first byte writes, a write of all bytes writes too
 written_first : (offset first : ℕ) (bytes : List ℕ) (at byte : ℕ) → Writes (Write offset (first ∷ [])) at byte → Writes (Write offset (first ∷ bytes)) at byte
 written_first offset first bytes at byte w =
     let n : at - offset < 1 = slice_get_within (first ∷ []) (at - offset) byte w.1 in

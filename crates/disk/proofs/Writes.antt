@@ -26,7 +26,7 @@ dropped old end =
       | inr within ↦ let e : end - length old ≡ 0 = omega arith in rw e (ap (drop end) (append-nil old))
     ]
 
--- the same with fewer zeros
+-- what follows the end of a write, where the old bytes have fewer zeros after them
 dropped_far : (old : List ℕ) (zeros end : ℕ) → zeros ≤ end - length old → drop end (old ++ replicate zeros 0) ≡ drop end old
 dropped_far old zeros end few =
     elim (cases_lt (length old) end) [
@@ -56,7 +56,7 @@ put_more old so_far new offset at is fits =
     sym (drop-drop (length new) at (front ++ rest)) ∙ ap (drop (length new)) (drop_at front rest at long) ∙ drop-drop (length new) at old in
     ap₂ (λ a b. a ++ new ++ b) (take_at front rest at long) last ∙ ap (λ l. l ++ drop end old) (append_assoc (take offset old) so_far new)
 
--- they reach as far as what was put
+-- the bytes reach at least as far as what was put
 pub put_reaches : (old so_far : List ℕ) (offset at : ℕ) → at ≡ offset + length so_far → offset ≤ length old → at ≤ length (take offset old ++ so_far ++ drop at old)
 put_reaches old so_far offset at is among =
     omega (arith, length-append (take offset old ++ so_far) (drop at old), length-append (take offset old) so_far, length-take offset old)

@@ -1,4 +1,4 @@
--- A blob's life, told by what its device was asked for.
+-- The life of a blob that keeps a history of what its device was asked for.
 use Rattle.std.specs.Prelude.{◌≡◌, ℕ, ◌-◌, ◌==◌, List, [], ◌∷◌, ◌++◌, length, Bool, true, false}
 use Rattle.std.specs.Prelude.{if◌then◌else◌, replicate, ◌+◌}
 use Rattle.disk.specs.Disk.{Operation, Write, Resize, applied, Disk, Life, Entry, Request, ReadAt}
@@ -11,7 +11,7 @@ use Rattle.disk.specs.declared.action.Event.{Event}
 use Rattle.disk.specs.declared.action.Call.{Call}
 use Rattle.disk.specs.declared.action.Call.TheVariants as calls
 
--- what stands in the log for a call
+-- the log's entry for a call, without whether it failed
 abbrev pub request_of : Call → Request
 request_of (calls.ReadAt offset len) = ReadAt offset len
 request_of (calls.ReadMany ranges) = ReadMany ranges.items
@@ -22,7 +22,7 @@ request_of calls.Sync = SyncAll
 request_of calls.StartSync = StartSync
 request_of (calls.WaitSync name) = WaitSync name
 
--- what stands in the log for an action
+-- the log's entry for an action, without whether it failed
 abbrev pub asked : Action → Request
 asked (actions.Read offset len) = ReadAt offset len
 asked (actions.ReadMany ranges) = ReadMany ranges
@@ -44,7 +44,7 @@ done actions.Sync bytes = bytes
 done actions.StartSync bytes = bytes
 done (actions.WaitSync name) bytes = bytes
 
--- the write or resize of an action
+-- the write or resize of an action, if it is one
 abbrev pub operation_of : Action → List Operation
 operation_of (actions.Read offset len) = []
 operation_of (actions.ReadMany ranges) = []
@@ -66,7 +66,7 @@ operated o request failed d =
       log = d.log ++ record { request = request; failed = failed } ∷ [];
     }
 
--- the bytes after an event
+-- the bytes after an event: those of the action that was done, or the old ones where it failed
 abbrev pub redone : Event → List ℕ → List ℕ
 redone e bytes = if e.failed then bytes else done e.action bytes
 
@@ -110,7 +110,7 @@ abbrev pub life_after_events : Life → List Event → Life
 life_after_events life [] = life
 life_after_events life (e ∷ es) = life_after_events (life_after_action e.action e.failed life) es
 
--- how many syncs these calls started, or failed to start: so many names were given
+-- how many syncs these calls started, or failed to start, which is how many names were given
 abbrev pub names_in : List Entry → ℕ
 names_in [] = 0
 names_in (e ∷ es) = elim e.request [ StartSync ↦ 1 | _ ↦ 0 ] + names_in es
@@ -135,7 +135,7 @@ abbrev pub begun : List ℕ → List Entry → Life
 begun bytes log =
     record { present = at_rest bytes log; past = [] }
 
--- what a blob in memory is
+-- the state of a blob in memory, as contracts see it
 pub record History : Type 0 where
   -- what it held when its life began
   pub first : List ℕ
@@ -143,7 +143,7 @@ pub record History : Type 0 where
   pub earlier : List Entry
   -- what its device was asked for in this life
   pub events : List Event
-  -- the device call that is to fail, counted from now on; 0 for none
+  -- which device call from now on is to fail, 1 for the next one; 0 for none
   pub failing : ℕ
   -- whether a read of several ranges delivers the last one first
   pub backwards : Bool
@@ -152,7 +152,7 @@ pub record History : Type 0 where
 abbrev pub life_of : History → Life
 life_of h = life_after_events (begun h.first h.earlier) h.events
 
--- one action more, which fails if it is the one that is to fail
+-- the history with one action more, which fails if it is the one that is to fail
 abbrev pub with_action : Action → History → History
 with_action action h =
     record h {
@@ -161,7 +161,8 @@ with_action action h =
       failing = h.failing - 1;
     }
 
--- what these flags leave of an action that isn't durable, and the flags after them
+-- flags, and those that are left over after an action that isn't durable: the first ones turn the
+-- old bytes into the new ones, whatever operations follow
 abbrev pub TornBy : Action → List Bool → List Bool → List ℕ → List ℕ → Type 0
 TornBy action keep rest old new =
     (os : List Operation) → torn keep (operation_of action ++ os) old ≡ torn rest os new

@@ -37,14 +37,14 @@ slice_get_take (suc n) [] at byte h = h
 slice_get_take (suc n) (x ∷ xs) zero byte h = h
 slice_get_take (suc n) (x ∷ xs) (suc at) byte h = slice_get_take n xs at byte h
 
--- an element of what follows a beginning
+-- an element of what is left without the first n is the one n places later in the list
 slice_get_drop : (n : ℕ) (xs : List ℕ) (at : ℕ) → slice_get (drop n xs) at ≡ slice_get xs (n + at)
 slice_get_drop zero xs at = let e : 0 + at ≡ at = omega arith in rw e
 slice_get_drop (suc n) [] at = refl
 slice_get_drop (suc n) (x ∷ xs) at =
     let e : suc n + at ≡ suc (n + at) = omega arith in rw e (slice_get_drop n xs at)
 
--- an element of a list of zeros, which isn't empty
+-- an element of a list of zeros is a zero, and the list isn't empty
 slice_get_zeros : (n at byte : ℕ) → slice_get (replicate n 0) at ≡ Some byte → (byte ≡ 0) × (0 < n)
 slice_get_zeros zero at byte h = cc
 slice_get_zeros (suc n) zero byte h = (cc, omega arith)
@@ -115,7 +115,7 @@ base_whole : (base : List ℕ) (os : List Operation) → IsWhole base os base
 base_whole base [] = refl
 base_whole base (o ∷ os) = inl refl
 
--- a whole state is one after more operations
+-- a whole state is still one after more operations
 whole_more : (base : List ℕ) (os more : List Operation) (whole : List ℕ) → IsWhole base os whole →
     IsWhole base (os ++ more) whole
 whole_more base [] more whole h = rw h (base_whole base more)
@@ -128,7 +128,7 @@ whole_last : (base : List ℕ) (os : List Operation) (o : Operation) → (old : 
 whole_last base [] o = (base, inr refl)
 whole_last base (p ∷ os) o = let r = whole_last (applied p base) os o in (r.0, inr r.1)
 
--- what was written is, after more operations
+-- a byte that some operation wrote still is one after more operations
 written_more : (os more : List Operation) (at byte : ℕ) → SomeWrites os at byte →
     SomeWrites (os ++ more) at byte
 written_more [] more at byte h = absurd h
@@ -158,8 +158,7 @@ base_is_image d = record {
   each = λ at byte h. inl h;
 }
 
--- no list is longer than what a write leaves of it, unless it was longer; and a resize leaves one
--- length
+-- an operation makes no list longer than it was, or makes it no longer than it makes any other
 longest : (o : Operation) (old other : List ℕ) → (length (applied o old) ≤ length old) ⊎
     (length (applied o old) ≤ length (applied o other))
 longest (Write offset bytes) old other =
@@ -171,7 +170,7 @@ longest (Write offset bytes) old other =
     ]
 longest (Resize len) old other = inr (omega (arith, length_resize len old, length_resize len other))
 
--- a write leaves no list shorter; and a resize leaves one length
+-- an operation makes no list shorter than it was, or makes it no shorter than it makes any other
 shortest : (o : Operation) (old other : List ℕ) → (length old ≤ length (applied o old)) ⊎
     (length (applied o other) ≤ length (applied o old))
 shortest (Write offset bytes) old other = inl (omega (arith, length_write offset bytes old))
@@ -268,7 +267,7 @@ torn_image d e o old new same more torn i =
       each = torn_each d e o old new f torn i;
     }
 
--- what was cut short is torn
+-- what an operation that was cut short leaves is also what a crash may leave of it
 pub partial_is_torn : (o : Operation) (old new : List ℕ) → IsPartial o old new → IsTorn o old new
 partial_is_torn o old new p = record {
   len = p.length;
@@ -305,7 +304,7 @@ settled_whole : (d : Disk) (whole : List ℕ) → d.since ≡ [] → IsWhole d.b
     whole ≡ d.base
 settled_whole d whole settled h = let same : IsWhole d.base [] whole = rw settled at h in same
 
--- each byte of an image is then the base's
+-- where nothing is unsynced, each byte of an image is the base's
 settled_byte : (d : Disk) (image : List ℕ) (at byte : ℕ) → d.since ≡ [] → IsImage d image →
     slice_get image at ≡ Some byte → slice_get d.base at ≡ Some byte
 settled_byte d image at byte settled i h =

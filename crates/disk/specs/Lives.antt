@@ -1,4 +1,4 @@
--- What is readable in a life that events tell is an image.
+-- What is readable at the end of a life that events make is an image: a crash may leave it.
 use Rattle.std.specs.Prelude.{◌≡◌, ◌⊎◌, ℕ, zero, suc, ◌+◌}
 use Rattle.std.specs.Prelude.{◌-◌, ◌<◌, ◌≤◌, map, slice_get, Some, None}
 use Rattle.std.specs.Prelude.{List, [], ◌∷◌, ◌++◌, length, drop, replicate, Bool, nat_lt, Option}
@@ -24,7 +24,7 @@ use Rattle.disk.specs.History.{life_of, spent, names_in}
 abbrev covering : Started → ℕ × List ℕ
 covering s = (s.covers, s.bytes)
 
--- where a started sync is done that covers more than is durable
+-- the disk once a started sync is done that covers more than is durable
 abbrev pub from_start : ℕ × List ℕ → Disk → Disk
 from_start c d = record d { base = c.1; since = drop (c.0 - d.settled) d.since }
 
@@ -35,7 +35,7 @@ pub record ReadableIsImage (d : Disk) : Type 0 where
   pub later : (name : ℕ) (c : ℕ × List ℕ) → slice_get (coverings d) name ≡ Some c
       → d.settled < c.0 → IsImage (from_start c d) d.readable
 
--- the log plays no part in it
+-- an entry more in the log keeps the readable bytes an image
 logged_reads : (request : Request) (failed : Bool) (d : Disk) → ReadableIsImage d
     → ReadableIsImage (logged request failed d)
 logged_reads request failed d r = record {
@@ -46,7 +46,7 @@ logged_reads request failed d r = record {
       (r.later name c is above);
 }
 
--- nor does which of the syncs failed
+-- a change in which started syncs have failed keeps the readable bytes an image
 started_reads : (d : Disk) (ss : List Started) → map covering ss ≡ coverings d
     → ReadableIsImage d → ReadableIsImage (record d { started = ss })
 started_reads d ss same r =
@@ -62,7 +62,7 @@ started_reads d ss same r =
           refl (r.later name c (was name c is) above);
     }
 
--- a write or a resize, whatever of it was done
+-- a write or a resize, done or failed, keeps the readable bytes an image
 operated_reads : (o : Operation) (request : Request) (failed : Bool) (d : Disk) → ReadableIsImage d
     → ReadableIsImage (operated o request failed d)
 operated_reads o request true d r = record {
@@ -88,7 +88,7 @@ operated_reads o request false d r = record {
       (done_is_partial o d.readable) (r.later name c is above);
 }
 
--- where all is durable no started sync covers more
+-- once all is durable the readable bytes are an image, as no started sync covers more
 settled_reads : (d : Disk) → ReadableIsImage d → ReadableIsImage (settled_disk d)
 settled_reads d r = record {
   image = base_is_image (settled_disk d);
@@ -96,7 +96,7 @@ settled_reads d r = record {
   later = λ name c is above. absurd (omega (arith, above, r.covered name c is));
 }
 
--- of a list with one more at its end, each is of the list, or is that one
+-- each element of a list with one more at its end is of the list, or is that one
 last_or : (xs : List (ℕ × List ℕ)) (x c : ℕ × List ℕ) (n : ℕ) → slice_get (xs ++ x ∷ []) n ≡ Some c
     → (slice_get xs n ≡ Some c) ⊎ (c ≡ x)
 last_or [] x c zero is = inr cc
@@ -135,7 +135,7 @@ starts_reads failed d r =
       ];
     }
 
--- a started sync that is done
+-- a started sync that is done keeps the readable bytes an image
 done_reads : (d : Disk) (name : ℕ) (c : ℕ × List ℕ) → slice_get (coverings d) name ≡ Some c
     → d.settled < c.0 → ReadableIsImage d
     → ReadableIsImage (record d {
@@ -257,6 +257,6 @@ begun_reads h =
 pub life_reads : (h : History) → IsImage (life_of h).present (life_of h).present.readable
 life_reads h = (goes_on_reads h.events (begun h.first h.earlier) (begun_reads h)).image
 
--- and no started sync covers what is still to come
+-- in such a life no started sync covers an operation that is still to come
 pub life_covers : (h : History) → AreCovered (life_of h).present
 life_covers h = (goes_on_reads h.events (begun h.first h.earlier) (begun_reads h)).covered

@@ -1,4 +1,4 @@
--- A blob in memory: what its fields stand for, and what they say of one another.
+-- A blob in memory that can fail and crash: what its fields stand for, and how they fit together.
 use Rattle.std.specs.Prelude.{◌≡◌, ◌≤◌, ◌<◌, ◌≢◌, ◌⊎◌, ℕ, ◌+◌, List, [], ◌∷◌}
 use Rattle.std.specs.Prelude.{length, take, drop, reverse}
 use Rattle.std.specs.List.{enumerate_from}
@@ -23,7 +23,7 @@ abbrev pub AreWell : List Started → Type 0
 AreWell [] = Unit {0}
 AreWell (s ∷ ss) = (s.failed ≡ false) × AreWell ss
 
--- the entries of calls, with whether each failed
+-- the log's entries for calls, with whether each failed
 abbrev pub entries_of : List Call → List Bool → List Entry
 entries_of [] failed = []
 entries_of (call ∷ calls) [] = []
@@ -47,7 +47,7 @@ pub record KeepsSettings (old new : History) : Type 0 where
   pub failing : new.failing ≡ old.failing
   pub backwards : new.backwards ≡ old.backwards
 
--- a started sync of a history, that stands after so many of its events
+-- a started sync of a history, which was started after so many of its events
 abbrev pub started_by : History → Start → Started
 started_by h s =
     let before = take s.events h.events in
@@ -57,7 +57,7 @@ started_by h s =
       failed = s.failed;
     }
 
--- each stands after no more events than these
+-- each of these syncs was started after at most so many events
 abbrev pub AreWithin : ℕ → List Start → Type 0
 AreWithin n [] = Unit {0}
 AreWithin n (s ∷ ss) = (s.events ≤ n) × AreWithin n ss
@@ -79,12 +79,12 @@ pub record TellsHistory (h : History) (readable : List ℕ) (calls : List Call) 
   pub before : earlier ≤ length calls
   pub failures : faults ≡ failures (life_of h).present.log
 
--- how many events are settled once this sync was waited for
+-- how many events are settled, which means durable, once this sync was waited for
 abbrev pub settled_for : Option Start → ℕ → ℕ
 settled_for None settled = settled
 settled_for (Some s) settled = if s.failed then settled else max settled s.events
 
--- how many events are settled after one more, which stands after so many
+-- how many events are settled after one more, before which there were so many
 abbrev pub settled_after : Action → (failed : Bool) → List Start → (settled events : ℕ) → ℕ
 settled_after action true starts settled events = settled
 settled_after (actions.Read offset len) false starts settled events = settled
@@ -98,7 +98,7 @@ settled_after actions.StartSync false starts settled events = settled
 settled_after (actions.WaitSync name) false starts settled events =
     settled_for (slice_get starts name) settled
 
--- a started sync has failed
+-- these started syncs, of which the one of this name has failed
 abbrev pub failing_at : ℕ → List Start → List Start
 failing_at name [] = []
 failing_at zero (s ∷ ss) = record s { failed = true } ∷ ss
@@ -117,8 +117,8 @@ starts_after (actions.Write offset bytes sync) failed starts events = starts
 starts_after (actions.Resize len) failed starts events = starts
 starts_after actions.Sync failed starts events = starts
 
--- the device is asked for this, and fails just where it is the call that is to fail; a call that is
--- refused before changes nothing, and doesn't count
+-- the device is asked for this action, and fails just where the call is the one that is to fail; a
+-- call that fails before the device is asked changes nothing, and doesn't count
 abbrev pub Asks : {T : Type 0} → Action → History → History → Result T Error → Type 0
 Asks action old new (Ok _) = (old.failing ≢ 1) × (new ≡ with_action action old)
 Asks action old new (Err BlobInsufficientLength) = new ≡ old
@@ -126,13 +126,14 @@ Asks action old new (Err OffsetOverflow) = new ≡ old
 Asks action old new (Err OutOfMemory) = new ≡ old
 Asks action old new (Err _) = (old.failing ≡ 1) × (new ≡ with_action action old)
 
--- a start of a sync counts, and fails just where it is the one that is to fail; that shows at the
--- wait
+-- a start of a sync counts as a device call, and fails just where it is the one that is to fail:
+-- its answer is `Ok` then too, and the wait fails
 abbrev pub AsksStart : {T : Type 0} → History → History → Result T Error → Type 0
 AsksStart old new (Ok _) = new ≡ with_action actions.StartSync old
 AsksStart old new (Err _) = new ≡ old
 
--- a wait counts, and fails just where it is the one that is to fail, or the sync had failed
+-- a wait counts as a device call, and fails just where it is the one that is to fail, or the sync
+-- had failed
 abbrev pub AsksWait : StartedSync → (had_failed : Bool) → History → History
     → Result (Unit {0}) Error → Type 0
 AsksWait Done had_failed old new result = new ≡ old
@@ -142,7 +143,7 @@ AsksWait (Named name) had_failed old new (Err SyncFailed) =
     ((old.failing ≡ 1) ⊎ (had_failed ≡ true)) × (new ≡ with_action (actions.WaitSync name) old)
 AsksWait (Named name) had_failed old new (Err _) = new ≡ old
 
--- the bytes of a range, or none where it passes the end, or no memory
+-- the bytes of a range; or the range passes the end; or memory was refused for a range within
 abbrev pub IsRange : ℕ → ℕ → List ℕ → Result (List ℕ) Error → Type 0
 IsRange offset len readable (Ok bytes) =
     (offset + len ≤ length readable) × (bytes ≡ take len (drop offset readable))
@@ -150,21 +151,20 @@ IsRange offset len readable (Err BlobInsufficientLength) = length readable < off
 IsRange offset len readable (Err OutOfMemory) = offset + len ≤ length readable
 IsRange offset len readable (Err _) = ⊥
 
--- the bytes of several ranges, each with its number, in rising order, or the last one
--- first
+-- the bytes of several ranges, each with its number, in rising order, or backwards in falling order
 abbrev pub delivery : (backwards : Bool) → List (ℕ × ℕ) → List ℕ → List (ℕ × List ℕ)
 delivery false ranges readable = enumerate_from 0 (bytes_of ranges readable)
 delivery true ranges readable = reverse (enumerate_from 0 (bytes_of ranges readable))
 
--- the bytes of several ranges, or none where one passes the end, or no memory
+-- the bytes of several ranges; or a range passes the end; or memory was refused for ranges within
 abbrev pub AreRanges : List (ℕ × ℕ) → List ℕ → List (ℕ × List ℕ) → Result (Unit {0}) Error → Type 0
 AreRanges ranges readable out (Ok _) = IsWithin ranges readable × Delivers ranges readable out
 AreRanges ranges readable out (Err BlobInsufficientLength) = IsWithin ranges readable → ⊥
 AreRanges ranges readable out (Err OutOfMemory) = IsWithin ranges readable
 AreRanges ranges readable out (Err _) = ⊥
 
--- the bytes of several ranges in the order of the ranges; or the refusal of a range that passes the
--- end, or of memory
+-- the bytes of several ranges in the order of the ranges; or a range passes the end; or memory was
+-- refused where all are within
 abbrev pub AreRangesInOrder : List (ℕ × ℕ) → List ℕ → Result (List (List ℕ)) Error → Type 0
 AreRangesInOrder ranges readable (Ok bufs) =
     IsWithin ranges readable × (bufs ≡ bytes_of ranges readable)
@@ -172,7 +172,7 @@ AreRangesInOrder ranges readable (Err BlobInsufficientLength) = IsWithin ranges 
 AreRangesInOrder ranges readable (Err OutOfMemory) = IsWithin ranges readable
 AreRangesInOrder ranges readable (Err _) = ⊥
 
--- whether a wait for this can only fail
+-- whether a wait for what the start of a sync answered can only fail
 abbrev pub waits_in_vain : StartedSync → List Started → Bool
 waits_in_vain Done started = false
 waits_in_vain (Named name) started = had_failed started name

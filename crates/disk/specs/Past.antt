@@ -1,4 +1,4 @@
--- The history that a ghost past stands for.
+-- The history that a `Past` stands for, which is ghost data.
 use Rattle.std.specs.Prelude.{ℕ, List, [], ◌∷◌, ◌++◌, Bool, false}
 use Rattle.std.specs.List.{concat}
 use Rattle.disk.specs.declared.action.Action.{Action}
@@ -10,12 +10,12 @@ use Rattle.disk.specs.declared.ranges.Range.{Range}
 use Rattle.disk.specs.declared.ranges.Range.TheVariants as ranges
 use Rattle.disk.specs.History.{History}
 
--- listed ranges as a list
+-- the ranges of a `Listed` as a list
 abbrev pub listed_of : Range → List (ℕ × ℕ)
 listed_of ranges.Nothing = []
 listed_of (ranges.After before offset len) = before.value.value ++ (offset, len) ∷ []
 
--- one action more, done or failed
+-- the history with one action more, done or failed
 abbrev pub history_with : Action → Bool → History → History
 history_with action failed h =
     record h { events = h.events ++ record { action = action; failed = failed } ∷ [] }

@@ -10,7 +10,7 @@ torn_write (flag ∷ keep) offset (byte ∷ bytes) image =
     let written = applied (Write offset (byte ∷ [])) image in
     torn_write keep (offset + 1) bytes (if flag then written else image)
 
--- a resize where its flag is true
+-- a resize is done where its flag is true; a missing flag is false
 abbrev pub torn_resize : List Bool → ℕ → List ℕ → List ℕ
 torn_resize [] len image = image
 torn_resize (flag ∷ keep) len image = if flag then applied (Resize len) image else image

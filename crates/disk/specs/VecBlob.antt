@@ -14,20 +14,21 @@ use Rattle.disk.specs.Memory.{AreWell}
 use Rattle.disk.specs.Past.{history_with}
 
 pub record VecState : Type 0 where
-  -- the bytes that it began with, and what it was asked for since
+  -- the bytes that the blob began with, and what it was asked for since
   pub history : History
   -- how many bytes it has memory for
   pub room : ℕ
   -- each call fails from now on
   pub stopped : Bool
 
--- a disk with these bytes and so many started syncs, of which none failed before it was stopped
+-- a disk with these bytes and so many started syncs, of which none has failed unless the blob was
+-- stopped
 pub record IsPlain (d : Disk) (bytes : List ℕ) (starts : ℕ) (stopped : Bool) : Type 0 where
   pub reads : bytes ≡ d.readable
   pub names : length d.started ≡ starts
   pub well : stopped ≡ false → AreWell d.started
 
--- a call that was refused before the device was asked leaves the history; each other is one event
+-- a call that failed before the device was asked leaves the history; each other call is one event
 -- more, which failed just where the blob was stopped
 abbrev pub Tells : {T : Type 0} → Action → VecState → VecState → Result T Error → Type 0
 Tells action was now (Ok _) =
@@ -38,7 +39,7 @@ Tells action was now (Err OutOfMemory) = now.history ≡ was.history
 Tells action was now (Err _) =
     (was.stopped ≡ true) × (now.history ≡ history_with action true was.history)
 
--- the start of a sync: that it failed shows at the wait
+-- the start of a sync, whose answer doesn't show whether the device failed: the wait does
 abbrev pub TellsStart : {T : Type 0} → VecState → VecState → Result T Error → Type 0
 TellsStart was now (Ok _) = now.history ≡ history_with actions.StartSync was.stopped was.history
 TellsStart was now (Err _) = now.history ≡ was.history
@@ -54,11 +55,12 @@ TellsWait (Named name) started was now (Err _) =
     (was.stopped ≡ false → started ≤ name)
     × (now.history ≡ history_with (actions.WaitSync name) was.stopped was.history)
 
--- a write of so many bytes at an offset isn't refused before the device is asked
+-- the range of a write ends within the greatest offset and within the memory that the blob has, so
+-- the write doesn't fail before the device is asked
 abbrev pub HasRoom : (offset len : ℕ) → VecState → Type 0
 HasRoom offset len s = (offset + len < 2 ^ 64) × (offset + len ≤ s.room)
 
--- room is made for one
+-- room is made for a write of so many bytes at an offset
 abbrev pub Reserves : (offset len : ℕ) → VecState → VecState → Result (Unit {0}) Error → Type 0
 Reserves offset len was now (Ok _) =
     (now.history ≡ was.history) × (now.stopped ≡ was.stopped) × HasRoom offset len now

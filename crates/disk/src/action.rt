@@ -12,14 +12,14 @@ use crate::IoBuf;
 use crate::ranges::Ranges;
 use std::alloc::{AllocError, Global};
 
-/// A device call, as it stands in the log.
+/// A device call, as it stands in the log. Offsets and numbers are in bytes.
 #[derive(Drop)]
 pub enum Call {
     /// A read: the offset and the number of bytes.
     ReadAt(u64, usize),
-    /// A read of several ranges: of each the offset and the number of bytes.
+    /// A read of several ranges: for each the offset and the number of bytes.
     ReadMany(Vec<(u64, usize)>),
-    /// The start of a read of several ranges: of each the offset and the number of bytes.
+    /// The start of a read of several ranges: for each the offset and the number of bytes.
     StartReadMany(Vec<(u64, usize)>),
     /// A write: the offset, the number of bytes, and whether it was to be durable.
     WriteAt(u64, usize, bool),
@@ -33,7 +33,7 @@ pub enum Call {
     WaitSync(u64),
 }
 
-/// What a device is asked for, with all that it takes to do it.
+/// What a device is asked for, with all that is needed to do it again.
 #[derive(Drop)]
 pub enum Action {
     Read(u64, usize),
@@ -53,8 +53,8 @@ pub struct Event {
     pub failed: bool,
 }
 
-/// A sync that was started: how many of the life's events it covers, and whether it, or a wait for
-/// it, failed.
+/// A sync that was started: how many of the life's events it covers, and whether the start or a
+/// wait for it failed.
 #[derive(Clone, Copy)]
 pub struct Start {
     pub events: usize,
@@ -78,8 +78,8 @@ impl Action {
         })
     }
 
-    /// The bytes that a crash leaves where these flags say which bytes of a write, or whether a
-    /// resize, was done. It answers with the flags that are left over.
+    /// Does to `image` what a crash leaves of this action: the bytes of a write whose flags are
+    /// true, or a resize whose flag is true. It answers the flags that are left over.
     pub fn tear<'a>(&self, image: &mut Vec<u8>, keep: &'a [bool]) -> Result<&'a [bool], AllocError>
         ensures { IfOk result (λ rest.
             TornBy self.now keep.now rest.now image.old.items image.new.items) }
@@ -103,7 +103,7 @@ impl Action {
         }
     }
 
-    /// Makes room for the bytes after it.
+    /// Makes room in `bytes` for what they are once the action is done.
     pub fn reserve(&self, bytes: &mut Vec<u8>) -> Result<(), AllocError>
         ensures same { bytes.new.items ≡ bytes.old.items }
         ensures room { OnOk result
@@ -120,7 +120,7 @@ impl Action {
         }
     }
 
-    /// Does it to these bytes. An `Err` leaves them as they were.
+    /// Does the action to these bytes. An `Err` leaves them as they were.
     pub fn perform(&self, bytes: &mut Vec<u8>) -> Result<(), AllocError>
         ensures ok { OnOk result (bytes.new.items ≡ done self.now bytes.old.items) }
         ensures err { OnErr result (bytes.new.items ≡ bytes.old.items) }
@@ -154,8 +154,8 @@ impl Event {
         }
     }
 
-    /// Adds the sync that it starts, after so many events, or marks the one that it waited for in
-    /// vain.
+    /// Adds the sync that this event starts, after so many events, or marks as failed the sync that
+    /// it waited for in vain.
     pub fn record_start(&self, starts: &mut Vec<Start>, events: usize)
         requires { vec_len starts.old < vec_capacity starts.old }
         ensures { starts.new.items
@@ -171,14 +171,14 @@ impl Event {
         }
     }
 
-    /// One where it failed.
+    /// How many failures this event is: 1 where it failed, else 0.
     pub fn faults(&self) -> usize
         ensures { result ≡ (if self.now.failed then 1 else 0) }
     {
         if self.failed { 1 } else { 0 }
     }
 
-    /// Does it again. An `Err` leaves the bytes as they were.
+    /// Does the action again, unless it failed. An `Err` leaves the bytes as they were.
     pub fn redo(&self, bytes: &mut Vec<u8>) -> Result<(), AllocError>
         ensures ok { OnOk result (bytes.new.items ≡ redone self.now bytes.old.items) }
         ensures err { OnErr result (bytes.new.items ≡ bytes.old.items) }
@@ -210,7 +210,8 @@ pub fn replay(alloc: Global, first: &[u8], events: &[Event]) -> Result<Vec<u8>, 
     Ok(bytes)
 }
 
-/// What a crash leaves of events that aren't durable, where these flags say what was done.
+/// Does to `image` what a crash leaves of events that aren't durable, where these flags say what
+/// was done: one for each byte of a write, and one for a resize.
 pub fn tear(image: &mut Vec<u8>, events: &[Event], keep: &[bool]) -> Result<(), AllocError>
     ensures { OnOk result
         (image.new.items ≡ torn keep.now (operations_of events.now) image.old.items) }
@@ -222,7 +223,8 @@ pub fn tear(image: &mut Vec<u8>, events: &[Event], keep: &[bool]) -> Result<(), 
     Ok(())
 }
 
-/// Puts bytes at an offset, after zeros where it lies past the end. An `Err` leaves all as it was.
+/// Puts bytes at an offset, after zeros where the offset lies past the end. An `Err` leaves all as
+/// it was.
 #[tactic(auto, using(crate::proofs::Writes::written_over))]
 pub fn write_over(bytes: &mut Vec<u8>, offset: usize, new: &[u8]) -> Result<(), AllocError>
     ensures ok { OnOk result (bytes.new.items ≡ applied (Write offset new.now) bytes.old.items) }

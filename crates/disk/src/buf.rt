@@ -35,7 +35,7 @@ impl From<Bytes> for IoBuf {
 }
 
 impl IoBuf {
-    /// A buffer with a copy of these bytes. It answers `OutOfMemory` alone.
+    /// A buffer with a copy of these bytes. Its only error is `OutOfMemory`.
     pub fn copy_from_slice(alloc: Global, bytes: &[u8]) -> Result<Self, Error>
         ensures ok { IfOk result (λ b. b ≡ bytes.now) }
         ensures err { IsOkUnless result Error.OutOfMemory }
@@ -44,8 +44,9 @@ impl IoBuf {
         Ok(IoBuf { bytes })
     }
 
-    /// A buffer with a copy of the `len` bytes at an offset of these. `BlobInsufficientLength`
-    /// where the range passes their end, and else `OutOfMemory` alone.
+    /// A buffer with a copy of the `len` bytes that stand at `offset` in `bytes`.
+    /// `BlobInsufficientLength` where the range passes their end, and else no error except
+    /// `OutOfMemory`.
     pub(crate) fn copy_range(
         alloc: Global,
         bytes: &[u8],
@@ -61,8 +62,8 @@ impl IoBuf {
         Self::copy_from_slice(alloc, &bytes[start..start + len])
     }
 
-    /// The bytes from `start` to before `end`, shared with this buffer. It answers `OutOfMemory`
-    /// alone.
+    /// The bytes from `start` to before `end`, shared with this buffer. The only error is
+    /// `OutOfMemory`.
     pub fn slice(&self, start: usize, end: usize) -> Result<Self, Error>
         requires order { start ≤ end }
         requires bound { end ≤ length self.now }
@@ -126,7 +127,7 @@ impl IoBufs {
         }
     }
 
-    /// A list with no buffer, and with memory for so many. It answers `OutOfMemory` alone.
+    /// A list with no buffer, and with memory for so many. Its only error is `OutOfMemory`.
     pub fn with_capacity(alloc: Global, buffers: usize) -> Result<Self, Error>
         ensures made { IfOk result (λ b. b ≡ []) }
         ensures err { IsOkUnless result Error.OutOfMemory }
@@ -152,8 +153,8 @@ impl IoBufs {
         self.len == 0
     }
 
-    /// Adds a buffer at the end; an empty one is dropped. It answers `OutOfMemory` alone, also
-    /// where all the bytes together would pass `usize`, and then the list is as it was.
+    /// Adds a buffer at the end; an empty one is dropped. The only error is `OutOfMemory`, also
+    /// where the number of all bytes would pass `usize`; then the list is as it was.
     pub fn append(&mut self, buf: IoBuf) -> Result<(), Error>
         ensures bufs { OnOk result (self.new ≡ with_buf self.old buf) }
         ensures bytes { OnOk result (concat self.new ≡ concat self.old ++ buf) }
@@ -172,8 +173,8 @@ impl IoBufs {
     }
 
     /// Adds the first `len` bytes of a vector at the end, without a copy; nothing where `len` is 0.
-    /// Where memory is refused, or all the bytes together would pass `usize`, the vector comes
-    /// back, and the list is as it was.
+    /// The error means that memory was refused, or that the number of all bytes would pass
+    /// `usize`. It gives the vector's bytes back, and the list is as it was.
     pub fn append_front(&mut self, bytes: Vec<u8>, len: usize) -> Result<(), AllocFailed<Vec<u8>>>
         requires { len ≤ length bytes.items }
         ensures bufs { OnOk result (self.new ≡ with_buf self.old (take len bytes.items)) }
@@ -212,7 +213,7 @@ impl IoBufs {
     }
 
     #[tactic(auto, using(crate::proofs::Bufs::concat_more))]
-    /// All bytes in one buffer, copied. It answers `OutOfMemory` alone.
+    /// All bytes in one buffer, copied. The only error is `OutOfMemory`.
     pub fn coalesce(&self) -> Result<IoBuf, Error>
         ensures ok { IfOk result (λ b. b ≡ concat self.now) }
         ensures err { IsOkUnless result Error.OutOfMemory }

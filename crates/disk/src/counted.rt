@@ -8,8 +8,9 @@ ghost use Rattle.disk.specs.Disk.{calls_after_wait};
 use crate::{Blob, Error, IoBuf, IoBufs, ReadOptions, StartedRead, StartedSync, WriteOptions};
 use std::alloc::Global;
 
-/// A blob that hands each call on to another, and counts the calls and the bytes that it is asked
-/// to read and to write. A count stays at the greatest `u64`.
+/// A blob that hands each call on to another, and counts the calls, except [`Blob::len`], and the
+/// bytes that it is asked to read and to write. A wait for `StartedSync::Done` isn't handed on and
+/// isn't counted. A count that has come to the greatest `u64` stays there.
 #[derive(Drop)]
 pub struct Counted<B> {
     /// The other blob.

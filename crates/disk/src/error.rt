@@ -5,7 +5,7 @@ ghost use Rattle.disk.specs.Error.{number_of, name_of};
 
 use std::alloc::{AllocError, AllocFailed};
 
-/// What a call of the layer may be refused for. Its `Display` writes the variant's name.
+/// Why a call of the layer failed. `Display` writes the variant's name.
 #[derive(Clone, Copy, Debug, PartialEq, Eq, thiserror::Error)]
 pub enum Error {
     /// A device read failed in this call.
@@ -20,7 +20,8 @@ pub enum Error {
     /// A device sync failed in this call.
     #[error("SyncFailed")]
     SyncFailed,
-    /// A page that must verify doesn't.
+    /// A page that was asked for has no value, as no checksum slot of it matches its bytes; or the
+    /// value of a page that must be full is shorter.
     #[error("InvalidChecksum")]
     InvalidChecksum,
     /// A range or an offset passes the end.
@@ -32,7 +33,7 @@ pub enum Error {
     /// A request for memory was refused.
     #[error("OutOfMemory")]
     OutOfMemory,
-    /// The id of the greatest `u64` was given already.
+    /// A cache has given all its ids: the last was the greatest `u64`.
     #[error("IdsExhausted")]
     IdsExhausted,
 }

@@ -1,7 +1,7 @@
 //! The storage device of the paged blob layer: its errors, the buffers that pass through it, the
 //! trait [`Blob`] with what each call does and what a crash may leave, and three blobs:
-//! [`VecBlob`], bytes in memory; [`MemBlob`], which fails and crashes as it is told; and
-//! [`Counted`], which counts what another is asked for.
+//! [`VecBlob`], bytes in memory; [`MemBlob`], which a caller can make fail and crash; and
+//! [`Counted`], which counts what another blob is asked for.
 #![tactic(auto)]
 
 mod action;

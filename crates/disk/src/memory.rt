@@ -21,14 +21,15 @@ use std::alloc::{AllocError, Global};
 use std::marker::Model;
 
 /// A blob in memory. It keeps what a crash needs to know: the bytes that its life began with, and
-/// each device call since. One of its calls can be made to fail, and it can crash.
+/// each device call since. A caller can choose a device call that is to fail, and can make the blob
+/// crash, which begins a new life.
 ///
 /// A call that answers `BlobInsufficientLength`, `OffsetOverflow` or `OutOfMemory` asks no device:
 /// it changes nothing, stands in no log, and isn't counted by [`MemBlob::fail_at`].
 #[derive(Drop)]
 pub struct MemBlob {
     alloc: Global,
-    // What its life began with.
+    // The bytes that this life began with.
     first: Vec<u8>,
     // The device calls of all lives, and how many of them were made in earlier ones.
     calls: Vec<Call>,
@@ -74,7 +75,7 @@ impl MemBlob {
         MemBlob::with_bytes(alloc, Vec::new(alloc), Vec::new(alloc))
     }
 
-    /// A blob with a copy of these bytes, all durable. It answers `OutOfMemory` alone.
+    /// A blob with a copy of these bytes, all durable. The only error is `OutOfMemory`.
     pub fn from_bytes(alloc: Global, bytes: &[u8]) -> Result<Self, Error>
         ensures life { IfOk result (λ blob. life_of blob ≡ begun bytes.now []) }
         ensures failing { IfOk result (λ blob. blob.failing ≡ 0) }
@@ -131,8 +132,8 @@ impl MemBlob {
     }
 
     /// The nth device call from now on is to fail, and no other one. A start of a sync answers `Ok`
-    /// all the same: that it failed shows at each wait for it. So does a failed start of reads, at
-    /// the wait for those.
+    /// even if it fails, and each wait for that sync then fails. A start of reads that fails
+    /// reports it at the wait for the reads.
     pub fn fail_at(&mut self, n: u64)
         requires { 1 ≤ n }
         ensures life { life_of self.new ≡ life_of self.old }
@@ -142,8 +143,8 @@ impl MemBlob {
         self.failing = n;
     }
 
-    /// Whether each later [`Blob::read_many`] delivers the last range first. Until it is said they
-    /// come in rising order.
+    /// Whether each later [`Blob::read_many`] delivers the last range first. Before the first call
+    /// of this, ranges come in rising order.
     pub fn deliver_backwards(&mut self, backwards: bool)
         ensures life { life_of self.new ≡ life_of self.old }
         ensures set { self.new ≡ record self.old { backwards = backwards } }
@@ -151,13 +152,13 @@ impl MemBlob {
         self.backwards = backwards;
     }
 
-    /// Crashes, and begins a new life with what is left: the durable bytes, and of the operations
-    /// that aren't durable, in order, those bytes of a write for which there is a true flag, and
-    /// each resize whose flag is true. There is one flag for each byte of a write and one for a
-    /// resize. A missing flag is false. A later crash leaves nothing that this one might not have
-    /// left, until something is written.
+    /// Crashes, and begins a new life with what is left. That is the durable bytes, once a part of
+    /// each operation that isn't durable is done to them, in order: of a write each byte whose flag
+    /// is true, and a resize if its flag is true. `keep` holds one flag for each byte of a write
+    /// and one for each resize. A missing flag is false. Until something is written, a later crash
+    /// leaves nothing that this one might not have left.
     ///
-    /// It answers `OutOfMemory` alone, and then nothing changed.
+    /// The only error is `OutOfMemory`, and then nothing changed.
     pub fn crash(&mut self, keep: &[bool]) -> Result<(), Error>
         ensures life { let old = (life_of self.old).present in
             OnOk result (life_of self.new ≡ begun (torn keep.now old.since old.base) old.log) }
@@ -217,7 +218,7 @@ impl MemBlob {
         Ok(())
     }
 
-    // Starts a read of several ranges, and answers what is to be kept of it.
+    // Starts a read of several ranges, and answers what the started read is to keep.
     fn start_ranges(&mut self, alloc: Global, ranges: &[(u64, usize)]) -> Result<Vec<IoBuf>, Error>
         ensures goes { let old = life_of self.old in let new = life_of self.new in
             StartReadGoes ranges.now old new (answer_of result) }
@@ -241,7 +242,7 @@ impl MemBlob {
         }
     }
 
-    // Asks the device, and answers whether it failed. An `Err` leaves all as it was.
+    // Asks the device, and answers whether the device failed. An `Err` leaves all as it was.
     fn ask(&mut self, action: Action) -> Result<bool, AllocError>
         ensures failed { IfOk result (λ failed. failed ≡ (self.old.failing == 1)) }
         ensures told { OnOk result (self.new ≡ with_action action self.old) }
@@ -394,7 +395,7 @@ impl Blob for MemBlob {
     ghost starts_are_covered = { life_covers };
 }
 
-// So many syncs of earlier lives.
+// So many started syncs of earlier lives, of which each has failed.
 fn spent(alloc: Global, count: usize) -> Result<Vec<Start>, AllocError>
     ensures { IfOk result (λ starts.
         starts.items ≡ replicate count (record { events = 0; failed = true })) }

@@ -9,16 +9,16 @@ use crate::ranges::Listed;
 use std::marker::Model;
 use std::snapshot::Snapshot;
 
-/// What a device was asked for so far, from the bytes on that it began with, and how each call
-/// went. It is for whoever writes a [`crate::Blob`] that keeps no history at run time: hold one as
-/// a `Snapshot`, which takes no memory, and let each call put one event more after it.
+/// The bytes that a device began with, what it was asked for since, and which calls failed. It is
+/// for whoever writes a [`crate::Blob`] that keeps no history at run time: hold a past as a
+/// `Snapshot`, which takes no memory, and let each call add one event to it.
 #[cycle(past)]
 #[derive(Drop)]
 pub struct Past {
     last: Asked,
 }
 
-// The last thing that it was asked for, whether that failed, and what stood before it.
+// The last thing that the device was asked for, whether that failed, and the past before it.
 #[cycle(past)]
 #[derive(Drop)]
 enum Asked {
@@ -51,7 +51,7 @@ impl Model for Past {
 }
 
 impl Past {
-    /// A device that begins with these bytes was asked for nothing yet.
+    /// The past of a device that begins with these bytes, and was asked for nothing yet.
     pub fn begun(bytes: &Vec<u8>) -> Snapshot<Self>
         ensures { result.value ≡ begun_history bytes.now.items }
     {
@@ -61,7 +61,7 @@ impl Past {
         Snapshot::of(&past)
     }
 
-    /// A read more.
+    /// The past with one read more.
     pub fn read(before: &Snapshot<Self>, offset: u64, len: usize, failed: bool) -> Snapshot<Self>
         ensures { result.value ≡ history_with (actions.Read offset len) failed before.now.value }
     {
@@ -71,7 +71,7 @@ impl Past {
         Snapshot::of(&past)
     }
 
-    /// A read of several ranges more.
+    /// The past with one more read of several ranges.
     pub fn read_many(
         before: &Snapshot<Self>,
         ranges: &[(u64, usize)],
@@ -86,7 +86,7 @@ impl Past {
         Snapshot::of(&past)
     }
 
-    /// A start of a read of several ranges more.
+    /// The past with one more start of a read of several ranges.
     pub fn start_read_many(
         before: &Snapshot<Self>,
         ranges: &[(u64, usize)],
@@ -101,7 +101,7 @@ impl Past {
         Snapshot::of(&past)
     }
 
-    /// A write more.
+    /// The past with one write more; `sync` says whether it was to be durable.
     pub fn write(
         before: &Snapshot<Self>,
         offset: u64,
@@ -124,7 +124,7 @@ impl Past {
         Snapshot::of(&past)
     }
 
-    /// A resize more.
+    /// The past with one more resize, to `len` bytes.
     pub fn resize(before: &Snapshot<Self>, len: u64, failed: bool) -> Snapshot<Self>
         ensures { result.value ≡ history_with (actions.Resize len) failed before.now.value }
     {
@@ -134,7 +134,7 @@ impl Past {
         Snapshot::of(&past)
     }
 
-    /// A start of a sync more.
+    /// The past with one more start of a sync.
     pub fn start_sync(before: &Snapshot<Self>, failed: bool) -> Snapshot<Self>
         ensures { result.value ≡ history_with actions.StartSync failed before.now.value }
     {
@@ -144,7 +144,7 @@ impl Past {
         Snapshot::of(&past)
     }
 
-    /// A wait more for a sync.
+    /// The past with one more wait for the started sync of this name.
     pub fn wait_sync(before: &Snapshot<Self>, name: u64, failed: bool) -> Snapshot<Self>
         ensures { result.value ≡ history_with (actions.WaitSync name) failed before.now.value }
     {
@@ -154,7 +154,7 @@ impl Past {
         Snapshot::of(&past)
     }
 
-    /// A sync more.
+    /// The past with one sync more.
     pub fn sync(before: &Snapshot<Self>, failed: bool) -> Snapshot<Self>
         ensures { result.value ≡ history_with actions.Sync failed before.now.value }
     {

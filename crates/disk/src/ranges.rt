@@ -24,7 +24,7 @@ impl Model for Ranges {
 }
 
 impl Ranges {
-    /// A copy of these.
+    /// A copy of these ranges.
     pub fn from_slice(alloc: Global, ranges: &[(u64, usize)]) -> Result<Self, AllocError>
         ensures { IfOk result (λ copy. copy ≡ ranges.now) }
     {
@@ -33,7 +33,7 @@ impl Ranges {
         })
     }
 
-    /// A copy of them as a vector.
+    /// A copy of the ranges as a vector.
     pub fn to_vec(&self, alloc: Global) -> Result<Vec<(u64, usize)>, AllocError>
         ensures { IfOk result (λ copy. copy.items ≡ self.now) }
     {
@@ -48,7 +48,7 @@ pub struct Listed {
     last: Range,
 }
 
-// The last of them, after the others.
+// The last range, after a list of the others.
 #[cycle(listed)]
 #[derive(Drop)]
 enum Range {
@@ -94,7 +94,7 @@ impl Listed {
         Snapshot::of(&listed)
     }
 
-    // One more.
+    // The list with one range more at its end.
     fn after(before: &Snapshot<Self>, offset: u64, len: usize) -> Snapshot<Self>
         ensures { result.value ≡ before.now.value ++ (offset, len) ∷ [] }
     {
@@ -106,8 +106,8 @@ impl Listed {
 }
 
 /// Puts a copy of each range's bytes into `out`, with the range's number, in rising order; what
-/// stood there is gone. `BlobInsufficientLength` where a range passes the end, and else
-/// `OutOfMemory` alone.
+/// `out` held is gone. `BlobInsufficientLength` where a range passes the end of `bytes`, and else
+/// no error except `OutOfMemory`.
 pub fn copy_ranges(
     alloc: Global,
     bytes: &[u8],
@@ -132,7 +132,7 @@ pub fn copy_ranges(
 }
 
 /// A copy of each range's bytes, in the order of the ranges. `BlobInsufficientLength` where a range
-/// passes the end, and else `OutOfMemory` alone.
+/// passes the end of `bytes`, and else no error except `OutOfMemory`.
 pub fn copy_in_order(
     alloc: Global,
     bytes: &[u8],

@@ -31,7 +31,7 @@ impl StartedRead {
     }
 
     /// The bytes of each range, in the order of the ranges, or the error that was kept in their
-    /// offset. It asks no device and takes no memory.
+    /// stead. It asks no device and takes no memory.
     pub fn wait(self) -> Result<Vec<IoBuf>, Error>
         ensures { answer_of result ≡ self }
     {

@@ -1,6 +1,6 @@
 // Syncs that were started.
 
-/// What starting a sync answers, to be waited for.
+/// What a call that starts a sync answers, to be waited for.
 #[derive(Clone, Copy, Debug, PartialEq, Eq)]
 pub enum StartedSync {
     /// Nothing was to be made durable: there is nothing to wait for.

@@ -18,13 +18,13 @@ use std::alloc::{AllocError, Global};
 use std::marker::Model;
 use std::snapshot::Snapshot;
 
-/// A blob in memory, for whoever wants no more than its bytes. No call of it fails except for want
-/// of memory, until it is told to [`stop`](VecBlob::stop), and it can't crash; [`crate::MemBlob`]
-/// can do both.
+/// A blob in memory, for whoever wants no more than its bytes. The device of a `VecBlob` never
+/// fails before a call of [`stop`](VecBlob::stop), and the blob can't crash; [`crate::MemBlob`] can
+/// do both.
 ///
-/// Its life, which contracts speak of, is ghost data: nothing of it is kept, so it takes as much
-/// memory as its bytes however often it is called, and at most twice that where it grew. A write
-/// goes in place.
+/// Its life, which contracts speak of, is ghost data: nothing of it is kept at run time. So the
+/// blob takes as much memory as its bytes however often it is called, and at most twice that where
+/// it grew. A write goes in place.
 #[derive(Drop)]
 pub struct VecBlob {
     bytes: Vec<u8>,
@@ -83,9 +83,10 @@ impl VecBlob {
         &self.bytes
     }
 
-    /// Lets each call from now on fail with its own error, as a device does that broke down: a
-    /// write with `WriteFailed`, and so on. What would be refused before the device is asked still
-    /// is.
+    /// From now on the device fails at each call, as one that broke down: a write answers
+    /// `WriteFailed`, and so on. A start of a sync still answers `Ok`, and the wait for that sync
+    /// fails. A call that would answer `BlobInsufficientLength`, `OffsetOverflow` or `OutOfMemory`
+    /// still does, as no device is asked for it.
     pub fn stop(&mut self)
         ensures history { self.new.history ≡ self.old.history }
         ensures room { self.new.room ≡ self.old.room }
@@ -94,7 +95,7 @@ impl VecBlob {
         self.stopped = true;
     }
 
-    /// Whether it was told to.
+    /// Whether the blob was stopped.
     pub fn is_stopped(&self) -> bool
         ensures { result ≡ self.now.stopped }
     {
@@ -102,9 +103,9 @@ impl VecBlob {
     }
 
     /// Makes room for a write of `len` bytes at `offset`, or for a resize to `offset` bytes where
-    /// `len` is 0: neither is refused then before the device is asked. `OffsetOverflow` where the
-    /// range passes the greatest offset, `OutOfMemory` only where it doesn't; an error changes
-    /// nothing.
+    /// `len` is 0. After `Ok` such a call doesn't fail before the device is asked. `OffsetOverflow`
+    /// where the range passes the greatest offset, `OutOfMemory` only where the range doesn't. An
+    /// error changes nothing.
     pub fn reserve(&mut self, offset: u64, len: usize) -> Result<(), Error>
         ensures { Reserves offset len self.old self.new result }
     {
@@ -116,7 +117,7 @@ impl VecBlob {
         Ok(())
     }
 
-    // Starts a read of several ranges, and answers what is to be kept of it.
+    // Starts a read of several ranges, and answers what the started read is to keep.
     fn start_ranges(&mut self, alloc: Global, ranges: &[(u64, usize)]) -> Result<Vec<IoBuf>, Error>
         ensures goes { let old = life_of self.old.history in let new = life_of self.new.history in
             StartReadGoes ranges.now old new (answer_of result) }
@@ -132,8 +133,8 @@ impl VecBlob {
     }
 }
 
-// Writes bytes at an offset among others, over those that stand there, and then after them. Where
-// there is room for all, it answers Ok.
+// Writes new bytes at an offset among the old ones: over the old bytes that stand there, and then
+// after the old end. Where there is room for all, it answers Ok.
 fn put_over(bytes: &mut Vec<u8>, offset: usize, new: &[u8]) -> Result<(), AllocError>
     requires { offset ≤ length bytes.old.items }
     ensures ok { let old = bytes.old.items in OnOk result

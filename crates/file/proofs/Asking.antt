@@ -20,7 +20,8 @@ outcome_more : (failed : Bool) (es : List Event) (e : Event) → HaveOutcome fai
 outcome_more failed [] e have is = (is, tt)
 outcome_more failed (x ∷ es) e have is = (have.0, outcome_more failed es e have.1 is)
 
--- an event more, for which the host was asked as it says, unless a call failed before
+-- one event more keeps `WasAsked`: the host was asked for what the event asks for, or for nothing
+-- if a call had failed before
 pub went_on : (was now : Bool) (a : Action) (events after asked more : List Event) → WasAsked was events asked → Passes was now (requests_of a) asked more → after ≡ events ++ event a now ∷ [] → WasAsked now after more
 went_on false false a events after asked more w p e = record {
   done = subst (HaveOutcome false) (sym e) (outcome_more false events (event a false) w.done refl);
@@ -50,12 +51,12 @@ went_on true true a events after asked more w p e = record {
 }
 went_on true false a events after asked more w p e = absurd p
 
--- an event for which no host is asked
+-- one event more for which no host is asked keeps `WasAsked`
 looked_on : (was : Bool) (a : Action) (events after asked : List Event) → requests_of a ≡ [] → WasAsked was events asked → after ≡ events ++ event a was ∷ [] → WasAsked was after asked
 looked_on false a events after asked none w e = went_on false false a events after asked asked w (sym (append-nil asked) ∙ ap (λ l. asked ++ all_done l) (sym none)) e
 looked_on true a events after asked none w e = went_on true true a events after asked asked w refl e
 
--- the same event, where the history is as it was
+-- a history that stays as it was keeps `WasAsked`
 stays : (was now : VecState) (asked : List Event) → now.stopped ≡ was.stopped → now.history ≡ was.history → WasAsked was.stopped was.history.events asked → WasAsked now.stopped now.history.events asked
 stays was now asked stopped same w =
     subst (λ (b : Bool). WasAsked b now.history.events asked) (sym stopped) (subst (λ (h : History). WasAsked was.stopped h.events asked) (sym same) w)
@@ -65,7 +66,7 @@ goes a failed was now asked none stopped is e w =
     subst (λ (b : Bool). WasAsked b now.history.events asked) (sym stopped)
     (looked_on was.stopped a was.history.events now.history.events asked none w (ap (λ (h : History). h.events) e ∙ ap (λ b. was.history.events ++ event a b ∷ []) (sym is)))
 
--- a call of the blob in memory for which no host is asked
+-- a call of the blob in memory for which no host is asked keeps `WasAsked`
 pub looks : {T : Type 0} → (a : Action) (was now : VecState) (asked : List Event) (result : Result T Error) → requests_of a ≡ [] → Tells a was now result → now.stopped ≡ was.stopped → WasAsked was.stopped was.history.events asked → WasAsked now.stopped now.history.events asked
 looks a was now asked (Ok x) none t stopped w = goes a false was now asked none stopped t.0 t.1 w
 looks a was now asked (Err BlobInsufficientLength) none t stopped w = stays was now asked stopped t w
@@ -82,7 +83,7 @@ pub starts : {T : Type 0} → (was now : VecState) (asked : List Event) (result 
 starts was now asked (Ok x) t stopped w = goes actions.StartSync was.stopped was now asked refl stopped refl t w
 starts was now asked (Err e) t stopped w = stays was now asked stopped t w
 
--- a call for which the host was asked first
+-- a call for which the host was asked first keeps `WasAsked`
 pub calls : (a : Action) (was mid now : VecState) (asked more : List Event) → WasAsked was.stopped was.history.events asked → mid.history ≡ was.history → Passes was.stopped mid.stopped (requests_of a) asked more → now.history ≡ history_with a mid.stopped mid.history → now.stopped ≡ mid.stopped
     → WasAsked now.stopped now.history.events more
 calls a was mid now asked more w same p e stopped =
@@ -90,7 +91,7 @@ calls a was mid now asked more w same p e stopped =
     (went_on was.stopped mid.stopped a was.history.events now.history.events asked more w p
     (ap (λ (h : History). h.events) (e ∙ ap (history_with a mid.stopped) same)))
 
--- a wait for a sync
+-- a wait for a sync keeps `WasAsked`
 pub waits : (name started : ℕ) (was mid now : VecState) (asked more : List Event) (result : Result (Unit {0}) Error) → WasAsked was.stopped was.history.events asked → mid.history ≡ was.history → Passes was.stopped mid.stopped (actions.Sync ∷ []) asked more → TellsWait (Named name) started mid now result
     → now.stopped ≡ mid.stopped → WasAsked now.stopped now.history.events more
 waits name started was mid now asked more (Ok u) w same p t stopped = calls (actions.WaitSync name) was mid now asked more w same p (t.2 ∙ ap (λ b. history_with (actions.WaitSync name) b mid.history) (sym t.0)) stopped

@@ -3,7 +3,8 @@ use Rattle.std.proofs.Common.{◌≡◌, [], ◌∷◌, false, refl}
 use Rattle.disk.specs.declared.action.Action.TheVariants as actions
 use Rattle.file.specs.Runs.{writes_of}
 
--- of three bytes in runs of two and of one, from offset 10 on, the second stands where the first ends
+-- three bytes in runs of two and of one byte, from offset 10 on: the second run stands where the
+-- first ends
 pub two_runs : writes_of 10 ((97 ∷ 98 ∷ []) ∷ (99 ∷ []) ∷ []) ≡ actions.Write 10 (97 ∷ 98 ∷ []) false ∷ actions.Write 12 (99 ∷ []) false ∷ []
 two_runs = refl
 

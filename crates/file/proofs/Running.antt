@@ -20,7 +20,7 @@ writes-append at (run ∷ runs) more =
     ∙ ap (λ n. writes_of (at + length run) runs ++ writes_of n more) (add_assoc at (length run) (length (concat runs))
     ∙ ap (λ n. at + n) (sym (length-append run (concat runs)))))
 
--- an offset counts by what is left of it
+-- offsets count modulo 2 to the power of 64
 writes-mod : (at : ℕ) (runs : List (List ℕ)) → writes_of (at % 2 ^ 64) runs ≡ writes_of at runs
 writes-mod at [] = refl
 writes-mod at (run ∷ runs) =
@@ -46,7 +46,7 @@ folds-append : {S : Type 0} (goes : S → Event → S → Type 0) (old mid new :
 folds-append goes old mid new [] more f h = subst (λ s. FoldsTo goes s more new) (sym f) h
 folds-append goes old mid new (e ∷ events) more f h = (f.0, f.1, folds-append goes f.0 mid new events more f.2 h)
 
--- runs after others, where `next` tells where those end
+-- runs after others begin at `next`, if that is where the others end
 writes_on : (at next : ℕ) (runs more : List (List ℕ)) → next ≡ (at + length (concat runs)) % 2 ^ 64 → writes_of at (runs ++ more) ≡ writes_of at runs ++ writes_of next more
 writes_on at next runs more e =
     writes-append at runs more
@@ -63,7 +63,7 @@ joins_on runs more bytes kept after left e f =
     ap (λ l. l ++ left) (concat-append runs more) ∙ append_assoc (concat runs) (concat more) left ∙ ap (λ l. concat runs ++ l) f
     ∙ sym (append_assoc (concat runs) kept after) ∙ ap (λ l. l ++ after) e
 
--- what went out but for what was kept back, and then that with more
+-- bytes went out except for those kept back, and then these went out with more
 pub puts_then : {S E : Type 0} (goes : S → Event → S → Type 0) (at next : ℕ) (bytes kept more left : List ℕ) (old mid new : S) (result : Result ℕ E)
     → HasPut goes at bytes kept next old mid → WritesUpTo goes next (kept ++ more) left mid new result → WritesUpTo goes at (bytes ++ more) left old new result
 puts_then goes at next bytes kept more left old mid new (Ok last) a b = (
@@ -82,7 +82,7 @@ puts_then goes at next bytes kept more left old mid new (Err e) a b = (
   folds-append goes old mid new (all_done (writes_of at a.0)) b.2 a.2 b.4,
 )
 
--- a failure ends it, whatever was to follow
+-- after a run that failed no other goes out, whatever was to follow
 pub fails_then : {S E : Type 0} (goes : S → Event → S → Type 0) (at : ℕ) (bytes kept more left : List ℕ) (old new : S) (error other : E)
     → WritesUpTo goes at bytes kept old new (Err error) → WritesUpTo goes at (bytes ++ more) left old new (Err other)
 fails_then goes at bytes kept more left old new error other a = (
@@ -93,7 +93,7 @@ fails_then goes at bytes kept more left old new error other a = (
   a.4,
 )
 
--- one run
+-- one run that was put
 pub run_put : {S : Type 0} (goes : S → Event → S → Type 0) (at next : ℕ) (run : List ℕ) (old new : S) → at < 2 ^ 64 → next ≡ (at + length run) % 2 ^ 64 → goes old (event (actions.Write at run false) false) new → HasPut goes at run [] next old new
 run_put goes at next run old new fits e h = (
   run ∷ [],
@@ -111,14 +111,14 @@ run_failed goes at run old new error fits h = (
   (new, h, refl),
 )
 
--- what went out but for what was kept back, and then that
+-- bytes went out except for those kept back, and then these went out
 pub puts_last : {S E : Type 0} (goes : S → Event → S → Type 0) (at next : ℕ) (bytes kept left : List ℕ) (old mid new : S) (result : Result ℕ E)
     → HasPut goes at bytes kept next old mid → WritesUpTo goes next kept left mid new result → WritesUpTo goes at bytes left old new result
 puts_last goes at next bytes kept left old mid new result a b =
     subst (λ (l : List ℕ). WritesUpTo goes at l left old new result) (append-nil bytes)
     (puts_then goes at next bytes kept [] left old mid new result a (subst (λ (l : List ℕ). WritesUpTo goes next l left mid new result) (sym (append-nil kept)) b))
 
--- all of them
+-- where nothing is kept back, all bytes went out
 pub all_put : {S : Type 0} (goes : S → Event → S → Type 0) (at next : ℕ) (bytes : List ℕ) (old new : S) → HasPut goes at bytes [] next old new → WritesAll {T = ℕ} {E = ℕ} goes at bytes old new (Ok next)
 all_put goes at next bytes old new a = (a.0, sym (append-nil (concat a.0)) ∙ a.1, all_done (writes_of at a.0), refl, a.2)
 

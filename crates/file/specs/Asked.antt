@@ -14,8 +14,8 @@ abbrev pub outcome : {T E : Type 0} → Action → Result T E → Event
 outcome action (Ok _) = event action false
 outcome action (Err _) = event action true
 
--- what a device asks its host for by an action: a write that is to be durable is a write and a
--- sync, a started sync is one when it is waited for, and no read asks for anything
+-- what a device asks its host for by an action: for a write that is to be durable a write and a
+-- sync; for the start of a sync nothing, and for a wait a sync; for a read nothing
 abbrev pub requests_of : Action → List Action
 requests_of (actions.Read offset len) = []
 requests_of (actions.ReadMany ranges) = []
@@ -27,12 +27,12 @@ requests_of actions.Sync = actions.Sync ∷ []
 requests_of actions.StartSync = []
 requests_of (actions.WaitSync name) = actions.Sync ∷ []
 
--- each of them was done
+-- each of these actions was done
 abbrev pub all_done : List Action → List Event
 all_done [] = []
 all_done (action ∷ actions) = event action false ∷ all_done actions
 
--- one of them failed, each before it was done, and nothing was asked after it
+-- one of these actions failed, each before it was done, and nothing was asked after it
 abbrev pub FailsIn : List Action → List Event → Type 0
 FailsIn [] events = ⊥
 FailsIn (action ∷ actions) [] = ⊥
@@ -49,13 +49,14 @@ abbrev pub HaveOutcome : Bool → List Event → Type 0
 HaveOutcome failed [] = Unit {0}
 HaveOutcome failed (e ∷ es) = (e.failed ≡ failed) × HaveOutcome failed es
 
--- no call of the host failed: it was asked for just what the device's events say
+-- no call of the host failed: the host was asked for exactly what the device's events ask for
 pub record WasAskedAll (events asked : List Event) : Type 0 where
   pub done : HaveOutcome false events
   pub just : asked ≡ asked_by events
 
--- a call of the host failed: it was asked for what the events before say and for that call, and
--- for nothing since; each event since has failed too
+-- a call of the host failed: the host was asked for what the events before ask for, then for the
+-- event's requests up to the one that failed, and for nothing since; each event since has failed
+-- too
 pub record WasAskedUntil (events asked : List Event) : Type 0 where
   pub before : List Event
   pub action : Action
@@ -72,14 +73,14 @@ abbrev pub WasAsked : (failed : Bool) → (events asked : List Event) → Type 0
 WasAsked false events asked = WasAskedAll events asked
 WasAsked true events asked = WasAskedUntil events asked
 
--- a host was asked for these, and answered
+-- a host was asked for these actions: each was done, or it failed at one of them
 abbrev pub Answers : {T E : Type 0} → List Action → (old new : List Event) → Result T E → Type 0
 Answers actions old new (Ok _) = new ≡ old ++ all_done actions
 Answers actions old new (Err _) =
     (last : List Event) × (new ≡ old ++ last) × FailsIn actions last
 
--- what a host was asked for by these actions, by whether a call of it had failed before: nothing if
--- one had; and whether one has failed then
+-- what a host was asked for by these actions, by whether one of its calls had failed before and
+-- whether one has now: nothing if one had failed before
 abbrev pub Passes : (was now : Bool) → List Action → (old new : List Event) → Type 0
 Passes false false actions old new = new ≡ old ++ all_done actions
 Passes false true actions old new =

@@ -13,8 +13,8 @@ writes_of offset [] = []
 writes_of offset (run ∷ runs) =
     actions.Write (offset % 2 ^ 64) run false ∷ writes_of (offset + length run) runs
 
--- bytes went out in runs that are the bytes if they are joined: each was put, in that order; or one
--- failed, each before it was put, and none after it was tried
+-- bytes went out in runs, which joined are the bytes: each run was put, in that order; or one
+-- failed, each run before it was put, and none after it was tried
 abbrev pub WritesAll : {S T E : Type 0} → (S → Event → S → Type 0) → (offset : ℕ)
     → (bytes : List ℕ) → (old new : S) → Result T E → Type 0
 WritesAll goes offset bytes old new result =
@@ -22,8 +22,8 @@ WritesAll goes offset bytes old new result =
     × (events : List Event) × Answers (writes_of offset runs) [] events result
     × FoldsTo goes old events new
 
--- bytes went out in runs, except for the last of them, which are kept back; `next` is where they
--- are to go
+-- bytes went out in runs, except for the last of them, which are kept back; `next` is the offset
+-- where the kept bytes are to go
 abbrev pub HasPut : {S : Type 0} → (S → Event → S → Type 0) → (offset : ℕ) → (bytes kept : List ℕ)
     → (next : ℕ) → (old new : S) → Type 0
 HasPut goes offset bytes kept next old new =
@@ -31,7 +31,8 @@ HasPut goes offset bytes kept next old new =
     × FoldsTo goes old (all_done (writes_of offset runs)) new
     × (next ≡ (offset + length (concat runs)) % 2 ^ 64)
 
--- what puts of runs answer: where the bytes that are kept back are to go, or that a run failed
+-- puts of runs, by their answer: the offset where the bytes that are kept back are to go, or the
+-- error of a run that failed
 abbrev pub WritesUpTo : {S E : Type 0} → (S → Event → S → Type 0) → (offset : ℕ)
     → (bytes kept : List ℕ) → (old new : S) → Result ℕ E → Type 0
 WritesUpTo goes offset bytes kept old new (Ok next) = HasPut goes offset bytes kept next old new

@@ -1,4 +1,4 @@
-// What a mirror passes its calls on to.
+// The hosts that a mirror passes its calls on to.
 ghost use Rattle.std.specs.Prelude.{◌≡◌, ◌∷◌, [], ◌++◌, List, false, pos, ◌<ℤ◌};
 ghost use Rattle.std.specs.Fd.{file_raw_fd};
 ghost use Rattle.std.specs.List.{concat};
@@ -13,34 +13,34 @@ use std::io;
 use std::marker::Model;
 use std::snapshot::Snapshot;
 
-/// What holds a blob's bytes for good. No clause says what it does with them: each says just that
-/// the call, with its outcome, is the last thing that the host was asked for.
+/// What holds a blob's bytes for good. No clause says what a host does with them: each says only
+/// that the call, done or failed, is the last thing that the host was asked for.
 pub trait Host {
-    /// What it was asked for so far, and how each call went.
+    /// What the host was asked for so far, and which calls failed.
     ghost asked: { Self → List Event };
 
-    /// Sets the bytes at `offset`, those of the buffers one after the other. A gap after the end
-    /// is filled with zeros, also where there is no byte. After an error any part of it may be
-    /// done.
+    /// Writes the bytes of the buffers, one after the other, from byte `offset` on. A gap after the
+    /// end is filled with zeros, also where the buffers have no byte. After an error any part of
+    /// this may be done.
     fn put(&mut self, offset: u64, bufs: &IoBufs) -> io::Result<()>
         ensures asked { let action = actions.Write offset (concat bufs.now) false in
             asked self.new ≡ asked self.old ++ outcome action result ∷ [] };
 
-    /// Cuts the bytes to `len`, or fills them with zeros up to there.
+    /// Cuts what the host holds to `len` bytes, or fills it with zeros up to `len`.
     fn set_len(&mut self, len: u64) -> io::Result<()>
         ensures asked { asked self.new
             ≡ asked self.old ++ outcome (actions.Resize len) result ∷ [] };
 
-    /// Makes all of it durable.
+    /// Makes all that the host holds durable.
     fn sync(&mut self) -> io::Result<()>
         ensures asked { asked self.new ≡ asked self.old ++ outcome actions.Sync result ∷ [] };
 }
 
 /// A file of the system as a host.
 ///
-/// That the file does what it is asked for is not proved but read, in the three calls below: the
-/// ghost record beside each says only that it was asked. That the bytes of a write go out in runs,
-/// each at its place, is proved.
+/// No proof shows that the file does what it is asked for: read the three calls below for that. The
+/// ghost record in each of them says only that the file was asked. It is proved that the bytes of a
+/// write go out in runs, each at its place.
 #[derive(Drop)]
 pub struct FileHost {
     file: File,
@@ -58,10 +58,11 @@ impl Model for FileHost {
 }
 
 impl FileHost {
-    /// A file that begins with these bytes, of which nothing was asked yet. Its descriptor is none
-    /// of the standard streams', since what is printed there would get into the file. Buffers are
-    /// gathered in `room` into runs of at most its capacity, and each run is written by one call; a
-    /// buffer as long as that is written alone. [`crate::RUN_SIZE`] is a capacity that serves.
+    /// A host over a file that holds these bytes, and was asked for nothing yet. The file's
+    /// descriptor must be none of the standard streams', since what is printed there would get into
+    /// the file. Buffers are gathered in `room` into runs of at most its capacity, and each run is
+    /// written by one call. A buffer at least as long as that capacity is written alone.
+    /// [`crate::RUN_SIZE`] is a capacity that serves.
     pub fn new(file: File, bytes: &Vec<u8>, room: Vec<u8>) -> Self
         requires beyond { pos 2 <ℤ file_raw_fd file }
         ensures { result ≡ [] }
@@ -100,7 +101,7 @@ impl Host for FileHost {
     }
 }
 
-// A write of no byte leaves a file's end where it is.
+// A write of no byte leaves a file's end where it is, so a gap before `len` is filled here.
 fn fill(file: &File, len: u64) -> io::Result<()> {
     if file.metadata()?.len() < len {
         file.set_len(len)?;

@@ -1,9 +1,10 @@
 //! Blobs over a file: all bytes are mirrored in memory, and each write, resize and sync is passed
 //! on to the file.
 //!
-//! What is proved is [`Mirror`]: for every [`Host`] it keeps each law of [`disk::Blob`], and asks
-//! the host for just what the blob's life tells, up to the first call of the host that failed. What
-//! the file itself holds, no clause can say: [`FileHost`] is short, and is to be read.
+//! [`Mirror`] is proved: for every [`Host`] it keeps each law of [`disk::Blob`], and asks the host
+//! for exactly the writes, resizes and syncs that the blob's life needs, up to the first call of
+//! the host that failed. No clause can say what the file itself holds: [`FileHost`] is short, and
+//! is to be read.
 #![tactic(auto)]
 
 mod host;

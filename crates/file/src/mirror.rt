@@ -18,16 +18,17 @@ use std::marker::Model;
 /// A blob that keeps all its bytes in memory, and passes each write, resize and sync on to a host,
 /// as a file.
 ///
-/// A call that is refused for its offset, its range or want of memory asks the host for nothing. A
-/// read never does. Each other call asks the host first, and then does the same in memory. A
-/// started sync asks when it is waited for: a wait for it makes all durable that was written until
-/// then.
+/// A call that answers `OffsetOverflow`, `BlobInsufficientLength` or `OutOfMemory` asks the host
+/// for nothing, and a read never asks it. Each other call asks the host first, and then does the
+/// same in memory. For a started sync the host is asked at the wait: a wait for it makes durable
+/// all that was written before the wait.
 ///
-/// **After the first call of the host that failed, each later call fails** with its own error, and
-/// the host is asked for nothing more: after a failed write it may hold any part of it, so a later
-/// sync that answers `Ok` would call durable what isn't there; and after a failed sync a system may
-/// have dropped what it was to write. [`failure`](Mirror::failure) says why it failed. Open the
-/// host anew then, and recover.
+/// **After the first call of the host that failed, each later call fails** with its own error: a
+/// write with `WriteFailed`, and so on. A start of a sync still answers `Ok`, and the wait for that
+/// sync fails. The host is asked for nothing more. After a failed write the host may hold any part
+/// of that write, so a later sync that answers `Ok` would call durable what isn't there. After a
+/// failed sync a system may have dropped what it was to write. [`failure`](Mirror::failure) reports
+/// why the host failed. Open the host anew then, and recover.
 #[derive(Drop)]
 pub struct Mirror<S: Host> {
     host: S,
@@ -57,8 +58,8 @@ enum Request<'a> {
 }
 
 impl<S: Host> Mirror<S> {
-    /// A blob over a host that holds these bytes, all of them durable, and of which nothing was
-    /// asked yet.
+    /// A blob over a host that holds these bytes, all of them durable, and that was asked for
+    /// nothing yet.
     pub fn new(host: S, bytes: Vec<u8>) -> Self
         requires asked { S.asked host ≡ [] }
         ensures life { life_of result.kept.history ≡ begun bytes.items [] }
@@ -79,15 +80,15 @@ impl<S: Host> Mirror<S> {
         self.kept.bytes()
     }
 
-    /// Why the host failed, where it has. Then each later call fails.
+    /// Why the host failed, or `None` where it hasn't. Once it has, each later call fails.
     pub fn failure(&self) -> Option<&io::Error>
         ensures { is_some result ≡ self.now.kept.stopped }
     {
         self.failure.as_ref()
     }
 
-    /// The host. It was asked for just what the blob's life tells, in that order, up to the first
-    /// call that failed, and for nothing since.
+    /// The host. It was asked for exactly the writes, resizes and syncs that the blob's life needs,
+    /// in that order, up to its first call that failed, and for nothing since.
     pub fn host(&self) -> &S
         ensures same { S.asked result.now ≡ self.now.asked }
         ensures asked { let events = self.now.kept.history.events in
@@ -97,7 +98,8 @@ impl<S: Host> Mirror<S> {
     }
 }
 
-// Asks the host, unless it has failed; where it fails, the blob in memory fails from then on.
+// Asks the host, unless the host has failed before. Where it fails now, the blob in memory fails
+// from then on.
 fn pass_on<S: Host>(
     host: &mut S,
     kept: &mut VecBlob,

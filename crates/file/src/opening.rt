@@ -14,20 +14,22 @@ use std::os::unix::fs::{FileTypeExt, MetadataExt};
 use std::path::PathBuf;
 use std::{fs, io};
 
-/// Opens a file as a blob, and makes it where it is missing. What it holds is synced, and so is the
-/// folder that has its name, and then it is read whole; so all of it is durable, and a recovery may
-/// follow.
+/// Opens a file as a blob, and makes the file where it is missing. The call syncs the file and the
+/// folder that has its name, and then reads the file whole. So all of its bytes are durable, and a
+/// recovery may follow.
 ///
-/// The file is locked as long as the blob lives, and its descriptor is none of the standard
-/// streams', so what the program prints never gets into it.
+/// The file is locked as long as the blob lives. Its descriptor is none of the standard streams',
+/// so what the program prints never gets into the file.
 ///
 /// Each error says what to do where the system's own words don't:
-/// - `IsADirectory`, `InvalidInput`: the path names a folder, or a fifo, a socket or a device.
-///   It isn't opened.
+/// - `IsADirectory`: the path names a folder. `InvalidInput`: it names a fifo, a socket or a
+///   device. None of these is opened.
 /// - `WouldBlock`: another process has the file open, or has just replaced it.
-/// - `OutOfMemory`: its bytes have no room in memory, or the runs that it will write have none.
-///   None was read.
+/// - `OutOfMemory`: memory was refused for the file's bytes, or for the runs that the blob will
+///   write. No byte was read.
 /// - `UnexpectedEof`: a read ended before the file's end. Nothing was cut.
+/// - `Other`, with words about a standard stream: the program began without a standard stream, and
+///   the file got that stream's number.
 /// - Any other is the system's.
 ///
 /// After an error the file is as it was, or was made and is empty.
@@ -49,9 +51,9 @@ pub fn open(rt: &HostRuntime, path: &str) -> io::Result<FileBlob>
     Ok(Mirror::new(host, bytes))
 }
 
-/// Reads a file into a blob in memory, and changes nothing: it makes no file, syncs none, and what
-/// is done to the blob doesn't reach the file. While it is read it is locked, shared with others
-/// who read.
+/// Reads a file into a blob in memory, and changes nothing: the call makes no file and syncs none,
+/// and what is done to the blob doesn't reach the file. While the call reads the file it holds a
+/// lock on it, which it shares with others who read.
 ///
 /// The errors are those of [`open`], and `NotFound` where there is no file.
 pub fn read(rt: &HostRuntime, path: &str) -> io::Result<VecBlob>
@@ -67,7 +69,7 @@ pub fn read(rt: &HostRuntime, path: &str) -> io::Result<VecBlob>
     Ok(VecBlob::from_vec(bytes))
 }
 
-/// With whom a lock is shared.
+/// Whether a lock is shared.
 #[derive(Clone, Copy)]
 pub enum Lock {
     /// The lock is shared with nobody.
@@ -76,7 +78,7 @@ pub enum Lock {
     Shared,
 }
 
-// Opens a regular file, and locks it. It is looked at first, since opening a fifo may wait.
+// Opens a regular file, and locks it. The path is looked at first, since opening a fifo may wait.
 pub fn open_locked(
     rt: &HostRuntime,
     path: &str,
@@ -97,8 +99,8 @@ pub fn open_locked(
     Ok(file)
 }
 
-// A program that began without its standard output gives that number to the next file that it
-// opens, and then prints into it.
+// A file with a descriptor past the standard streams'. A program that began without its standard
+// output gives that number to the next file that it opens, and then prints into that file.
 pub fn beyond_streams(file: File) -> io::Result<File>
     ensures beyond { IfOk result (λ file. pos 2 <ℤ file_raw_fd file) }
 {
@@ -147,7 +149,8 @@ pub fn take_lock(file: &File, lock: Lock) -> io::Result<()> {
     }
 }
 
-// Whoever replaces a file renames another over it: then this one was locked too late.
+// Fails where the path no longer names this file. Whoever replaces a file renames another over it,
+// so this one was locked too late then.
 fn check_named(rt: &HostRuntime, path: &str, file: &File) -> io::Result<()> {
     let named = fs::metadata(rt, path)?;
     let opened = file.metadata()?;
@@ -158,7 +161,7 @@ fn check_named(rt: &HostRuntime, path: &str, file: &File) -> io::Result<()> {
     Err(io::Error::new(ErrorKind::WouldBlock, words))
 }
 
-// Memory for all bytes of a file, and one more: so a read at their end needs none.
+// Memory for all bytes of a file, and for one byte more, so that a read at their end needs none.
 fn room_for(alloc: Global, file: &File) -> io::Result<Vec<u8>> {
     let len = file.metadata()?.len();
     match Vec::with_capacity(alloc, (len as usize).saturating_add(1)) {
@@ -170,7 +173,8 @@ fn room_for(alloc: Global, file: &File) -> io::Result<Vec<u8>> {
     }
 }
 
-// A read that ends early would have a recovery cut what is there.
+// Reads all bytes of a file, or fails: after a read that ends early a recovery would cut bytes that
+// are there.
 fn read_all(mut file: &File, bytes: &mut Vec<u8>) -> io::Result<()> {
     file.read_to_end(bytes)?;
     if file.metadata()?.len() == bytes.len() as u64 {
@@ -180,7 +184,7 @@ fn read_all(mut file: &File, bytes: &mut Vec<u8>) -> io::Result<()> {
     Err(io::Error::new(ErrorKind::UnexpectedEof, words))
 }
 
-// Makes the name of a file durable.
+// Makes the name of a file durable: syncs the folder that has it.
 pub fn sync_folder(rt: &HostRuntime, path: &str) -> io::Result<()> {
     let mut folder: PathBuf = fs::canonicalize(rt, path)?;
     folder.pop();

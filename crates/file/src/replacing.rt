@@ -1,4 +1,4 @@
-// New files beside a blob's: one that takes its place, and one for what is to be cut.
+// New files beside a blob's file: one that takes its place, and one for bytes that are to be cut.
 ghost use Rattle.std.specs.Prelude.{◌≡◌, [], pos, ◌<ℤ◌, IfOk, false, codes, string_bytes};
 ghost use Rattle.std.specs.Fd.{file_raw_fd};
 ghost use Rattle.disk.specs.History.{life_of, begun};
@@ -13,19 +13,20 @@ use std::os::unix::fs::{FileExt, OpenOptionsExt};
 use std::path::PathBuf;
 use std::{fs, io};
 
-/// Puts a new file with these bytes in the place of an old one, and answers the new one opened.
-/// What follows a failed sync is this call, and so does a compaction.
+/// Puts a new file with these bytes in the place of an old one, and answers the new one, opened as
+/// a blob. It serves after a failed sync, and for a compaction.
 ///
 /// The new file stands beside the old one, as `PATH.new-N` with the first N from 1 that is free. It
-/// gets the old one's permissions, is locked, written and synced, and then renamed over the old
-/// one. Last the folder is synced. Where the path is a link, the file that it leads to is replaced.
+/// gets the old one's permissions, is locked, written and synced, and is then renamed over the old
+/// one. Last the folder is synced. Where the path is a link, the file that the link leads to is
+/// replaced.
 ///
-/// Let go of a blob over the old file first: it holds the lock, which this call takes too. What
-/// another process wrote to the old file after these bytes were read from it is gone.
+/// Drop a blob over the old file first: it holds the lock, which this call takes too. What another
+/// process wrote to the old file after these bytes were read from it is gone.
 ///
-/// After an error the path names the old file, untouched, or the new one, whole: the new one only
-/// where the folder's sync failed. What is left of `PATH.new-N` is removed where the system lets
-/// it be. The errors are those of [`open`](crate::open), and `NotFound` where there is no old file.
+/// After an error the path names the old file, untouched. Only where the folder's sync failed it
+/// names the new one, whole. What is left of `PATH.new-N` is removed, if the system allows it. The
+/// errors are those of [`open`](crate::open), and `NotFound` where there is no old file.
 pub fn replace(rt: &HostRuntime, path: &str, bytes: &[u8]) -> io::Result<FileBlob>
     ensures life { IfOk result (λ blob. life_of blob.kept.history ≡ begun bytes.now []) }
     ensures asked { IfOk result (λ blob. blob.asked ≡ []) }
@@ -50,11 +51,12 @@ pub fn replace(rt: &HostRuntime, path: &str, bytes: &[u8]) -> io::Result<FileBlo
 }
 
 /// Writes these bytes to a new file `PATH.cut-N`, with the first N from 1 that is free, and answers
-/// its name: so what a recovery is about to cut from the file at the path isn't lost. The new file
-/// gets the permissions of that one. It is synced, and so is the folder.
+/// the new file's name. So what a recovery is about to cut from the file at the path isn't lost.
+/// The new file gets the permissions of the file at the path. The new file and the folder are
+/// synced.
 ///
-/// After an error no file of that name is left, where the system lets it be removed; if only the
-/// folder's sync failed, the new file stands, and is whole. The file at the path is never changed.
+/// After an error no file of the new name is left, if the system allows its removal. Only where the
+/// folder's sync failed the new file stands, and is whole. The file at the path is never changed.
 pub fn set_aside(rt: &HostRuntime, path: &str, bytes: &[u8]) -> io::Result<String>
     ensures name { IfOk result (λ name.
         IsNumbered path.now (codes "cut") (string_bytes name)) }
@@ -71,7 +73,8 @@ struct Beside {
     name: String,
 }
 
-// Makes a file beside another that has its permissions and these bytes, and is locked and synced.
+// Makes a file beside the one at the path, with that one's permissions and these bytes. The new
+// file is locked and synced.
 fn write_beside(rt: &HostRuntime, path: &str, word: &str, bytes: &[u8]) -> io::Result<Beside>
     ensures beyond { IfOk result (λ new. pos 2 <ℤ file_raw_fd new.file) }
     ensures name { IfOk result (λ new. IsNumbered path.now word.now (string_bytes new.name)) }
@@ -87,7 +90,7 @@ fn write_beside(rt: &HostRuntime, path: &str, word: &str, bytes: &[u8]) -> io::R
     }
 }
 
-// Makes an empty file beside another, for nobody else to read.
+// Makes an empty file beside the one at the path, which nobody but its owner may read.
 fn make_beside(rt: &HostRuntime, path: &str, word: &str) -> io::Result<Beside>
     ensures name { IfOk result (λ new. IsNumbered path.now word.now (string_bytes new.name)) }
 {

@@ -12,15 +12,15 @@ use std::io;
 use std::os::unix::fs::FileExt;
 
 /// How many bytes a run has at most, unless one buffer alone has more. A writer's buffer of 64 KiB
-/// is 17 pages of 4,096 bytes, which one run has.
+/// is 17 physical pages of 4,096 bytes, which fit into one run.
 pub const RUN_SIZE: usize = 131_072;
 
 /// What runs of bytes are put into.
 pub trait Sink {
-    /// A call with this outcome may take it from one state to another.
+    /// A call, done or failed, may take the sink from one state to another.
     ghost goes: { Self → Event → Self → Type 0 };
 
-    /// Sets the bytes at an offset. After an error any part of it may be done.
+    /// Writes these bytes from byte `offset` on. After an error any part of the write may be done.
     fn put(&mut self, offset: u64, bytes: &[u8]) -> io::Result<()>
         ensures { let action = actions.Write offset bytes.now false in
             goes self.old (outcome action result) self.new };
@@ -35,9 +35,10 @@ impl Sink for File {
     }
 }
 
-/// Puts the bytes of these buffers, one after the other, into a sink from an offset on. Those that
-/// have room in `gathered` together are copied there, and go out by one call; one that is as long
-/// as that room goes out as it is. It takes no memory. The first call that fails is the last one.
+/// Puts the bytes of these buffers, one after the other, into a sink from byte `offset` on. Buffers
+/// that fit into the capacity of `gathered` together are copied there, and go out by one call. A
+/// buffer at least as long as that capacity goes out as it is. It takes no memory. The first call
+/// that fails is the last one.
 pub fn put_runs<S: Sink>(
     sink: &mut S,
     gathered: &mut Vec<u8>,
@@ -55,8 +56,9 @@ pub fn put_runs<S: Sink>(
     Ok(())
 }
 
-// Gathers bytes more. Where they have no room, what was gathered goes out first, and they too where
-// they fill a run alone.
+// Gathers more bytes, and answers where the gathered bytes are to go. Where there is no room for
+// the new bytes, what was gathered before goes out first. New bytes that fill a run alone go out
+// too.
 fn add<S: Sink>(sink: &mut S, gathered: &mut Vec<u8>, offset: u64, bytes: &[u8]) -> io::Result<u64>
     ensures { let all = gathered.old.items ++ bytes.now in
         WritesUpTo S.goes offset all gathered.new.items sink.old sink.new result }
@@ -71,8 +73,8 @@ fn add<S: Sink>(sink: &mut S, gathered: &mut Vec<u8>, offset: u64, bytes: &[u8])
     put_run(sink, next, bytes)
 }
 
-// Whether there is room for these bytes too, which are copied then. A buffer as long as the room is
-// never copied.
+// Copies these bytes after the gathered ones if there is room for them, and answers whether it did.
+// A buffer at least as long as the whole room is never copied.
 fn gather(gathered: &mut Vec<u8>, bytes: &[u8]) -> bool
     ensures { let old = gathered.old.items in
         gathered.new.items ≡ (if result then old ++ bytes.now else old) }
@@ -84,7 +86,7 @@ fn gather(gathered: &mut Vec<u8>, bytes: &[u8]) -> bool
     gathered.extend_from_slice(bytes).is_ok()
 }
 
-// Puts what was gathered, if anything was.
+// Puts what was gathered, if anything was, and answers where that ends.
 fn put_gathered<S: Sink>(sink: &mut S, gathered: &mut Vec<u8>, offset: u64) -> io::Result<u64>
     ensures puts { WritesUpTo S.goes offset gathered.old.items [] sink.old sink.new result }
     ensures none { OnOk result (gathered.new.items ≡ []) }

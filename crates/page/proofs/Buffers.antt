@@ -1,4 +1,4 @@
--- What stays true of a buffer.
+-- What keeps a buffer's invariant, and what its calls answer.
 use Rattle.std.proofs.Common.{◌≡◌, ◌+◌, ◌-◌, ◌*◌, ◌/◌, ◌%◌, ◌<◌, ◌≤◌, ◌^◌, ◌++◌, [], ℕ, List, length, take, drop, slice_range, Bool, true, false, arith, refl, sym, ap, ◌∙◌, append_assoc, take_all, length-append, max, min, nat_lt, nat_le, ◌&&◌, if◌then◌else◌, Result, Ok, Err}
 use Rattle.std.specs.Prelude.{OnOk}
 use Rattle.std.specs.List.{concat}
@@ -9,7 +9,7 @@ use Rattle.disk.specs.Bufs.{with_buf}
 use Rattle.page.specs.Tip.{TipAppendGoes, TipDrainGoes, IsBuffer, AreWholePages, page_limit, grown_limit, kept_limit}
 use Rattle.page.proofs.Chunks.{range_join, range_min, take_join, drop_join, full_join, whole_concat, whole_with, concat_with, multiple_enough, multiple_whole, partial_room, partial_whole}
 
--- less than a page, in a tail alone
+-- bytes of less than a page, in a tail alone, make a buffer
 pub partial_buffer : (P cap off : ℕ) (chunks : List (List ℕ)) (tail bytes : List ℕ) (limit : ℕ) → chunks ≡ [] → tail ≡ bytes → limit ≡ page_limit bytes P
     → 0 < P → cap % P ≡ 0 → length bytes < P → off + length bytes < 2 ^ 64 → IsBuffer P cap off chunks tail limit
 partial_buffer P cap off chunks tail bytes limit none is limited some whole short small = rw (none, is, limited) (record {
@@ -21,7 +21,7 @@ partial_buffer P cap off chunks tail bytes limit none is limited some whole shor
   room = partial_room bytes P short;
 })
 
--- the full pages of the tail join the chunks
+-- the bytes stay the same when the full pages of the tail join the chunks
 pub frozen_bytes : (P : ℕ) (chunks : List (List ℕ)) (tail : List ℕ) → 0 < P → AreWholePages P chunks
     → concat (with_buf chunks (take (length tail / P * P) tail)) ≡ take (length (concat chunks ++ tail) / P * P) (concat chunks ++ tail)
 frozen_bytes P chunks tail some are =
@@ -36,19 +36,19 @@ rest_bytes P chunks tail some are =
     let past : length (concat chunks) + length tail / P * P - length (concat chunks) ≡ length tail / P * P = omega arith in
     rw (full, drop_join (concat chunks) tail (length (concat chunks) + length tail / P * P), past, drop_all (length (concat chunks) + length tail / P * P) (concat chunks) (omega arith)) refl
 
--- less than a page has none
+-- a tail of less than a page has no full page
 pub no_page : (P : ℕ) (tail : List ℕ) → length tail < P → length tail / P * P ≡ 0
 no_page P tail short = rw (div-eq_of_lt short) (omega arith)
 
--- what is frozen of the tail is whole pages
+-- what is frozen of the tail is whole pages, so the chunks still are
 pub frozen_whole : (P : ℕ) (chunks : List (List ℕ)) (tail : List ℕ) → AreWholePages P chunks → AreWholePages P (with_buf chunks (take (length tail / P * P) tail))
 frozen_whole P chunks tail are = whole_with P chunks (take (length tail / P * P) tail) are (rw (length-take-le (length tail / P * P) tail (div-mul-le_self (length tail) P)) (mul-mod_left (length tail / P) P))
 
--- what is left is less than a page
+-- what is left of the tail after its full pages is less than a page
 pub rest_short : (P : ℕ) (tail : List ℕ) → 0 < P → length (drop (length tail / P * P) tail) < P
 rest_short P tail some = rw (length-drop (length tail / P * P) tail) (omega (arith, div-add-mod' (length tail) P, mod-lt (length tail) some))
 
--- one of two numbers
+-- a number that is at most each of two is at most the chosen one
 pub one_enough : (b : Bool) (n x y : ℕ) → n ≤ x → n ≤ y → n ≤ (if b then x else y)
 one_enough true n x y first second = first
 one_enough false n x y first second = second
@@ -57,7 +57,7 @@ pub one_whole : (b : Bool) (x y P : ℕ) → x % P ≡ 0 → y % P ≡ 0 → (if
 one_whole true x y P first second = first
 one_whole false x y P first second = second
 
--- and has room
+-- what is left of the tail has room
 pub kept_room : (P : ℕ) (tail : List ℕ) (limit : ℕ) → 0 < P → length tail ≤ limit → length (drop (length tail / P * P) tail) ≤ kept_limit tail limit P
 kept_room P tail limit some room =
     let shorter : length (drop (length tail / P * P) tail) ≤ length tail = rw (length-drop (length tail / P * P) tail) (omega arith) in
@@ -67,7 +67,7 @@ kept_room P tail limit some room =
 pub kept_whole : (P : ℕ) (tail : List ℕ) (limit : ℕ) → limit % P ≡ 0 → kept_limit tail limit P % P ≡ 0
 kept_whole P tail limit whole = one_whole (nat_lt (length tail) P && nat_le limit P) limit (page_limit (drop (length tail / P * P) tail) P) P whole (partial_whole (drop (length tail / P * P) tail) P)
 
--- a buffer whose full pages are handed out
+-- a buffer whose full pages are handed out is a buffer
 pub drained_buffer : (P cap off : ℕ) (chunks none : List (List ℕ)) (tail rest : List ℕ) (limit kept : ℕ) → IsBuffer P cap off chunks tail limit
     → none ≡ [] → rest ≡ drop (length tail / P * P) tail → kept ≡ kept_limit tail limit P → IsBuffer P cap (off + length (concat chunks ++ tail) / P * P) none rest kept
 drained_buffer P cap off chunks none tail rest limit kept is empty left kept_is =
@@ -82,7 +82,8 @@ drained_buffer P cap off chunks none tail rest limit kept is empty left kept_is 
       room = kept_room P tail limit is.some is.room;
     })
 
--- more bytes than the tail has room for
+-- more bytes than the tail has room for: the chunks, with the filled tail, and the new tail hold
+-- them all
 pub grown_bytes : (chunks : List (List ℕ)) (tail bytes : List ℕ) (spare : ℕ) → concat (with_buf chunks (tail ++ take spare bytes)) ++ drop spare bytes ≡ concat chunks ++ tail ++ bytes
 grown_bytes chunks tail bytes spare =
     rw (concat_with chunks (tail ++ take spare bytes), append_assoc (concat chunks) (tail ++ take spare bytes) (drop spare bytes), append_assoc tail (take spare bytes) (drop spare bytes), take-append-drop spare bytes)
@@ -108,7 +109,7 @@ grown_buffer P cap off chunks grown tail bytes rest limit next is enough small g
       room = rw (length-drop spare bytes) (grind (arith, multiple_enough (max (max needed P) (min filled (cap - filled))) P));
     })
 
--- what the calls answer
+-- what a drain answers: the full pages
 pub drain_goes : (P cap off len : ℕ) (chunks handed none : List (List ℕ)) (tail rest : List ℕ) → 0 < P → AreWholePages P chunks → len ≡ length (concat chunks ++ tail)
     → handed ≡ with_buf chunks (take (length tail / P * P) tail) → none ≡ [] → rest ≡ drop (length tail / P * P) tail
     → TipDrainGoes (record { page_size = P; capacity = cap; offset = off; bytes = concat chunks ++ tail }) (record { page_size = P; capacity = cap; offset = off + len / P * P; bytes = concat none ++ rest }) (Ok handed)
@@ -125,7 +126,7 @@ pub append_goes : (P cap off len spare : ℕ) (chunks grown : List (List ℕ)) (
 append_goes P cap off len spare chunks grown tail bytes rest len_is small grown_is rest_is =
     rw (len_is, grown_is, rest_is) (small, ap (λ bytes. record { page_size = P; capacity = cap; offset = off; bytes = bytes }) (grown_bytes chunks tail bytes spare), refl)
 
--- a range read so far, with what of it stands in the next chunk
+-- a range read so far, with its part in the next chunk
 pub read_more : (front chunk : List ℕ) (start end at len from to : ℕ) (old so_far read : List ℕ) → start ≤ end → at ≡ length front → len ≡ length chunk
     → from ≡ min (start - at) len → to ≡ min (end - at) len → so_far ≡ old ++ slice_range front start end → read ≡ so_far ++ slice_range chunk from to
     → read ≡ old ++ slice_range (front ++ chunk) start end
@@ -134,7 +135,7 @@ read_more front chunk start end at len from to old so_far read order at_is len_i
     rw (read_is, so_far_is, from_is, to_is, at_is, len_is, range_min chunk (start - length front) (end - length front) later, range_join front chunk start end order)
     (append_assoc old (slice_range front start end) (slice_range chunk (start - length front) (end - length front)))
 
--- and at last in the tail
+-- a range read from all chunks, with its part in the tail
 pub read_rest : (front tail : List ℕ) (start end at from to : ℕ) (old so_far read : List ℕ) → start ≤ end → at ≡ length front
     → from ≡ start - at → to ≡ end - at → so_far ≡ old ++ slice_range front start end → read ≡ so_far ++ slice_range tail from to
     → read ≡ old ++ slice_range (front ++ tail) start end
@@ -142,7 +143,7 @@ read_rest front tail start end at from to old so_far read order at_is from_is to
     rw (read_is, so_far_is, from_is, to_is, at_is, range_join front tail start end order)
     (append_assoc old (slice_range front start end) (slice_range tail (start - length front) (end - length front)))
 
--- what follows from what holds at Ok
+-- what follows from a promise at Ok is one too
 pub on_ok_then : {A E P Q : Type 0} (result : Result A E) → (P → Q) → OnOk result P → OnOk result Q
 on_ok_then (Ok a) next holds = next holds
 on_ok_then (Err e) next holds = tt

@@ -1,4 +1,5 @@
--- Each definition of pages, computed on a few bytes. Pages have 4 bytes, and the checksum is the sum of the bytes.
+-- Each definition of pages, computed on a few bytes. Pages have 4 bytes, and the checksum is the
+-- sum of the bytes.
 use Rattle.std.proofs.Common.{◌≡◌, ◌%◌, ◌^◌, ◌+◌, ◌*◌, ◌<◌, ◌≤◌, ℕ, zero, suc, arith, List, [], ◌∷◌, ◌++◌, length, refl, lit<, lit≤}
 use Rattle.std.specs.Prelude.{Some, None, Ok, Err, true, false, replicate, nat_le}
 use Rattle.std.specs.Int.{w16, to_be_bytes}
@@ -27,7 +28,7 @@ efg_page = 101 ∷ 102 ∷ 103 ∷ 0 ∷ 0 ∷ 2 ∷ 0 ∷ 0 ∷ 0 ∷ 203 ∷ 0
 pub a_slots_bytes : slot_bytes 4 394 ≡ 0 ∷ 4 ∷ 0 ∷ 0 ∷ 1 ∷ 138 ∷ []
 a_slots_bytes = refl
 
--- it stands first after the four bytes of "abcd"
+-- that slot stands first after the four bytes of "abcd"
 pub the_first_slot : slot_of 4 First abcd_page ≡ slot_bytes 4 394
 the_first_slot = refl
 
@@ -35,11 +36,11 @@ the_first_slot = refl
 pub the_second_slot : slot_of 4 Second efg_page ≡ slot_bytes 3 306
 the_second_slot = refl
 
--- its length
+-- the length of the second slot of "efg"
 pub a_slots_length : slot_len (slot_of 4 Second efg_page) ≡ 3
 a_slots_length = refl
 
--- its checksum
+-- the checksum of the second slot of "efg"
 pub a_slots_checksum : slot_crc (slot_of 4 Second efg_page) ≡ 306
 a_slots_checksum = refl
 
@@ -47,27 +48,27 @@ a_slots_checksum = refl
 pub a_true_slot : verifies add_sum 4 First ef_page ≡ true
 a_true_slot = refl
 
--- an empty slot doesn't, though the sum of no bytes is 0
+-- an empty slot doesn't verify, though the sum of no bytes is 0
 pub an_empty_slot : verifies add_sum 4 Second ef_page ≡ false
 an_empty_slot = refl
 
--- of "efg" the first slot verifies over 2 bytes, and the second over 3
+-- the first slot of "efg" verifies over 2 bytes, and the second over 3
 pub lengths_that_verify : verified_len add_sum 4 First efg_page ∷ verified_len add_sum 4 Second efg_page ∷ [] ≡ 2 ∷ 3 ∷ []
 lengths_that_verify = refl
 
--- so its value has 3
+-- so the value of "efg" has 3 bytes
 pub the_greater_length : value_len add_sum 4 efg_page ≡ 3
 the_greater_length = refl
 
--- and is "efg"
+-- that value is "efg"
 pub the_value : value add_sum 4 efg_page ≡ 101 ∷ 102 ∷ 103 ∷ []
 the_value = refl
 
--- as the second slot says
+-- its slot is the second
 pub the_active_slot : active add_sum 4 efg_page ≡ Some (record { slot = Second; len = 3; crc = 306 })
 the_active_slot = refl
 
--- with the third byte torn off the second slot fails, and the first one still says "ef"
+-- with the third byte torn off the second slot fails, and the first one still gives "ef"
 pub the_other_slot : active add_sum 4 (101 ∷ 102 ∷ 0 ∷ 0 ∷ 0 ∷ 2 ∷ 0 ∷ 0 ∷ 0 ∷ 203 ∷ 0 ∷ 3 ∷ 0 ∷ 0 ∷ 1 ∷ 50 ∷ []) ≡ Some (record { slot = First; len = 2; crc = 203 })
 the_other_slot = refl
 
@@ -75,7 +76,7 @@ the_other_slot = refl
 pub no_slot : active add_sum 4 (0 ∷ 0 ∷ 0 ∷ 0 ∷ 0 ∷ 0 ∷ 0 ∷ 0 ∷ 0 ∷ 0 ∷ 0 ∷ 0 ∷ 0 ∷ 0 ∷ 0 ∷ 0 ∷ []) ≡ None
 no_slot = refl
 
--- nor have bytes that are all ones, under either sum, nor fewer bytes than a footer has
+-- bytes that are all ones have no value, under either sum, nor have fewer bytes than a footer has
 pub ones_have_no_value : active add_sum 4 (replicate 16 255) ≡ None
 ones_have_no_value = refl
 
@@ -89,7 +90,7 @@ no_room_for_a_footer = refl
 pub a_full_page : active const_sum 4 (replicate 4 255 ++ slot_bytes 4 0 ++ slot_bytes 0 0) ≡ Some (record { slot = First; len = 4; crc = 0 })
 a_full_page = refl
 
--- of two slots of the same length the first
+-- of two slots of the same length the first gives the value
 pub the_first_of_two : active const_sum 4 (0 ∷ 0 ∷ 0 ∷ 0 ∷ 0 ∷ 3 ∷ 0 ∷ 0 ∷ 0 ∷ 0 ∷ 0 ∷ 3 ∷ 0 ∷ 0 ∷ 0 ∷ 0 ∷ []) ≡ Some (record { slot = First; len = 3; crc = 0 })
 the_first_of_two = refl
 
@@ -124,7 +125,7 @@ a_footer_back = refl
 pub a_length_alone : to_be_bytes w16 258 ≡ 1 ∷ 2 ∷ []
 a_length_alone = refl
 
--- the longer slot leads, and the first where both are as long
+-- the slot of the greater length leads, and the first on equal lengths
 pub the_first_of_equals : longer_slot (record { len1 = 100; crc1 = 1; len2 = 100; crc2 = 2 }) ≡ First
 the_first_of_equals = refl
 
@@ -138,7 +139,7 @@ the_longer_first = refl
 pub two_pages : pages 4 (abcd_page ++ ef_page ++ 255 ∷ []) ≡ abcd_page ∷ ef_page ∷ []
 two_pages = refl
 
--- they say "abcdef"
+-- the text of those pages is "abcdef"
 pub the_text : text add_sum 4 (abcd_page ++ ef_page ++ 255 ∷ []) ≡ 97 ∷ 98 ∷ 99 ∷ 100 ∷ 101 ∷ 102 ∷ []
 the_text = refl
 
@@ -150,15 +151,16 @@ the_text_ends = refl
 pub a_slot_by_chance : value const_sum 4 (101 ∷ 102 ∷ 0 ∷ 0 ∷ 0 ∷ 2 ∷ 0 ∷ 0 ∷ 0 ∷ 0 ∷ 0 ∷ 3 ∷ 0 ∷ 0 ∷ 0 ∷ 0 ∷ []) ≡ 101 ∷ 102 ∷ 0 ∷ []
 a_slot_by_chance = refl
 
--- a sum of 2 to the 32 doesn't fit a slot: the slot that is written for one byte says 0, and doesn't verify
+-- a sum of 2 to the power of 32 doesn't fit a slot: the slot that is written for one byte has 0
+-- there, and doesn't verify
 pub a_great_sum : verifies (λ bytes. 4294967296) 1 First (7 ∷ slot_bytes 1 4294967296 ++ slot_bytes 0 0) ≡ false
 a_great_sum = refl
 
--- the greatest that fits does
+-- the slot of the greatest sum that fits verifies
 pub a_greatest_sum : verifies (λ bytes. 4294967295) 1 First (7 ∷ slot_bytes 1 4294967295 ++ slot_bytes 0 0) ≡ true
 a_greatest_sum = refl
 
--- a buffer of 5 bytes has two pages
+-- a capacity of 5 bytes is rounded up to two pages of 4
 pub a_capacity : adjusted 5 4 ≡ 8
 a_capacity = refl
 
@@ -168,11 +170,12 @@ two_pages_at_least = refl
 pub a_capacity_of_pages : adjusted 200 64 ≡ 256
 a_capacity_of_pages = refl
 
--- the greatest passes its type
+-- the greatest capacity, rounded up, passes its type
 pub no_capacity : nat_le (2 ^ 64) (adjusted 18446744073709551615 64) ≡ true
 no_capacity = refl
 
--- page 2 of 4 logical bytes stands at 32 and has 16; the last page that has an offset, and the first that has none
+-- page 2 of 4 logical bytes stands at byte 32 and has 16 bytes; the last page that has an offset,
+-- and the first that has none
 pub a_physical_page : (2 * (4 + 12) ≡ 32) × (4 + 12 ≡ 16)
 a_physical_page = (refl, refl)
 
@@ -195,7 +198,7 @@ past_the_end = (lit< tt, lit< tt)
 pub up_to_the_end : RangeGoes 16 (12, 4) (Ok tt)
 up_to_the_end = lit≤ tt
 
--- of ranges the first that can't be read decides, though the next one's end passes the greatest offset
+-- the first range that can't be read decides, though the next one's end passes the greatest offset
 pub the_first_decides : RangesGo 16 ((0, 4) ∷ (14, 4) ∷ (18446744073709551615, 4) ∷ []) (Err BlobInsufficientLength)
 the_first_decides = ((0, 4) ∷ [], (18446744073709551615, 4) ∷ [], ((14, 4), refl, first, past_the_end))
   where
@@ -203,7 +206,7 @@ the_first_decides = ((0, 4) ∷ [], (18446744073709551615, 4) ∷ [], ((14, 4), 
     first zero range lt = omega (arith, lt)
     first (suc k) range lt = absurd (omega (arith, lt))
 
--- seven bytes after offset 10, in pages of 8, of which 64 are to be buffered
+-- seven bytes after offset 10, in pages of 8 bytes, with a capacity of 64
 abbrev pub seven : Tip
 seven = record { page_size = 8; capacity = 64; offset = 10; bytes = 1 ∷ 1 ∷ 1 ∷ 1 ∷ 1 ∷ 1 ∷ 1 ∷ [] }
 
@@ -211,7 +214,7 @@ seven = record { page_size = 8; capacity = 64; offset = 10; bytes = 1 ∷ 1 ∷ 
 pub a_tips_size : tip_size seven ≡ 17
 a_tips_size = refl
 
--- two bytes more make a page and a byte
+-- with two bytes more that tip has a page and a byte
 abbrev pub nine : Tip
 nine = joined seven (2 ∷ 2 ∷ [])
 
@@ -222,19 +225,19 @@ whole_pages_of_a_tip = refl
 pub a_drained_tip : drained nine ≡ record { page_size = 8; capacity = 64; offset = 18; bytes = 2 ∷ [] }
 a_drained_tip = refl
 
--- an append that doesn't pass the capacity says so
+-- an append within the capacity answers that it isn't passed
 pub an_append : TipAppendGoes seven (2 ∷ 2 ∷ []) nine (Ok false)
 an_append = (lit< tt, refl, refl)
 
--- so many fit, and the first stands after the seven
+-- an append of two bytes that fit answers the offset of the first, after the seven
 pub a_try : TipTryAppendGoes seven (2 ∷ 2 ∷ []) nine (Ok (Some 17))
 a_try = (lit< tt, lit≤ tt, refl, refl)
 
--- the page is one chunk
+-- the page that is handed out is one chunk
 pub a_drain : TipDrainGoes nine (drained nine) (Ok ((1 ∷ 1 ∷ 1 ∷ 1 ∷ 1 ∷ 1 ∷ 1 ∷ 2 ∷ []) ∷ []))
 a_drain = (refl, All-single (λ chunk. length chunk % 8 ≡ 0) _ refl, refl)
 
--- after one page 17 bytes need three
+-- after one page, 17 bytes need three pages
 pub room_for_what_is_needed : grown_limit 8 17 64 8 ≡ 24
 room_for_what_is_needed = refl
 
@@ -242,7 +245,7 @@ room_for_what_is_needed = refl
 pub room_for_as_much_again : grown_limit 32 8 512 8 ≡ 32
 room_for_as_much_again = refl
 
--- but not past the capacity
+-- a chunk doesn't pass the capacity
 pub room_within_the_capacity : grown_limit 48 1 64 8 ≡ 16
 room_within_the_capacity = refl
 

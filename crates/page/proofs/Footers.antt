@@ -1,4 +1,4 @@
--- A footer's twelve bytes, and what its slots say.
+-- A footer's twelve bytes, and what its slots hold.
 use Rattle.std.proofs.Common.{◌≡◌, ◌∙◌, ap, sym, subst, ℕ, ◌+◌, ◌<◌, ◌≤◌, ◌++◌, Bool, true, false, List, length, take, drop, get_or, arith, nat_lt, inl, inr}
 use Rattle.std.specs.Prelude.{if◌then◌else◌, Some, not, ◌==◌, ◌&&◌}
 use Rattle.page.specs.declared.slot.ActiveChecksum.{ActiveChecksum}
@@ -15,18 +15,18 @@ use Rattle.page.specs.declared.slot.ActiveChecksum.{ActiveChecksum}
 use Rattle.page.proofs.Slots.{slot_bytes-said, take-below, drop-below}
 use Rattle.page.proofs.Values.{slot_verifies-take, verified_cases, verified_len-le_said, verifies-says, active-first, active-second, active-none}
 
--- twelve bytes are those of the footer that they are
+-- the bytes of the footer that twelve bytes are read as are these twelve
 pub footer_bytes-footer_of : (bytes : List ℕ) → length bytes ≡ 12 → ((i : ℕ) → get_or bytes i 0 < 256) → footer_bytes (footer_of bytes) ≡ bytes
 footer_bytes-footer_of bytes twelve below =
     let first = slot_bytes-said (take 6 bytes) (rw length-take (omega arith)) (take-below 6 256 bytes (omega arith) below) in
     let second = slot_bytes-said (drop 6 bytes) (rw length-drop (omega arith)) (drop-below 6 256 bytes below) in
     ap (λ b. b ++ slot_bytes (slot_len (drop 6 bytes)) (slot_crc (drop 6 bytes))) first ∙ ap (λ b. take 6 bytes ++ b) second ∙ take-append-drop 6 bytes
 
--- what a page's slot says, as its footer's
+-- what a page's slot holds, as its footer has it
 abbrev pub says : ℕ → List ℕ → Slot → ActiveChecksum
 says P page s = record { slot = s; len = slot_len (slot_of P s page); crc = slot_crc (slot_of P s page) }
 
--- a page's footer says what its slots say
+-- a page's footer has what its slots hold
 pub active_of-says : (P : ℕ) (s : Slot) (page : List ℕ) → length page ≡ P + 12 → active_of (footer_of (drop P page)) s ≡ says P page s
 active_of-says P First page whole =
     let Q : List ℕ → ActiveChecksum = λ slot. record { slot = First; len = slot_len slot; crc = slot_crc slot } in
@@ -38,18 +38,18 @@ active_of-says P Second page whole =
     let Q : List ℕ → ActiveChecksum = λ slot. record { slot = Second; len = slot_len slot; crc = slot_crc slot } in
     ap Q same
 
--- the payload has the checksum that a slot says exactly where the slot verifies
+-- the payload has the checksum that a slot holds exactly where the slot verifies
 pub is_checksum_of-verifies : (sum : List ℕ → ℕ) (P : ℕ) (s : Slot) (page : List ℕ) → length page ≡ P + 12 → is_checksum_of sum (says P page s) (take P page) ≡ verifies sum P s page
 is_checksum_of-verifies sum P s page whole =
     let slot : List ℕ = slot_of P s page in
     let all : length (take P page) ≡ P = length-take-le P page (omega arith) in
     ap (λ n. slot_verifies sum n slot (take P page)) all ∙ slot_verifies-take sum P slot page P (omega arith)
 
--- the slot that says the greater length, the first on equal ones
+-- the slot that holds the greater length, the first on equal ones
 abbrev says_longer : ℕ → List ℕ → Slot
 says_longer P page = if nat_lt (slot_len (slot_of P First page)) (slot_len (slot_of P Second page)) then Second else First
 
--- where the second slot verifies and says the greater length, it tells the value
+-- where the second slot verifies and holds the greater length, it gives the value
 longer-second : (sum : List ℕ → ℕ) (P : ℕ) (page : List ℕ) → slot_len (slot_of P First page) < slot_len (slot_of P Second page) → verifies sum P Second page ≡ true
     → active sum P page ≡ Some (says P page Second)
 longer-second sum P page less passes =
@@ -57,7 +57,7 @@ longer-second sum P page less passes =
     let most : verified_len sum P First page < verified_len sum P Second page = omega (arith, verified_len-le_said sum P First page) in
     active-second sum P page most ∙ ap (λ n. Some (record (says P page Second) { len = n })) len
 
--- and the first, where it says no smaller one
+-- where the first slot verifies and holds no smaller length, it gives the value
 longer-first : (sum : List ℕ → ℕ) (P : ℕ) (page : List ℕ) → slot_len (slot_of P Second page) ≤ slot_len (slot_of P First page) → verifies sum P First page ≡ true
     → active sum P page ≡ Some (says P page First)
 longer-first sum P page most passes =
@@ -67,7 +67,7 @@ longer-first sum P page most passes =
     let some : 0 < verified_len sum P First page = omega arith in
     active-first sum P page greatest some ∙ ap (λ n. Some (record (says P page First) { len = n })) len
 
--- where a slot doesn't verify, the other one tells the value if it does
+-- where a slot doesn't verify, the other slot gives the value if it verifies
 alone-first : (sum : List ℕ → ℕ) (P : ℕ) (page : List ℕ) → verifies sum P Second page ≡ false → active sum P page ≡ then_some (verifies sum P First page) (says P page First)
 alone-first sum P page fails =
     let nothing : verified_len sum P Second page ≡ 0 = ap (λ (b : Bool). if b then slot_len (slot_of P Second page) else 0) fails in
@@ -99,7 +99,7 @@ alone-second sum P page fails =
           active-none sum P page none ∙ sym (ap (λ b. then_some b (says P page Second)) h.0)
     ]
 
--- the slot that says the greater length tells the value, if it verifies
+-- the slot that holds the greater length gives the value, if it verifies
 pub active-longer : (sum : List ℕ → ℕ) (P : ℕ) (page : List ℕ) → verifies sum P (says_longer P page) page ≡ true → active sum P page ≡ Some (says P page (says_longer P page))
 active-longer sum P page =
     let Q : Slot → Type 0 = λ s. verifies sum P s page ≡ true → active sum P page ≡ Some (says P page s) in
@@ -108,7 +108,8 @@ active-longer sum P page =
       | inr most ↦ subst Q (ap (λ (b : Bool). if b then Second else First) (sym (le-ltb _ _ most))) (longer-first sum P page most)
     ]
 
--- if it doesn't, the other one does, if that verifies
+-- if the slot of the greater length doesn't verify, the other slot gives the value, if that
+-- verifies
 pub active-other : (sum : List ℕ → ℕ) (P : ℕ) (page : List ℕ) → verifies sum P (says_longer P page) page ≡ false
     → active sum P page ≡ then_some (verifies sum P (other (says_longer P page)) page) (says P page (other (says_longer P page)))
 active-other sum P page =
@@ -118,7 +119,7 @@ active-other sum P page =
       | inr most ↦ subst Q (ap (λ (b : Bool). if b then Second else First) (sym (le-ltb _ _ most))) (alone-second sum P page)
     ]
 
--- the slot that a page's footer says is longer
+-- the slot that is longer by the page's footer is the one that holds the greater length
 longer_slot-says : (P : ℕ) (page : List ℕ) → length page ≡ P + 12 → longer_slot (footer_of (drop P page)) ≡ says_longer P page
 longer_slot-says P page whole =
     let first = ap (λ a. a.len) (active_of-says P First page whole) in
@@ -146,7 +147,7 @@ module _ (sum : List ℕ → ℕ) (P : ℕ) (page payload : List ℕ) (c : Check
   c-longer : longer_slot c ≡ says_longer P page
   c-longer = ap longer_slot back ∙ longer_slot-says P page whole
 
-  -- if the longer slot's checksum is right, that slot tells the value
+  -- if the longer slot's checksum is right, that slot gives the value
   pub active-authoritative : is_checksum_of sum (active_of c (longer_slot c)) payload ≡ true → active sum P page ≡ Some (active_of c (longer_slot c))
   active-authoritative right =
       let Q : Slot → Type 0 = λ s. is_checksum_of sum (active_of c s) payload ≡ true → active sum P page ≡ Some (active_of c s) in
@@ -154,7 +155,7 @@ module _ (sum : List ℕ → ℕ) (P : ℕ) (page payload : List ℕ) (c : Check
       active-longer sum P page (sym (c-tells (says_longer P page)) ∙ h) ∙ sym (ap Some (c-says (says_longer P page))) in
       subst Q (sym c-longer) here right
 
-  -- and else the other one does, if its checksum is right
+  -- if it is wrong, the other slot gives the value, if its checksum is right
   pub active-fallback : is_checksum_of sum (active_of c (longer_slot c)) payload ≡ false
       → active sum P page ≡ then_some (is_checksum_of sum (active_of c (other (longer_slot c))) payload) (active_of c (other (longer_slot c)))
   active-fallback wrong =

@@ -17,25 +17,26 @@ tested : (b : Bool) (n : ℕ) → ((b ≡ true) × ((if b then n else 0) ≡ n))
 tested true n = inl (refl, refl)
 tested false n = inr (refl, refl)
 
--- a slot verifies over the length that it says, or its verified length is 0
+-- a slot verifies over the length that it holds, or its verified length is 0
 pub verified_cases : (sum : List ℕ → ℕ) (P : ℕ) (s : Slot) (page : List ℕ)
     → ((verifies sum P s page ≡ true) × (verified_len sum P s page ≡ slot_len (slot_of P s page))) ⊎ ((verifies sum P s page ≡ false) × (verified_len sum P s page ≡ 0))
 verified_cases sum P s page = tested (verifies sum P s page) (slot_len (slot_of P s page))
 
--- a slot that verifies says a length from 1 to P, and the checksum of that many of the page's first bytes
+-- a slot that verifies holds a length from 1 to P, and the checksum of that many of the page's
+-- first bytes
 pub verifies-says : (sum : List ℕ → ℕ) (P : ℕ) (s : Slot) (page : List ℕ) → verifies sum P s page ≡ true
     → (0 < slot_len (slot_of P s page)) × (slot_len (slot_of P s page) ≤ P) × (sum (take (slot_len (slot_of P s page)) page) ≡ slot_crc (slot_of P s page))
 verifies-says sum P s page passes = three_tests _ _ _ _ passes
 
--- or the length that the slot says
+-- a slot verifies over at most the length that it holds
 pub verified_len-le_said : (sum : List ℕ → ℕ) (P : ℕ) (s : Slot) (page : List ℕ) → verified_len sum P s page ≤ slot_len (slot_of P s page)
 verified_len-le_said sum P s page = elim (verified_cases sum P s page) [ inl h ↦ rw h.1 (omega arith) | inr h ↦ rw h.1 (omega arith) ]
 
--- of two verified lengths the slot of the greater, the first on equal ones
+-- the slot of the greater of two verified lengths, the first on equal ones
 abbrev longer : ℕ → ℕ → Slot
 longer m n = if nat_lt m n then Second else First
 
--- what the two verified lengths choose
+-- the slot, length and checksum that the two verified lengths choose
 abbrev chosen : ℕ → List ℕ → ℕ → ℕ → Option ActiveChecksum
 chosen P page m n = if max m n == 0 then None else Some (record { slot = longer m n; len = max m n; crc = slot_crc (slot_of P (longer m n) page) })
 

@@ -20,7 +20,7 @@ footer_of bytes = record {
   crc2 = slot_crc (drop 6 bytes);
 }
 
--- what one slot says: a length and a checksum
+-- what one slot holds: a length and a checksum
 abbrev pub said : Checksum → Slot → ℕ × ℕ
 said c First = (c.len1, c.crc1)
 said c Second = (c.len2, c.crc2)
@@ -32,13 +32,14 @@ longer_slot c = if nat_lt c.len1 c.len2 then Second else First
 abbrev pub active_of : Checksum → Slot → ActiveChecksum
 active_of c s = record { slot = s; len = (said c s).0; crc = (said c s).1 }
 
--- whether this is the checksum of the payload's first bytes, as many as it says, and at least one
+-- whether a slot's checksum is that of the payload's first bytes, as many as its length, and the
+-- length is at least 1
 abbrev pub is_checksum_of : (List ℕ → ℕ) → ActiveChecksum → List ℕ → Bool
 is_checksum_of sum checksum payload =
     nat_le 1 checksum.len && nat_le checksum.len (length payload) &&
     (sum (take checksum.len payload) == checksum.crc)
 
--- whether it neither is that nor all zero
+-- whether a slot is bad: it neither is the checksum of such bytes nor all zero
 abbrev pub is_bad : (List ℕ → ℕ) → ActiveChecksum → List ℕ → Bool
 is_bad sum checksum payload =
     not (checksum.len == 0 && checksum.crc == 0) && not (is_checksum_of sum checksum payload)

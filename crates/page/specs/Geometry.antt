@@ -24,7 +24,7 @@ AreInOrder ranges = AreInOrderFrom 0 ranges
 abbrev pub EndWithin : ℕ → List (ℕ × ℕ) → Type 0
 EndWithin size ranges = All (λ range. range.0 + range.1 ≤ size) ranges
 
--- a range can be read, or its end passes the greatest offset, or only the size
+-- a range can be read, or its end passes the greatest offset, or its end passes the size alone
 abbrev pub RangeGoes : ℕ → ℕ × ℕ → Result (Unit {0}) Error → Type 0
 RangeGoes size range (Ok _) = range.0 + range.1 ≤ size
 RangeGoes size range (Err OffsetOverflow) = 2 ^ 64 ≤ range.0 + range.1
@@ -32,7 +32,7 @@ RangeGoes size range (Err BlobInsufficientLength) =
     (range.0 + range.1 < 2 ^ 64) × (size < range.0 + range.1)
 RangeGoes size range (Err _) = ⊥
 
--- ranges can be read, or the first that can't decides
+-- all ranges can be read, or the error is that of the first that can't
 abbrev pub RangesGo : ℕ → List (ℕ × ℕ) → Result (Unit {0}) Error → Type 0
 RangesGo size ranges (Ok _) = EndWithin size ranges
 RangesGo size ranges (Err error) =

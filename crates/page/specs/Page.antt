@@ -10,7 +10,7 @@ use Rattle.page.specs.declared.slot.Slot.{Slot}
 use Rattle.page.specs.declared.slot.Slot.TheVariants.{First, Second}
 use Rattle.page.specs.declared.slot.ActiveChecksum.{ActiveChecksum}
 
--- the six bytes that say a length and a checksum
+-- the six bytes of a slot with this length and checksum
 abbrev pub slot_bytes : ℕ → ℕ → List ℕ
 slot_bytes len crc = to_be_bytes w16 len ++ to_be_bytes w32 crc
 
@@ -18,11 +18,11 @@ slot_bytes len crc = to_be_bytes w16 len ++ to_be_bytes w32 crc
 abbrev pub slot_of : ℕ → Slot → List ℕ → List ℕ
 slot_of P s page = take 6 (drop (P + slot_offset s) page)
 
--- the length that a slot says
+-- the length that a slot holds
 abbrev pub slot_len : List ℕ → ℕ
 slot_len slot = from_be_bytes w16 (take 2 slot)
 
--- the checksum that a slot says
+-- the checksum that a slot holds
 abbrev pub slot_crc : List ℕ → ℕ
 slot_crc slot = from_be_bytes w32 (drop 2 slot)
 
@@ -36,7 +36,7 @@ slot_verifies sum P slot page =
 abbrev pub verifies : (List ℕ → ℕ) → ℕ → Slot → List ℕ → Bool
 verifies sum P s page = slot_verifies sum P (slot_of P s page) page
 
--- the length over which a slot verifies, 0 where it doesn't
+-- the length over which a slot verifies, or 0 where the slot doesn't verify
 abbrev pub verified_len : (List ℕ → ℕ) → ℕ → Slot → List ℕ → ℕ
 verified_len sum P s page = if verifies sum P s page then slot_len (slot_of P s page) else 0
 
@@ -44,7 +44,7 @@ verified_len sum P s page = if verifies sum P s page then slot_len (slot_of P s 
 abbrev pub value_len : (List ℕ → ℕ) → ℕ → List ℕ → ℕ
 value_len sum P page = max (verified_len sum P First page) (verified_len sum P Second page)
 
--- a page's value; it is empty where no slot verifies, and never else
+-- a page's value, which is empty just where no slot verifies
 abbrev pub value : (List ℕ → ℕ) → ℕ → List ℕ → List ℕ
 value sum P page = take (value_len sum P page) page
 
@@ -68,19 +68,20 @@ active sum P page =
 abbrev pub is_clear : List ℕ → Bool
 is_clear slot = (slot_len slot == 0) && (slot_crc slot == 0)
 
--- of the slot beside the one that tells a page's value: that one, where it neither verifies nor is
--- all zero
+-- the slot beside the one that gives a page's value, where that other slot neither verifies nor is
+-- all zero; none else
 abbrev pub bad_beside : (List ℕ → ℕ) → ℕ → List ℕ → Option ActiveChecksum → Option Slot
 bad_beside sum P page None = None
 bad_beside sum P page (Some a) =
     let s = other a.slot in
     then_some (not (is_clear (slot_of P s page)) && not (verifies sum P s page)) s
 
--- the slot that isn't the value's, where it is so; none where no slot verifies
+-- a page's bad slot: the slot that isn't the value's, where it neither verifies nor is all zero;
+-- none where no slot verifies
 abbrev pub bad_slot : (List ℕ → ℕ) → ℕ → List ℕ → Option Slot
 bad_slot sum P page = bad_beside sum P page (active sum P page)
 
--- consecutive pieces of one size
+-- the first n consecutive pieces of one size
 abbrev pub pieces : ℕ → ℕ → List ℕ → List (List ℕ)
 pieces zero size bytes = []
 pieces (suc n) size bytes = take size bytes ∷ pieces n size (drop size bytes)
@@ -89,12 +90,13 @@ pieces (suc n) size bytes = take size bytes ∷ pieces n size (drop size bytes)
 abbrev pub pages : ℕ → List ℕ → List (List ℕ)
 pages P bytes = pieces (length bytes / (P + 12)) (P + 12) bytes
 
--- the values of the pages joined while each is full, and the next page's value if it is partial
+-- the values of the pages, joined; it ends after the first page that isn't full
 abbrev pub text_of_pages : (List ℕ → ℕ) → ℕ → List (List ℕ) → List ℕ
 text_of_pages sum P [] = []
 text_of_pages sum P (page ∷ rest) =
     value sum P page ++ (if value_len sum P page == P then text_of_pages sum P rest else [])
 
--- what a blob's bytes say, to a reader that goes forward from the first page
+-- the text of a blob's bytes: what a recovery keeps of them, and what a reader finds that goes
+-- forward from the first page
 abbrev pub text : (List ℕ → ℕ) → ℕ → List ℕ → List ℕ
 text sum P bytes = text_of_pages sum P (pages P bytes)

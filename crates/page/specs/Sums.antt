@@ -3,7 +3,7 @@ use Rattle.std.specs.Prelude.{ℕ, ◌%◌, ◌<◌, ◌^◌, List, sum}
 use Rattle.std.proofs.Common.{lit<}
 use Rattle.std.proofs.Math.Nat.{mod-lt}
 
--- the sum of the bytes
+-- the sum of the bytes, modulo 2 to the power of 32
 abbrev pub add_sum : List ℕ → ℕ
 add_sum bytes = sum bytes % 2 ^ 32
 

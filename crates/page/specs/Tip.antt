@@ -1,4 +1,4 @@
--- A tip: the bytes of a blob from an offset on that are buffered, and what each call of its buffer
+-- A tip: the buffered bytes of a blob, from a logical offset on, and what each call of its buffer
 -- does.
 use Rattle.std.specs.Prelude.{◌≡◌, ℕ, ◌+◌, ◌*◌, ◌/◌, ◌%◌, ◌<◌, ◌≤◌, ◌^◌, ◌++◌, Bool, ◌&&◌}
 use Rattle.std.specs.Prelude.{if◌then◌else◌, nat_lt, nat_le, min, max, List, [], ◌∷◌, ◌-◌, length}
@@ -8,8 +8,8 @@ use Rattle.std.specs.List.{concat}
 use Rattle.disk.specs.declared.error.Error.{Error}
 use Rattle.disk.specs.declared.error.Error.TheVariants.{OffsetOverflow, OutOfMemory}
 
--- the bytes after a logical offset, in pages of so many bytes; as many as the capacity are to be
--- buffered
+-- the bytes after a logical offset, in pages of so many bytes; the capacity is how many bytes the
+-- buffer is to hold
 pub record Tip : Type 0 where
   pub page_size : ℕ
   pub capacity : ℕ
@@ -24,7 +24,7 @@ tip_size t = t.offset + length t.bytes
 abbrev pub joined : Tip → List ℕ → Tip
 joined t more = record t { bytes = t.bytes ++ more }
 
--- how many of its bytes stand in whole pages
+-- how many of a tip's bytes stand in whole pages
 abbrev pub full_len : Tip → ℕ
 full_len t = length t.bytes / t.page_size * t.page_size
 
@@ -40,7 +40,7 @@ AreWholePages P chunks = All (λ chunk. length chunk % P ≡ 0) chunks
 abbrev pub ArePages : ℕ → List (List ℕ) → Type 0
 ArePages P pages = All (λ page. length page ≡ P) pages
 
--- an append: it tells whether the capacity is passed now
+-- an append, which answers whether more bytes are now buffered than the capacity
 abbrev pub TipAppendGoes : Tip → List ℕ → Tip → Result Bool Error → Type 0
 TipAppendGoes old bytes new (Ok passed) =
     (tip_size old + length bytes < 2 ^ 64) × (new ≡ joined old bytes)
@@ -50,7 +50,8 @@ TipAppendGoes old bytes new (Err OffsetOverflow) =
 TipAppendGoes old bytes new (Err OutOfMemory) = (tip_size old + length bytes < 2 ^ 64) × (new ≡ old)
 TipAppendGoes old bytes new (Err _) = ⊥
 
--- an append within the capacity: it tells the offset of the first byte, or that they don't fit
+-- an append within the capacity: it answers the offset of the first byte, or that the bytes don't
+-- fit
 abbrev pub TipTryAppendGoes : Tip → List ℕ → Tip → Result (Option ℕ) Error → Type 0
 TipTryAppendGoes old bytes new (Ok (Some offset)) =
     (tip_size old + length bytes < 2 ^ 64) × (length old.bytes + length bytes ≤ old.capacity)
@@ -73,7 +74,7 @@ TipDrainGoes old new (Ok chunks) =
 TipDrainGoes old new (Err OutOfMemory) = (new ≡ old) × (0 < full_len old)
 TipDrainGoes old new (Err _) = ⊥
 
--- other bytes at another offset
+-- the tip's bytes and offset are replaced by others
 abbrev pub TipReplaceGoes : Tip → ℕ → List ℕ → Tip → Result (Unit {0}) Error → Type 0
 TipReplaceGoes old offset bytes new (Ok _) = new ≡ record old { offset = offset; bytes = bytes }
 TipReplaceGoes old offset bytes new (Err OffsetOverflow) =
@@ -82,7 +83,7 @@ TipReplaceGoes old offset bytes new (Err OutOfMemory) =
     (offset + length bytes < 2 ^ 64) × (new ≡ old)
 TipReplaceGoes old offset bytes new (Err _) = ⊥
 
--- a buffer is made
+-- a buffer of this tip is made
 abbrev pub TipStartGoes : Tip → Result Tip Error → Type 0
 TipStartGoes tip (Ok new) = (tip_size tip < 2 ^ 64) × (new ≡ tip)
 TipStartGoes tip (Err OffsetOverflow) = 2 ^ 64 ≤ tip_size tip
@@ -95,22 +96,22 @@ abbrev pub page_limit : List ℕ → ℕ → ℕ
 page_limit [] P = 0
 page_limit (byte ∷ bytes) P = P
 
--- how many the next tail has room for, after so many bytes in whole pages, of which this many more
--- are needed: as many as are buffered already, within the capacity; at least a page and what is
--- needed; in whole pages
+-- how many bytes the next tail has room for, after `filled` bytes in whole pages, where `needed`
+-- bytes more come: as many as are buffered already, within the capacity; or a page or the needed
+-- bytes, where that is more; rounded up to whole pages
 abbrev pub grown_limit : (filled needed capacity P : ℕ) → ℕ
 grown_limit filled needed capacity P =
     next_multiple_of (max (max needed P) (min filled (capacity - filled))) P
 
--- how many a tail has room for once its full pages are frozen: what stood in a chunk of more than a
--- page moves to another
+-- how many bytes a tail has room for once its full pages are frozen: a tail with a full page, or
+-- with room for more than one, moves the bytes after its full pages to a new chunk
 abbrev pub kept_limit : List ℕ → ℕ → ℕ → ℕ
 kept_limit tail limit P =
     if nat_lt (length tail) P && nat_le limit P
     then limit
     else page_limit (drop (length tail / P * P) tail) P
 
--- bytes and their limit are these
+-- bytes and their limit are the same as those others
 abbrev pub AreSame : List ℕ → ℕ → List ℕ → ℕ → Type 0
 AreSame bytes limit as_bytes as_limit = (bytes ≡ as_bytes) × (limit ≡ as_limit)
 

@@ -12,11 +12,11 @@ use std::alloc::Global;
 use std::marker::Model;
 use std::mem;
 
-/// Bytes that are appended after a logical offset of a blob, in pages of one size.
+/// A tip: bytes that are appended after a logical offset of a blob, in pages of one size.
 ///
-/// They stand in frozen chunks, each a whole number of pages, and one tail after them that still
-/// grows. An append copies each byte once, and full pages are handed out where they stand. After an
-/// error the buffer is as it was.
+/// The bytes stand in frozen chunks, each a whole number of pages, and one tail after them that
+/// still grows. An append copies each byte once. Full pages are handed out where they stand. After
+/// an error the buffer is as it was.
 #[derive(Drop)]
 pub struct Buffer {
     alloc: Global,
@@ -45,14 +45,15 @@ impl Model for Buffer {
         b.tail.limit };
 }
 
-/// Whether the offsets after one go on for so many bytes.
+/// Whether `len` bytes at an offset end within the greatest offset.
 fn has_offsets(offset: u64, len: usize) -> bool
     ensures { IsTrue result ↔ offset + len < 2 ^ 64 }
 {
     offset.checked_add(len as u64).is_some()
 }
 
-/// Adds the bytes of a chunk from `start` to before `end`, shared with it. `OutOfMemory` alone.
+/// Adds the bytes of a chunk from `start` to before `end`, shared with it. The only error is
+/// `OutOfMemory`.
 fn append_part(bufs: &mut IoBufs, chunk: &IoBuf, start: usize, end: usize) -> Result<(), Error>
     requires order { start ≤ end }
     requires within { end ≤ length chunk.now }
@@ -66,7 +67,7 @@ fn append_part(bufs: &mut IoBufs, chunk: &IoBuf, start: usize, end: usize) -> Re
     bufs.append(chunk.slice(start, end)?)
 }
 
-/// Adds a copy of these bytes. `OutOfMemory` alone.
+/// Adds a copy of these bytes. The only error is `OutOfMemory`.
 fn append_copy(alloc: Global, bufs: &mut IoBufs, bytes: &[u8]) -> Result<(), Error>
     ensures ok { OnOk result (concat bufs.new ≡ concat bufs.old ++ bytes.now) }
     ensures err { IsOkUnless result Error.OutOfMemory }
@@ -77,7 +78,8 @@ fn append_copy(alloc: Global, bufs: &mut IoBufs, bytes: &[u8]) -> Result<(), Err
     bufs.append(IoBuf::copy_from_slice(alloc, bytes)?)
 }
 
-/// Copies bytes into a buffer, after the first `done`, and answers how many it has then.
+/// Copies bytes into a buffer after its first `done` bytes, and answers how many bytes of it are
+/// filled then.
 fn copy_after(buf: &mut [u8], done: usize, bytes: &[u8]) -> usize
     requires { done + length bytes.now ≤ length buf.old }
     ensures done { result ≡ done + length bytes.now }
@@ -90,10 +92,11 @@ fn copy_after(buf: &mut [u8], done: usize, bytes: &[u8]) -> usize
 }
 
 impl Buffer {
-    /// A buffer of these bytes at a logical offset. As many bytes as `capacity`, in whole pages,
-    /// are to be buffered; no memory is taken for them yet.
+    /// A buffer of these bytes, fewer than a page, at a logical offset. It is to hold `capacity`
+    /// bytes, a whole number of pages; memory for them is taken only as they come.
     ///
-    /// `OffsetOverflow` where the bytes pass the greatest offset, `OutOfMemory`.
+    /// `OffsetOverflow` where the bytes pass the greatest offset, and else no error except
+    /// `OutOfMemory`.
     pub fn from(
         alloc: Global,
         offset: u64,
@@ -152,21 +155,21 @@ impl Buffer {
         self.offset
     }
 
-    /// How many bytes are to be buffered.
+    /// How many bytes the buffer is to hold.
     pub fn capacity(&self) -> usize
         ensures { result ≡ self.now.capacity }
     {
         self.capacity
     }
 
-    /// The bytes of a page.
+    /// The logical size of a page, in bytes.
     pub fn page_size(&self) -> usize
         ensures { result ≡ self.now.page_size }
     {
         self.page_size
     }
 
-    /// The bytes: frozen chunks, each of whole pages, and the tail after them.
+    /// The buffered bytes: frozen chunks, each of whole pages, and the tail after them.
     pub fn parts(&self) -> (&IoBufs, &[u8])
         ensures bytes { concat result.0.now ++ result.1.now ≡ self.now.bytes }
         ensures whole { AreWholePages self.now.page_size result.0.now }
@@ -174,7 +177,7 @@ impl Buffer {
         (&self.chunks, &self.tail.bytes)
     }
 
-    /// The bytes, where they are less than a page.
+    /// The buffered bytes, where they are fewer than a page.
     pub fn partial(&self) -> &[u8]
         requires { length self.now.bytes < self.now.page_size }
         ensures { result.now ≡ self.now.bytes }
@@ -182,7 +185,8 @@ impl Buffer {
         &self.tail.bytes
     }
 
-    /// Adds the bytes from `start` to before `end`. `OutOfMemory` alone.
+    /// Adds the buffered bytes from `start` to before `end` to `bufs`, counted from the first
+    /// buffered one. The only error is `OutOfMemory`.
     pub fn read_into(&self, bufs: &mut IoBufs, start: usize, end: usize) -> Result<(), Error>
         requires order { start ≤ end }
         requires within { end ≤ length self.now.bytes }
@@ -201,8 +205,8 @@ impl Buffer {
         append_copy(self.alloc, bufs, bytes)
     }
 
-    /// Copies the bytes from byte `offset` on into `buf`, as many as it has room for. It takes no
-    /// memory.
+    /// Fills `buf` with the buffered bytes from byte `offset` on, counted from the first buffered
+    /// one. It takes no memory.
     pub fn copy_to(&self, offset: usize, buf: &mut [u8])
         requires { offset + length buf.old ≤ length self.now.bytes }
         ensures { buf.new ≡ take (length buf.old) (drop offset self.now.bytes) }
@@ -221,7 +225,7 @@ impl Buffer {
         copy_after(buf, done, bytes);
     }
 
-    /// Appends bytes, and answers whether the capacity is now passed.
+    /// Appends bytes, and answers whether more bytes are now buffered than the capacity.
     ///
     /// `OffsetOverflow`, before anything else, where the new size passes the greatest offset;
     /// `OutOfMemory`.
@@ -249,8 +253,8 @@ impl Buffer {
         Ok(end > self.capacity)
     }
 
-    /// Appends bytes where the capacity isn't passed then, and answers the logical offset of the
-    /// first; `None` where it would be.
+    /// Appends bytes where they fit into the capacity, and answers the logical offset of the first;
+    /// `None`, with nothing changed, where they don't fit.
     ///
     /// `OffsetOverflow`, before anything else, where the new size passes the greatest offset;
     /// `OutOfMemory`.
@@ -268,8 +272,9 @@ impl Buffer {
         Ok(Some(offset))
     }
 
-    /// Appends a value's encoded bytes where the capacity isn't passed then, and answers the
-    /// logical offset of the first; `None` where it would be: then the value isn't encoded.
+    /// Appends a value's encoded bytes where they fit into the capacity, and answers the logical
+    /// offset of the first. `None`, with nothing changed, where they don't fit: then the value
+    /// isn't encoded.
     ///
     /// `OffsetOverflow`, before anything else, where the new size passes the greatest offset;
     /// `OutOfMemory`.
@@ -299,7 +304,7 @@ impl Buffer {
     }
 
     /// Hands out the full pages, in order, in chunks of whole pages, and keeps the bytes after
-    /// them. `OutOfMemory` alone.
+    /// them. The only error is `OutOfMemory`, and none comes where no page is full.
     pub fn drain_full_pages(&mut self) -> Result<IoBufs, Error>
         ensures { TipDrainGoes self.old self.new result }
     {
@@ -313,9 +318,10 @@ impl Buffer {
         Ok(mem::replace(&mut self.chunks, IoBufs::new(self.alloc)))
     }
 
-    /// Sets other bytes, less than a page, at another logical offset.
+    /// Replaces all that is buffered by other bytes, fewer than a page, at another logical offset.
     ///
-    /// `OffsetOverflow` where they pass the greatest offset, `OutOfMemory`.
+    /// `OffsetOverflow` where they pass the greatest offset, and else no error except
+    /// `OutOfMemory`.
     pub fn replace(&mut self, offset: u64, bytes: &[u8]) -> Result<(), Error>
         requires { length bytes.now < self.old.page_size }
         ensures { TipReplaceGoes self.old offset bytes.now self.new result }

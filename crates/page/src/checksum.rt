@@ -33,7 +33,7 @@ impl Checksum {
         }
     }
 
-    /// What one slot says: a length in bytes and a checksum.
+    /// What one slot holds: a length in bytes and a checksum.
     pub fn get_slot(&self, slot: Slot) -> (u16, u32)
         ensures { result ≡ said self.now slot }
     {
@@ -85,7 +85,7 @@ impl Checksum {
         }
     }
 
-    /// The six bytes of a slot.
+    /// The six bytes of a slot: its length and its checksum, each big-endian.
     pub fn slot_bytes(len: u16, crc: u32) -> [u8; 6]
         ensures { result ≡ slot_bytes len crc }
     {
@@ -94,16 +94,18 @@ impl Checksum {
         [a, b, c, d, e, f]
     }
 
-    /// The two bytes of a slot's length.
+    /// The two bytes of a slot's length, big-endian.
     pub fn slot_len_bytes(len: u16) -> [u8; 2]
         ensures { result ≡ to_be_bytes w16 len }
     {
         len.to_be_bytes()
     }
 
-    /// The slot that tells the value of a physical page, with the value's length and checksum: of
-    /// the slots that verify the one of the greatest length, the first if both have it. `None`
-    /// where no slot verifies, and for fewer bytes than a footer has.
+    /// The slot that gives the value of a physical page, with the value's length in bytes and its
+    /// checksum. It is the slot of the greatest length among those that verify, and the first if
+    /// both have that length. A slot verifies if its length is from 1 to the payload's and its
+    /// checksum is that of the payload's first bytes of that length. `None` where no slot
+    /// verifies, and for fewer than 12 bytes.
     pub fn validate_page<H: Sum>(page: &[u8]) -> Option<ActiveChecksum>
         ensures { result ≡ active H.sum_of (length page.now - 12) page.now }
     {
@@ -117,8 +119,9 @@ impl Checksum {
         covers::<H>(shorter, payload).then_some(shorter)
     }
 
-    /// The slot of a physical page that isn't its value's, where it neither verifies nor is all
-    /// zero. `None` where no slot verifies, and for fewer bytes than a footer has.
+    /// The slot beside the one that gives a physical page's value, where that other slot neither
+    /// verifies nor is all zero. `None` else, and also where no slot verifies, and for fewer than
+    /// 12 bytes.
     pub fn bad_slot<H: Sum>(page: &[u8]) -> Option<Slot>
         ensures { result ≡ bad_slot H.sum_of (length page.now - 12) page.now }
     {
@@ -129,7 +132,8 @@ impl Checksum {
     }
 }
 
-/// Whether the checksum is that of the payload's first bytes, as many as it says, and at least one.
+/// Whether the checksum is that of the payload's first bytes, as many as the slot's length, and the
+/// length is at least 1.
 fn covers<H: Sum>(checksum: ActiveChecksum, payload: &[u8]) -> bool
     ensures { result ≡ is_checksum_of H.sum_of checksum payload.now }
 {
@@ -137,7 +141,7 @@ fn covers<H: Sum>(checksum: ActiveChecksum, payload: &[u8]) -> bool
     1 <= len && len <= payload.len() && H::sum(&payload[..len]) == checksum.crc
 }
 
-/// Whether a slot that says this neither verifies over the payload nor is all zero.
+/// Whether a slot with this length and checksum neither verifies over the payload nor is all zero.
 fn is_bad<H: Sum>(checksum: ActiveChecksum, payload: &[u8]) -> bool
     ensures { result ≡ is_bad H.sum_of checksum payload.now }
 {

@@ -9,15 +9,15 @@ pub trait EncodeSize {
     /// The bytes that the value is encoded as.
     ghost encoded: { Self → List ℕ };
 
-    /// How many bytes these are.
+    /// How many bytes the value is encoded as.
     fn encode_size(&self) -> usize
         ensures { result ≡ length (encoded self.now) };
 }
 
 /// A value that writes its encoding.
 pub trait Write: EncodeSize {
-    /// Writes the encoded bytes after those that `out` holds. Where `out` has room for all of them
-    /// it answers `Ok`.
+    /// Writes the encoded bytes after those that `out` holds. The answer is `Ok` where `out` has
+    /// room for all of them.
     fn write<O: BufMut>(&self, out: &mut O) -> Result<(), AllocError>
         ensures bytes { OnOk result
             (O.written out.new ≡ O.written out.old ++ Self.encoded self.now) }
@@ -31,6 +31,6 @@ pub trait FixedSize: EncodeSize {
     /// The size of an encoded value in bytes.
     const SIZE: usize;
 
-    /// Each value is encoded as so many bytes.
+    /// Each value is encoded as `SIZE` bytes.
     ghost sized: { (v : Self) → length (Self.encoded v) ≡ SIZE };
 }

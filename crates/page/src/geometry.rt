@@ -9,7 +9,7 @@ ghost use Rattle.page.specs.Geometry.{adjusted, AreInOrder, RangeGoes, RangesGo}
 use disk::Error;
 use std::num::NonZeroU16;
 
-/// The bytes of a footer.
+/// The size of a footer, in bytes.
 pub const CHECKSUM_SIZE: u64 = 12;
 
 /// The logical page size, in bytes, of physical pages of `n` bytes.
@@ -22,8 +22,9 @@ pub fn page_size(n: u32) -> NonZeroU16
     NonZeroU16::new((n - 12) as u16).unwrap()
 }
 
-/// The offset of a physical page, in bytes, and how many bytes it has. `OffsetOverflow` exactly
-/// where the page's end passes the greatest offset.
+/// The offset of a physical page in its blob, in bytes, and the page's size with its footer, in
+/// bytes. Pages are counted from 0. `OffsetOverflow` exactly where the page's end passes the
+/// greatest offset.
 pub fn physical_page(page: u64, page_size: u64) -> Result<(u64, usize), Error>
     ensures offset { OkIff result ((page + 1) * (page_size + 12) < 2 ^ 64)
         (page * (page_size + 12), page_size + 12) }
@@ -39,8 +40,8 @@ pub fn physical_page(page: u64, page_size: u64) -> Result<(u64, usize), Error>
     Ok((offset, size as usize))
 }
 
-/// The capacity of a buffer, in bytes, that holds `capacity` bytes in whole pages, and at least two
-/// pages. `OffsetOverflow` exactly where that passes the greatest length.
+/// `capacity` in bytes, rounded up to whole pages, and at least two pages: the capacity of a buffer
+/// that is to hold so much. `OffsetOverflow` exactly where that passes the greatest length.
 pub fn adjusted_capacity(capacity: usize, page_size: u64) -> Result<usize, Error>
     requires { 0 < page_size }
     ensures capacity { OkIff result (adjusted capacity page_size < 2 ^ 64)
@@ -56,9 +57,9 @@ pub fn adjusted_capacity(capacity: usize, page_size: u64) -> Result<usize, Error
 }
 
 /// Checks that ranges, each an offset and a length in bytes, lie within a blob of `size` bytes. The
-/// caller sees to it that they are in order, without overlaps, and fill a buffer of `buf_len` bytes
-/// together. The first that can't be read decides: `OffsetOverflow` where its end passes the
-/// greatest offset, and else `BlobInsufficientLength` where that passes the size.
+/// caller must pass them in order and without overlaps, and their lengths must come to `buf_len`
+/// bytes together. The first range that can't be read decides the error: `OffsetOverflow` where its
+/// end passes the greatest offset, and else `BlobInsufficientLength` where its end passes the size.
 pub fn validate_read_ranges(buf_len: usize, ranges: &[(u64, usize)], size: u64) -> Result<(), Error>
     requires in_order { AreInOrder ranges.now }
     requires filled { buf_len ≡ sum_by (λ range. range.1) ranges.now }

@@ -6,7 +6,7 @@ ghost use Rattle.page.specs.Tip.{AreWholePages, ArePages};
 use disk::{Error, IoBuf, IoBufs};
 use std::alloc::Global;
 
-/// Adds the pages of one chunk. `OutOfMemory` alone.
+/// Adds the pages of one chunk. The only error is `OutOfMemory`.
 fn push_pages(pages: &mut Vec<IoBuf>, chunk: &IoBuf, page_size: usize) -> Result<(), Error>
     requires some { 0 < page_size }
     requires whole { length chunk.now % page_size ≡ 0 }
@@ -23,7 +23,8 @@ fn push_pages(pages: &mut Vec<IoBuf>, chunk: &IoBuf, page_size: usize) -> Result
 }
 
 #[tactic(auto, using(crate::proofs::Chunks::concat_more))]
-/// The pages that these chunks are, in order, each shared with its chunk. `OutOfMemory` alone.
+/// The pages of these chunks in order, each `page_size` bytes that are shared with its chunk. The
+/// only error is `OutOfMemory`.
 pub fn split_pages(alloc: Global, chunks: &IoBufs, page_size: usize) -> Result<Vec<IoBuf>, Error>
     requires some { 0 < page_size }
     requires whole { AreWholePages page_size chunks.now }

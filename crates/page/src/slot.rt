@@ -31,7 +31,7 @@ impl Slot {
     }
 }
 
-/// The slot that tells a page's value, with the value's length in bytes and its checksum.
+/// The slot that gives a page's value, with the value's length in bytes and its checksum.
 #[derive(Clone, Copy, Debug, PartialEq, Eq)]
 pub struct ActiveChecksum {
     pub slot: Slot,

@@ -1,7 +1,7 @@
 // Checksum functions.
 ghost use Rattle.std.specs.Prelude.{◌≡◌, ◌<◌, ◌≤◌, ◌^◌, ◌%◌, ℕ, List, length, take, sum};
 
-/// A checksum of bytes. Nothing is asked of it but that it is one function of the bytes.
+/// A checksum of bytes. It only has to be one function of the bytes.
 pub trait Sum {
     /// The function.
     ghost sum_of: { List ℕ → ℕ };
@@ -10,8 +10,8 @@ pub trait Sum {
     fn sum(bytes: &[u8]) -> u32
         ensures { result ≡ sum_of bytes.now };
 
-    /// The checksum of these bytes, given that of the first `known` of them. One that can go on from
-    /// there overrides this, and looks at the others alone.
+    /// The checksum of these bytes, given that of the first `known` of them. A checksum that can go
+    /// on from there overrides this call, and reads only the bytes after them.
     fn sum_from(bytes: &[u8], known: usize, sum: u32) -> u32
         requires within { known ≤ length bytes.now }
         requires sum { sum ≡ sum_of (take known bytes.now) }
@@ -24,7 +24,7 @@ pub trait Sum {
     ghost small: { (bytes : List ℕ) → sum_of bytes < 2 ^ 32 };
 }
 
-/// The sum of the bytes, modulo 2 to the 32.
+/// The sum of the bytes, modulo 2 to the power of 32.
 pub struct AddSum;
 
 impl Sum for AddSum {

@@ -8,18 +8,19 @@ use disk::{Error, IoBufs};
 use std::alloc::Global;
 use std::mem;
 
-/// The bytes of a tip after its frozen chunks. When they come to the limit they are frozen too,
-/// where they stand.
+/// The bytes of a tip after its frozen chunks. Once they fill the limit they are frozen too, where
+/// they stand.
 #[derive(Drop)]
 pub(crate) struct Tail {
     pub bytes: Vec<u8>,
-    /// How many bytes there is room for: whole pages, or none where no memory was taken.
+    /// How many bytes the tail has room for: whole pages, or 0 where no memory was taken.
     pub limit: usize,
 }
 
 /// How many bytes the next tail has room for, where a tip of `filled` bytes in whole pages gets
-/// `needed` more: as many as are buffered already, so that the chunks grow with the tip, but not
-/// past the capacity where it has room for what is needed. `OutOfMemory` where that passes `usize`.
+/// `needed` bytes more. The answer is as many as are buffered already, so that the chunks grow with
+/// the tip, and not past the capacity. Where a page or the needed bytes are more, it is that. It is
+/// rounded up to whole pages. `OutOfMemory` where the answer passes `usize`.
 pub(crate) fn next_limit(
     filled: usize,
     needed: usize,
@@ -39,7 +40,7 @@ pub(crate) fn next_limit(
 }
 
 impl Tail {
-    /// A tail that begins with these bytes. `OutOfMemory` alone.
+    /// A tail that begins with these bytes. The only error is `OutOfMemory`.
     fn new(alloc: Global, bytes: &[u8], limit: usize) -> Result<Self, Error>
         ensures bytes { IfOk result (λ t. t.bytes.items ≡ bytes.now) }
         ensures limit { IfOk result (λ t. t.limit ≡ limit) }
@@ -50,8 +51,8 @@ impl Tail {
         Ok(Tail { bytes: tail, limit })
     }
 
-    /// A tail of less than a page: with room for a page, or for nothing where there is no byte.
-    /// `OutOfMemory` alone.
+    /// A tail of fewer bytes than a page: with room for a page, or for nothing where there is no
+    /// byte. The only error is `OutOfMemory`.
     pub fn partial(alloc: Global, bytes: &[u8], page_size: usize) -> Result<Self, Error>
         ensures bytes { IfOk result (λ t. t.bytes.items ≡ bytes.now) }
         ensures limit { IfOk result (λ t. t.limit ≡ page_limit bytes.now page_size) }
@@ -61,7 +62,7 @@ impl Tail {
         Tail::new(alloc, bytes, limit)
     }
 
-    /// How many bytes more there is room for.
+    /// How many bytes more the tail has room for.
     pub fn spare(&self) -> usize
         requires { length self.now.bytes.items ≤ self.now.limit }
         ensures { result ≡ self.now.limit - length self.now.bytes.items }
@@ -69,9 +70,9 @@ impl Tail {
         self.limit - self.bytes.len()
     }
 
-    /// Adds as many bytes as there is room for at least: the first fill the tail, which is frozen,
-    /// and the others begin a new one with this limit. After an error, `OutOfMemory` alone, nothing
-    /// has changed.
+    /// Adds bytes, at least as many as the tail has room for. The first ones fill the tail, which
+    /// is then frozen, and the others begin a new tail with this limit. The only error is
+    /// `OutOfMemory`, and after it nothing has changed.
     pub fn extend(
         &mut self,
         alloc: Global,
@@ -96,8 +97,8 @@ impl Tail {
         self.retire(chunks, front, next)
     }
 
-    /// Fills the tail with these bytes and freezes it after the chunks; the next takes its place.
-    /// After an error, `OutOfMemory` alone, nothing has changed.
+    /// Fills the tail with these bytes and freezes it after the chunks; the next tail takes its
+    /// place. The only error is `OutOfMemory`, and after it nothing has changed.
     fn retire(&mut self, chunks: &mut IoBufs, front: &[u8], next: Tail) -> Result<(), Error>
         ensures chunks { OnOk result
             (chunks.new ≡ with_buf chunks.old (self.old.bytes.items ++ front.now)) }
@@ -121,9 +122,9 @@ impl Tail {
         Ok(())
     }
 
-    /// Freezes the tail's full pages after the chunks, and keeps the bytes after them: in memory
-    /// of their own, where they stood in a chunk of more than a page. After an error, `OutOfMemory`
-    /// alone, nothing has changed.
+    /// Freezes the tail's full pages after the chunks, and keeps the bytes after those pages. A
+    /// tail with a full page, or with room for more than one, moves these bytes to memory of their
+    /// own. The only error is `OutOfMemory`, and after it nothing has changed.
     pub fn freeze_full_pages(
         &mut self,
         alloc: Global,

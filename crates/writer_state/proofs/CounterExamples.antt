@@ -1,5 +1,6 @@
--- What the words of a disk, of pages, of a crash and of a sound writer don't hold of, though it is nearly right; and an example
--- where one was missing. Pages have 4 bytes, and the checksum is their sum.
+-- What the words of a disk, of pages, of a crash and of a sound writer don't hold of, though it is
+-- nearly right; and an example for each word that had none. Pages have 4 bytes, and the checksum is
+-- their sum.
 use Rattle.std.proofs.Common.{◌≡◌, inl, inr, ℕ, List, [], ◌∷◌, ◌++◌, length, refl, ap, arith, Ok, Err}
 use Rattle.std.specs.Prelude.{Some, None, get_or, true, false}
 use Rattle.disk.specs.Disk.{IsWhole, LogGrows, SomeFailed, HasFailed, logged, next}
@@ -35,12 +36,12 @@ no_torn_whole (inr new) = omega (arith, ap (λ (l : List ℕ). get_or l 1 0) new
 pub a_write_failed : SomeFailed WriteFailed (record { request = ReadAt 0 16; failed = false } ∷ record { request = WriteAt 0 16 false; failed = true } ∷ [])
 a_write_failed = inr (inl (refl, refl))
 
--- the call that failed has its own error
+-- a write that failed isn't a sync that failed: each call has its own error
 pub no_sync_failed : SomeFailed SyncFailed (record { request = WriteAt 0 16 false; failed = true } ∷ []) → ⊥
 no_sync_failed (inl (failed, is)) = absurd (cc is)
 no_sync_failed (inr none) = none
 
--- and one that didn't fail has none
+-- a write that didn't fail has no error
 pub no_write_failed : SomeFailed WriteFailed (record { request = WriteAt 0 16 false; failed = false } ∷ []) → ⊥
 no_write_failed (inl (failed, is)) = absurd (cc failed)
 no_write_failed (inr none) = none
@@ -48,7 +49,7 @@ no_write_failed (inr none) = none
 pub a_read_failed : HasFailed ReadFailed durable (logged (ReadAt 0 16) true durable)
 a_read_failed = (record { request = ReadAt 0 16; failed = true } ∷ [], refl, inl (refl, refl))
 
--- not after it
+-- a read that failed before a moment didn't fail after it
 pub no_read_failed_since : HasFailed ReadFailed (logged (ReadAt 0 16) true durable) (logged (ReadAt 0 16) true durable) → ⊥
 no_read_failed_since ([], is, some) = some
 no_read_failed_since (e ∷ es, is, some) = absurd (omega (arith, ap length is))
@@ -62,7 +63,7 @@ no_log_shrinks (more, is) = omega (arith, ap length is)
 pub no_range_past_the_end : EndWithin 6 ((0, 2) ∷ (4, 3) ∷ []) → ⊥
 no_range_past_the_end ends = absurd (omega (arith, ends 1 (4, 3) (omega arith)))
 
--- a range up to the end isn't refused, and one past it isn't read
+-- a range up to the end gives no error, and one past it can't be read
 pub no_error_at_the_end : RangeGoes 6 (4, 2) (Err BlobInsufficientLength) → ⊥
 no_error_at_the_end goes = omega (arith, goes.1)
 
@@ -81,7 +82,8 @@ a_one_is_no_zero is = omega (arith, is.0)
 pub no_zero_behind_the_base : IsCutZero cut_page 16 0 → ⊥
 no_zero_behind_the_base is = omega (arith, is.1)
 
--- a slot that says three bytes and verifies over none isn't good, nor is its page, nor a blob of it
+-- a slot with length 3 that verifies over nothing isn't good, nor is its page, nor is a blob of
+-- that page
 pub it_is_bad : IsGood add_sum 4 Second torn_page → ⊥
 it_is_bad good = omega (arith, good (omega arith) (omega arith))
 
@@ -94,7 +96,7 @@ all_is_good_from_the_second_on = a_sound_writer.good
 pub not_all_is_good : IsGoodFrom add_sum 4 0 (at_rest torn_page) → ⊥
 not_all_is_good good = its_page_is_bad (good torn_page refl 0 (omega arith))
 
--- "ef" has the checksum that its slot says, and not the next one
+-- "ef" has the checksum in its slot, and not the checksum 204
 pub it_tells_ef : DurableTells add_sum (101 ∷ 102 ∷ 103 ∷ []) (Some ef_slot)
 it_tells_ef = refl
 
@@ -103,11 +105,11 @@ it_tells_no_other tells = omega (arith, tells)
 
 -- ---- what a crash keeps
 
--- of a blob at rest all is fixed
+-- all of a blob with nothing unsynced is fixed
 pub ef_is_fixed : Fixed durable 16 (101 ∷ 102 ∷ [])
 ef_is_fixed = fixed_at_rest durable 16 (101 ∷ 102 ∷ []) refl (omega arith) refl
 
--- the slot of "efg", which isn't synced, holds nothing
+-- the slot of "efg", which isn't synced, guards nothing
 abbrev pub efg_slot : ActiveChecksum
 efg_slot = record { slot = Second; len = 3; crc = 306 }
 
@@ -133,7 +135,7 @@ the_new_tip_is_not guard = efg_does_not_guard guard
 pub g_is_not_guarded : Guards add_sum 4 seven 7 rewritten → ⊥
 g_is_not_guarded guards = a_lost_floor ((guarded_is_kept add_sum 4 seven 7 rewritten guards (omega arith)).kept (abcd_page ++ ef_page) (base_is_image rewritten))
 
--- and a crash may leave it: "abcdef" isn't all that there is
+-- a crash may leave "g": "abcdef" isn't all that there is
 pub g_may_be_left : AllOnly add_sum 4 six six rewritten → ⊥
 g_may_be_left all = elim (all.only rewritten.readable (whole_is_image rewritten rewritten.readable (inr refl)) (whole_is_chance_free add_sum 4 rewritten rewritten.readable (inr refl))) [
   | inl is ↦ omega (arith, ap length is)
@@ -162,7 +164,7 @@ no_floor_is_kept keeps =
     let kept : AllKeep add_sum 4 six 6 (at_rest []) = through_end (AllKeep add_sum 4 six 6) before (next before (at_rest [])) (keeps 6 (omega arith) all_keep) in
     omega (arith, ap length (kept.kept [] (base_is_image (at_rest []))))
 
--- and the flush of "g" leaves more than "abcdef"
+-- the flush of "g" may leave more than "abcdef"
 pub it_leaves_more : LeavesOnly add_sum 4 six six before after → ⊥
 it_leaves_more leaves = g_may_be_left (through_end (AllOnly add_sum 4 six six) before after leaves)
 
@@ -183,32 +185,33 @@ no_page_of_ex has = omega (arith, ap (λ (l : List ℕ). get_or l 1 0) has.begin
 pub ef_is_the_tips_page : TipPage add_sum 4 1 (101 ∷ 102 ∷ 103 ∷ []) (abcd_page ++ ef_page) (Some ef_slot)
 ef_is_the_tips_page = it_stands.tip_page
 
--- nor is there none of it in the blob
+-- the blob has the page of "ef", so a tip of which nothing was written doesn't fit it
 pub it_has_a_page : TipPage add_sum 4 1 (101 ∷ 102 ∷ 103 ∷ []) (abcd_page ++ ef_page) None → ⊥
 it_has_a_page none = omega (arith, none)
 
 pub clean_at_rest : StateFits durable Clean
 clean_at_rest = (refl, refl)
 
--- not once something is unsynced
+-- a clean writer doesn't fit a disk once something is unsynced
 pub not_clean_since : StateFits rewritten Clean → ⊥
 not_clean_since fits = omega (arith, ap length fits.0)
 
 pub one_is_pending : StartsFit flush_started (Pending 0)
 one_is_pending = it_is_pending
 
--- a writer that waits for no sync has none that isn't settled
+-- a dirty writer has no started sync that isn't settled
 pub a_dirty_one_has_none : StartsFit flush_started Dirty → ⊥
 a_dirty_one_has_none fits = one_is_not_settled fits
 
--- where something is unsynced a flush repeats the durable slot, and not the one that was written last
+-- where something is unsynced a flush repeats the durable slot, and not the one that was written
+-- last
 pub it_repeats_ef : IsRepeated Dirty (Some efg_slot) (Some ef_slot) (Some ef_slot)
 it_repeats_ef = refl
 
 pub it_does_not_repeat_efg : IsRepeated Dirty (Some efg_slot) (Some ef_slot) (Some efg_slot) → ⊥
 it_does_not_repeat_efg is = omega (arith, ap kept_len is)
 
--- a writer with an empty tip over the page of "ef" doesn't stand, and isn't sound
+-- a writer with an empty tip over the page of "ef" doesn't fit what is readable, and isn't sound
 pub it_does_not_stand : IsWrittenOut add_sum (record with_g { tip = []; flushed = None; durable = None }) durable → ⊥
 it_does_not_stand stands = let size : 32 ≡ 16 = stands.tip_page in omega (arith, size)
 
@@ -220,14 +223,14 @@ pub it_is_not_sound : IsSound add_sum (record with_g { tip = []; flushed = None;
 unfolding IsSound
 it_is_not_sound sound = an_unsound_writer sound
 
--- one that takes nothing for durable isn't safe where "abcdef" is
+-- a writer that takes nothing for durable isn't safe where "abcdef" is durable
 pub it_is_not_safe : IsSafe add_sum (record with_g { full_pages = 0; flushed = None; durable = None }) seven durable → ⊥
 it_is_not_safe safe = elim safe.position [
   | inl (few, none) ↦ omega (arith, safe.base, few, ap kept_len none)
   | inr (at, is) ↦ omega (arith, safe.base, at, ap kept_len is)
 ]
 
--- one that forgot "f" leaves more than its content
+-- a crash may leave more than the content of a writer that forgot "f"
 pub f_is_left : LeavesItsContent add_sum (record with_g { tip = 101 ∷ [] }) durable → ⊥
 f_is_left leaves = elim (leaves.only durable.readable (base_is_image durable) (whole_is_chance_free add_sum 4 durable durable.readable refl)) [
   | inl is ↦ omega (arith, ap length is)

@@ -18,7 +18,7 @@ use Rattle.writer_state.proofs.Soundness.{operated_stays, operated_settle_stays}
 use Rattle.writer_state.proofs.StartedLaws.{write_covers, settle_covers, covers_join, alike_covers}
 
 module _ (sum : List ℕ → ℕ) (P : ℕ) (content : List ℕ) (old : Life) where
-  -- a moment of a call owes itself nothing
+  -- what a started sync would keep at a moment it would keep at that moment
   itself : CoversStay sum P content old.present old.present
   itself name cover enough would = would
 
@@ -32,14 +32,14 @@ module _ (sum : List ℕ → ℕ) (P : ℕ) (content : List ℕ) (old : Life) wh
   covers_two new d e is first second =
       subst (λ (life : Life). CoversThrough sum P content old life) (sym is) (through_more (CoversStay sum P content old.present) old (next old d) e (covers_one (next old d) d refl first) second)
 
--- one call after another
+-- what a started sync would keep it would keep at each moment of two calls in turn
 pub covers_through_join : (sum : List ℕ → ℕ) (P : ℕ) (content : List ℕ) (old mid new : Life) → CoversThrough sum P content old mid → CoversThrough sum P content mid new → CoversThrough sum P content old new
 covers_through_join sum P content old mid new first second =
     let reached = through_end (CoversStay sum P content old.present) old mid first in
     through_joins (CoversStay sum P content old.present) old mid new first
     (through_then (CoversStay sum P content mid.present) (CoversStay sum P content old.present) mid new (λ d later. covers_join sum P content old.present mid.present d reached later) second)
 
--- a sync
+-- a sync keeps what started syncs cover, whatever the device answers
 module _ (sum : List ℕ → ℕ) (w : WriterState) (old new : Life) (sound : Consistency sum w old.present) where
   abbrev all : List ℕ
   all = content w old.present.readable
@@ -52,7 +52,7 @@ module _ (sum : List ℕ → ℕ) (w : WriterState) (old new : Life) (sound : Co
   sync_covers (Err OutOfMemory) is = covers_none sum w.page_size all old new is
   sync_covers (Err e) goes = absurd goes
 
--- a flush
+-- a flush keeps what started syncs cover, whatever the device answers
 module _ (sum : List ℕ → ℕ) (w : WriterState) (old new : Life) (k : ℕ) (rest : Bool) (bytes : List ℕ) (small : IsSmall sum) (sound : Consistency sum w old.present) (ready : MayFlush w.sync w.flushed w.durable)
     (can : CanWrite w.page_size w.tip k rest) (is : bytes ≡ built sum w.page_size w.durable (written_pages k rest) w.tip) where
   abbrev whole : List ℕ
@@ -90,7 +90,7 @@ module _ (sum : List ℕ → ℕ) (w : WriterState) (old new : Life) (k : ℕ) (
   write_covers_through false (Err OutOfMemory) (same, has) = covers_none sum w.page_size whole old new same
   write_covers_through false (Err e) (fault, (d, goes, done)) = covers_one sum w.page_size whole old new d goes (operated (WriteAt offset (length bytes) false) true d done)
 
--- what is covered of a longer content is covered of its beginning
+-- what a started sync would keep of a longer content it would keep of a beginning of that
 pub would_longer : (sum : List ℕ → ℕ) (P : ℕ) (content longer : List ℕ) (name cover : ℕ) (d : Disk) → content ≡ take (length content) longer → cover ≤ length content → WouldKeep sum P content name cover d → WouldKeep sum P longer name cover d
 would_longer sum P content longer name cover d begins enough would = record { covers = would.covers; named = would.named; keeps = keeps_longer sum P content longer cover (disk_settled_to would.covers d) begins enough would.keeps }
 

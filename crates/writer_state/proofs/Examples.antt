@@ -1,5 +1,5 @@
--- Each definition that the promise rests on, at a few bytes. Pages have 4 bytes, and the checksum is their sum, where it
--- isn't said otherwise.
+-- Each definition that the promise rests on, at a few bytes. Pages have 4 bytes, and the checksum
+-- is their sum, where it isn't said otherwise.
 use Rattle.std.proofs.Common.{◌≡◌, ◌⊎◌, inl, inr, ℕ, zero, suc, ◌+◌, ◌*◌, ◌<◌, ◌≤◌, List, [], ◌∷◌, ◌++◌, length, take, drop, refl, sym, ◌∙◌, ap, subst, arith, length-take-le, lit<}
 use Rattle.std.specs.Prelude.{Some, None, Ok, true, false, slice_get, get_or}
 use Rattle.std.proofs.lemmas.Option.{same_Some}
@@ -47,7 +47,7 @@ use Rattle.crash.proofs.BelowLaws.{pages_one}
 abbrev pub at_rest : List ℕ → Disk
 at_rest bytes = record { readable = bytes; base = bytes; since = []; settled = 0; started = []; log = [] }
 
--- and then this operation was done, and isn't durable
+-- a disk on which one more operation was done that isn't durable
 abbrev pub and_then : Operation → Request → Disk → Disk
 and_then o request d = record d { readable = applied o d.readable; since = d.since ++ o ∷ []; log = d.log ++ record { request = request; failed = false } ∷ [] }
 
@@ -63,19 +63,19 @@ a_write_within = refl
 pub a_cut : applied (Resize 2) (1 ∷ 2 ∷ 3 ∷ []) ≡ 1 ∷ 2 ∷ []
 a_cut = refl
 
--- and one to more adds zeros
+-- a resize to more bytes adds zeros
 pub an_extension : applied (Resize 3) (1 ∷ []) ≡ 1 ∷ 0 ∷ 0 ∷ []
 an_extension = refl
 
--- both of two operations
+-- both of two operations are done
 pub the_latest : latest (1 ∷ 2 ∷ []) (Write 1 (9 ∷ []) ∷ Resize 3 ∷ []) ≡ 1 ∷ 9 ∷ 0 ∷ []
 the_latest = refl
 
--- where a write isn't synced there are two whole states: the old bytes
+-- a write that isn't synced makes two whole states; the old bytes are one
 pub the_old_whole : IsWhole (1 ∷ 2 ∷ []) (Write 0 (9 ∷ []) ∷ []) (1 ∷ 2 ∷ [])
 the_old_whole = inl refl
 
--- and the new ones
+-- the new bytes are the other
 pub the_new_whole : IsWhole (1 ∷ 2 ∷ []) (Write 0 (9 ∷ []) ∷ []) (9 ∷ 2 ∷ [])
 the_new_whole = inr refl
 
@@ -151,11 +151,11 @@ rewritten = and_then (Write 16 efg_page) (WriteAt 16 16 false) durable
 pub a_kept_floor : ImageKeeps add_sum 4 seven 5 (abcd_page ++ ef_page)
 a_kept_floor = refl
 
--- but not with seven
+-- the seven bytes aren't all there
 pub a_lost_floor : ImageKeeps add_sum 4 seven 7 (abcd_page ++ ef_page) → ⊥
 a_lost_floor keeps = omega (arith, ap length keeps)
 
--- whatever a crash leaves of the durable blob says "abcdef"
+-- every image of the durable blob has "abcdef" as its text
 pub all_keep : AllKeep add_sum 4 six 6 durable
 all_keep = keeps_at_rest add_sum 4 durable refl
 
@@ -167,7 +167,7 @@ the_stored = refl
 pub are_full : AreFull add_sum 4 (abcd_page ∷ [])
 are_full = (refl, tt)
 
--- the second isn't
+-- the second page isn't full
 pub are_not_full : AreFull add_sum 4 (ef_page ∷ []) → ⊥
 are_not_full full = omega (arith, full.0)
 
@@ -177,7 +177,8 @@ are_not_full full = omega (arith, full.0)
 abbrev pub ef_slot : ActiveChecksum
 ef_slot = record { slot = First; len = 2; crc = 203 }
 
--- page 1 of the durable blob is held by its first slot: "ef", its six bytes and the page's end are fixed
+-- page 1 of the durable blob is pinned by its first slot: "ef", its six bytes and the page's end
+-- are fixed
 pub ef_is_held : IsPinned add_sum 4 durable 1 First (0 ∷ 2 ∷ 0 ∷ 0 ∷ 0 ∷ 203 ∷ []) (101 ∷ 102 ∷ [])
 ef_is_held = record {
   some = omega arith;
@@ -188,17 +189,18 @@ ef_is_held = record {
   end = fixed_at_rest durable 32 [] refl (omega arith) refl;
 }
 
--- each page that the first six bytes touch is held
+-- each page that the first six bytes touch is guarded
 pub six_are_guarded : Guards add_sum 4 six 6 durable
 six_are_guarded = guards_at_rest add_sum 4 durable (omega arith) refl
 
 -- ---- writers
 
--- the writer of that blob once "g" was appended: one full page, a tip of "efg", of which "ef" was written
+-- the writer of that blob once "g" was appended: one full page, a tip of "efg", of which "ef" was
+-- written
 abbrev pub with_g : WriterState
 with_g = record { page_size = 4; id = 0; capacity = 8; full_pages = 1; tip = 101 ∷ 102 ∷ 103 ∷ []; flushed = Some ef_slot; durable = Some ef_slot; sync = Clean }
 
--- it stands for "abcdefg"
+-- the content of that writer is "abcdefg"
 pub the_content : content with_g (abcd_page ++ ef_page) ≡ seven
 the_content = refl
 
@@ -206,19 +208,19 @@ the_content = refl
 pub the_guard_slot : guard_slot Clean (Some ef_slot) None ≡ Some ef_slot
 the_guard_slot = refl
 
--- and a dirty one's the durable slot, here none
+-- a dirty writer's flush repeats the durable slot, here none
 pub the_dirty_guard_slot : guard_slot Dirty (Some ef_slot) None ≡ None
 the_dirty_guard_slot = refl
 
--- what its flush writes: the old slot stays in its place
+-- what the flush of that writer writes: the old slot stays in its place
 pub the_flush : built add_sum 4 (Some ef_slot) 1 (101 ∷ 102 ∷ 103 ∷ []) ≡ efg_page
 the_flush = refl
 
--- the blob has its page
+-- the blob has the page of that writer's tip
 has_ef : HasTipPage add_sum 4 1 (101 ∷ 102 ∷ 103 ∷ []) (abcd_page ++ ef_page) ef_slot
 has_ef = record { size = refl; some = omega arith; there = omega arith; part = omega arith; crc = refl; value = refl; begins = refl; slot = refl }
 
--- neither slot of it is bad
+-- neither slot of the page of "ef" is bad
 ef_good : (s : Slot) → IsGood add_sum 4 s ef_page
 ef_good First = λ some fits. refl
 ef_good Second = λ some fits. absurd (omega (arith, some))
@@ -230,23 +232,23 @@ ef_is_good page is s = subst (λ (l : List ℕ). IsGood add_sum 4 s l) (same_Som
 pub a_sound_writer : Soundness add_sum with_g durable
 a_sound_writer = page_sound add_sum with_g durable refl refl (omega arith) (lit< tt) (refl, tt) refl (λ name c is. absurd (cc is)) small_add_sum ef_slot refl has_ef ef_is_good
 
--- so it stands for what is readable
+-- that writer fits what is readable
 pub it_stands : IsWrittenOut add_sum with_g durable
 it_stands = a_sound_writer.stands
 
--- its durable bytes are guarded
+-- the durable bytes of that writer are guarded
 pub it_is_safe : IsSafe add_sum with_g seven durable
 it_is_safe = a_sound_writer.safe
 
--- and the blob says nothing but "abcdefg" in any slot
+-- each slot of the blob that verifies does so over bytes of "abcdefg"
 pub it_is_truthful : IsTruthful add_sum 4 seven durable
 it_is_truthful = a_sound_writer.truthful
 
--- a writer that tells an empty tip over a page of two bytes isn't sound: it would write over them
+-- a writer with an empty tip over a page of two bytes isn't sound: it would write over them
 pub an_unsound_writer : Soundness add_sum (record with_g { tip = []; flushed = None; durable = None }) durable → ⊥
 an_unsound_writer sound = let size : 32 ≡ 16 = sound.stands.tip_page in omega (arith, size)
 
--- the page below its tip is full
+-- the page below that writer's tip is full
 pub it_is_intact : IsIntact add_sum with_g durable
 it_is_intact = a_sound_writer.full
 
@@ -254,7 +256,8 @@ it_is_intact = a_sound_writer.full
 abbrev pub zero_page : List ℕ
 zero_page = 0 ∷ 0 ∷ 0 ∷ 0 ∷ 0 ∷ 0 ∷ 0 ∷ 0 ∷ 0 ∷ 0 ∷ 0 ∷ 0 ∷ 0 ∷ 0 ∷ 0 ∷ 0 ∷ []
 
--- over it, since it has no value, the same writer is consistent: its content has the zeros
+-- over a page of zeros, which has no value, the same writer is consistent: its content has the
+-- zeros
 abbrev pub damaged : Disk
 damaged = at_rest (zero_page ++ ef_page)
 
@@ -274,7 +277,7 @@ it_is_consistent = a_consistent_writer
 pub it_holds_the_zeros : content with_g damaged.readable ≡ 0 ∷ 0 ∷ 0 ∷ 0 ∷ 101 ∷ 102 ∷ 103 ∷ []
 it_holds_the_zeros = refl
 
--- but it isn't sound
+-- over that page it isn't sound
 pub zeros_are_not_intact : IsIntact add_sum with_g damaged → ⊥
 zeros_are_not_intact full = omega (arith, full.0)
 
@@ -282,7 +285,7 @@ pub a_damaged_one_is_not_sound : IsSound add_sum with_g damaged → ⊥
 unfolding IsSound
 a_damaged_one_is_not_sound sound = zeros_are_not_intact sound.full
 
--- a writer that tells an empty tip over a page of two bytes isn't consistent either
+-- a writer with an empty tip over a page of two bytes isn't consistent either
 pub an_inconsistent_writer : IsConsistent add_sum (record with_g { tip = []; flushed = None; durable = None }) durable → ⊥
 unfolding IsConsistent
 an_inconsistent_writer holds = let size : 32 ≡ 16 = holds.stands.tip_page in omega (arith, size)
@@ -304,11 +307,11 @@ a_sound_dirty_writer =
     (operated_consistent add_sum with_g durable rewritten 0 true efg_page small_add_sum (consistent_of add_sum with_g durable a_sound_writer) refl (omega arith, omega arith) refl (WriteAt 16 16 false) flush_is_done)
     (refl, tt)
 
--- each floor that was kept before the flush is kept in the midst of it, and there is only content
+-- in the midst of the flush each floor that was kept before it is kept, and there is only content
 pub it_stays : Stays add_sum 4 seven durable rewritten
 it_stays = operated_stays add_sum with_g durable rewritten 0 true efg_page small_add_sum (consistent_of add_sum with_g durable a_sound_writer) refl (omega arith, omega arith) refl (WriteAt 16 16 false) false flush_is_done
 
--- the old slot of "ef" is repeated, so page 1 is held by it in the midst of the flush
+-- the old slot of "ef" is repeated, so page 1 is pinned by that slot in the midst of the flush
 pub ef_stays_held : IsPinned add_sum 4 rewritten 1 First (0 ∷ 2 ∷ 0 ∷ 0 ∷ 0 ∷ 203 ∷ []) (101 ∷ 102 ∷ [])
 ef_stays_held = held_through_flush add_sum 4 1 durable rewritten ef_slot 1 (101 ∷ 102 ∷ 103 ∷ []) (101 ∷ 102 ∷ []) refl refl refl ef_is_held
 
@@ -320,11 +323,11 @@ new_slot_moves fixed = omega (arith, same_Some 0 3 (fixed.base 1 3 refl))
 abbrev pub before : Life
 before = record { present = durable; past = [] }
 
--- and goes on by this flush
+-- that life with this flush
 abbrev pub after : Life
 after = next before rewritten
 
--- by one moment
+-- the flush is one moment
 pub one_moment : after ≡ life_after before (rewritten ∷ [])
 one_moment = refl
 
@@ -332,7 +335,7 @@ one_moment = refl
 pub at_each : Each (λ d. length d.base ≡ 32) (durable ∷ rewritten ∷ [])
 at_each = (refl, (refl, tt))
 
--- and from a life's moment on
+-- what holds at each moment of a life from one on, here that the base is 32 bytes long
 pub all_through : Through (λ d. length d.base ≡ 32) before after
 unfolding Through
 all_through = record { moments = rewritten ∷ []; goes = refl; start = refl; each = (refl, tt) }
@@ -341,7 +344,7 @@ all_through = record { moments = rewritten ∷ []; goes = refl; start = refl; ea
 stays_at_start : Stays add_sum 4 seven durable durable
 stays_at_start = stays_itself add_sum 4 seven durable it_is_truthful a_sound_writer.vouched
 
--- at each moment of the flush
+-- `Stays` holds at each moment of the flush
 pub it_stays_through : StaysThrough add_sum 4 seven before after
 unfolding Through
 it_stays_through = record { moments = rewritten ∷ []; goes = refl; start = stays_at_start; each = (it_stays, tt) }
@@ -350,7 +353,7 @@ it_stays_through = record { moments = rewritten ∷ []; goes = refl; start = sta
 pub keeps_floors : KeepsFloors add_sum 4 seven before after
 keeps_floors = kept_through add_sum 4 seven before after it_stays_through
 
--- the six bytes in a content of seven
+-- the six bytes of a content of seven are kept
 six_of_seven : AllKeep add_sum 4 seven 6 durable
 six_of_seven = keeps_same add_sum 4 six seven 6 durable refl all_keep
 
@@ -358,12 +361,14 @@ six_of_seven = keeps_same add_sum 4 six seven 6 durable refl all_keep
 pub six_are_kept : Through (AllKeep add_sum 4 seven 6) before after
 six_are_kept = keeps_floors 6 (omega arith) six_of_seven
 
--- and each floor of any other content, since the writer was sound: that can only begin as "abcdef" does
+-- the flush keeps each floor of any other content too, since the writer was sound: that content can
+-- only begin as "abcdef" does
 pub keeps_all_floors : KeepsAllFloors add_sum 4 before after
 unfolding IsSound
 keeps_all_floors = floors_of_sound add_sum with_g before after a_sound_writer keeps_floors
 
--- chance aside, a crash before it leaves of its writer's content a beginning
+-- each chance-free image of the blob before the flush has as its text a prefix of the writer's
+-- content
 pub leaves_its_content : LeavesItsContent add_sum with_g durable
 unfolding IsSound
 leaves_its_content = sound_leaves add_sum with_g durable a_sound_writer
@@ -372,7 +377,7 @@ leaves_its_content = sound_leaves add_sum with_g durable a_sound_writer
 pub leaves_no_more : LeavesNoMore rewritten durable
 leaves_no_more = λ image is_image. subst (IsImage rewritten) (sym (only_image durable image refl is_image)) (base_is_image rewritten)
 
--- while the flush may leave what was not there before it
+-- the flush may leave what was not there before it
 pub leaves_more : LeavesNoMore durable rewritten → ⊥
 leaves_more less =
     let flushed = less rewritten.readable (whole_is_image rewritten rewritten.readable (inr refl)) in
@@ -380,11 +385,12 @@ leaves_more less =
     let byte : 103 ≡ 0 = ap (λ (l : List ℕ). get_or l 18 0) same in
     omega (arith, byte)
 
--- and chance aside a prefix of "abcdefg", the content on both sides of the flush
+-- each chance-free image at each moment of the flush has as its text a prefix of "abcdefg", the
+-- content on both sides of it
 pub leaves_only : LeavesOnly add_sum 4 seven seven before after
 leaves_only = only_through add_sum 4 seven seven before after it_stays_through
 
--- as at the moment of it
+-- each chance-free image in the midst of the flush has as its text a prefix of "abcdefg"
 pub all_only : AllOnly add_sum 4 seven seven rewritten
 all_only = record { only = λ image is_image free. inl (it_stays.only image is_image free); vouched = it_stays.vouched }
 
@@ -403,21 +409,21 @@ only_page x page (suc p) is = absurd (cc is)
 abbrev pub one_page : Disk
 one_page = and_then (Write 0 efg_page) (WriteAt 0 16 false) (at_rest ef_page)
 
--- the rewrite torn before its last byte: the new slot says another sum, 256
+-- the rewrite torn before its last byte: the new slot has another checksum, 256
 abbrev pub torn_page : List ℕ
 torn_page = 101 ∷ 102 ∷ 103 ∷ 0 ∷ 0 ∷ 2 ∷ 0 ∷ 0 ∷ 0 ∷ 203 ∷ 0 ∷ 3 ∷ 0 ∷ 0 ∷ 1 ∷ 0 ∷ []
 
--- it doesn't verify, so the image still says "ef"
+-- the new slot doesn't verify, so the image's text still is "ef"
 pub a_torn_text : text add_sum 4 torn_page ≡ 101 ∷ 102 ∷ []
 a_torn_text = refl
 
--- what each slot of it says was said in the durable page
+-- each slot of the torn page that verifies did so in the durable page
 says_before : (s : Slot) → 0 < verified_len add_sum 4 s torn_page
     → (whole held : List ℕ) × IsWhole ef_page (Write 0 efg_page ∷ []) whole × (slice_get (pages 4 whole) 0 ≡ Some held) × (verified_len add_sum 4 s held ≡ verified_len add_sum 4 s torn_page) × (take (verified_len add_sum 4 s torn_page) held ≡ take (verified_len add_sum 4 s torn_page) torn_page)
 says_before First some = (ef_page, ef_page, inl refl, refl, refl, refl)
 says_before Second some = absurd (omega (arith, some))
 
--- so it is chance-free
+-- so the torn page is chance-free
 pub a_chance_free_image : IsChanceFree add_sum 4 one_page torn_page
 a_chance_free_image = λ p page is.
     let one = only_page torn_page page p is in
@@ -426,7 +432,7 @@ a_chance_free_image = λ p page is.
     (subst (λ (l : List ℕ). (s : Slot) → 0 < verified_len add_sum 4 s l
     → (whole held : List ℕ) × IsWhole ef_page (Write 0 efg_page ∷ []) whole × (slice_get (pages 4 whole) 0 ≡ Some held) × (verified_len add_sum 4 s held ≡ verified_len add_sum 4 s l) × (take (verified_len add_sum 4 s l) held ≡ take (verified_len add_sum 4 s l) l)) one.0 says_before)
 
--- as is each whole state, here the durable one
+-- each whole state is chance-free, here the durable one
 pub a_whole_image : IsChanceFree add_sum 4 one_page ef_page
 a_whole_image = whole_is_chance_free add_sum 4 one_page ef_page (inl refl)
 
@@ -434,7 +440,7 @@ a_whole_image = whole_is_chance_free add_sum 4 one_page ef_page (inl refl)
 abbrev pub weak_ef : List ℕ
 weak_ef = 101 ∷ 102 ∷ 0 ∷ 0 ∷ 0 ∷ 2 ∷ 0 ∷ 0 ∷ 0 ∷ 0 ∷ 0 ∷ 0 ∷ 0 ∷ 0 ∷ 0 ∷ 0 ∷ []
 
--- and its rewrite as "efg"
+-- the rewrite of that page as "efg"
 abbrev pub weak_efg : List ℕ
 weak_efg = 101 ∷ 102 ∷ 103 ∷ 0 ∷ 0 ∷ 2 ∷ 0 ∷ 0 ∷ 0 ∷ 0 ∷ 0 ∷ 3 ∷ 0 ∷ 0 ∷ 0 ∷ 0 ∷ []
 
@@ -446,7 +452,7 @@ weak_torn = 101 ∷ 102 ∷ 0 ∷ 0 ∷ 0 ∷ 2 ∷ 0 ∷ 0 ∷ 0 ∷ 0 ∷ 0 �
 abbrev pub weak_page : Disk
 weak_page = and_then (Write 0 weak_efg) (WriteAt 0 16 false) (at_rest weak_ef)
 
--- a crash may leave that
+-- a crash may leave the page of which only the new slot is done
 pub weak_torn_is_image : IsImage weak_page weak_torn
 weak_torn_is_image = torn_is_image weak_page weak_torn (
   weak_torn,
@@ -457,15 +463,15 @@ weak_torn_is_image = torn_is_image weak_page weak_torn (
   refl,
 )
 
--- and it says "ef" and a zero, which nobody appended
+-- its text is "ef" and a zero, which nobody appended
 pub a_chance_text : text const_sum 4 weak_torn ≡ 101 ∷ 102 ∷ 0 ∷ []
 a_chance_text = refl
 
--- the page of a blob of one page
+-- the one page of a blob of one page
 held_is : (x whole held : List ℕ) → whole ≡ x → slice_get (pages 4 x) 0 ≡ Some x → slice_get (pages 4 whole) 0 ≡ Some held → x ≡ held
 held_is x whole held same is there = same_Some x held (sym is ∙ ap (λ (l : List ℕ). slice_get (pages 4 l) 0) (sym same) ∙ there)
 
--- it isn't chance-free: "ef" and a zero stand under a slot of three bytes in no whole state
+-- that image isn't chance-free: "ef" and a zero stand under a slot of three bytes in no whole state
 pub not_chance_free : IsChanceFree const_sum 4 weak_page weak_torn → ⊥
 not_chance_free free =
     let was = free 0 weak_torn refl Second (omega arith) in
@@ -476,9 +482,10 @@ not_chance_free free =
           let e : 103 ≡ 0 = ap (λ (l : List ℕ). get_or (take 3 l) 2 0) (held_is weak_efg was.0 was.1 new refl was.3) ∙ ap (λ (l : List ℕ). get_or l 2 0) was.5 in absurd (omega (arith, e))
     ]
 
--- ---- what a checksum is to tell apart
+-- ---- what a checksum must distinguish
 
--- the torn rewrite is distinct: the one slot that verifies is the durable one, over the bytes that it had
+-- no checksum collides in the torn rewrite: the one slot that verifies is the durable one, over the
+-- bytes that it had
 begins_with_ef : (i byte : ℕ) → slice_get (take 2 torn_page) i ≡ Some byte → slice_get ef_page (0 * 16 + i) ≡ Some byte
 begins_with_ef zero byte here = here
 begins_with_ef (suc zero) byte here = here
@@ -502,7 +509,7 @@ a_distinct_image = λ p page is.
     subst (λ (n : ℕ). (s : Slot) → 0 < verified_len add_sum 4 s page → SlotIsDistinct add_sum 4 one_page n page s (verified_len add_sum 4 s page)) (sym one.1)
     (subst (λ (l : List ℕ). (s : Slot) → 0 < verified_len add_sum 4 s l → SlotIsDistinct add_sum 4 one_page 0 l s (verified_len add_sum 4 s l)) one.0 told_before)
 
--- of the page `01 00` the second slot is an old one, of one byte; then `09` was added, without a sync
+-- a page `01 00` whose second slot is an old one, of one byte; then `09` was added, without a sync
 abbrev pub two_bytes : List ℕ
 two_bytes = 1 ∷ 0 ∷ 0 ∷ 0 ∷ 0 ∷ 2 ∷ 0 ∷ 0 ∷ 0 ∷ 1 ∷ 0 ∷ 1 ∷ 0 ∷ 0 ∷ 0 ∷ 1 ∷ []
 
@@ -512,7 +519,8 @@ three_bytes = 1 ∷ 0 ∷ 9 ∷ 0 ∷ 0 ∷ 2 ∷ 0 ∷ 0 ∷ 0 ∷ 1 ∷ 0 ∷ 
 abbrev pub longer : Disk
 longer = and_then (Write 0 three_bytes) (WriteAt 0 16 false) (at_rest two_bytes)
 
--- of that write only the slot's length is done: the second slot has the new length and the old checksum
+-- of that write only the slot's length is done: the second slot has the new length and the old
+-- checksum
 abbrev pub mixed : List ℕ
 mixed = 1 ∷ 0 ∷ 0 ∷ 0 ∷ 0 ∷ 2 ∷ 0 ∷ 0 ∷ 0 ∷ 1 ∷ 0 ∷ 3 ∷ 0 ∷ 0 ∷ 0 ∷ 1 ∷ []
 
@@ -529,7 +537,7 @@ mixed_is_image = torn_is_image longer mixed (
   refl,
 )
 
--- it says a zero that nobody appended
+-- its text has a zero that nobody appended
 pub a_mixed_text : text add_sum 4 mixed ≡ 1 ∷ 0 ∷ 0 ∷ []
 a_mixed_text = refl
 
@@ -545,11 +553,12 @@ no_slot_of_two_writes was =
           absurd (omega (arith, e))
     ]
 
--- so it isn't distinct
+-- so a checksum collides in that image
 pub a_slot_of_two_writes : IsDistinct add_sum 4 longer mixed → ⊥
 a_slot_of_two_writes distinct = no_slot_of_two_writes (distinct 0 mixed refl Second (omega arith))
 
--- "ef" and a zero isn't: its slot was written, over "efg", which has the same sum
+-- a checksum collides in the image of "ef" and a zero: its slot was written, over "efg", which has
+-- the same sum
 pub two_strings_of_one_sum : IsDistinct const_sum 4 weak_page weak_torn → ⊥
 two_strings_of_one_sum distinct =
     let was = distinct 0 weak_torn refl Second (omega arith) in
@@ -564,7 +573,8 @@ two_strings_of_one_sum distinct =
           absurd (omega (arith, e))
     ]
 
--- of the page `01` the second slot is bad: it says the sum 1 of `01 02`; then the page was cut, without a sync
+-- a page `01` whose second slot is bad: it has the sum 1 of `01 02`; then the page was cut, without
+-- a sync
 abbrev pub bad_page : List ℕ
 bad_page = 1 ∷ 2 ∷ 0 ∷ 0 ∷ 0 ∷ 1 ∷ 0 ∷ 0 ∷ 0 ∷ 1 ∷ 0 ∷ 2 ∷ 0 ∷ 0 ∷ 0 ∷ 1 ∷ []
 
@@ -590,7 +600,7 @@ zeroed_is_image = record {
   ];
 }
 
--- it says a zero that nobody appended
+-- its text has a zero that nobody appended
 pub a_zeroed_text : text add_sum 4 zeroed ≡ 1 ∷ 0 ∷ []
 a_zeroed_text = refl
 
@@ -599,13 +609,13 @@ begins_zeroed zero byte is = inl is
 begins_zeroed (suc zero) byte is = zeroed_byte 1 byte is
 begins_zeroed (suc (suc i)) byte is = absurd (cc is)
 
--- it isn't distinct: the zero of the cut is what the bad slot lacked
+-- `IsDistinct` doesn't hold of it: the zero of the cut is what the bad slot lacked
 pub a_zero_of_a_cut : IsDistinct add_sum 4 cut_page zeroed → ⊥
 a_zero_of_a_cut distinct =
     let was = distinct 0 zeroed refl Second (omega arith) in
     absurd (omega (arith, same_Some 2 0 (was.uncut begins_zeroed 1 0 refl)))
 
--- a blob that says "ef" isn't truthful of the content "xy"
+-- a blob whose text is "ef" isn't truthful of the content "xy"
 pub not_truthful : IsTruthful add_sum 4 (120 ∷ 121 ∷ []) (at_rest ef_page) → ⊥
 not_truthful truthful = let e : 101 ≡ 120 = ap (λ (l : List ℕ). get_or l 0 0) (truthful ef_page refl 0 ef_page refl First) in omega (arith, e)
 
@@ -615,11 +625,11 @@ not_truthful truthful = let e : 101 ≡ 120 = ap (λ (l : List ℕ). get_or l 0 
 abbrev pub was_read : Disk
 was_read = logged (ReadAt 0 16) false durable
 
--- the disk is the same but for its log
+-- the disk is the same, except for its log
 pub same_but_log : SameButLog durable was_read
 same_but_log = refl
 
--- at each moment of the read
+-- the disk is the same at each moment of the read, except for its log
 pub a_look : Looked before (next before was_read)
 unfolding Through
 a_look = record {
@@ -634,7 +644,7 @@ a_look = record {
 abbrev pub flush_started : Disk
 flush_started = starts false rewritten
 
--- it covers all that isn't durable, the flush, and has the bytes that are readable
+-- that sync covers all that isn't durable, the flush, and has the bytes that are readable
 pub it_is_pending : IsPending 0 flush_started
 it_is_pending = record { covers = (1, abcd_page ++ efg_page); named = refl; all = refl; bytes = refl; others = λ other c is. other_name other c is }
   where
@@ -642,15 +652,16 @@ it_is_pending = record { covers = (1, abcd_page ++ efg_page); named = refl; all 
     other_name zero c is = inr refl
     other_name (suc other) c is = absurd (cc is)
 
--- none is pending where none was started
+-- no sync is pending where none was started
 pub none_is_pending : IsPending 0 rewritten → ⊥
 none_is_pending pending = absurd (cc (pending.named))
 
--- were it complete, every image would say "abcdefg"
+-- were that sync complete, every image would have the text "abcdefg"
 pub all_is_covered : WouldKeep add_sum 4 seven 0 7 flush_started
 all_is_covered = record { covers = (1, abcd_page ++ efg_page); named = refl; keeps = keeps_at_rest add_sum 4 (disk_settled_to (1, abcd_page ++ efg_page) flush_started) refl }
 
--- a sync that was started before the flush covers "abcdef" alone: a crash may leave the flush undone
+-- a sync that was started before the flush covers "abcdef" alone: a crash may leave the flush
+-- undone
 pub g_is_not_covered : WouldKeep add_sum 4 seven 0 7 (and_then (Write 16 efg_page) (WriteAt 16 16 false) (starts false durable)) → ⊥
 g_is_not_covered would =
     let d = and_then (Write 16 efg_page) (WriteAt 16 16 false) (starts false durable) in
@@ -658,22 +669,23 @@ g_is_not_covered would =
     let keeps : AllKeep add_sum 4 seven 7 (disk_settled_to (0, abcd_page ++ ef_page) d) = subst (λ (c : ℕ × List ℕ). AllKeep add_sum 4 seven 7 (disk_settled_to c d)) (sym covers) would.keeps in
     a_lost_floor (keeps.kept (abcd_page ++ ef_page) (base_is_image d))
 
--- a sync of the blob takes nothing from what it covers
+-- a sync of the blob keeps what the started sync covers
 pub covers_stay : CoversStay add_sum 4 seven flush_started (settled_disk (logged SyncAll false flush_started))
 covers_stay =
     settle_covers add_sum (record (after_write add_sum with_g 0 true) { sync = Pending 0 }) flush_started
     (start_consistent add_sum (after_write add_sum with_g 0 true) rewritten false (consistent_of add_sum (after_write add_sum with_g 0 true) rewritten a_sound_dirty_writer) (λ name c is. absurd (cc is)))
     (settled_disk (logged SyncAll false flush_started)) (record { readable = refl; base = refl; since = refl; settled = refl; covers = refl })
 
--- a device that forgot it would
+-- a device that forgot the started sync wouldn't
 pub covers_are_lost : CoversStay add_sum 4 seven flush_started rewritten → ⊥
 covers_are_lost stay = absurd (cc ((stay 0 7 (omega arith) all_is_covered).named))
 
--- it stands so that a wait for it, also where the writer is gone, makes nothing durable that a crash might not have left
+-- a wait for that sync, also where the writer is gone, makes nothing durable that a crash might not
+-- have left
 pub it_stands_so : StartsCanBeAwaited flush_started
 it_stands_so = starts_stand flush_started (Pending 0) refl it_is_pending
 
--- not where it has other bytes: a wait would make an empty blob of it
+-- a wait for a sync with other bytes might: here it would leave an empty blob
 pub it_stands_not_so : StartsCanBeAwaited (record rewritten { started = record { covers = 1; bytes = []; failed = false } ∷ [] }) → ⊥
 it_stands_not_so stands = elim (stands 0 (1, []) refl) [
   | inl settled ↦ absurd (omega (arith, settled))
@@ -686,18 +698,18 @@ it_stands_not_so stands = elim (stands 0 (1, []) refl) [
 pub the_first_page_stays : SamePages 4 1 durable rewritten
 the_first_page_stays = refl
 
--- and rewrites the second
+-- the flush rewrites the second page
 pub the_second_page_goes : SamePages 4 2 durable rewritten → ⊥
 the_second_page_goes same = let byte : 103 ≡ 0 = ap (λ (l : List ℕ). get_or l 18 0) same in omega (arith, byte)
 
--- at each moment of it
+-- the first page stays at each moment of the flush
 pub pages_stay : PagesStay 4 1 before after
 pages_stay = pages_one 4 1 before after rewritten refl the_first_page_stays
 
 -- ---- a value that is cut short
 
--- page 1 is to tell fewer bytes than its first slot does: the second slot gets the checksum with no length, and then the length; and
--- the first is emptied
+-- page 1 is to have fewer bytes than its first slot says: the second slot gets the checksum with
+-- length 0, and then the length; and the first slot is emptied
 pub a_staged_slot : staged 4 1 First 203 ≡ Write 26 (0 ∷ 0 ∷ 0 ∷ 0 ∷ 0 ∷ 203 ∷ [])
 a_staged_slot = refl
 
@@ -707,52 +719,52 @@ a_published_slot = refl
 pub a_cleared_slot : cleared 4 1 First ≡ Write 20 (0 ∷ 0 ∷ 0 ∷ 0 ∷ 0 ∷ 0 ∷ [])
 a_cleared_slot = refl
 
--- a crash keeps the page before that one, and of it what its first slot tells
+-- a crash keeps the page before that one, and of that page what its first slot verifies over
 pub ef_holds : HeldBy add_sum 4 six 1 ef_slot durable
 ef_holds = record {
   pages = guards_less add_sum 4 six 6 4 durable (omega arith) six_are_guarded;
   guard = record { there = omega arith; held = ef_is_held };
 }
 
--- the blob says nothing but "abcdef" in any slot
+-- each slot of the blob that verifies does so over bytes of "abcdef"
 six_are_truthful : IsTruthful add_sum 4 six durable
 six_are_truthful =
     let page : HasTipPage add_sum 4 1 (101 ∷ 102 ∷ []) (abcd_page ++ ef_page) ef_slot = record { size = refl; some = omega arith; there = omega arith; part = omega arith; crc = refl; value = refl; begins = refl; slot = refl } in
     (page_sound add_sum (record with_g { tip = 101 ∷ 102 ∷ [] }) durable refl refl (omega arith) (lit< tt) (refl, tt) refl (λ name c is. absurd (cc is)) small_add_sum ef_slot refl page ef_is_good).truthful
 
--- so a moment at which that slot holds owes nothing to a cut to six bytes
+-- so `CutStays` for a cut to six bytes holds at a moment at which that slot holds
 pub a_cut_that_owes_nothing : CutStays add_sum 4 six 6 durable durable
 a_cut_that_owes_nothing = held_stays_cut add_sum 4 six 6 1 ef_slot durable durable (omega arith) ef_holds six_are_truthful a_sound_writer.vouched
 
 -- ---- what a moment of a cut holds
 
--- a blob that says "ef", and has a page after that no reader comes to
+-- a blob whose text is "ef", with a page after it that no reader comes to
 abbrev pub ef_and_more : Disk
 ef_and_more = at_rest (ef_page ++ abcd_page)
 
 pub its_text_ends : text add_sum 4 (ef_page ++ abcd_page) ≡ 101 ∷ 102 ∷ []
 its_text_ends = refl
 
--- a crash keeps "ef", and leaves nothing else
+-- a crash keeps "ef", and leaves nothing else that a recovery would keep
 pub ef_is_all : HoldsText add_sum 4 (101 ∷ 102 ∷ []) 2 ef_and_more
 ef_is_all = holds_at_rest add_sum 4 (ef_page ++ abcd_page) 2 ef_and_more (omega arith) refl refl (omega arith)
 
--- what the page after says is nothing to that, though it isn't of "ef"
+-- the page after may hold anything, though it isn't of "ef"
 pub it_says_ef : SaysText add_sum 4 (101 ∷ 102 ∷ []) ef_and_more
 it_says_ef = ef_is_all.says
 
 pub it_says_more : IsTruthful add_sum 4 (101 ∷ 102 ∷ []) ef_and_more → ⊥
 it_says_more truthful = let none : 4 ≡ 0 = ap length (truthful (ef_page ++ abcd_page) refl 1 abcd_page refl First) in absurd (omega (arith, none))
 
--- a blob that says "ef" doesn't say "xy"
+-- a blob whose text is "ef" doesn't have the text "xy"
 pub it_says_ef_alone : SaysText add_sum 4 (120 ∷ 121 ∷ []) (at_rest ef_page) → ⊥
 it_says_ef_alone says = let e : 101 ≡ 120 = ap (λ (l : List ℕ). get_or l 0 0) (says ef_page refl 0 ef_page refl (omega arith) First) in omega (arith, e)
 
--- no more is held than the text has
+-- no floor is longer than the text
 pub no_more_than_ef : HoldsText add_sum 4 (101 ∷ 102 ∷ []) 3 ef_and_more → ⊥
 no_more_than_ef holds = absurd (omega (arith, holds.within))
 
--- nor what a crash may lose
+-- a floor that a crash may lose isn't held
 pub g_is_not_held : HoldsText add_sum 4 seven 7 rewritten → ⊥
 g_is_not_held holds = a_lost_floor ((holds_keeps add_sum 4 seven 7 rewritten holds 7 (omega arith)).kept (abcd_page ++ ef_page) (base_is_image rewritten))
 
@@ -760,7 +772,7 @@ g_is_not_held holds = a_lost_floor ((holds_keeps add_sum 4 seven 7 rewritten hol
 abbrev pub one_staged : Disk
 one_staged = and_then (staged 4 1 First 203) (WriteAt 26 6 false) durable
 
--- "abcdef" is held all the same
+-- "abcdef" is held after that write
 pub six_are_held : HoldsText add_sum 4 six 6 one_staged
 six_are_held =
     let o = staged 4 1 First 203 in

@@ -1,4 +1,4 @@
--- Floors that every image keeps, of a sound writer's content and of any other.
+-- Floors that every image keeps, of a sound writer's content and of any other content.
 use Rattle.std.proofs.Common.{◌≡◌, inl, inr, ℕ, ◌+◌, ◌≤◌, List, [], length, take, sym, ap, ◌∙◌, arith, length-take}
 use Rattle.disk.specs.Disk.{Disk, IsImage, Life}
 use Rattle.page.specs.Page.{text}
@@ -13,7 +13,7 @@ use Rattle.writer_state.specs.WriterState.{WriterState}
 use Rattle.writer_state.specs.Sound.{IsConsistent, IsSound, content}
 use Rattle.writer_state.proofs.Soundness.{safe_guards, consistent_leaves, sound_holds_together}
 
--- with nothing unsynced slots hold each floor that every image keeps
+-- with nothing unsynced slots guard each floor that every image keeps
 pub rest_holds : (sum : List ℕ → ℕ) (P : ℕ) (d : Disk) (other : List ℕ) (floor : ℕ) → d.since ≡ [] → floor ≤ length other → ((image : List ℕ) → IsImage d image → ImageKeeps sum P other floor image) → AllKeep sum P other floor d
 rest_holds sum P d other floor at_rest enough keeps =
     let told = text sum P d.base in
@@ -21,7 +21,7 @@ rest_holds sum P d other floor at_rest enough keeps =
     let there : floor ≤ length told = omega (arith, enough, ap length same, length-take floor told, length-take floor other) in
     keeps_same sum P told other floor d same (keeps_less sum P told (length told) floor d there (keeps_at_rest sum P d at_rest))
 
--- so do they of a sound writer's blob
+-- slots of a consistent writer's blob guard each floor that every image keeps
 pub consistent_holds : (sum : List ℕ → ℕ) (w : WriterState) (d : Disk) (other : List ℕ) (floor : ℕ) → IsConsistent sum w d → floor ≤ length other → ((image : List ℕ) → IsImage d image → ImageKeeps sum w.page_size other floor image)
     → AllKeep sum w.page_size other floor d
 unfolding IsConsistent
@@ -55,7 +55,7 @@ floors_of_consistent sum w old new sound floors = λ other floor enough keeps.
     through_then (AllKeep sum P held floor) (AllKeep sum P other floor) old new (λ d still. keeps_same sum P held other floor d same still)
     (floors floor within (keeps_same sum P other held floor old.present (sym same) keeps))
 
--- so of a sound one
+-- slots of a sound writer's blob guard each floor that every image keeps
 pub sound_holds : (sum : List ℕ → ℕ) (w : WriterState) (d : Disk) (other : List ℕ) (floor : ℕ) → IsSound sum w d → floor ≤ length other → ((image : List ℕ) → IsImage d image → ImageKeeps sum w.page_size other floor image)
     → AllKeep sum w.page_size other floor d
 sound_holds sum w d other floor sound = consistent_holds sum w d other floor (sound_holds_together sum w d sound)

@@ -1,5 +1,5 @@
--- What keeps a writer standing for what is readable: a flush, a sync, a longer tip, the durable slot taken over; and
--- what makes one stand for it.
+-- What keeps a writer in accord with what is readable: a flush, a sync, a longer tip, the durable
+-- slot brought up to date; and what makes a writer accord with it.
 use Rattle.std.proofs.Common.{◌≡◌, inl, inr, ℕ, zero, suc, ◌+◌, ◌-◌, ◌*◌, ◌^◌, ◌<◌, ◌≤◌, List, [], ◌∷◌, ◌++◌, length, take, drop, sym, ◌∙◌, ap, subst, arith, append_assoc, length-append, length-drop, take-append-drop}
 use Rattle.std.specs.Prelude.{slice_get, Option, Some, None, Bool, true, false}
 use Rattle.std.specs.List.{flat_map}
@@ -102,7 +102,8 @@ module _ (sum : List ℕ → ℕ) (P q m : ℕ) (durable : Option ActiveChecksum
       ∙ flat_map-append (take P) (take q (pages P old)) (built_pages sum P durable k tip)
       ∙ ap (λ (l : List ℕ). stored P q old ++ l) (built_payloads sum P durable k tip fits)
 
--- once pages went out, the durable slot is of none of the tip's page
+-- the slot that a flush repeats fits the new tip: once full pages were written there is no such
+-- slot
 pub kept_after : (sum : List ℕ → ℕ) (P k : ℕ) (durable : Option ActiveChecksum) (tip : List ℕ) → kept_len durable ≤ P → kept_len durable ≤ length tip → DurableTells sum tip durable
     → (kept_len (durable_after durable k) ≤ P) × (kept_len (durable_after durable k) ≤ length (drop (k * P) tip)) × DurableTells sum (drop (k * P) tip) (durable_after durable k)
 kept_after sum P zero durable tip a b c = let e : 0 * P ≡ 0 = omega arith in rw e (a, b, c)
@@ -114,7 +115,7 @@ kept_after sum P (suc k) durable tip a b c = (omega arith, omega arith, tt)
 pub all_settled_alike : (d e : Disk) → coverings e ≡ coverings d → e.settled ≡ d.settled → AllSettled d → AllSettled e
 all_settled_alike d e covers settled all name c is = omega (arith, all name c (ap (λ (cs : List (ℕ × List ℕ)). slice_get cs name) (sym covers) ∙ is), settled)
 
--- where a flush may begin each started sync is settled
+-- where a flush may begin, each started sync is settled
 pub flush_settled : (d : Disk) (s : SyncState) (flushed durable : Option ActiveChecksum) → MayFlush s flushed durable → StartsFit d s → AllSettled d
 flush_settled d Clean flushed durable ready starts = starts
 flush_settled d Dirty flushed durable ready starts = starts
@@ -135,7 +136,7 @@ starts_alike d e (Pending name) same since covers settled starts = record {
   ];
 }
 
--- each started sync covers what there is at most
+-- each started sync covers at most what there is
 pub starts_within : (d : Disk) (s : SyncState) → StartsFit d s → AreCovered d
 starts_within d Clean starts name c is = omega (arith, starts name c is)
 starts_within d Dirty starts name c is = omega (arith, starts name c is)
@@ -146,11 +147,11 @@ starts_within d (Pending pending) starts name c is = elim (starts.others name c 
       omega (arith, starts.all, ap (λ (x : ℕ × List ℕ). x.0) here)
 ]
 
--- where nothing is unsynced each is settled
+-- where nothing is unsynced each started sync is settled
 pub rest_settled : (d : Disk) → AreCovered d → d.since ≡ [] → AllSettled d
 rest_settled d within none name c is = omega (arith, within name c is, ap length none)
 
--- once all is settled so is each of them
+-- once all is settled each started sync is
 pub settled_starts : (d e : Disk) → AreCovered d → coverings e ≡ coverings d → e.settled ≡ d.settled + length d.since → AllSettled e
 settled_starts d e within covers settled name c is = omega (arith, within name c (ap (λ (cs : List (ℕ × List ℕ)). slice_get cs name) (sym covers) ∙ is), settled)
 
@@ -209,7 +210,7 @@ module _ (sum : List ℕ → ℕ) (w : WriterState) (d e : Disk) (k : ℕ) (rest
       ∙ append_assoc (stored P w.full_pages d.readable) (take (k * P) w.tip) (drop (k * P) w.tip)
       ∙ ap (λ (l : List ℕ). stored P w.full_pages d.readable ++ l) (take-append-drop (k * P) w.tip)
 
-  -- after a flush that is done the writer stands for what is readable then
+  -- after a flush that is done the writer fits what is readable then
   pub flush_stands : e.base ≡ d.base → e.since ≡ d.since ++ Write (w.full_pages * (w.page_size + 12)) bytes ∷ [] → AllSettled e → IsWrittenOut sum (after_write sum w k rest) e
   flush_stands base since settled =
       let P = w.page_size in
@@ -228,7 +229,8 @@ module _ (sum : List ℕ → ℕ) (w : WriterState) (d e : Disk) (k : ℕ) (rest
         carries = kept_after sum P k w.durable w.tip stands.carries.0 stands.carries.1 stands.carries.2;
       }
 
-  -- its pages are full, and where those below its tip were, all are
+  -- the pages that a flush writes are full, and where those below the tip were, all below the new
+  -- tip are
   pub flush_full : IsIntact sum w d → IsIntact sum (after_write sum w k rest) e
   flush_full full =
       let P = w.page_size in
@@ -240,7 +242,7 @@ module _ (sum : List ℕ → ℕ) (w : WriterState) (d e : Disk) (k : ℕ) (rest
       subst (λ (l : List (List ℕ)). AreFull sum P l) (sym pages_front)
       (AreFull-append sum P front (built_pages sum P w.durable k w.tip) full (built_full sum P w.durable k w.tip small stands.some stands.small stands.carries.0 one.2))
 
-  -- so does a write that the device did
+  -- after a write that the device did the writer fits what is readable then
   pub operated_stands : (request : Request) → MayFlush w.sync w.flushed w.durable → HasOperated (Write (w.full_pages * (w.page_size + 12)) bytes) request false d e → IsWrittenOut sum (after_write sum w k rest) e
   operated_stands request ready done =
       flush_stands (ap (λ (x : Disk). x.base) done.rest) (ap (λ (x : Disk). x.since) done.rest)
@@ -260,7 +262,7 @@ settled_fits d Clean since base = (since, base)
 settled_fits d Dirty since base = tt
 settled_fits d (Pending name) since base = tt
 
--- the tip's page is that of a longer tip
+-- the tip's page is also that of a longer tip
 longer_tip : (sum : List ℕ → ℕ) (P full : ℕ) (tip more readable : List ℕ) (flushed : Option ActiveChecksum) → TipPage sum P full tip readable flushed → TipPage sum P full (tip ++ more) readable flushed
 longer_tip sum P full tip more readable None is = is
 longer_tip sum P full tip more readable (Some f) is =
@@ -276,18 +278,18 @@ longer_tip sum P full tip more readable (Some f) is =
       slot = is.slot;
     }
 
--- what was flushed of the tip is of the tip
+-- the slot that was flushed last has the length and the checksum of a beginning of the tip
 pub flushed_fits : (sum : List ℕ → ℕ) (P full : ℕ) (tip readable : List ℕ) (flushed : Option ActiveChecksum) → TipPage sum P full tip readable flushed → (kept_len flushed ≤ P) × (kept_len flushed ≤ length tip) × DurableTells sum tip flushed
 flushed_fits sum P full tip readable None is = (omega arith, omega arith, tt)
 flushed_fits sum P full tip readable (Some f) is = (omega (arith, is.part), is.there, is.crc)
 
--- what is of the tip is of a longer one
+-- a slot of a beginning of the tip is one of a longer tip
 pub tells_longer : (sum : List ℕ → ℕ) (tip more : List ℕ) (durable : Option ActiveChecksum) → kept_len durable ≤ length tip → DurableTells sum tip durable → DurableTells sum (tip ++ more) durable
 tells_longer sum tip more None few tells = tt
 tells_longer sum tip more (Some f) few tells = tells ∙ ap sum (sym (take-append-le f.len tip more few))
 
 module _ (sum : List ℕ → ℕ) (w : WriterState) (d e : Disk) (stands : IsWrittenOut sum w d) (same : e.readable ≡ d.readable) where
-  -- what a writer stands for depends on the bytes, and on what of them is durable
+  -- whether a writer fits what is readable depends on the bytes, and on what of them is durable
   pub state_stands : (s : SyncState) → e.readable ≡ latest e.base e.since → StateFits e s → StartsFit e s → IsWrittenOut sum (record w { sync = s }) e
   state_stands s done fits starts = record {
     some = stands.some;
@@ -299,18 +301,18 @@ module _ (sum : List ℕ → ℕ) (w : WriterState) (d e : Disk) (stands : IsWri
     carries = stands.carries;
   }
 
-  -- after a sync that is done it is clean
+  -- after a sync that is done a clean writer fits what is readable
   pub settle_stands : (s : SyncState) → e.base ≡ d.readable → e.since ≡ [] → StartsFit e s → IsWrittenOut sum (record w { sync = s }) e
   settle_stands s base since starts = state_stands s (same ∙ sym base ∙ ap (λ (os : List Operation). latest e.base os) (sym since)) (settled_fits e s since (base ∙ sym same)) starts
 
-  -- and holds the same content
+  -- on a disk with the same readable bytes the content is the same
   pub alike_content : content w e.readable ≡ content w d.readable
   alike_content = ap (λ (l : List ℕ). content w l) same
 
 -- ---- a writer that knows more
 
 module _ (sum : List ℕ → ℕ) (w : WriterState) (d : Disk) (stands : IsWrittenOut sum w d) where
-  -- the tip may grow
+  -- a writer with a longer tip still fits what is readable
   pub longer_stands : (more : List ℕ) → IsWrittenOut sum (record w { tip = w.tip ++ more }) d
   longer_stands more = record {
     some = stands.some;
@@ -322,7 +324,7 @@ module _ (sum : List ℕ → ℕ) (w : WriterState) (d : Disk) (stands : IsWritt
     carries = (stands.carries.0, omega (arith, length-append w.tip more, stands.carries.1), tells_longer sum w.tip more w.durable stands.carries.1 stands.carries.2);
   }
 
-  -- and makes the content longer
+  -- a longer tip makes the content longer
   pub longer_content : (more : List ℕ) → content (record w { tip = w.tip ++ more }) d.readable ≡ content w d.readable ++ more
   longer_content more = sym (append_assoc (stored w.page_size w.full_pages d.readable) w.tip more)
 
@@ -342,7 +344,7 @@ module _ (sum : List ℕ → ℕ) (w : WriterState) (d : Disk) (stands : IsWritt
 
 module _ (sum : List ℕ → ℕ) (w : WriterState) (d : Disk) (since : d.since ≡ []) (base : d.base ≡ d.readable) (some : 0 < w.page_size) (small : w.page_size < 2 ^ 16)
     (carried : w.durable ≡ w.flushed) where
-  -- with nothing unsynced a writer stands for a blob whose pages it knows
+  -- with nothing unsynced a writer that knows the blob's pages fits what is readable
   pub settled_stands : StartsFit d w.sync → TipPage sum w.page_size w.full_pages w.tip d.readable w.flushed → IsWrittenOut sum w d
   settled_stands starts tip_page = record {
     some = some;
@@ -354,13 +356,13 @@ module _ (sum : List ℕ → ℕ) (w : WriterState) (d : Disk) (since : d.since 
     carries = rw carried (flushed_fits sum w.page_size w.full_pages w.tip d.readable w.flushed tip_page);
   }
 
-  -- the blob ends with a full page, and the writer buffers nothing
+  -- where the blob ends with a full page, a writer that buffers nothing fits it
   pub exact_stands : StartsFit d w.sync → w.flushed ≡ None → length d.readable ≡ w.full_pages * (w.page_size + 12) → IsWrittenOut sum w d
   exact_stands starts none size = settled_stands starts (subst (λ (f : Option ActiveChecksum). TipPage sum w.page_size w.full_pages w.tip d.readable f) (sym none) size)
 
 module _ (sum : List ℕ → ℕ) (w : WriterState) (d : Disk) (since : d.since ≡ []) (base : d.base ≡ d.readable) (some : 0 < w.page_size) (small : w.page_size < 2 ^ 16)
     (full : IsIntact sum w d) (carried : w.durable ≡ w.flushed) where
-  -- where the pages are full the content is then the text
+  -- where the pages are full and nothing is buffered, the content is the text
   pub exact_content : w.tip ≡ [] → length d.readable ≡ w.full_pages * (w.page_size + 12) → content w d.readable ≡ text sum w.page_size d.readable
   exact_content empty size =
       ap (λ (l : List ℕ). stored w.page_size w.full_pages d.readable ++ l) empty
@@ -392,7 +394,7 @@ has_page sum P full tip readable a size are is part tip_is =
       slot = active_slot sum P page a (length-offset P full readable fits) are is;
     }
 
--- the content is then the text
+-- where the last page is the tip's, and the pages below it are full, the content is the text
 pub page_content : (sum : List ℕ → ℕ) (w : WriterState) (readable : List ℕ) (a : ActiveChecksum) → AreFull sum w.page_size (take w.full_pages (pages w.page_size readable))
     → (w.full_pages + 1) * (w.page_size + 12) ≤ length readable
     → active sum w.page_size (take (w.page_size + 12) (drop (w.full_pages * (w.page_size + 12)) readable)) ≡ Some a → a.len < w.page_size
@@ -412,7 +414,7 @@ module _ (w : WriterState) (readable : List ℕ) (reach : w.full_pages * (w.page
   pub length-content : length (content w readable) ≡ w.full_pages * w.page_size + length w.tip
   length-content = omega (arith, length-append (stored w.page_size w.full_pages readable) w.tip, length-stored w.page_size w.full_pages readable reach)
 
-  -- what stands in a full page
+  -- a part of the content in a full page stands in that page
   pub content_in_page : (p i n : ℕ) → p < w.full_pages → i + n ≤ w.page_size → take n (drop (p * w.page_size + i) (content w readable)) ≡ take n (drop (p * (w.page_size + 12) + i) readable)
   content_in_page p i n lt fits =
       let P = w.page_size in
@@ -421,7 +423,7 @@ module _ (w : WriterState) (readable : List ℕ) (reach : w.full_pages * (w.page
       within_append n (p * P + i) joined w.tip (omega (arith, length-stored P w.full_pages readable reach, more))
       ∙ stored_within P w.full_pages p i n readable reach lt fits
 
-  -- what stands in the tip
+  -- a part of the content in the tip stands in the tip
   pub content_in_tip : (i : ℕ) → drop (w.full_pages * w.page_size + i) (content w readable) ≡ drop i w.tip
   content_in_tip i =
       let P = w.page_size in

@@ -1,4 +1,5 @@
--- Emptying a bad slot of the last page that has a value: what it leaves readable, and what each moment of it holds.
+-- Emptying a bad slot of the last page that has a value: what it leaves readable, and what each
+-- moment of it holds.
 use Rattle.std.proofs.Common.{◌≡◌, ◌⊎◌, inl, inr, ℕ, suc, ◌+◌, ◌*◌, ◌/◌, ◌<◌, ◌≤◌, List, [], ◌∷◌, ◌++◌, length, take, drop, slice_get, Some, Result, Bool, true, false, refl, sym, ap, ◌∙◌, subst, arith, mul-le-mul_right, ap₂, length-take, length-take-le, length-drop}
 use Rattle.std.specs.Prelude.{Option, None, not, ◌&&◌, ◌==◌, if◌then◌else◌, nat_le}
 use Rattle.std.proofs.lemmas.Bool.Decides.{nat_tests}
@@ -28,7 +29,7 @@ use Rattle.crash.specs.Guard.{IsSlotFor}
 use Rattle.crash.proofs.ShrinkLaws.{inside_write, outside_write}
 use Rattle.writer_state.proofs.ShortenLaws.{MayHold, value_may_hold, may_hold_spares, holds_at_rest, clear_holds, rest_latest}
 
--- with a bad slot the slot beside the value's
+-- a bad slot is the one beside the slot of the page's value
 pub bad_is : (sum : List ℕ → ℕ) (P : ℕ) (page : List ℕ) (a : ActiveChecksum) (t : Slot) → active sum P page ≡ Some a → bad_slot sum P page ≡ Some t → t ≡ other a.slot
 bad_is sum P page a t told bad =
     chosen (not (is_clear (slot_of P (other a.slot) page)) && not (verifies sum P (other a.slot) page)) (other a.slot) (sym (ap (λ (o : Option ActiveChecksum). bad_beside sum P page o) told) ∙ bad)
@@ -37,7 +38,7 @@ bad_is sum P page a t told bad =
     chosen true s is = sym (same_Some s t is)
     chosen false s is = absurd (cc is)
 
--- the clear of it, of a blob in which nothing is unsynced, holds the whole text at each moment
+-- emptying a bad slot of a blob in which nothing is unsynced holds the whole text at each moment
 pub mend_holds : (sum : List ℕ → ℕ) (P page : ℕ) (a : ActiveChecksum) (sync : Bool) (old new : Life) (answer : Result (Unit {0}) Error) → 0 < P → old.present.since ≡ [] → old.present.base ≡ old.present.readable
     → (page + 1) * (P + 12) ≤ length old.present.readable → AreBytes (take (P + 12) (drop (page * (P + 12)) old.present.readable)) → active sum P (take (P + 12) (drop (page * (P + 12)) old.present.readable)) ≡ Some a
     → length (text sum P old.present.readable) ≤ page * P + a.len
@@ -54,9 +55,9 @@ mend_holds sum P page a sync old new answer some at_rest base reach are told eno
     (may_hold_spares sum P T page a (length T) d (omega arith) enough may)
     (holds_at_rest sum P R (length T) d some at_rest base (omega arith))
 
--- ---- once no slot of it is bad
+-- ---- once no slot of the page is bad
 
--- the value's slot never is
+-- the value's slot is never bad
 pub value_good : (sum : List ℕ → ℕ) (P : ℕ) (page : List ℕ) (a : ActiveChecksum) → length page ≡ P + 12 → active sum P page ≡ Some a → IsGood sum P a.slot page
 value_good sum P page a size told = λ some fits.
     let is = active_is sum P page a told in
@@ -68,7 +69,7 @@ value_good sum P page a size told = λ some fits.
     six_bytes : (t : Slot) → length (slot_of P t page) ≡ 6
     six_bytes t = omega (arith, length-take 6 (drop (P + slot_offset t) page), length-drop (P + slot_offset t) page, size, slot_offset_le t)
 
--- nor the other, where none is told
+-- the slot beside the value's is good, where `bad_slot` finds none
 pub beside_good : (sum : List ℕ → ℕ) (P : ℕ) (page : List ℕ) (a : ActiveChecksum) → active sum P page ≡ Some a → bad_slot sum P page ≡ None → IsGood sum P (other a.slot) page
 beside_good sum P page a told none =
     by_tests (is_clear (slot_of P (other a.slot) page)) (verifies sum P (other a.slot) page) refl refl (sym (ap (λ (o : Option ActiveChecksum). bad_beside sum P page o) told) ∙ none)
@@ -88,7 +89,7 @@ unbad_good sum P page a size told none s = elim (slot_cases a.slot s) [
   | inr beside ↦ subst (λ (t : Slot). IsGood sum P t page) (sym beside) (beside_good sum P page a told none)
 ]
 
--- and once it was emptied
+-- neither slot of the page is bad once the bad one was emptied
 pub mended_good : (sum : List ℕ → ℕ) (P page : ℕ) (a : ActiveChecksum) (bytes : List ℕ) → (page + 1) * (P + 12) ≤ length bytes → active sum P (take (P + 12) (drop (page * (P + 12)) bytes)) ≡ Some a
     → PageIsGood sum P page (applied (slot_write P page (other a.slot) (slot_bytes 0 0)) bytes)
 mended_good sum P page a bytes reach told held is s =
@@ -116,9 +117,9 @@ mended_good sum P page a bytes reach told held is s =
     beside_each offset First = inl (omega arith)
     beside_each offset Second = inr (omega arith)
 
--- ---- what the blob says stays
+-- ---- the text of the blob stays
 
--- pages with the same values say the same
+-- pages with the same values have the same text
 values_alike : (sum : List ℕ → ℕ) (P : ℕ) (ps qs : List (List ℕ)) → length ps ≡ length qs
     → ((p : ℕ) (a b : List ℕ) → slice_get ps p ≡ Some a → slice_get qs p ≡ Some b → (value_len sum P a ≡ value_len sum P b) × (value sum P a ≡ value sum P b)) → text_of_pages sum P ps ≡ text_of_pages sum P qs
 values_alike sum P [] [] size each = refl
@@ -146,7 +147,8 @@ verified_alike sum P s page held same payload =
     too_long : (sum : List ℕ → ℕ) (P : ℕ) (s : Slot) (page : List ℕ) → P < slot_len (slot_of P s page) → verified_len sum P s page ≡ 0
     too_long sum P s page long = elim (verified_cases sum P s page) [ inl none ↦ none | inr is ↦ absurd (omega (arith, is.2, long)) ]
 
--- the value's length, where one slot verifies over as much in both pages and the other over nothing
+-- the value's length is the same, where one slot verifies over as much in both pages and the other
+-- over nothing
 value_len_alike : (sum : List ℕ → ℕ) (P : ℕ) (s : Slot) (page held : List ℕ) → verified_len sum P s page ≡ verified_len sum P s held → verified_len sum P (other s) page ≡ 0 → verified_len sum P (other s) held ≡ 0 → value_len sum P page ≡ value_len sum P held
 value_len_alike sum P First page held same a b = omega (arith, same, a, b)
 value_len_alike sum P Second page held same a b = omega (arith, same, a, b)

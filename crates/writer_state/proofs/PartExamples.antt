@@ -1,5 +1,5 @@
--- Examples of the parts of which pages, slots, operations and what a crash keeps are told. Pages have 4 bytes, and the checksum is
--- their sum.
+-- Examples of the parts by which pages, slots, operations and what a crash keeps are defined. Pages
+-- have 4 bytes, and the checksum is their sum.
 use Rattle.std.proofs.Common.{◌≡◌, inl, inr, ℕ, ◌+◌, ◌<◌, List, [], ◌∷◌, ◌++◌, refl, arith, true, false}
 use Rattle.std.specs.Prelude.{Some, None}
 use Rattle.std.proofs.lemmas.Option.{same_Some}
@@ -32,7 +32,7 @@ a_slot_that_verifies = refl
 pub another_checksum : slot_verifies add_sum 4 (slot_bytes 2 204) ef_page ≡ false
 another_checksum = refl
 
--- not over no byte, nor over more than a page has
+-- a slot verifies neither over no byte nor over more than a page has
 pub no_byte : slot_verifies add_sum 4 (slot_bytes 0 0) ef_page ≡ false
 no_byte = refl
 
@@ -42,7 +42,7 @@ five_of_four = refl
 pub an_empty_slot_is_clear : is_clear (slot_bytes 0 0) ≡ true
 an_empty_slot_is_clear = refl
 
--- a length or a checksum alone isn't
+-- a slot with a length or a checksum alone isn't all zero
 pub a_length_is_not : is_clear (slot_bytes 2 0) ≡ false
 a_length_is_not = refl
 
@@ -68,21 +68,21 @@ the_first_is_in_front = refl
 pub the_second_is_six_bytes_after : slot_offset Second ≡ 6
 the_second_is_six_bytes_after = refl
 
--- "ef", and in the second slot three bytes of another sum than theirs
+-- "ef", and in the second slot the length 3 with another sum than that of three bytes
 abbrev pub torn_page : List ℕ
 torn_page = 101 ∷ 102 ∷ 0 ∷ 0 ∷ 0 ∷ 2 ∷ 0 ∷ 0 ∷ 0 ∷ 203 ∷ 0 ∷ 3 ∷ 0 ∷ 0 ∷ 1 ∷ 50 ∷ []
 
 pub its_second_slot_is_bad : bad_slot add_sum 4 torn_page ≡ Some Second
 its_second_slot_is_bad = refl
 
--- an empty one isn't, nor one that verifies over less than the value
+-- an empty slot isn't bad, nor is one that verifies over less than the value
 pub an_empty_one_is_not : bad_slot add_sum 4 ef_page ≡ None
 an_empty_one_is_not = refl
 
 pub an_older_one_is_not : bad_slot add_sum 4 efg_page ≡ None
 an_older_one_is_not = refl
 
--- beside a value, and only there
+-- there is a bad slot beside a value, and only there
 pub beside_ef : bad_beside add_sum 4 torn_page (Some ef_slot) ≡ Some Second
 beside_ef = refl
 
@@ -129,7 +129,7 @@ the_second_had_failed = refl
 pub it_fails_now : had_failed (failed_at 0 two_started) 0 ≡ true
 it_fails_now = refl
 
--- one that was never started counts as one that failed
+-- a sync that was never started counts as one that failed
 pub nothing_was_started : is_failed None ≡ true
 nothing_was_started = refl
 
@@ -157,7 +157,8 @@ the_new_one_second = refl
 pub the_new_one_first : footer Second (slot_bytes 2 203) (slot_bytes 3 306) ≡ slot_bytes 3 306 ++ slot_bytes 2 203
 the_new_one_first = refl
 
--- of the second page, which begins at 16, after its four bytes and the first slot
+-- the second slot of the second page stands at 26: that page begins at 16, and has four bytes and
+-- the first slot before it
 pub the_second_slot_of_the_second_page : slot_write 4 1 Second (slot_bytes 0 0) ≡ Write 26 (slot_bytes 0 0)
 the_second_slot_of_the_second_page = refl
 
@@ -193,15 +194,15 @@ the_first_page_is_old = record { old = abcd_page; there = refl; same = refl; unw
     not_there i byte below (inl writes) = omega (arith, below, writes.0)
     not_there i byte below (inr none) = none
 
--- the second was rewritten
+-- the slots of the second page aren't old, as it was rewritten
 pub the_second_page_is_not : IsOld 4 rewritten 1 First efg_page → ⊥
 the_second_page_is_not is = is.unwritten 0 101 (omega arith) (inl (omega arith, refl))
 
--- nothing bad stands in a blob at rest
+-- a blob with nothing unsynced is vouched for
 pub all_is_vouched : IsVouched add_sum 4 durable
 all_is_vouched = vouched_at_rest add_sum 4 durable refl
 
--- but a slot of another sum that was written is bad, and new
+-- a slot of another sum that was written is bad, and new, so such a blob isn't vouched for
 pub a_bad_slot_is_not : IsVouched add_sum 4 (and_then (Write 0 torn_page) (WriteAt 0 16 false) (at_rest [])) → ⊥
 a_bad_slot_is_not vouched = elim (vouched torn_page (inr refl) 0 torn_page refl Second) [
   | inl good ↦ omega (arith, good (omega arith) (omega arith))

@@ -42,7 +42,7 @@ use Rattle.writer_state.proofs.StandLaws.{all_settled_stand}
 use Rattle.writer_state.proofs.StartedLaws.{keeps_settled, settled_keeps}
 use Rattle.crash.proofs.Texts.{AreBytes, active_is, active_slot, text_full, text_part, value_len_le, verified_le_value}
 
--- each slot of a page of these bytes that the text reaches says the text
+-- each slot of a page that the text reaches verifies over bytes of the text, if it verifies
 abbrev pub SaysIn : (List ℕ → ℕ) → ℕ → List ℕ → List ℕ → Type 0
 SaysIn sum P told whole = (p : ℕ) (page : List ℕ) → slice_get (pages P whole) p ≡ Some page → p * P ≤ length told → (s : Slot) → take (verified_len sum P s page) page ≡ take (verified_len sum P s page) (drop (p * P) told)
 
@@ -70,7 +70,7 @@ text_ends sum P (first ∷ rest) (suc p) page some long is ends = elim (cases_lt
       (omega (arith, ends, ap length (text_full sum P first rest full), length-append (take P first) (text_of_pages sum P rest), size))
 ]
 
--- a blob says its own text, as far as that reaches
+-- each slot of a blob's page that its own text reaches verifies over bytes of that text
 pub text_says : (sum : List ℕ → ℕ) (P : ℕ) (bytes : List ℕ) → 0 < P → SaysIn sum P (text sum P bytes) bytes
 text_says sum P bytes some p page is reached s =
     let told = text sum P bytes in
@@ -89,12 +89,12 @@ text_says sum P bytes some p page is reached s =
           ap (λ (k : ℕ). take k page) zero_len ∙ ap (λ (k : ℕ). take k (drop (p * P) told)) (sym zero_len)
     ]
 
--- a disk with nothing unsynced says what its base says
+-- for a disk with nothing unsynced, the slots of its base are all there are
 says_at_rest : (sum : List ℕ → ℕ) (P : ℕ) (told : List ℕ) (d : Disk) → d.since ≡ [] → SaysIn sum P told d.base → SaysText sum P told d
 says_at_rest sum P told d at_rest says =
     λ whole is_whole. subst (λ (bytes : List ℕ). SaysIn sum P told bytes) (sym (subst (λ (os : List Operation). IsWhole d.base os whole) at_rest is_whole)) says
 
--- so it holds the text of its base, up to any floor within
+-- so a disk with nothing unsynced holds the text of its base, up to any floor within
 pub holds_at_rest : (sum : List ℕ → ℕ) (P : ℕ) (R : List ℕ) (F : ℕ) (d : Disk) → 0 < P → d.since ≡ [] → d.base ≡ R → F ≤ length (text sum P R) → HoldsText sum P (text sum P R) F d
 holds_at_rest sum P R F d some at_rest base few =
     subst (λ (bytes : List ℕ). F ≤ length (text sum P bytes) → HoldsText sum P (text sum P bytes) F d) base (λ enough. record {
@@ -104,9 +104,10 @@ holds_at_rest sum P R F d some at_rest base few =
       vouched = vouched_at_rest sum P d at_rest;
     }) few
 
--- ---- what is held is kept, and chance aside there is nothing else
+-- ---- what is held is kept, and a chance-free image has nothing else
 
--- the text is a beginning of a content where each page's value is the content's, as far as the content reaches
+-- the text is a beginning of a content where each page's value is the content's, as far as the
+-- content reaches
 text_within_reach : (sum : List ℕ → ℕ) (P : ℕ) (ps : List (List ℕ)) (told : List ℕ) → ((q : ℕ) (page : List ℕ) → slice_get ps q ≡ Some page → P ≤ length page)
     → ((p : ℕ) (page : List ℕ) → slice_get ps p ≡ Some page → p * P ≤ length told → take (value_len sum P page) page ≡ take (value_len sum P page) (drop (p * P) told))
     → text_of_pages sum P ps ≡ take (length (text_of_pages sum P ps)) told
@@ -135,7 +136,8 @@ text_within_reach sum P (page ∷ ps) told long each =
           ∙ ap (λ (l : List ℕ). take (length l) told) (sym is)
     ]
 
--- chance aside, an image of a disk that says the text has a beginning of it
+-- each chance-free image of a disk whose slots verify over the text has as its text a beginning of
+-- it
 pub only_text : (sum : List ℕ → ℕ) (P : ℕ) (told : List ℕ) (d : Disk) (image : List ℕ) → SaysText sum P told d → IsChanceFree sum P d image → text sum P image ≡ take (length (text sum P image)) told
 only_text sum P told d image says free = text_within_reach sum P (pages P image) told (λ q page is. omega (arith, length-page P q image page is)) (λ p page is reached.
     let chosen = value_len_slot sum P page in
@@ -156,14 +158,14 @@ module _ (sum : List ℕ → ℕ) (P : ℕ) (told : List ℕ) (F : ℕ) (e : Dis
   pub holds_keeps : (floor : ℕ) → floor ≤ F → AllKeep sum P told floor e
   holds_keeps floor few = guarded_is_kept sum P told floor e (guards_less sum P told F floor e few holds.guards) (omega (arith, few, holds.within))
 
-  -- and chance aside a crash leaves a beginning of the text
+  -- each chance-free image has as its text a beginning of the text
   pub holds_only : (image : List ℕ) → IsImage e image → IsChanceFree sum P e image → text sum P image ≡ take (length (text sum P image)) told
   holds_only image is_image free = only_text sum P told e image holds.says free
 
--- ---- what a device call does to a life, by what it owes at each moment
+-- ---- what a device call does to a life, by what holds at each moment
 
 module _ (Q : Disk → Type 0) (old new : Life) (start : Q old.present) where
-  -- nothing was asked for
+  -- what holds as a call begins that asked for nothing holds at each of its moments
   pub through_none : new ≡ old → Through Q old new
   through_none is = subst (λ (life : Life). Through Q old life) (sym is) (through_start Q old start)
 
@@ -171,7 +173,7 @@ module _ (Q : Disk → Type 0) (old new : Life) (start : Q old.present) where
   pub through_one : (d : Disk) → new ≡ next old d → Q d → Through Q old new
   through_one d is holds = subst (λ (life : Life). Through Q old life) (sym is) (through_more Q old old d (through_start Q old start) holds)
 
-  -- two did
+  -- two moments passed
   pub through_two : (d e : Disk) → new ≡ next (next old d) e → Q d → Q e → Through Q old new
   through_two d e is first second =
       subst (λ (life : Life). Through Q old life) (sym is) (through_more Q old (next old d) e (through_more Q old old d (through_start Q old start) first) second)
@@ -208,7 +210,7 @@ module _ (Q : Disk → Type 0) (old new : Life) (start : Q old.present) where
   sync_through (Err OutOfMemory) done failed goes = through_none goes
   sync_through (Err e) done failed goes = absurd goes
 
--- a look
+-- calls that only read
 pub looked_through : (Q : Disk → Type 0) (old new : Life) → ((d : Disk) → d.base ≡ old.present.base → d.since ≡ old.present.since → Q d) → Looked old new → Through Q old new
 looked_through Q old new later looked = through_then (SameButLog old.present) Q old new (λ d same. later d (ap (λ (x : Disk). x.base) same) (ap (λ (x : Disk). x.since) same)) looked.through
 
@@ -229,11 +231,12 @@ latest_image d bytes is = subst (λ (l : List ℕ). IsImage d l) (sym is) (whole
 -- ---- what is said of the text
 
 module _ (sum : List ℕ → ℕ) (P : ℕ) (told : List ℕ) where
-  -- nothing else is said where only what is readable, the started syncs or the log differ
+  -- `SaysText` holds too where only what is readable, the started syncs or the log differ
   says_alike : (d e : Disk) → e.base ≡ d.base → e.since ≡ d.since → SaysText sum P told d → SaysText sum P told e
   says_alike d e base since says = λ whole is_whole. says whole (rw (base, since) at is_whole)
 
-  -- nor after an operation that leaves the text said
+  -- `SaysText` holds too after an operation, if each slot of what it leaves verifies over bytes of
+  -- the text or not at all
   says_operated : (d e : Disk) (o : Operation) → e.base ≡ d.base → e.since ≡ d.since ++ o ∷ [] → SaysIn sum P told (applied o (latest d.base d.since)) → SaysText sum P told d → SaysText sum P told e
   says_operated d e o base since new says =
       λ whole is_whole. elim (one_more_whole d.base d.since o whole (rw (base, since) at is_whole)) [
@@ -241,12 +244,12 @@ module _ (sum : List ℕ → ℕ) (P : ℕ) (told : List ℕ) where
         | inr is_new ↦ subst (λ (bytes : List ℕ). SaysIn sum P told bytes) (sym is_new) new
       ]
 
-  -- nor where a whole state becomes the base
+  -- `SaysText` holds too where a whole state becomes the base
   says_settled : (d e : Disk) → e.base ≡ latest d.base d.since → e.since ≡ [] → SaysText sum P told d → SaysText sum P told e
   says_settled d e base at_rest says =
       says_at_rest sum P told e at_rest (subst (λ (bytes : List ℕ). SaysIn sum P told bytes) (sym base) (says (latest d.base d.since) (latest_is_whole d.base d.since)))
 
-  -- what is cut says the text too
+  -- the slots of what a resize leaves verify over the text too
   cut_says_text : (whole : List ℕ) (len : ℕ) → len ≤ length whole → SaysIn sum P told whole → SaysIn sum P told (applied (Resize len) whole)
   cut_says_text whole len shorter says = λ p page is.
       let within : (p + 1) * (P + 12) ≤ len = omega (arith, page_fits P p (applied (Resize len) whole) page is, length-applied_resize len whole) in
@@ -256,7 +259,7 @@ module _ (sum : List ℕ → ℕ) (P : ℕ) (told : List ℕ) where
       ∙ ap (λ (l : List ℕ). Some l) (sym (within_take (P + 12) (p * (P + 12)) len whole (omega arith)) ∙ ap (λ (l : List ℕ). take (P + 12) (drop (p * (P + 12)) l)) (sym cut) ∙ sym (page_is P p (applied (Resize len) whole) page is)) in
       says p page was
 
-  -- so does what a slot was written into that says only the text
+  -- the slots of a page verify over the text, once one was written that does
   slot_says_text : (old : List ℕ) (page : ℕ) (s : Slot) (written : List ℕ) → length written ≤ 6 → (page + 1) * (P + 12) ≤ length old
       → (page * P ≤ length told → (held : List ℕ) → slice_get (pages P (applied (slot_write P page s written) old)) page ≡ Some held
       → take (verified_len sum P s held) held ≡ take (verified_len sum P s held) (drop (page * P) told))
@@ -268,7 +271,7 @@ module _ (sum : List ℕ → ℕ) (P : ℕ) (told : List ℕ) where
 -- ---- lives
 
 module _ (sum : List ℕ → ℕ) (P : ℕ) (told : List ℕ) (F : ℕ) where
-  -- the same moment but for what is readable, the started syncs or the log
+  -- `HoldsText` holds too where only what is readable, the started syncs or the log differ
   pub alike_holds : (d e : Disk) → e.base ≡ d.base → e.since ≡ d.since → HoldsText sum P told F d → HoldsText sum P told F e
   alike_holds d e base since holds = record {
     within = holds.within;
@@ -277,7 +280,7 @@ module _ (sum : List ℕ → ℕ) (P : ℕ) (told : List ℕ) (F : ℕ) where
     vouched = vouched_alike sum P d e base since holds.vouched;
   }
 
-  -- the last whole state made durable
+  -- `HoldsText` holds too where the last whole state becomes durable
   pub settled_holds : (d e : Disk) → e.base ≡ latest d.base d.since → e.since ≡ [] → HoldsText sum P told F d → HoldsText sum P told F e
   settled_holds d e base at_rest holds = record {
     within = holds.within;
@@ -286,11 +289,11 @@ module _ (sum : List ℕ → ℕ) (P : ℕ) (told : List ℕ) (F : ℕ) where
     vouched = vouched_at_rest sum P e at_rest;
   }
 
-  -- a look
+  -- `HoldsText` holds at each moment of calls that only read
   pub looked_holds : (old new : Life) → Looked old new → HoldsText sum P told F old.present → Through (HoldsText sum P told F) old new
   looked_holds old new looked holds = looked_through (HoldsText sum P told F) old new (λ d base since. alike_holds old.present d base since holds) looked
 
-  -- a resize to pages enough for the floor
+  -- `HoldsText` holds at each moment of a resize that leaves enough pages for the floor
   pub resize_holds : (k : ℕ) (old new : Life) (answer : Result (Unit {0}) Error) → ResizeGoes (k * (P + 12)) old new answer → F ≤ k * P → k * (P + 12) ≤ length (latest old.present.base old.present.since)
       → HoldsText sum P told F old.present → Through (HoldsText sum P told F) old new
   resize_holds k old new answer goes few within holds =
@@ -306,7 +309,7 @@ module _ (sum : List ℕ → ℕ) (P : ℕ) (told : List ℕ) (F : ℕ) where
         vouched = resize_vouched sum P d e len base since within holds.vouched;
       }) goes
 
-  -- a sync
+  -- `HoldsText` holds at each moment of a sync
   pub sync_holds : (old new : Life) (answer : Result (Unit {0}) Error) → SyncGoes old new answer → old.present.readable ≡ latest old.present.base old.present.since
       → HoldsText sum P told F old.present → Through (HoldsText sum P told F) old new
   sync_holds old new answer goes done holds =
@@ -314,11 +317,12 @@ module _ (sum : List ℕ → ℕ) (P : ℕ) (told : List ℕ) (F : ℕ) where
       sync_through (HoldsText sum P told F) old new holds answer
       (settled_holds d (settled_disk (logged SyncAll false d)) done refl holds) (alike_holds d (logged SyncAll true d) refl refl holds) goes
 
-  -- a slot may be written: the floor ends before its page, or the page's other slot holds as much as the floor has of it
+  -- a slot may be written: the floor ends before its page, or the page's other slot holds as much
+  -- of the page as the floor has
   abbrev pub Spares : ℕ → Slot → Disk → Type 0
   Spares page s d = (F ≤ page * P) ⊎ ((f : ActiveChecksum) × HeldBy sum P told page f d × (s ≡ other f.slot) × (F ≤ page * P + f.len))
 
-  -- what is held stays held then
+  -- what is guarded stays guarded when such a slot is written
   spared_guards : (page : ℕ) (s : Slot) (written : List ℕ) (d e : Disk) → length written ≤ 6 → e.base ≡ d.base → e.since ≡ d.since ++ slot_write P page s written ∷ []
       → Spares page s d → Guards sum P told F d → Guards sum P told F e
   spared_guards page s written d e few base since (inl before) guards =
@@ -328,7 +332,8 @@ module _ (sum : List ℕ → ℕ) (P : ℕ) (told : List ℕ) (F : ℕ) where
       let still = other_slot_holds sum P told page f written d e few base (since ∙ ap (λ (t : Slot). d.since ++ slot_write P page t written ∷ []) is) held in
       guards_less sum P told (page * P + f.len) F e enough (guards_with_tip sum P page told f.len e f.slot (slot_bytes f.len f.crc) still.guard.there still.pages still.guard.held)
 
-  -- a write into a slot that then says only the text
+  -- `HoldsText` holds at each moment of a write into a slot that then verifies over bytes of the
+  -- text, if it verifies
   pub slot_write_holds : (page : ℕ) (s : Slot) (written : List ℕ) (sync : Bool) (old new : Life) (answer : Result (Unit {0}) Error)
       → WriteGoes (page * (P + 12) + P + slot_offset s) written sync old new answer
       → length written ≤ 6 → (page + 1) * (P + 12) ≤ length (latest old.present.base old.present.since) → old.present.readable ≡ latest old.present.base old.present.since
@@ -356,7 +361,7 @@ module _ (sum : List ℕ → ℕ) (P : ℕ) (told : List ℕ) (F : ℕ) where
       let request = WriteAt at (length written) true in
       settled_holds e (settled_disk e) (operated_latest o request d e done operated) refl (later request false e operated)) goes
 
-  -- the first write: the checksum of the shorter value, with no length
+  -- the first write of a cut inside a page: the checksum of the shorter value, with length 0
   pub stage_holds : (page : ℕ) (f : ActiveChecksum) (crc : ℕ) (sync : Bool) (old new : Life) (answer : Result (Unit {0}) Error)
       → WriteGoes (page * (P + 12) + P + slot_offset (other f.slot)) (slot_bytes 0 crc) sync old new answer
       → (page + 1) * (P + 12) ≤ length (latest old.present.base old.present.since) → old.present.readable ≡ latest old.present.base old.present.since
@@ -368,7 +373,8 @@ module _ (sum : List ℕ → ℕ) (P : ℕ) (told : List ℕ) (F : ℕ) where
       (λ reached held is. empty_slot_tells sum P told (latest old.present.base old.present.since) page (other f.slot) crc held there is)
       (λ held is. staged_good sum P page (other f.slot) crc (latest old.present.base old.present.since) held there is) holds
 
-  -- the second: its length, where the page's first bytes of that length are the text's
+  -- the second write of a cut inside a page: the length of the shorter value, where the page's
+  -- first bytes of that length are the text's
   pub publish_holds : (page : ℕ) (f : ActiveChecksum) (len crc : ℕ) (sync : Bool) (old new : Life) (answer : Result (Unit {0}) Error)
       → WriteGoes (page * (P + 12) + P + slot_offset (other f.slot)) (to_be_bytes w16 len) sync old new answer
       → (page + 1) * (P + 12) ≤ length (latest old.present.base old.present.since) → old.present.readable ≡ latest old.present.base old.present.since
@@ -384,7 +390,7 @@ module _ (sum : List ℕ → ℕ) (P : ℕ) (told : List ℕ) (F : ℕ) where
       (λ reached held is. length_slot_tells sum P told (latest old.present.base old.present.since) page (other f.slot) len held there small (payload reached) is)
       (λ held is. published_good sum P page (other f.slot) len crc (latest old.present.base old.present.since) held small_page fits small_crc there was is_sum is) holds
 
-  -- the third: nothing over the slot of the longer value
+  -- the third write of a cut inside a page: zeros over the slot of the longer value
   pub clear_holds : (page : ℕ) (f : ActiveChecksum) (sync : Bool) (old new : Life) (answer : Result (Unit {0}) Error)
       → WriteGoes (page * (P + 12) + P + slot_offset f.slot) (slot_bytes 0 0) sync old new answer
       → (page + 1) * (P + 12) ≤ length (latest old.present.base old.present.since) → old.present.readable ≡ latest old.present.base old.present.since
@@ -399,7 +405,7 @@ module _ (sum : List ℕ → ℕ) (P : ℕ) (told : List ℕ) (F : ℕ) where
 -- ---- what one slot holds, as lives
 
 module _ (sum : List ℕ → ℕ) (P : ℕ) (told : List ℕ) (page : ℕ) (f : ActiveChecksum) where
-  -- the same moment but for what is readable, the started syncs or the log
+  -- `HeldBy` holds too where only what is readable, the started syncs or the log differ
   pub alike_held : (d e : Disk) → e.base ≡ d.base → e.since ≡ d.since → HeldBy sum P told page f d → HeldBy sum P told page f e
   alike_held d e base since held = record {
     pages = guards_alike sum P told (page * P) d e base since held.pages;
@@ -409,7 +415,7 @@ module _ (sum : List ℕ → ℕ) (P : ℕ) (told : List ℕ) (page : ℕ) (f : 
     };
   }
 
-  -- an image made durable
+  -- `HeldBy` holds too where an image becomes durable
   pub settled_held : (d e : Disk) → IsImage d e.base → e.since ≡ [] → HeldBy sum P told page f d → HeldBy sum P told page f e
   settled_held d e is_image at_rest held = record {
     pages = guards_settle sum P told (page * P) d e is_image at_rest held.pages;
@@ -419,11 +425,11 @@ module _ (sum : List ℕ → ℕ) (P : ℕ) (told : List ℕ) (page : ℕ) (f : 
     };
   }
 
-  -- a look
+  -- `HeldBy` holds at each moment of calls that only read
   pub looked_stays_held : (old new : Life) → Looked old new → HeldBy sum P told page f old.present → StaysHeld sum P told page f old new
   looked_stays_held old new looked held = looked_through (HeldBy sum P told page f) old new (λ d base since. alike_held old.present d base since held) looked
 
-  -- a sync
+  -- `HeldBy` holds at each moment of a sync
   pub sync_stays_held : (old new : Life) (answer : Result (Unit {0}) Error) → SyncGoes old new answer → old.present.readable ≡ latest old.present.base old.present.since
       → HeldBy sum P told page f old.present → StaysHeld sum P told page f old new
   sync_stays_held old new answer goes done held =
@@ -431,7 +437,7 @@ module _ (sum : List ℕ → ℕ) (P : ℕ) (told : List ℕ) (page : ℕ) (f : 
       sync_through (HeldBy sum P told page f) old new held answer
       (settled_held d (settled_disk (logged SyncAll false d)) (latest_image d d.readable done) refl held) (alike_held d (logged SyncAll true d) refl refl held) goes
 
-  -- a resize that leaves the page
+  -- `HeldBy` holds at each moment of a resize that leaves the page
   pub resize_stays_held : (k : ℕ) (old new : Life) (answer : Result (Unit {0}) Error) → ResizeGoes (k * (P + 12)) old new answer → page + 1 ≤ k
       → HeldBy sum P told page f old.present → StaysHeld sum P told page f old new
   resize_stays_held k old new answer goes more held =
@@ -451,7 +457,8 @@ module _ (sum : List ℕ → ℕ) (P : ℕ) (told : List ℕ) (page : ℕ) (f : 
         };
       }) goes
 
-  -- a write into the other slot; one that is durable at Ok makes durable what is readable, so that must be the last whole state
+  -- `HeldBy` holds at each moment of a write into the other slot. A write that is durable at Ok
+  -- makes durable what is readable, so that must be the last whole state.
   pub stays_held : (written : List ℕ) (sync : Bool) (old new : Life) (answer : Result (Unit {0}) Error) → HeldBy sum P told page f old.present
       → WriteGoes (page * (P + 12) + P + slot_offset (other f.slot)) written sync old new answer
       → length written ≤ 6 → (sync ≡ true → old.present.readable ≡ latest old.present.base old.present.since) → StaysHeld sum P told page f old new
@@ -562,9 +569,10 @@ published_held sum P told R page f len crc d small small_page held at_rest base 
     (ap (λ (l : List ℕ). take 6 (drop at l)) base ∙ published_slot at len crc R (omega (arith, in_page, reach)))
     held.pages
 
--- ---- what a cut owes
+-- ---- what holds at each moment of a cut
 
--- where the text of a blob with nothing unsynced is held at each moment, as far as the cut leaves it
+-- where the text of a blob with nothing unsynced is held at each moment, as far as the cut leaves
+-- it
 module _ (sum : List ℕ → ℕ) (P n : ℕ) (old new : Life) (at_rest : old.present.since ≡ []) (base : old.present.base ≡ old.present.readable)
     (through : Through (HoldsText sum P (text sum P old.present.readable) (min n (length (text sum P old.present.readable)))) old new) where
   -- each floor within the first n bytes of any content is kept
@@ -577,7 +585,7 @@ module _ (sum : List ℕ → ℕ) (P n : ℕ) (old new : Life) (at_rest : old.pr
       through_then (HoldsText sum P told (min n (length told))) (AllKeep sum P (take n content) floor) old new
       (λ e holds. keeps_same sum P told (take n content) floor e same (holds_keeps sum P told (min n (length told)) e holds floor (omega (arith, there, few)))) through
 
-  -- chance aside there is only the text
+  -- each chance-free image has as its text a beginning of the text
   pub shorten_leaves : (after : List ℕ) → LeavesOnly sum P (text sum P old.present.readable) after old new
   shorten_leaves after =
       let told = text sum P old.present.readable in
@@ -586,7 +594,7 @@ module _ (sum : List ℕ → ℕ) (P n : ℕ) (old new : Life) (at_rest : old.pr
 
 -- ---- a sound writer all of which is written
 
--- what is readable has its content as the text
+-- what is readable has as its text the content of a sound writer all of whose tip is written
 pub sound_text : (sum : List ℕ → ℕ) (w : WriterState) (d : Disk) → IsSound sum w d → kept_len w.flushed ≡ length w.tip → text sum w.page_size d.readable ≡ content w d.readable
 unfolding IsSound
 sound_text sum w d sound written =
@@ -603,7 +611,7 @@ sound_text sum w d sound written =
 abbrev pub StartsGoOn : Disk → Disk → Type 0
 StartsGoOn d e = (e.started ≡ d.started) × (d.settled ≤ e.settled)
 
--- so each that was settled is
+-- so each sync that was settled still is
 pub goes_on_settled : (d e : Disk) → AllSettled d → StartsGoOn d e → AllSettled e
 goes_on_settled d e all on name c is =
     let covers : coverings e ≡ coverings d = ap (λ (ss : List Started). map (λ s. (s.covers, s.bytes)) ss) on.0 in
@@ -616,27 +624,27 @@ goes_on_operated : (o : Operation) (request : Request) (failed : Bool) (d e : Di
 goes_on_operated o request failed d e operated = (ap (λ (x : Disk). x.started) operated.rest, omega (arith, ap (λ (x : Disk). x.settled) operated.rest))
 
 module _ (old new : Life) where
-  -- a look
+  -- calls that only read start no sync
   pub looked_goes_on : Looked old new → Through (StartsGoOn old.present) old new
   looked_goes_on looked = through_then (SameButLog old.present) (StartsGoOn old.present) old new
       (λ d same. (ap (λ (x : Disk). x.started) same, omega (arith, ap (λ (x : Disk). x.settled) same))) looked.through
 
-  -- a resize
+  -- a resize starts no sync
   pub resize_goes_on : (len : ℕ) (answer : Result (Unit {0}) Error) → ResizeGoes len old new answer → Through (StartsGoOn old.present) old new
   resize_goes_on len answer goes = resize_through (StartsGoOn old.present) old new (goes_on_itself old.present) len answer
       (λ failed d operated. goes_on_operated (Resize len) (ResizeTo len) failed old.present d operated) goes
 
-  -- a write
+  -- a write starts no sync
   pub write_goes_on : (offset : ℕ) (bytes : List ℕ) (sync : Bool) (answer : Result (Unit {0}) Error) → WriteGoes offset bytes sync old new answer → Through (StartsGoOn old.present) old new
   write_goes_on offset bytes sync answer goes = write_through (StartsGoOn old.present) old new (goes_on_itself old.present) offset bytes sync answer
       (λ failed d operated. goes_on_operated (Write offset bytes) (WriteAt offset (length bytes) sync) failed old.present d operated)
       (λ d is operated. let on = goes_on_operated (Write offset bytes) (WriteAt offset (length bytes) true) false old.present d operated in (on.0, omega (arith, on.1))) goes
 
-  -- a sync
+  -- a sync starts no other
   pub sync_goes_on : (answer : Result (Unit {0}) Error) → SyncGoes old new answer → Through (StartsGoOn old.present) old new
   sync_goes_on answer goes = sync_through (StartsGoOn old.present) old new (goes_on_itself old.present) answer (refl, omega arith) (refl, omega arith) goes
 
--- one call after another
+-- two calls in turn that start no sync
 pub goes_on_joins : (old mid new : Life) → Through (StartsGoOn old.present) old mid → Through (StartsGoOn mid.present) mid new → Through (StartsGoOn old.present) old new
 goes_on_joins old mid new first second =
     let reached = through_end (StartsGoOn old.present) old mid first in
@@ -670,7 +678,7 @@ module _ (sum : List ℕ → ℕ) (P : ℕ) (content : List ℕ) (old new : Life
         subst (λ (ds : List Disk). Each (AllKeep sum P content cover) ds) same kept.each);
   }
 
-  -- and each is settled after the call
+  -- each started sync can be awaited after the call
   pub shorten_stands : StartsCanBeAwaited new.present
   shorten_stands = all_settled_stand new.present (goes_on_settled old.present new.present all (through_end (StartsGoOn old.present) old new on))
 
@@ -698,7 +706,7 @@ sync_latest old new answer goes done = through_end (λ (d : Disk). d.readable �
 abbrev pub MayHold : (List ℕ → ℕ) → (P : ℕ) → List ℕ → (page : ℕ) → ActiveChecksum → Disk → Type 0
 MayHold sum P told page f d = (length told < page * P) ⊎ HeldBy sum P told page f d
 
--- so it is of the slot of a page's value, with nothing unsynced
+-- with nothing unsynced the slot of a page's value may hold it so
 pub value_may_hold : (sum : List ℕ → ℕ) (P page : ℕ) (f : ActiveChecksum) (R : List ℕ) (d : Disk) → d.since ≡ [] → d.base ≡ R → (page + 1) * (P + 12) ≤ length R
     → AreBytes (take (P + 12) (drop (page * (P + 12)) R)) → active sum P (take (P + 12) (drop (page * (P + 12)) R)) ≡ Some f → MayHold sum P (text sum P R) page f d
 value_may_hold sum P page f R d at_rest base reach are is =
@@ -718,17 +726,17 @@ value_may_hold sum P page f R d at_rest base reach are is =
     ]
 
 module _ (sum : List ℕ → ℕ) (P : ℕ) (told : List ℕ) (page : ℕ) (f : ActiveChecksum) where
-  -- through a call that keeps what the slot holds
+  -- a call that keeps what the slot holds keeps `MayHold`
   pub may_hold_on : (old new : Life) → (HeldBy sum P told page f old.present → StaysHeld sum P told page f old new) → MayHold sum P told page f old.present → MayHold sum P told page f new.present
   may_hold_on old new stays (inl before) = inl before
   may_hold_on old new stays (inr held) = inr (through_end (HeldBy sum P told page f) old new (stays held))
 
-  -- the other slot may be written
+  -- where a slot may hold the page's part of the text, the other slot may be written
   pub may_hold_spares : (F : ℕ) (d : Disk) → F ≤ length told → F ≤ page * P + f.len → MayHold sum P told page f d → Spares sum P told F page (other f.slot) d
   may_hold_spares F d within enough (inl before) = inl (omega (arith, within, before))
   may_hold_spares F d within enough (inr held) = inr (f, held, refl, enough)
 
-  -- the page's first bytes are the text's
+  -- where a slot may hold the page's part of the text, the page's first bytes are the text's
   pub may_hold_payload : (len : ℕ) (d : Disk) → len ≤ f.len → MayHold sum P told page f d → page * P ≤ length told
       → take len (drop (page * (P + 12)) (latest d.base d.since)) ≡ take len (drop (page * P) told)
   may_hold_payload len d less (inl before) reached = absurd (omega (arith, before, reached))
@@ -740,7 +748,7 @@ module _ (sum : List ℕ → ℕ) (P : ℕ) (told : List ℕ) (page : ℕ) (f : 
       take_same len f.len (drop start bytes) (drop (page * P) told) less
       (ap (λ (n : ℕ). take n (drop start bytes)) (sym as_long) ∙ fixed_in_image d start all bytes held.guard.held.payload (latest_image d bytes refl))
 
-  -- once the second write is durable the new slot holds
+  -- once the second write is durable the new slot may hold the page's part of the text
   pub published_may_hold : (R : List ℕ) (len crc : ℕ) (d : Disk) → IsSmall sum → P < 2 ^ 16 → MayHold sum P told page f d
       → d.since ≡ [] → d.base ≡ applied (published P page f.slot len) (applied (staged P page f.slot crc) R) → (page + 1) * (P + 12) ≤ length R
       → 0 < len → len ≤ f.len → crc ≡ sum (take len (drop (page * (P + 12)) R)) → MayHold sum P told page (record { slot = other f.slot; len = len; crc = crc }) d
@@ -748,7 +756,7 @@ module _ (sum : List ℕ → ℕ) (P : ℕ) (told : List ℕ) (page : ℕ) (f : 
   published_may_hold R len crc d small small_page (inr held) at_rest base reach some less is_sum =
       inr (published_held sum P told R page f len crc d small small_page held at_rest base reach some less is_sum)
 
-  -- and the old one may be written
+  -- once the second write is durable the old slot may be written
   pub published_spares : (F len crc : ℕ) (d : Disk) → F ≤ length told → F ≤ page * P + len → MayHold sum P told page (record { slot = other f.slot; len = len; crc = crc }) d → Spares sum P told F page f.slot d
   published_spares F len crc d within enough (inl before) = inl (omega (arith, within, before))
   published_spares F len crc d within enough (inr held) = inr (record { slot = other f.slot; len = len; crc = crc }, held, sym (other_other f.slot), enough)

@@ -1,5 +1,5 @@
--- What keeps a writer sound, so that a crash keeps what was synced: a flush, a sync, a read, a longer tip, the durable
--- slot brought up to date; and what makes one sound.
+-- What keeps a writer sound, so that a crash keeps what was synced: a flush, a sync, a read, a
+-- longer tip, the durable slot brought up to date; and what makes a writer sound.
 use Rattle.std.proofs.Common.{◌≡◌, inl, inr, ◌⊎◌, ℕ, zero, suc, ◌+◌, ◌-◌, ◌*◌, ◌^◌, ◌<◌, ◌≤◌, List, [], ◌∷◌, ◌++◌, length, take, drop, slice_get, refl, sym, ◌∙◌, ap, subst, arith, length-append, length-take, length-take-le, mul-le-mul_right}
 use Rattle.std.specs.Prelude.{Option, Some, None, Bool, false}
 use Rattle.std.proofs.lemmas.Bool.{cases_lt, cases_order}
@@ -44,7 +44,7 @@ module _ (sum : List ℕ → ℕ) (P full : ℕ) (tip readable : List ℕ) where
       text_of_part sum P full readable are (omega (arith, is.size)) (omega (arith, is.value, is.part))
       ∙ ap (λ (l : List ℕ). stored P full readable ++ l) (value_at sum P full readable ∙ ap (λ (n : ℕ). take n (drop (full * (P + 12)) readable)) is.value ∙ is.begins)
 
-  -- so much of the tip was written
+  -- the slot of the tip's page has no more bytes than the tip
   pub kept_in_tip : (flushed : Option ActiveChecksum) → TipPage sum P full tip readable flushed → kept_len flushed ≤ length tip
   kept_in_tip None is = omega arith
   kept_in_tip (Some f) is = is.there
@@ -56,7 +56,7 @@ module _ (sum : List ℕ → ℕ) (w : WriterState) (readable : List ℕ) (full 
   reach : w.full_pages * (w.page_size + 12) ≤ length readable
   reach = (tip_reach sum w.page_size w.full_pages w.tip readable w.flushed tip_page).0
 
-  -- how long the text is
+  -- how long the text of what is readable is
   pub length-written_text : length (text sum w.page_size readable) ≡ w.full_pages * w.page_size + kept_len w.flushed
   length-written_text =
       let kept = kept_in_tip sum w.page_size w.full_pages w.tip readable w.flushed tip_page in
@@ -64,7 +64,7 @@ module _ (sum : List ℕ → ℕ) (w : WriterState) (readable : List ℕ) (full 
       ∙ (let e : length (stored w.page_size w.full_pages readable ++ take (kept_len w.flushed) w.tip) ≡ w.full_pages * w.page_size + kept_len w.flushed =
       omega (arith, length-append (stored w.page_size w.full_pages readable) (take (kept_len w.flushed) w.tip), length-take (kept_len w.flushed) w.tip, length-stored w.page_size w.full_pages readable reach) in e)
 
-  -- it is a beginning of the content
+  -- the text of what is readable is a beginning of the content
   pub text_begins_content : text sum w.page_size readable ≡ take (length (text sum w.page_size readable)) (content w readable)
   text_begins_content =
       let n = kept_len w.flushed in
@@ -74,7 +74,7 @@ module _ (sum : List ℕ → ℕ) (w : WriterState) (readable : List ℕ) (full 
       ∙ ap (λ (k : ℕ). front ++ take k w.tip) (let e : n ≡ length (text sum w.page_size readable) - length front = omega (arith, length-written_text, size) in e)
       ∙ sym (take_past (length (text sum w.page_size readable)) front w.tip (omega (arith, length-written_text, size)))
 
--- of the tip's page each slot that verifies does so over bytes of the tip
+-- each slot of the tip's page that verifies does so over bytes of the tip
 tip_says : (sum : List ℕ → ℕ) (P full : ℕ) (tip readable page : List ℕ) (flushed : Option ActiveChecksum) (s : Slot) → TipPage sum P full tip readable flushed → slice_get (pages P readable) full ≡ Some page
     → take (verified_len sum P s page) page ≡ take (verified_len sum P s page) tip
 tip_says sum P full tip readable page None s is there = absurd (omega (arith, page_fits P full readable page there))
@@ -85,7 +85,7 @@ tip_says sum P full tip readable page (Some f) s is there =
     page_begins P full n readable page there (omega (arith, verified_len_le sum P s page))
     ∙ take_same n f.len (drop (full * (P + 12)) readable) tip few is.begins
 
--- what is readable says only the content
+-- each slot of what is readable that verifies does so over bytes of the content
 pub says_written : (sum : List ℕ → ℕ) (w : WriterState) (readable : List ℕ) → TipPage sum w.page_size w.full_pages w.tip readable w.flushed → SaysOnly sum w.page_size (content w readable) readable
 says_written sum w readable tip_page p page is s =
     let P = w.page_size in
@@ -110,7 +110,7 @@ says_written sum w readable tip_page p page is s =
           absurd (omega (arith, page_fits P p readable page is))
     ]
 
--- with nothing unsynced the slot that was flushed last is held
+-- with nothing unsynced the slot that was flushed last is pinned
 held_at_rest : (sum : List ℕ → ℕ) (P full : ℕ) (tip : List ℕ) (f : ActiveChecksum) (d : Disk) → IsSmall sum → P < 2 ^ 16 → d.since ≡ [] → HasTipPage sum P full tip d.base f → IsPinned sum P d full f.slot (slot_bytes f.len f.crc) (take f.len tip)
 held_at_rest sum P full tip f d small small_page since is =
     let as_long : length (take f.len tip) ≡ f.len = length-take-le f.len tip is.there in
@@ -131,7 +131,7 @@ held_at_rest sum P full tip f d small small_page since is =
       end = fixed_at_rest d ((full + 1) * (P + 12)) [] since (omega (arith, is.size)) refl;
     }
 
--- if there is one
+-- with nothing unsynced the slot that was flushed last is guarded, if there is one
 guard_at_rest : (sum : List ℕ → ℕ) (P full : ℕ) (tip content : List ℕ) (flushed : Option ActiveChecksum) (d : Disk) → IsSmall sum → P < 2 ^ 16 → d.since ≡ [] → TipPage sum P full tip d.base flushed
     → drop (full * P) content ≡ tip → full * P + length tip ≤ length content → TipGuard sum P content d full flushed
 guard_at_rest sum P full tip content None d small small_page since is after long = tt
@@ -162,22 +162,23 @@ module _ (sum : List ℕ → ℕ) (w : WriterState) (d : Disk) (since : d.since 
   reaches : w.full_pages * (w.page_size + 12) ≤ length d.readable
   reaches = (tip_reach sum w.page_size w.full_pages w.tip d.readable w.flushed tip_page).0
 
-  -- with nothing unsynced no whole state says anything but the content
+  -- with nothing unsynced each slot of a whole state that verifies does so over bytes of the
+  -- content
   truthful_written : IsTruthful sum w.page_size (content w d.readable) d
   truthful_written =
       truthful_at_rest sum w.page_size (content w d.readable) d since (subst (λ (l : List ℕ). SaysOnly sum w.page_size (content w d.readable) l) (sym base) (says_written sum w d.readable tip_page))
 
-  -- so the text is a beginning of it
+  -- so the text of the base is a beginning of the content
   text_begins : text sum w.page_size d.base ≡ take (length (text sum w.page_size d.base)) (content w d.readable)
   text_begins = only_content sum w.page_size (content w d.readable) d d.base truthful_written (whole_is_chance_free sum w.page_size d d.base (base_is_whole d.base d.since))
 
-  -- and guarded
+  -- the text of the base is guarded
   guards_text : 0 < w.page_size → Guards sum w.page_size (content w d.readable) (length (text sum w.page_size d.base)) d
   guards_text some =
       let told = text sum w.page_size d.base in
       guards_longer sum w.page_size told (content w d.readable) (length told) d text_begins (guards_at_rest sum w.page_size d some since)
 
-  -- of the tip's page, what was flushed last is
+  -- the slot of the tip's page that was flushed last is guarded
   guard_written : IsSmall sum → w.page_size < 2 ^ 16 → TipGuard sum w.page_size (content w d.readable) d w.full_pages w.flushed
   guard_written small small_page =
       let P = w.page_size in
@@ -186,7 +187,7 @@ module _ (sum : List ℕ → ℕ) (w : WriterState) (d : Disk) (since : d.since 
       guard_at_rest sum P w.full_pages w.tip (content w d.readable) w.flushed d small small_page since
       (subst (λ (l : List ℕ). TipPage sum P w.full_pages w.tip l w.flushed) (sym base) tip_page) after (omega (arith, length-content w d.readable reaches))
 
-  -- so a crash keeps it
+  -- so a crash keeps the text of the base
   safe_at_rest : 0 < w.page_size → TipGuard sum w.page_size (content w d.readable) d w.full_pages w.flushed → IsRepeated w.sync w.flushed w.durable w.flushed → IsSafe sum w (content w d.readable) d
   safe_at_rest some guard repeats =
       let P = w.page_size in
@@ -218,7 +219,7 @@ module _ (sum : List ℕ → ℕ) (w : WriterState) (d : Disk) (since : d.since 
 
 -- ---- what is safe
 
--- the tip's page with the pages before it
+-- the tip's page is guarded together with the pages before it
 tip_guards : (sum : List ℕ → ℕ) (P : ℕ) (content : List ℕ) (d : Disk) (full : ℕ) (tip : Option ActiveChecksum) → full * P ≤ length content → Guards sum P content (full * P) d → TipGuard sum P content d full tip
     → (full * P + kept_len tip ≤ length content) × Guards sum P content (full * P + kept_len tip) d
 tip_guards sum P content d full None there guards guard = (omega arith, guards_less sum P content (full * P) (full * P + 0) d (omega arith) guards)
@@ -238,14 +239,15 @@ safe_guards sum w content d safe =
           (tip_guards sum P content d w.full_pages safe.tip (omega (arith, safe.there, here.0)) (subst (λ (n : ℕ). Guards sum P content n d) here.0 safe.pages) safe.guard)
     ]
 
--- where no more was durable, and no whole state says anything else, nothing is owed
+-- `Stays` holds where no more was durable, and each slot of a whole state verifies over bytes of
+-- the content, if it verifies
 pub safe_stays : (sum : List ℕ → ℕ) (w : WriterState) (content : List ℕ) (d e : Disk) → e.base ≡ d.base → IsSafe sum w content e → IsTruthful sum w.page_size content e → IsVouched sum w.page_size e → Stays sum w.page_size content d e
 safe_stays sum w content d e base safe truthful vouched =
     let P = w.page_size in
     let guarded = safe_guards sum w content e safe in
     stays_guarded sum P content (safe.floor + kept_len safe.tip) d e (omega (arith, safe.base, ap (λ (l : List ℕ). length (text sum P l)) base)) guarded.1 truthful vouched
 
--- a slot that stays, over to a content that goes on
+-- a slot that is guarded is guarded for a longer content
 guard_longer : (sum : List ℕ → ℕ) (P : ℕ) (content longer : List ℕ) (d : Disk) (full : ℕ) (tip : Option ActiveChecksum) → content ≡ take (length content) longer → TipGuard sum P content d full tip → TipGuard sum P longer d full tip
 guard_longer sum P content longer d full None begins guard = tt
 guard_longer sum P content longer d full (Some f) begins guard = record {
@@ -253,7 +255,7 @@ guard_longer sum P content longer d full (Some f) begins guard = record {
   held = subst (λ (l : List ℕ). IsPinned sum P d full f.slot (slot_bytes f.len f.crc) l) (part_of_beginning f.len (full * P) content longer begins guard.there) guard.held;
 }
 
--- over to a disk with the same base and operations
+-- a slot that is guarded is guarded on a disk with the same base and operations
 guard_alike : (sum : List ℕ → ℕ) (P : ℕ) (content : List ℕ) (d e : Disk) (full : ℕ) (tip : Option ActiveChecksum) → e.base ≡ d.base → e.since ≡ d.since → TipGuard sum P content d full tip → TipGuard sum P content e full tip
 guard_alike sum P content d e full None base since guard = tt
 guard_alike sum P content d e full (Some f) base since guard = record {
@@ -261,7 +263,7 @@ guard_alike sum P content d e full (Some f) base since guard = record {
   held = held_alike sum P d e full f.slot (slot_bytes f.len f.crc) (take f.len (drop (full * P) content)) base since guard.held;
 }
 
--- over a flush that repeats it
+-- a slot that is guarded is guarded after a flush that repeats it
 guard_repeated : (sum : List ℕ → ℕ) (P : ℕ) (content : List ℕ) (d e : Disk) (full m : ℕ) (rest : List ℕ) (tip : Option ActiveChecksum) → e.base ≡ d.base → e.since ≡ d.since ++ Write (full * (P + 12)) (built sum P tip m rest) ∷ []
     → drop (full * P) content ≡ rest → TipGuard sum P content d full tip → TipGuard sum P content e full tip
 guard_repeated sum P content d e full m rest None base since after guard = tt
@@ -280,7 +282,8 @@ repeated_is Clean flushed durable tip ready is = is ∙ sym ready
 repeated_is Dirty flushed durable tip ready is = is
 repeated_is (Pending name) flushed durable tip ready is = absurd ready
 
--- the tip's page is below the tip once a page went out, and else the durable slot is the same
+-- after a flush of full pages the old tip's page is below the tip; else the durable slot is the
+-- same
 offset_after : (full k : ℕ) (durable : Option ActiveChecksum) → (full < full + k) ⊎ ((full ≡ full + k) × (durable ≡ durable_after durable k))
 offset_after full zero durable = inr (omega arith, refl)
 offset_after full (suc k) durable = inl (omega arith)
@@ -293,7 +296,7 @@ module _ (sum : List ℕ → ℕ) (w : WriterState) (d e : Disk) (k : ℕ) (rest
       ap (λ (n : ℕ). drop n (content w d.readable)) (sym start)
       ∙ content_in_tip w d.readable (tip_reach sum w.page_size w.full_pages w.tip d.readable w.flushed sound.stands.tip_page).0 0
 
-  -- a flush leaves safe what was, done or failed
+  -- what was safe is safe after a flush, done or failed
   pub flush_safe : e.base ≡ d.base → e.since ≡ d.since ++ Write (w.full_pages * (w.page_size + 12)) bytes ∷ [] → IsSafe sum (after_write sum w k rest) (content w d.readable) e
   flush_safe base since =
       let P = w.page_size in
@@ -350,7 +353,8 @@ module _ (sum : List ℕ → ℕ) (w : WriterState) (d e : Disk) (k : ℕ) (rest
             ]
       ]
 
-  -- and no whole state says anything but the content
+  -- after a flush, done or failed, each slot of a whole state that verifies does so over bytes of
+  -- the content
   pub flush_truthful : e.base ≡ d.base → e.since ≡ d.since ++ Write (w.full_pages * (w.page_size + 12)) bytes ∷ [] → IsTruthful sum w.page_size (content w d.readable) e
   flush_truthful base since =
       let P = w.page_size in
@@ -363,7 +367,7 @@ module _ (sum : List ℕ → ℕ) (w : WriterState) (d e : Disk) (k : ℕ) (rest
       (ap (λ (l : List ℕ). pages P (applied (Write (q * (P + 12)) l) old)) is ∙ pages_written sum P q m w.durable w.tip old reach.0 reach.1)
       sound.truthful
 
-  -- and a disk that is vouched for stays so
+  -- a disk that is vouched for stays so through a flush, done or failed
   pub flush_vouches : e.base ≡ d.base → e.since ≡ d.since ++ Write (w.full_pages * (w.page_size + 12)) bytes ∷ [] → IsVouched sum w.page_size e × IsGoodFrom sum w.page_size (w.full_pages + k) e
   flush_vouches base since =
       let P = w.page_size in
@@ -376,7 +380,7 @@ module _ (sum : List ℕ → ℕ) (w : WriterState) (d e : Disk) (k : ℕ) (rest
       (ap (λ (l : List ℕ). pages P (applied (Write (q * (P + 12)) l) old)) is ∙ pages_written sum P q m w.durable w.tip old reach.0 reach.1)
       sound.good sound.vouched
 
-  -- a flush that is done keeps soundness
+  -- a flush that is done leaves a consistent writer
   pub operated_consistent : (request : Request) → HasOperated (Write (w.full_pages * (w.page_size + 12)) bytes) request false d e → Consistency sum (after_write sum w k rest) e
   operated_consistent request done =
       let o : Operation = Write (w.full_pages * (w.page_size + 12)) bytes in
@@ -392,7 +396,7 @@ module _ (sum : List ℕ → ℕ) (w : WriterState) (d e : Disk) (k : ℕ) (rest
         good = (flush_vouches base since).1;
       }
 
-  -- a flush owes nothing, done or failed
+  -- `Stays` holds after a flush, done or failed
   pub operated_stays : (request : Request) (failed : Bool) → HasOperated (Write (w.full_pages * (w.page_size + 12)) bytes) request failed d e → Stays sum w.page_size (content w d.readable) d e
   operated_stays request failed operated =
       let o : Operation = Write (w.full_pages * (w.page_size + 12)) bytes in
@@ -400,7 +404,7 @@ module _ (sum : List ℕ → ℕ) (w : WriterState) (d e : Disk) (k : ℕ) (rest
       let since = operated_since o request failed d e operated in
       safe_stays sum (after_write sum w k rest) (content w d.readable) d e base (flush_safe base since) (flush_truthful base since) (flush_vouches base since).0
 
-  -- nor does it where it is made durable
+  -- `Stays` holds after a flush that is made durable
   pub operated_settle_stays : (request : Request) (f : Disk) → HasOperated (Write (w.full_pages * (w.page_size + 12)) bytes) request false d e → f.base ≡ e.readable → f.since ≡ [] → Stays sum w.page_size (content w d.readable) d f
   operated_settle_stays request f done base since =
       stays_settled sum w.page_size (content w d.readable) d e f (base ∙ (operated_consistent request done).stands.done) since (operated_stays request false done)
@@ -412,7 +416,7 @@ pub intact_still : (sum : List ℕ → ℕ) (w : WriterState) (d e : Disk) → e
 intact_still sum w d e same full = subst (λ (l : List ℕ). AreFull sum w.page_size (take w.full_pages (pages w.page_size l))) (sym same) full
 
 module _ (sum : List ℕ → ℕ) (w : WriterState) (d e : Disk) (sound : Consistency sum w d) (same : e.readable ≡ d.readable) where
-  -- a sync that is done keeps soundness, and leaves the writer clean
+  -- a sync that is done leaves a clean, consistent writer
   pub settle_consistent : (s : SyncState) → IsSmall sum → e.base ≡ d.readable → e.since ≡ [] → StartsFit e s → IsRepeated s w.flushed w.durable w.flushed → Consistency sum (record w { sync = s }) e
   settle_consistent s small base since starts repeats =
       let stands = settle_stands sum w d e sound.stands same s base since starts in
@@ -426,12 +430,13 @@ module _ (sum : List ℕ → ℕ) (w : WriterState) (d e : Disk) (sound : Consis
         good = good_from_settles sum w.page_size w.full_pages d e (subst (λ (l : List ℕ). IsWhole d.base d.since l) (sym (base ∙ sound.stands.done)) (latest_is_whole d.base d.since)) since sound.good;
       }
 
-  -- and owes nothing
+  -- `Stays` holds after a sync that is done
   pub settle_stays : e.base ≡ d.readable → e.since ≡ [] → Stays sum w.page_size (content w d.readable) d e
   settle_stays base since =
       stays_settled sum w.page_size (content w d.readable) d d e (base ∙ sound.stands.done) since (stays_itself sum w.page_size (content w d.readable) d sound.truthful sound.vouched)
 
-  -- a disk with the same bytes, base and operations is as sound, in any state that fits it and lets no other slot be repeated
+  -- a writer is as consistent over a disk with the same bytes, base and operations, in any state
+  -- that fits the disk and lets no other slot be repeated
   pub same_bytes_consistent : (s : SyncState) → e.base ≡ d.base → e.since ≡ d.since → StateFits e s → StartsFit e s
       → ((tip : Option ActiveChecksum) → IsRepeated w.sync w.flushed w.durable tip → IsRepeated s w.flushed w.durable tip) → Consistency sum (record w { sync = s }) e
   same_bytes_consistent s base since fits starts repeated =
@@ -456,12 +461,12 @@ module _ (sum : List ℕ → ℕ) (w : WriterState) (d e : Disk) (sound : Consis
         good = good_from_alike sum w.page_size w.full_pages d e base since sound.good;
       }
 
-  -- so after a read
+  -- so a writer is as consistent after a read
   pub alike_consistent : e.base ≡ d.base → e.since ≡ d.since → coverings e ≡ coverings d → e.settled ≡ d.settled → Consistency sum w e
   alike_consistent base since covers settled =
       same_bytes_consistent w.sync base since (fits_alike d e w.sync same base since sound.stands.state) (starts_alike d e w.sync same since covers settled sound.stands.starts) (λ tip is. is)
 
-  -- and nothing is owed
+  -- `Stays` holds after a read
   pub alike_stays : e.base ≡ d.base → e.since ≡ d.since → Stays sum w.page_size (content w d.readable) d e
   alike_stays base since = stays_alike sum w.page_size (content w d.readable) d d e base since (stays_itself sum w.page_size (content w d.readable) d sound.truthful sound.vouched)
 
@@ -471,7 +476,7 @@ module _ (sum : List ℕ → ℕ) (w : WriterState) (d : Disk) (sound : Consiste
   at_rest : (d.since ≡ []) × (d.base ≡ d.readable)
   at_rest = subst (λ (s : SyncState). StateFits d s) clean sound.stands.state
 
-  -- so it keeps what is written
+  -- a crash keeps what is written of a clean writer's content
   pub clean_keeps : AllKeep sum w.page_size (content w d.readable) (w.full_pages * w.page_size + kept_len w.flushed) d
   clean_keeps =
       let written = length-written_text sum w d.readable full sound.stands.tip_page in
@@ -482,7 +487,7 @@ module _ (sum : List ℕ → ℕ) (w : WriterState) (d : Disk) (sound : Consiste
       keeps_same sum w.page_size told (content w d.readable) n d (take_all n told (omega (arith, written)) ∙ begins ∙ ap (λ (k : ℕ). take k (content w d.readable)) written)
       (keeps_less sum w.page_size told (length told) n d (omega (arith, written)) all)
 
-  -- and where all is written, all
+  -- where all of the tip is written, a crash keeps the whole content
   pub settle_keeps : kept_len w.flushed ≡ length w.tip → AllKeep sum w.page_size (content w d.readable) (length (content w d.readable)) d
   settle_keeps all =
       let reach = (tip_reach sum w.page_size w.full_pages w.tip d.readable w.flushed sound.stands.tip_page).0 in
@@ -497,14 +502,14 @@ repeated_again Clean flushed durable tip is = is
 repeated_again Dirty flushed durable tip is = is
 repeated_again (Pending name) flushed durable tip is = tt
 
--- the durable slot brought up to date
+-- a writer whose durable slot is brought up to date fits what is readable
 carried_stands : (sum : List ℕ → ℕ) (w : WriterState) (d : Disk) (s : SyncState) → IsWrittenOut sum w d → IsWrittenOut sum (record w { durable = guard_slot s w.flushed w.durable }) d
 carried_stands sum w d Clean stands = carry_stands sum w d stands
 carried_stands sum w d Dirty stands = stands
 carried_stands sum w d (Pending name) stands = stands
 
 module _ (sum : List ℕ → ℕ) (w : WriterState) (d : Disk) (sound : Consistency sum w d) where
-  -- a longer tip keeps soundness
+  -- a writer with a longer tip is as consistent
   pub longer_consistent : (more : List ℕ) → Consistency sum (record w { tip = w.tip ++ more }) d
   longer_consistent more =
       let P = w.page_size in
@@ -528,7 +533,8 @@ module _ (sum : List ℕ → ℕ) (w : WriterState) (d : Disk) (sound : Consiste
         good = sound.good;
       }
 
-  -- so does a durable slot that is brought up to date: a flush may repeat it
+  -- a writer whose durable slot is brought up to date is as consistent: a flush may repeat that
+  -- slot
   pub carry_consistent : Consistency sum (record w { durable = guard_slot w.sync w.flushed w.durable }) d
   carry_consistent =
       let safe = sound.safe in
@@ -574,7 +580,7 @@ module _ (sum : List ℕ → ℕ) (w : WriterState) (d : Disk) (since : d.since 
   repeats Dirty = sym carried
   repeats (Pending name) = tt
 
-  -- with nothing unsynced a writer is sound that knows the blob's pages
+  -- with nothing unsynced a writer that knows the blob's pages is consistent
   pub settled_consistent : StartsFit d w.sync → IsSmall sum → TipPage sum w.page_size w.full_pages w.tip d.readable w.flushed → PageIsGood sum w.page_size w.full_pages d.readable → Consistency sum w d
   settled_consistent starts small_sum tip_page good = record {
     vouched = vouched_at_rest sum w.page_size d since;
@@ -584,7 +590,7 @@ module _ (sum : List ℕ → ℕ) (w : WriterState) (d : Disk) (since : d.since 
     truthful = truthful_written sum w d since base tip_page;
   }
 
-  -- the blob ends with a full page
+  -- where the blob ends with a full page, such a writer is consistent
   pub exact_consistent : StartsFit d w.sync → w.flushed ≡ None → length d.readable ≡ w.full_pages * (w.page_size + 12) → Consistency sum w d
   exact_consistent starts none size =
       let tip_page : TipPage sum w.page_size w.full_pages w.tip d.readable w.flushed = subst (λ (f : Option ActiveChecksum). TipPage sum w.page_size w.full_pages w.tip d.readable f) (sym none) size in
@@ -597,7 +603,7 @@ module _ (sum : List ℕ → ℕ) (w : WriterState) (d : Disk) (since : d.since 
         good = good_from_end sum w.page_size w.full_pages d since (omega (arith, size, ap length base));
       }
 
-  -- the blob ends with the tip's page
+  -- where the blob ends with the tip's page, such a writer is consistent
   pub page_consistent : StartsFit d w.sync → IsSmall sum → (a : ActiveChecksum) → w.flushed ≡ Some a → HasTipPage sum w.page_size w.full_pages w.tip d.readable a → PageIsGood sum w.page_size w.full_pages d.readable → Consistency sum w d
   page_consistent starts small_sum a is has good = settled_consistent starts small_sum (subst (λ (f : Option ActiveChecksum). TipPage sum w.page_size w.full_pages w.tip d.readable f) (sym is) has) good
 
@@ -614,13 +620,13 @@ empty_consistent sum w d readable base since some small full flushed durable sta
 same_parts : (d e : Disk) → SameButLog d e → (e.readable ≡ d.readable) × (e.base ≡ d.base) × (e.since ≡ d.since)
 same_parts d e is = (ap (λ (x : Disk). x.readable) is, ap (λ (x : Disk). x.base) is, ap (λ (x : Disk). x.since) is)
 
--- chance aside, a crash leaves of a sound writer's content a beginning
+-- each chance-free image of a consistent writer's blob has as its text a beginning of its content
 pub consistent_leaves : (sum : List ℕ → ℕ) (w : WriterState) (d : Disk) → IsConsistent sum w d → LeavesItsContent sum w d
 unfolding IsConsistent
 consistent_leaves sum w d sound = record { only = λ image is_image free. inl (only_content sum w.page_size (content w d.readable) d image sound.truthful free); vouched = sound.vouched }
 
 module _ (sum : List ℕ → ℕ) (w : WriterState) (old new : Life) (sound : Consistency sum w old.present) (looked : Looked old new) where
-  -- a call that only reads keeps soundness
+  -- a call that only reads leaves the writer consistent
   pub looked_consistent : Consistency sum w new.present
   looked_consistent = let same = same_parts old.present new.present looked.same in alike_consistent sum w old.present new.present sound same.0 same.1 same.2 (ap (λ (x : Disk). coverings x) looked.same) (ap (λ (x : Disk). x.settled) looked.same)
 
@@ -641,7 +647,7 @@ pub sound_is_intact : (sum : List ℕ → ℕ) (w : WriterState) (d : Disk) → 
 unfolding IsSound
 sound_is_intact sum w d sound = sound.full
 
--- and one that is both is sound
+-- a writer that is consistent, and whose pages are full, is sound
 pub intact_is_sound : (sum : List ℕ → ℕ) (w : WriterState) (d : Disk) → IsConsistent sum w d → IsIntact sum w d → IsSound sum w d
 unfolding IsSound IsConsistent
 intact_is_sound sum w d holds full = sound_of sum w d holds full
@@ -655,7 +661,7 @@ looked_sound sum w old new sound looked =
     (intact_still sum w old.present new.present (same_parts old.present new.present looked.same).0 sound.full)
 
 module _ (sum : List ℕ → ℕ) (w : WriterState) (d : Disk) (since : d.since ≡ []) (base : d.base ≡ d.readable) (some : 0 < w.page_size) (small : w.page_size < 2 ^ 16) (full : IsIntact sum w d) (carried : w.durable ≡ w.flushed) where
-  -- with nothing unsynced a writer that knows the blob's pages is sound where they are full
+  -- with nothing unsynced a writer that knows the blob's pages is sound, if these are full
   pub settled_sound : StartsFit d w.sync → IsSmall sum → TipPage sum w.page_size w.full_pages w.tip d.readable w.flushed → PageIsGood sum w.page_size w.full_pages d.readable → Soundness sum w d
   settled_sound starts small_sum tip_page good = sound_of sum w d (settled_consistent sum w d since base some small carried starts small_sum tip_page good) full
 
@@ -665,7 +671,7 @@ module _ (sum : List ℕ → ℕ) (w : WriterState) (d : Disk) (since : d.since 
   pub page_sound : StartsFit d w.sync → IsSmall sum → (a : ActiveChecksum) → w.flushed ≡ Some a → HasTipPage sum w.page_size w.full_pages w.tip d.readable a → PageIsGood sum w.page_size w.full_pages d.readable → Soundness sum w d
   page_sound starts small_sum a is has good = sound_of sum w d (page_consistent sum w d since base some small carried starts small_sum a is has good) full
 
--- a writer over an empty blob is
+-- a writer over an empty blob is sound
 pub empty_sound : (sum : List ℕ → ℕ) (w : WriterState) (d : Disk) → d.readable ≡ [] → d.base ≡ [] → d.since ≡ [] → 0 < w.page_size → w.page_size < 2 ^ 16 → w.full_pages ≡ 0 → w.flushed ≡ None → w.durable ≡ None → StartsFit d w.sync → Soundness sum w d
 empty_sound sum w d readable base since some small full flushed durable starts =
     sound_of sum w d (empty_consistent sum w d readable base since some small full flushed durable starts)

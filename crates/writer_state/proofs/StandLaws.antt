@@ -24,7 +24,7 @@ use Rattle.crash.proofs.DistinctLaws.{vouched_alike, vouched_at_rest}
 use Rattle.crash.proofs.Moments.{keeps_alike, keeps_covered, chance_free_alike, chance_free_covered}
 use Rattle.writer_state.proofs.StartedLaws.{alike_would, settled_already, covers_failed, covering_of}
 
--- it stands so where a writer is sound
+-- where a writer is sound each started sync can be awaited
 pub starts_stand : (d : Disk) (s : SyncState) → d.readable ≡ latest d.base d.since → StartsFit d s → StartsCanBeAwaited d
 starts_stand d Clean done starts name c is = inl (starts name c is)
 starts_stand d Dirty done starts name c is = inl (starts name c is)
@@ -35,14 +35,14 @@ starts_stand d (Pending pending) done starts name c is = elim (starts.others nam
       inr (omega (arith, starts.all, ap (λ (x : ℕ × List ℕ). x.0) here), sym (ap (λ (x : ℕ × List ℕ). x.1) here) ∙ starts.bytes ∙ done)
 ]
 
--- and where each is settled, also after a write that failed
+-- where each started sync is settled it can be awaited, also after a write that failed
 pub all_settled_stand : (d : Disk) → AllSettled d → StartsCanBeAwaited d
 all_settled_stand d all name c is = inl (all name c is)
 
 pub consistent_stands : (sum : List ℕ → ℕ) (w : WriterState) (d : Disk) → Consistency sum w d → StartsCanBeAwaited d
 consistent_stands sum w d sound = starts_stand d w.sync sound.stands.done sound.stands.starts
 
--- after a write, whatever the device answers
+-- after a write each started sync can be awaited, whatever the device answers
 pub write_stands : (offset : ℕ) (bytes : List ℕ) (sync : Bool) (old new : Life) (answer : Result (Unit {0}) Error) → AllSettled old.present → WriteGoes offset bytes sync old new answer → StartsCanBeAwaited new.present
 write_stands offset bytes sync old new answer settled goes = by_answer sync answer goes
   where
@@ -68,7 +68,7 @@ write_stands offset bytes sync old new answer settled goes = by_answer sync answ
     by_answer false (Err OutOfMemory) (is, has) = same is
     by_answer false (Err e) (fault, (d, goes, operated)) = at d (ap (λ (l : Life). l.present) goes) (done (WriteAt offset (length bytes) false) true d operated)
 
--- after a sync
+-- after a sync each started sync can be awaited, whatever the device answers
 pub sync_stands : (sum : List ℕ → ℕ) (w : WriterState) (old new : Life) (answer : Result (Unit {0}) Error) → Consistency sum w old.present → SyncGoes old new answer → StartsCanBeAwaited new.present
 sync_stands sum w old new (Ok u) sound is =
     let e = settled_disk (logged SyncAll false old.present) in
@@ -79,14 +79,14 @@ sync_stands sum w old new (Err SyncFailed) sound is =
 sync_stands sum w old new (Err OutOfMemory) sound is = subst (λ (l : Life). StartsCanBeAwaited l.present) (sym is) (consistent_stands sum w old.present sound)
 sync_stands sum w old new (Err e) sound goes = absurd goes
 
--- what a wait leaves
+-- what a wait keeps: floors, what started syncs cover, and the content
 pub record WaitKeeps (sum : List ℕ → ℕ) (P : ℕ) (d e : Disk) : Type 0 where
   pub keeps : (content : List ℕ) (floor : ℕ) → AllKeep sum P content floor d → AllKeep sum P content floor e
   pub only : (before after : List ℕ) → AllOnly sum P before after d → AllOnly sum P before after e
   pub covers : (content : List ℕ) (name cover : ℕ) → WouldKeep sum P content name cover d → WouldKeep sum P content name cover e
   pub starts : StartsCanBeAwaited e
 
--- nothing but the log, or a mark
+-- a wait that changes nothing but the log, or marks a sync as failed, keeps all that
 alike_keeps : (sum : List ℕ → ℕ) (P : ℕ) (d e : Disk) → StartsCanBeAwaited d → e.base ≡ d.base → e.since ≡ d.since → e.settled ≡ d.settled → coverings e ≡ coverings d → WaitKeeps sum P d e
 alike_keeps sum P d e stand base since settled covers = record {
   keeps = λ content floor keeps. keeps_alike sum P content floor d e base since keeps;
@@ -98,7 +98,7 @@ alike_keeps sum P d e stand base since settled covers = record {
   ];
 }
 
--- all is settled, as the last whole state
+-- all is settled, with the last whole state as the base
 record IsSettledTo (d e : Disk) : Type 0 where
   base : e.base ≡ latest d.base d.since
   since : e.since ≡ []

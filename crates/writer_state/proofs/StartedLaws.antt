@@ -32,7 +32,7 @@ use Rattle.writer_state.proofs.Soundness.{same_bytes_consistent, alike_consisten
 pub settled_already : (c : ℕ × List ℕ) (d : Disk) → c.0 ≤ d.settled → disk_settled_to c d ≡ d
 settled_already c d done = let no : nat_lt d.settled c.0 ≡ false = grind (arith, nat_tests) in ap (λ (b : Bool). if b then record d { base = c.1; since = drop (c.0 - d.settled) d.since; settled = c.0 } else d) no
 
--- what is settled leaves what is readable, the log and the list of started syncs
+-- settling a sync leaves what is readable, the log and the list of started syncs
 pub settles_same : (c : ℕ × List ℕ) (d : Disk) → ((disk_settled_to c d).readable ≡ d.readable) × ((disk_settled_to c d).log ≡ d.log) × ((disk_settled_to c d).started ≡ d.started)
 settles_same c d = by_test (nat_lt d.settled c.0)
   where
@@ -43,7 +43,7 @@ settles_same c d = by_test (nat_lt d.settled c.0)
     by_test true = (refl, refl, refl)
     by_test false = (refl, refl, refl)
 
--- a sync that covers all that isn't settled
+-- a disk once a sync is settled that covers all that wasn't
 pub record IsSettledAll (d e : Disk) : Type 0 where
   pub readable : e.readable ≡ d.readable
   pub base : e.base ≡ d.readable
@@ -85,7 +85,7 @@ covers_failed name [] = refl
 covers_failed zero (s ∷ ss) = refl
 covers_failed (suc name) (s ∷ ss) = ap (λ (cs : List (ℕ × List ℕ)). (s.covers, s.bytes) ∷ cs) (covers_failed name ss)
 
--- a started sync as it covers
+-- what a started sync covers, by its name
 pub covering_of : (name : ℕ) (d : Disk) (s : Started) → slice_get d.started name ≡ Some s → slice_get (coverings d) name ≡ Some (s.covers, s.bytes)
 covering_of name d s is = slice_get-map covering d.started name ∙ ap (λ (o : Option Started). option_map covering o) is
 
@@ -95,7 +95,7 @@ module _ (sum : List ℕ → ℕ) (w : WriterState) (d : Disk) (failed : Bool) (
   covers_more : coverings (starts failed d) ≡ coverings d ++ (d.settled + length d.since, d.readable) ∷ []
   covers_more = map-append covering d.started (record { covers = d.settled + length d.since; bytes = d.readable; failed = failed } ∷ [])
 
-  -- the new one is the last
+  -- the new sync is the last of the started ones
   last_covers : slice_get (coverings (starts failed d)) (length d.started) ≡ Some (d.settled + length d.since, d.readable)
   last_covers =
       let size : length (coverings d) ≡ length d.started = length-map d.started covering in
@@ -115,18 +115,18 @@ module _ (sum : List ℕ → ℕ) (w : WriterState) (d : Disk) (failed : Bool) (
     ];
   }
 
-  -- the writer is sound over it, and pending
+  -- after a start of a sync the writer is consistent, and pending
   pub start_consistent : Consistency sum (record w { sync = Pending (length d.started) }) (starts failed d)
   start_consistent = same_bytes_consistent sum w d (starts failed d) sound refl (Pending (length d.started)) refl refl tt is_pending (λ tip is. tt)
 
--- ---- waiting for one, by the writer or behind its back
+-- ---- waiting for a started sync, by the writer or by somebody else
 
--- what a sync that was waited for leaves
+-- what a wait for a sync leaves, where it is done
 module _ (sum : List ℕ → ℕ) (w : WriterState) (d : Disk) (sound : Consistency sum w d) where
   within : AreCovered d
   within = starts_within d w.sync sound.stands.starts
 
-  -- the pending one
+  -- a wait for the pending sync
   module _ (name : ℕ) (pending : IsPending name d) (e : Disk) (is : e ≡ logged (WaitSync name) false (disk_settled_to pending.covers d)) where
     all_settled : IsSettledAll d e
     all_settled =
@@ -139,11 +139,11 @@ module _ (sum : List ℕ → ℕ) (w : WriterState) (d : Disk) (sound : Consiste
           covers = ap (λ (x : Disk). coverings x) is ∙ s.covers;
         }
 
-    -- leaves the writer sound: clean, where it is the writer that waited
+    -- leaves a clean, consistent writer, where the writer waited
     pub waited_clean : IsSmall sum → Consistency sum (record w { sync = Clean }) e
     waited_clean small = settle_consistent sum w d e sound all_settled.readable Clean small all_settled.base all_settled.since (settled_starts d e within all_settled.covers all_settled.settled) refl
 
-    -- and pending as it was, where it is somebody else
+    -- leaves a consistent writer that is still pending, where somebody else waited
     pub waited_after : w.sync ≡ Pending name → IsSmall sum → Consistency sum w e
     waited_after state small =
         subst (λ (s : SyncState). Consistency sum (record w { sync = s }) e) (sym state)
@@ -158,7 +158,7 @@ module _ (sum : List ℕ → ℕ) (w : WriterState) (d : Disk) (sound : Consiste
     pub waited_stays : Stays sum w.page_size (content w d.readable) d e
     waited_stays = settle_stays sum w d e sound all_settled.readable all_settled.base all_settled.since
 
-  -- one that was settled before leaves it as it was
+  -- a wait for a sync that was settled before leaves the writer as it was
   module _ (name : ℕ) (failed : Bool) (c : ℕ × List ℕ) (settled : c.0 ≤ d.settled) (e : Disk) (is : e ≡ logged (WaitSync name) failed (disk_settled_to c d)) where
     was : e ≡ logged (WaitSync name) failed d
     was = is ∙ ap (λ (x : Disk). logged (WaitSync name) failed x) (settled_already c d settled)
@@ -169,7 +169,7 @@ module _ (sum : List ℕ → ℕ) (w : WriterState) (d : Disk) (sound : Consiste
     pub again_stays : Stays sum w.page_size (content w d.readable) d e
     again_stays = alike_stays sum w d e sound (ap (λ (x : Disk). x.readable) was) (ap (λ (x : Disk). x.base) was) (ap (λ (x : Disk). x.since) was)
 
--- which started sync it is: one that is settled, or the pending one
+-- a started sync is settled, or is the pending one
 pub which : (d : Disk) (s : SyncState) (name : ℕ) (c : ℕ × List ℕ) → StartsFit d s → slice_get (coverings d) name ≡ Some c
     → (c.0 ≤ d.settled) ⊎ ((p : IsPending name d) × (s ≡ Pending name) × (p.covers ≡ c))
 which d Clean name c starts is = inl (starts name c is)
@@ -181,7 +181,8 @@ which d (Pending pending) name c starts is = elim (starts.others name c is) [
       inr (here, ap (λ (n : ℕ). Pending n) (sym same), same_Some here.covers c (sym here.named ∙ is))
 ]
 
--- a wait for any started sync, by anybody, leaves the writer sound and owes nothing
+-- a wait for any started sync, by anybody, leaves the writer consistent, and `Stays` holds at each
+-- of its moments
 module _ (sum : List ℕ → ℕ) (w : WriterState) (old new : Life) (name : ℕ) (small : IsSmall sum) (sound : Consistency sum w old.present) where
   abbrev IsLeft : Type 0
   IsLeft = Consistency sum w new.present × StaysThrough sum w.page_size (content w old.present.readable) old new
@@ -214,7 +215,7 @@ module _ (sum : List ℕ → ℕ) (w : WriterState) (old new : Life) (name : ℕ
   )
   wait_leaves (Err e) goes = absurd goes
 
-  -- where it is the writer that waits, it is clean after it
+  -- where the writer waits, it is clean after the wait
   pub wait_consistent : (u : Unit {0}) → w.sync ≡ Pending name → WaitGoes name old new (Ok u) → Consistency sum (record w { sync = Clean }) new.present
   wait_consistent u state (s, named, well, is) =
       let d = old.present in
@@ -226,20 +227,20 @@ module _ (sum : List ℕ → ℕ) (w : WriterState) (old new : Life) (name : ℕ
 -- ---- what a started sync covers
 
 module _ (sum : List ℕ → ℕ) (P : ℕ) (content : List ℕ) where
-  -- a sync that is settled covers what is kept
+  -- what a sync that is settled would keep, every image keeps
   pub settled_keeps : (name cover : ℕ) (d : Disk) → AllSettled d → WouldKeep sum P content name cover d → AllKeep sum P content cover d
   settled_keeps name cover d all would = subst (λ (x : Disk). AllKeep sum P content cover x) (settled_already would.covers d (all name would.covers would.named)) would.keeps
 
   pub keeps_settled : (name cover : ℕ) (d : Disk) (c : ℕ × List ℕ) → AllSettled d → slice_get (coverings d) name ≡ Some c → AllKeep sum P content cover d → WouldKeep sum P content name cover d
   keeps_settled name cover d c all named keeps = record { covers = c; named = named; keeps = subst (λ (x : Disk). AllKeep sum P content cover x) (sym (settled_already c d (all name c named))) keeps }
 
-  -- so a write leaves what each covers, since it comes where all are settled
+  -- so a write leaves what each started sync would keep, since it comes where all are settled
   pub write_covers : (d e : Disk) → coverings e ≡ coverings d → AllSettled d → AllSettled e → Stays sum P content d e → CoversStay sum P content d e
   write_covers d e covers before after stays name cover enough would =
       keeps_settled name cover e would.covers after (ap (λ (cs : List (ℕ × List ℕ)). slice_get cs name) covers ∙ would.named)
       (stays.kept cover enough (settled_keeps name cover d before would))
 
-  -- nothing that leaves base, operations and started syncs takes from it
+  -- what a started sync would keep depends on the base, the operations and the started syncs alone
   pub alike_would : (d e : Disk) → e.base ≡ d.base → e.since ≡ d.since → e.settled ≡ d.settled → coverings e ≡ coverings d → (name cover : ℕ) → WouldKeep sum P content name cover d → WouldKeep sum P content name cover e
   alike_would d e base since settled covers name cover would =
       let c = would.covers in
@@ -268,7 +269,7 @@ module _ (sum : List ℕ → ℕ) (P : ℕ) (content : List ℕ) where
   pub alike_covers : (d e : Disk) → e.base ≡ d.base → e.since ≡ d.since → e.settled ≡ d.settled → coverings e ≡ coverings d → CoversStay sum P content d e
   alike_covers d e base since settled covers name cover enough would = alike_would d e base since settled covers name cover would
 
--- a wait that was answered Ok makes what it covers a floor
+-- what a started sync would keep is kept after a wait for it that answers Ok
 pub waited_keeps : (sum : List ℕ → ℕ) (P : ℕ) (content : List ℕ) (name cover : ℕ) (old new : Life) (u : Unit {0}) → WouldKeep sum P content name cover old.present → WaitGoes name old new (Ok u) → AllKeep sum P content cover new.present
 waited_keeps sum P content name cover old new u would (s, named, well, is) =
     let same : would.covers ≡ (s.covers, s.bytes) = same_Some would.covers (s.covers, s.bytes) (sym would.named ∙ covering_of name old.present s named) in
@@ -276,7 +277,7 @@ waited_keeps sum P content name cover old new u would (s, named, well, is) =
     keeps_alike sum P content cover (disk_settled_to would.covers old.present) new.present (ap (λ (x : Disk). x.base) e_is) (ap (λ (x : Disk). x.since) e_is) would.keeps
 
 module _ (sum : List ℕ → ℕ) (w : WriterState) (d : Disk) (sound : Consistency sum w d) where
-  -- a sync, or a wait for the pending one, takes nothing from what each covers
+  -- a sync, or a wait for the pending sync, leaves what each started sync would keep
   pub settle_covers : (e : Disk) → IsSettledAll d e → CoversStay sum w.page_size (content w d.readable) d e
   settle_covers e is name cover enough would =
       let all_e : AllSettled e = settled_starts d e (starts_within d w.sync sound.stands.starts) is.covers is.settled in
@@ -291,7 +292,7 @@ module _ (sum : List ℕ → ℕ) (w : WriterState) (d : Disk) (sound : Consiste
             keeps_alike sum w.page_size (content w d.readable) cover (disk_settled_to p.covers d) e (is.base ∙ sym s.base) (is.since ∙ sym s.since) keeps
       ])
 
-  -- starting a sync takes nothing from what the others cover
+  -- starting a sync leaves what the others would keep
   pub start_covers : (failed : Bool) → AllSettled d → CoversStay sum w.page_size (content w d.readable) d (starts failed d)
   start_covers failed all name cover enough would =
       let keeps = settled_keeps sum w.page_size (content w d.readable) name cover d all would in
@@ -303,7 +304,7 @@ module _ (sum : List ℕ → ℕ) (w : WriterState) (d : Disk) (sound : Consiste
             (keeps_alike sum w.page_size (content w d.readable) cover d (starts failed d) refl refl keeps);
       }
 
-  -- and where all that was appended is written, the new one covers all
+  -- where all that was appended is written, the new sync would keep all of it
   pub started_covers : (failed : Bool) → IsSmall sum → IsIntact sum w d → AllSettled d → kept_len w.flushed ≡ length w.tip
       → WouldKeep sum w.page_size (content w d.readable) (length d.started) (length (content w d.readable)) (starts failed d)
   started_covers failed small full all written =
@@ -320,7 +321,7 @@ module _ (sum : List ℕ → ℕ) (w : WriterState) (d : Disk) (sound : Consiste
         keeps = subst (λ (l : List ℕ). AllKeep sum w.page_size l (length l) e) same (settle_keeps sum (record w { sync = Clean }) e here (intact_still sum w d e s.readable full) refl written);
       }
 
-  -- so does the pending one
+  -- where all that was appended is written, the pending sync would keep all of it
   pub pending_covers : (name : ℕ) → IsSmall sum → IsIntact sum w d → w.sync ≡ Pending name → kept_len w.flushed ≡ length w.tip → WouldKeep sum w.page_size (content w d.readable) name (length (content w d.readable)) d
   pending_covers name small full state written =
       let p : IsPending name d = subst (λ (s : SyncState). StartsFit d s) state sound.stands.starts in
@@ -334,15 +335,15 @@ module _ (sum : List ℕ → ℕ) (w : WriterState) (d : Disk) (sound : Consiste
         keeps = subst (λ (l : List ℕ). AllKeep sum w.page_size l (length l) e) same (settle_keeps sum (record w { sync = Clean }) e here (intact_still sum w d e s.readable full) refl written);
       }
 
-  -- a start owes nothing
+  -- `Stays` holds after a start of a sync
   pub start_stays : (failed : Bool) → Stays sum w.page_size (content w d.readable) d (starts failed d)
   start_stays failed = alike_stays sum w d (starts failed d) sound refl refl refl
 
--- each moment's relation composes
+-- what a started sync would keep at one moment, and at the next, it would keep over both
 pub covers_join : (sum : List ℕ → ℕ) (P : ℕ) (content : List ℕ) (c d e : Disk) → CoversStay sum P content c d → CoversStay sum P content d e → CoversStay sum P content c e
 covers_join sum P content c d e first second name cover enough would = second name cover enough (first name cover enough would)
 
--- a wait takes nothing from what each covers
+-- a wait leaves what each started sync would keep
 module _ (sum : List ℕ → ℕ) (w : WriterState) (old new : Life) (name : ℕ) (sound : Consistency sum w old.present) where
   pub wait_covers : (answer : Result (Unit {0}) Error) → WaitGoes name old new answer → CoversStay sum w.page_size (content w old.present.readable) old.present new.present
   wait_covers (Ok u) (s, named, well, is) =

@@ -1,4 +1,5 @@
--- Emptying a slot that verifies over nothing leaves what other slots hold, whatever else is unsynced.
+-- Emptying a slot that verifies over nothing leaves what other slots hold, whatever else is
+-- unsynced.
 use Rattle.std.proofs.Common.{◌≡◌, inl, inr, ℕ, suc, ◌+◌, ◌*◌, ◌≤◌, List, [], ◌∷◌, ◌++◌, length, take, drop, refl, ap, ◌∙◌, subst, arith, mul-le-mul_right}
 use Rattle.std.proofs.lemmas.Bool.{cases_order}
 use Rattle.disk.specs.Disk.{Disk, IsImage}
@@ -17,7 +18,7 @@ use Rattle.crash.proofs.ShrinkLaws.{other_other, slot_write_leaves}
 
 module _ (sum : List ℕ → ℕ) (P q : ℕ) (t : Slot) (d e : Disk) (is_readable : IsImage d d.readable) (idle : verified_len sum P t (take (P + 12) (drop (q * (P + 12)) d.readable)) ≡ 0)
     (base : e.base ≡ d.base) (since : e.since ≡ d.since ++ slot_write P q t (slot_bytes 0 0) ∷ []) where
-  -- the slot of a page that is guarded is another
+  -- the slot that guards a page is another than the emptied one
   leaves_guarded : (told : List ℕ) (floor p : ℕ) (g : IsGuarded sum P told floor d p) → LeavesPage (slot_write P q t (slot_bytes 0 0)) P p g.slot g.bytes (take g.len (drop (p * P) told))
   leaves_guarded told floor p g =
       let at = q * (P + 12) + P + slot_offset t in

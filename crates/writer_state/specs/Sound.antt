@@ -1,4 +1,4 @@
--- What holds between a writer and its blob between two calls.
+-- Soundness, the writer's invariant: what holds of a writer and its blob between two calls.
 use Rattle.std.specs.Prelude.{◌≡◌, ◌⊎◌, ◌≤◌, ◌<◌, ◌*◌, ◌+◌, ◌^◌, ℕ, List, [], ◌++◌, take, drop}
 use Rattle.std.specs.Prelude.{length, Some, None, Option, Bool, true, false, slice_get}
 use Rattle.disk.specs.Disk.{Disk, coverings}
@@ -19,7 +19,8 @@ use Rattle.crash.specs.Kept.{AllOnly}
 abbrev pub content : WriterState → List ℕ → List ℕ
 content w readable = stored w.page_size w.full_pages readable ++ w.tip
 
--- the tip's page, of which something was written
+-- the tip's page, in a blob that has some of its bytes: it is the last page, and its value, under
+-- slot f, is a beginning of the tip
 pub record HasTipPage (sum : List ℕ → ℕ) (P full : ℕ) (tip readable : List ℕ) (f : ActiveChecksum) :
     Type 0 where
   pub size : length readable ≡ (full + 1) * (P + 12)
@@ -32,15 +33,15 @@ pub record HasTipPage (sum : List ℕ → ℕ) (P full : ℕ) (tip readable : Li
   pub slot :
       slot_of P f.slot (take (P + 12) (drop (full * (P + 12)) readable)) ≡ slot_bytes f.len f.crc
 
--- the tip's page as the blob has it: nothing of it was written, or its value is a beginning of the
--- tip
+-- the tip's page as the blob has it: the blob ends before that page, or the page's value is a
+-- beginning of the tip
 abbrev pub TipPage : (List ℕ → ℕ) → (P full : ℕ) (tip readable : List ℕ) → Option ActiveChecksum →
     Type 0
 TipPage sum P full tip readable None = length readable ≡ full * (P + 12)
 TipPage sum P full tip readable (Some f) = HasTipPage sum P full tip readable f
 
--- the started sync of this name covers all that isn't durable, and what it covers may be durable
--- already, where the caller waited for it; each other one is settled
+-- the started sync of this name covers all that isn't durable, which may be nothing, where the
+-- caller waited for it; each other started sync is settled
 pub record IsPending (name : ℕ) (d : Disk) : Type 0 where
   pub covers : ℕ × List ℕ
   pub named : slice_get (coverings d) name ≡ Some covers
@@ -49,7 +50,7 @@ pub record IsPending (name : ℕ) (d : Disk) : Type 0 where
   pub others : (other : ℕ) (c : ℕ × List ℕ) → slice_get (coverings d) other ≡ Some c
       → (c.0 ≤ d.settled) ⊎ (other ≡ name)
 
--- clean means that nothing is unsynced
+-- a clean state means that nothing is unsynced; the other states ask nothing of the disk here
 abbrev pub StateFits : Disk → SyncState → Type 0
 StateFits d Clean = (d.since ≡ []) × (d.base ≡ d.readable)
 StateFits d Dirty = Unit {0}
@@ -61,30 +62,30 @@ StartsFit d Clean = AllSettled d
 StartsFit d Dirty = AllSettled d
 StartsFit d (Pending name) = IsPending name d
 
--- the writer stands for what is readable
+-- the writer fits what is readable: its full pages are in the blob, and of the tip what was written
 pub record IsWrittenOut (sum : List ℕ → ℕ) (w : WriterState) (d : Disk) : Type 0 where
   pub some : 0 < w.page_size
   pub small : w.page_size < 2 ^ 16
   -- each operation was done
   pub done : d.readable ≡ latest d.base d.since
-  -- the pages below the tip are there, and its page is the last
+  -- the pages below the tip are there, and the tip's page is the last, if it is there
   pub tip_page : TipPage sum w.page_size w.full_pages w.tip d.readable w.flushed
   pub state : StateFits d w.sync
   pub starts : StartsFit d w.sync
-  -- what a flush repeats of the tip's page is of the tip
+  -- the slot that a flush repeats has the length and the checksum of a beginning of the tip
   pub carries : (kept_len w.durable ≤ w.page_size) × (kept_len w.durable ≤ length w.tip)
       × DurableTells sum w.tip w.durable
 
--- the slot that a flush is to repeat: where nothing is unsynced, the one that was written last; a
--- flush waits for a pending sync
+-- the slot that a flush is to repeat: the one that was written last, where nothing is unsynced,
+-- else the one that was durable before. While a sync is pending no flush begins.
 abbrev pub guard_slot : SyncState → Option ActiveChecksum → Option ActiveChecksum →
     Option ActiveChecksum
 guard_slot Clean flushed durable = flushed
 guard_slot Dirty flushed durable = durable
 guard_slot (Pending name) flushed durable = durable
 
--- the tip's slot is the one that a flush is to repeat. Nothing is asked while a sync is pending,
--- since no flush comes before it has ended
+-- the guarded slot of the tip's page is the one that a flush is to repeat. Nothing is asked while a
+-- sync is pending, since no flush begins before that sync has ended.
 abbrev pub IsRepeated : SyncState → (flushed durable tip : Option ActiveChecksum) → Type 0
 IsRepeated Clean flushed durable tip = tip ≡ flushed
 IsRepeated Dirty flushed durable tip = tip ≡ durable
@@ -96,27 +97,30 @@ MayFlush Clean flushed durable = durable ≡ flushed
 MayFlush Dirty flushed durable = Unit {0}
 MayFlush (Pending name) flushed durable = ⊥
 
--- how far the content is durable: so many of its first bytes, and a slot of the tip's page
+-- how far the content is durable: the floor, which counts its first bytes, and a slot of the tip's
+-- page
 pub record IsSafe (sum : List ℕ → ℕ) (w : WriterState) (content : List ℕ) (d : Disk) : Type 0 where
   pub floor : ℕ
   pub tip : Option ActiveChecksum
   pub there : floor ≤ length content
   pub pages : Guards sum w.page_size content floor d
   pub guard : TipGuard sum w.page_size content d w.full_pages tip
-  -- the base's text goes no further
+  -- the base's text goes no further than these
   pub base : length (text sum w.page_size d.base) ≤ floor + kept_len tip
-  -- those bytes lie below the writer's tip; or they go up to it, and the slot is the one that a
-  -- flush is to repeat
+  -- the floor lies below the writer's tip or at it, and there is no slot; or the floor is where the
+  -- tip begins, and the slot is the one that a flush is to repeat
   pub position : ((floor ≤ w.full_pages * w.page_size) × (tip ≡ None))
       ⊎ ((floor ≡ w.full_pages * w.page_size) × IsRepeated w.sync w.flushed w.durable tip)
 
--- the writer of a blob, between two calls: it stands for what is readable, a crash keeps what was
--- synced, and no whole state says anything but the content. A page below the tip may be damaged.
+-- the writer of a blob, between two calls: it fits what is readable, a crash keeps what was synced,
+-- and in each whole state a slot that verifies does so over bytes of the content. A page below the
+-- tip may be damaged.
 pub record Consistency (sum : List ℕ → ℕ) (w : WriterState) (d : Disk) : Type 0 where
   pub stands : IsWrittenOut sum w d
   pub safe : IsSafe sum w (content w d.readable) d
   pub truthful : IsTruthful sum w.page_size (content w d.readable) d
-  -- a slot that verifies over nothing yet can't come to verify by chance
+  -- slots are vouched for: in each whole state a slot verifies over its length, or has a length
+  -- that none can verify over, or is the base's in a page whose payload no operation writes
   pub vouched : IsVouched sum w.page_size d
   pub good : IsGoodFrom sum w.page_size w.full_pages d
 
@@ -133,20 +137,21 @@ pub record Soundness (sum : List ℕ → ℕ) (w : WriterState) (d : Disk) : Typ
   pub good : IsGoodFrom sum w.page_size w.full_pages d
   pub full : IsIntact sum w d
 
--- the words for them in contracts: a caller hands them from call to call, and has no need to see
--- into them
+-- the words for `Consistency` and `Soundness` in contracts: a caller hands them from call to call,
+-- and has no need to see into them
 unfoldable pub IsConsistent : (List ℕ → ℕ) → WriterState → Disk → Type 0
 IsConsistent sum w d = Consistency sum w d
 
 unfoldable pub IsSound : (List ℕ → ℕ) → WriterState → Disk → Type 0
 IsSound sum w d = Soundness sum w d
 
--- chance aside, a crash leaves of a writer's content a beginning
+-- each chance-free image, which is a possible state after a crash with no checksum collision, has
+-- as its text a prefix of the writer's content
 abbrev pub LeavesItsContent : (List ℕ → ℕ) → WriterState → Disk → Type 0
 LeavesItsContent sum w d =
     let held = content w d.readable in AllOnly sum w.page_size held held d
 
--- a flush of k full pages, and of the rest where asked, is one write
+-- a flush of k full pages, and of the rest too if asked, is one write that isn't empty
 abbrev pub CanWrite : ℕ → List ℕ → ℕ → Bool → Type 0
 CanWrite P tip k false = (0 < k) × (k * P ≤ length tip)
 CanWrite P tip k true = (k * P < length tip) × (length tip < (k + 1) * P)

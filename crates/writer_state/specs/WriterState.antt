@@ -7,9 +7,10 @@ use Rattle.crash.specs.Built.{durable_after, rest_written}
 use Rattle.writer_state.specs.declared.sync_state.SyncState.{SyncState}
 use Rattle.writer_state.specs.declared.sync_state.SyncState.TheVariants.{Clean, Dirty, Pending}
 
--- a writer: its blob's id in the cache, the full pages in the blob, the bytes after them that it
--- buffers, and of the page in which those begin the slot that was written last and the slot that
--- was durable then
+-- a writer: its logical page size and its buffer's capacity in bytes, its blob's id in the cache,
+-- how many full pages are in the blob, the tip (the bytes after those pages, which it buffers), and
+-- whether all is synced. Of the page in which the tip begins it knows two slots: `flushed`, the one
+-- that was written last, and `durable`, the one that was durable then.
 pub record WriterState : Type 0 where
   pub page_size : ℕ
   pub id : ℕ
@@ -30,7 +31,7 @@ abbrev pub started_state : StartedSync → SyncState
 started_state Done = Clean
 started_state (Named name) = Pending name
 
--- the writer after k full pages were written, and the rest where asked
+-- the writer after k full pages were written, and the tip's rest too if `rest`
 abbrev pub after_write : (List ℕ → ℕ) → WriterState → ℕ → Bool → WriterState
 after_write sum w k rest = record w {
   full_pages = w.full_pages + k;

@@ -4,19 +4,19 @@ ghost use Rattle.writer_state.specs.WriterState.{started_state, state_after_writ
 
 use disk::StartedSync;
 
-/// Whether a write or a resize of a writer isn't durable yet.
+/// Whether a writer has written or resized anything that isn't durable yet.
 #[derive(Clone, Copy, Debug, PartialEq, Eq)]
 pub enum SyncState {
     /// All is durable.
     Clean,
-    /// Something isn't, and no started sync covers it.
+    /// Something isn't durable, and no started sync covers it.
     Dirty,
-    /// What isn't is covered by the started sync of this name.
+    /// The started sync of this name covers all that isn't durable.
     Pending(u64),
 }
 
 impl SyncState {
-    /// The state after a write: clean where it was durable at once.
+    /// The state after a write: `Clean` where the write was durable at once (`sync`), else `Dirty`.
     pub fn after_write(sync: bool) -> Self
         ensures { result ≡ state_after_write sync }
     {
@@ -27,7 +27,7 @@ impl SyncState {
         }
     }
 
-    /// The state after a sync that was started.
+    /// The state after a start of a sync, by what that answered.
     pub fn after_start(started: StartedSync) -> Self
         ensures { result ≡ started_state started }
     {

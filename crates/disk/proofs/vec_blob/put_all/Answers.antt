@@ -16,7 +16,7 @@ more c =
     let i = c.loop-buf.buf-index in
     concat_more items i c.buf-item.result c.loop-buf-test.true ∙ ap (λ (b : List ℕ). concat (take i items) ++ b) (sym c.buf-item.is ∙ sym c.as_ref.ensures)
 
--- they are within all of them
+-- the end of that buffer is within the end of all of them
 reach : (c : After-as_ref) → c.loop-buf.at + length c.as_ref.result.now ≤ c.args.offset + length (concat c.args.bufs.now)
 reach c =
     let items = c.as_slice-buf-items.result.now in

@@ -3,7 +3,7 @@ use Rattle.std.specs.Prelude.{vec_capacity}
 use Rattle.std.specs.List.{concat}
 use Rattle.disk.proofs.vec_blob.put_all.Given as goal
 
--- the buffers so far stand there, and the room is no less
+-- the buffers so far stand at the offset, and the room is no less
 abbrev pub invariant-loop-buf : goal.invariant-loop-buf
 invariant-loop-buf l =
     let so_far = concat (take l.buf-index l.buf-items) in

@@ -11,7 +11,7 @@ returns-in-Some-clause-puts c =
     λ ids. puts_over ids c.args.self.now c.overwrite.new.self c.in-Some.slot c.args.key
     c.args.bytes.now c.requires.are c.in-Some.ensures c.requires.size c.overwrite.ensures
 
--- the used slots were so many, and one more is
+-- where the used slots are one more than they were, each but the new one was used before
 was_before : (n m slot : ℕ) → slot ≡ n → m ≡ n + 1 → (s : ℕ) → s < m → s ≢ slot → s < n
 was_before n m slot slot_is many s below other = elim (cases_eq s slot) [
   | inl same ↦ absurd (other same)
