@@ -15,12 +15,12 @@ pub record StageState : Type 0 where
   pub crashed : Bool
   pub disk : Disk
 
--- the cache, if there is one, fits the session, and a recovery
+-- the cache, if there is one, fits the session, and is fresh, so a recovery can take it
 abbrev pub IsCacheSet : Option CacheState → SessionState → Disk → Type 0
 IsCacheSet None session d = Unit {0}
 IsCacheSet (Some cache) session d = CacheFits session cache d × IsFresh cache
 
--- the session is ready, and where a recovery may follow, all that a crash left is durable
+-- the session is sound over the disk; if a recovery may follow, all that the crash left is durable
 pub record IsSet (sum : List ℕ → ℕ) (s : StageState) : Type 0 where
   pub ready : IsSoundSession sum s.session s.disk
   pub cached : IsCacheSet s.cache s.session s.disk
