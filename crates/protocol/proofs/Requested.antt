@@ -43,11 +43,11 @@ AnswerBy payload replies has_writer answer readable = elim readable [
   | false ↦ IsRefusalAnswer unreadable_status 0 0 answer
 ]
 
--- where they can't be read there are none
+-- bytes that can't be read as ranges have no steps
 pub no_steps : (setting : Setting) (fields : Vec ℕ Global) → tells_ranges fields.items ≡ false → AreSteps setting (Ranges fields) []
 no_steps setting fields none = subst (StepsBy fields.items []) (sym none) refl
 
--- and else they are read
+-- bytes that can be read as ranges have the step that reads them
 pub reads_ranges : (setting : Setting) (fields : Vec ℕ Global) (ranges : Vec (ℕ × ℕ) Global) → tells_ranges fields.items ≡ true → ranges.items ≡ ranges_in fields.items → AreSteps setting (Ranges fields) (ReadRanges ranges ∷ [])
 reads_ranges setting fields ranges are is = subst (StepsBy fields.items (ReadRanges ranges ∷ [])) (sym are) (ranges, is, refl)
 
