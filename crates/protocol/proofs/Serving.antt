@@ -330,7 +330,7 @@ pub greeting_cut : (sum : List ℕ → ℕ) (setting : Setting) (was : SessionSt
 greeting_cut sum setting was old new out written (Ok begun) is begins = absurd is
 greeting_cut sum setting was old new out written (Err why) is begins = subst (λ (x : Stop). Greets sum setting old new out written (Err x)) (sym is) (inr (inl (was, begins)))
 
--- the greeting was written, and isn't flushed
+-- the greeting couldn't be flushed
 pub greeting_unsent : (sum : List ℕ → ℕ) (setting : Setting) (was now : SessionState) (old mid new : Life) (out kept written : Option (List ℕ)) (fault : Option Error) (result : Result (SessionState × CacheState) Stop) → IsErrAnd result (λ x. x ≡ Failed)
     → HasBegun sum setting old mid was → TakesRequest sum setting One (StepOf Size) was now mid new kept written (Ok fault) → (last : Option (List ℕ)) → Greets sum setting old new out last result
 greeting_unsent sum setting was now old mid new out kept written fault result is begins (steps, replies, answer, served, took, (answers, told)) last =
