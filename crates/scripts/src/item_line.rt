@@ -24,7 +24,7 @@ pub enum ItemLine {
 }
 
 /// Reads a line after the first, in a script of items. [`ReadError::Unreadable`] if no line is
-/// written so, [`ReadError::OutOfMemory`] where there is no memory to read it.
+/// written so, [`ReadError::OutOfMemory`] if there is no memory to read it.
 pub fn parse_item_line(alloc: Global, line: &[u8]) -> Result<ItemLine, ReadError>
     ensures reads { IsReadAs item_line_words IsItemLine (words_of line.now) result }
 {

@@ -134,7 +134,7 @@ fn parse_lines<L: AnyLine>(alloc: Global, others: &[&[u8]]) -> Result<Vec<L>, St
 }
 
 /// Reads a line after the first, in a script of a session. [`ReadError::Unreadable`] if no line is
-/// written so, [`ReadError::OutOfMemory`] where there is no memory to read it.
+/// written so, [`ReadError::OutOfMemory`] if there is no memory to read it.
 pub fn parse_line(alloc: Global, line: &[u8]) -> Result<Line, ReadError>
     ensures reads { IsReadAs line_words IsLine (words_of line.now) result }
 {
