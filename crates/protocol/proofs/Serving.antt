@@ -162,7 +162,7 @@ fault_among : (replies : List Reply) → IsFaultAmong (fault_in replies) replies
 fault_among [] = All-nil (λ r. reply_error r ≡ None)
 fault_among (reply ∷ replies) = among_first reply replies (reply_error reply) (fault_in replies) refl (fault_among replies)
 
--- more replies
+-- the error that stays after more replies is among all replies, or no reply has one
 pub fault_more : (fault next : Option Error) (replies others : List Reply) (had_writer : Bool) → IsFaultAmong fault replies → IsFaultAmong next others → IsFaultAmong (later_fault fault next had_writer) (replies ++ others)
 fault_more None None replies others had_writer all more = All-append (λ r. reply_error r ≡ None) replies others all more
 fault_more None (Some error) replies others true all there = Contains-append_right replies others (Fault error) there
@@ -179,7 +179,7 @@ pub record Serving (sum : List ℕ → ℕ) (setting : Setting) (version : Proto
   pub among : IsFaultAmong fault answered.replies
   pub counts : number ≡ length answered.requests + 1
 
--- none is before the first
+-- no request is before the first
 pub serving_begins : (sum : List ℕ → ℕ) (setting : Setting) (version : ProtocolVersion) (was : SessionState) (life : Life) (input out : Option (List ℕ)) → Serving sum setting version was was life life input input out out None 1
 unfolding answered_none
 serving_begins sum setting version was life input out = record { answered = answered_none sum setting version was life input out; among = All-nil (λ r. reply_error r ≡ None); counts = refl }
@@ -431,7 +431,7 @@ module _ (sum : List ℕ → ℕ) (setting : Setting) (named : Named) (old betwe
       by_cause (Lost error) none = absurd none
       by_cause OutOfMemory none = absurd none
 
-  -- its requests were served
+  -- the requests of a session were served
   pub file_served : (new : Life) (now : SessionState) (rest written : Option (List ℕ)) (version : ProtocolVersion) (result : Result (Unit {0}) Stop) → Greeted sum setting old between was out greeting → ReadsOpening input after (Ok opening)
       → TellsOpening opening (hello_for setting named old between was) greeting told (Ok (Some version)) → Serves sum setting version was now between new after rest told written result → ServesFile sum setting named old new input rest out written result
   file_served new now rest written version result g reads tells serves = by_answer result serves
@@ -460,14 +460,14 @@ numbers_more head numbers i n more =
     append_assoc head (flat_map number_bytes (take i numbers)) (number_bytes n)
     ∙ ap (λ (l : List ℕ). head ++ l) (sym (flat_map_snoc number_bytes (take i numbers) n) ∙ ap (λ (l : List ℕ). flat_map number_bytes l) (sym more))
 
--- they have eight bytes each
+-- numbers have eight bytes each
 pub length_of_numbers : (numbers : List ℕ) → length (flat_map number_bytes numbers) ≡ 8 * length numbers
 length_of_numbers [] = refl
 length_of_numbers (n ∷ ns) =
     let rest = length_of_numbers ns in
     length-append (number_bytes n) (flat_map number_bytes ns) ∙ omega (arith, rest, length-number_bytes n)
 
--- where they are too many for an answer
+-- numbers that are too many for an answer
 pub numbers_unwritten : (numbers : List ℕ) (len : ℕ) (stop : Stop) (result : Result (Unit {0}) Stop) → IsErrAnd result (λ x. x ≡ stop) → len ≡ 8 * length numbers → IsWriteError len stop
     → IfErr result (IsWriteError (length (flat_map number_bytes numbers)))
 numbers_unwritten numbers len stop (Ok done) is long why = tt

@@ -19,7 +19,7 @@ pub first_range : (rest first mid second after : List ℕ) (offset len : ℕ) �
 first_range rest first mid second after offset len is then long is_second then_after longer told told_len =
     ranges_first rest (omega (arith, long, longer)) ∙ cc (is, then, is_second, then_after, told, told_len)
 
--- no bytes encode no ranges
+-- an empty list of bytes encodes no ranges
 pub no_ranges : (bytes : List ℕ) → length bytes ≡ 0 → ranges_in bytes ≡ []
 no_ranges [] none = refl
 no_ranges (a ∷ bytes) none = absurd (omega (arith, none))

@@ -78,7 +78,7 @@ AnswerOf payload has_writer answer first = elim first [
   | None ↦ answer ≡ frame_bytes (0 ∷ payload)
 ]
 
--- there is an answer
+-- some answer is one to these replies
 pub some_with : (payload : List ℕ) (replies : List Reply) (has_writer : Bool) → (answer : List ℕ) × IsAnswerWith payload replies has_writer answer
 some_with payload replies has_writer = by_first (first_refusal replies)
   where
@@ -141,7 +141,7 @@ refusal_here taken reply rest more replies is refuses same =
     let here : refusal_from taken (reply ∷ more) ≡ Some (taken, reply) = ap (λ (b : Bool). if b then refusal_from (taken + 1) more else Some (taken, reply)) (ne_eqb (status_byte reply) 0 refuses) in
     sym same ∙ ap (refusal_from taken) is ∙ here
 
--- where all were passed none refuses
+-- no reply refuses if all were passed
 pub no_refusal : (taken : ℕ) (rest replies : List Reply) → length rest ≡ 0 → refusal_from taken rest ≡ first_refusal replies → first_refusal replies ≡ None
 no_refusal taken [] replies none same = sym same
 no_refusal taken (reply ∷ rest) replies none same = absurd (omega (arith, none))

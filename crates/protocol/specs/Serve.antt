@@ -220,7 +220,7 @@ pub record Answered (sum : List ℕ → ℕ) (setting : Setting) (version : Prot
     pub takes : Consumes input rest (requests_bytes requests)
     pub answers : Appends out written bytes
 
--- the steps of a request were taken, and this is so of their replies and its answer
+-- the steps of a request were taken, and `Is` holds for their replies and the request's answer
 abbrev pub TookWith : (List ℕ → ℕ) → Setting → ProtocolVersion → (List Reply → List ℕ → Type 0)
     → Request → SessionState → SessionState → Life → Life → Type 0
 TookWith sum setting version Is request was now old new =
@@ -228,7 +228,7 @@ TookWith sum setting version Is request was now old new =
     × Served setting version request steps replies now answer
     × Took sum steps replies was now old new × Is replies answer
 
--- the steps of a request were taken, and this is so of its answer
+-- the steps of a request were taken, and `Is` holds for the request's answer
 abbrev pub TookFor : (List ℕ → ℕ) → Setting → ProtocolVersion → (List ℕ → Type 0) → Request
     → SessionState → SessionState → Life → Life → Type 0
 TookFor sum setting version Is request was now old new =
@@ -264,7 +264,7 @@ ReadsNext version number input rest (Err Failed) = Unit {0}
 ReadsNext version number input rest (Err OutOfMemory) = Unit {0}
 ReadsNext version number input rest (Err other) = ⊥
 
--- one more request was read, whose steps were taken, and this is so of its answer
+-- one more request was read, whose steps were taken, and `Is` holds for its answer
 abbrev pub TookNext : (List ℕ → ℕ) → Setting → ProtocolVersion → (List ℕ → Type 0) → SessionState
     → SessionState → Life → Life → (input : Option (List ℕ)) → Type 0
 TookNext sum setting version Is was now old new input =
@@ -272,7 +272,7 @@ TookNext sum setting version Is was now old new input =
     × Consumes input rest (request_bytes request)
     × TookFor sum setting version Is request was now old new
 
--- the input begins with requests whose steps were taken and answered, and `Then` is so of what
+-- the input begins with requests whose steps were taken and answered, and `Then` holds for what
 -- follows them
 abbrev pub AnsweredThen : (List ℕ → ℕ) → Setting → ProtocolVersion → SessionState → Life
     → (input out : Option (List ℕ)) → (SessionState → Life → Option (List ℕ) → Type 0) → Type 0
@@ -317,7 +317,7 @@ abbrev pub is_close : Request → Bool
 is_close Close = true
 is_close request = false
 
--- all requests of an input were answered, up to its end or a close, and this is so of the replies
+-- all requests of an input were answered, up to its end or a close, and `Are` holds for the replies
 abbrev pub AnsweredAll : (List ℕ → ℕ) → Setting → ProtocolVersion → (List Reply → Type 0)
     → SessionState → SessionState → Life → Life → (input rest out written : Option (List ℕ))
     → Type 0
@@ -402,7 +402,7 @@ abbrev pub RecoversSession : (List ℕ → ℕ) → Setting → Life → Life
 RecoversSession sum setting old new (Ok begun) = HasBegun sum setting old new begun.0
 RecoversSession sum setting old new (Err stop) = IsNotBegun sum setting old new stop
 
--- the session began, and the step that asks for its size was taken; this is so of its answer
+-- the session began, and the step that asks for its size was taken; `Is` holds for its answer
 abbrev pub TookSize : (List ℕ → ℕ) → Setting → (List ℕ → Type 0) → Life → Life → Type 0
 TookSize sum setting Is old new =
     (mid : Life) × (was : SessionState) × (now : SessionState) × HasBegun sum setting old mid was

@@ -36,8 +36,8 @@ pub const VERSION: u8 = 1;
 /// the caller must flush it.
 ///
 /// The recovery gives up at most [`Setting::allowed`] physical bytes. If it would give up more, the
-/// call answers [`Stop::WouldCut`]: the blob was only looked at, and nothing was read or written.
-/// If the recovery fails, the client is answered with its error, and the call answers
+/// call answers [`Stop::WouldCut`]: the blob was only looked at, no input was read, and no answer
+/// was written. If the recovery fails, the client is answered with its error, and the call answers
 /// [`Stop::Refused`].
 ///
 /// The hello of version 2 has how many physical bytes the recovery cut, and two names: `checksum`,

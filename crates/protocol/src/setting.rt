@@ -8,7 +8,8 @@ use std::num::{NonZeroU16, NonZeroUsize};
 pub struct Setting {
     /// The logical bytes of a page.
     pub page_size: NonZeroU16,
-    /// How many logical bytes the writer may hold back: rounded up to whole pages, at least two.
+    /// How many logical bytes the writer may hold back. They are rounded up to whole pages, at
+    /// least two pages.
     pub capacity: usize,
     /// The size in bytes of a read of the recovery, which reads as many whole pages as fit, and at
     /// least one.

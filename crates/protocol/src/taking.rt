@@ -30,8 +30,8 @@ use std::alloc::{AllocError, Global};
 use std::io::{self, Write};
 
 /// Takes the steps of a request, unless the request is refused, and then writes its answer. Returns
-/// the first error of the replies, if there is one. `replies` is empty before and after: only its
-/// memory is kept from request to request.
+/// the first error of the replies, if there is one. `replies` must be empty, and is so again at
+/// `Ok`: only its memory is kept from request to request.
 pub fn take_request<B: Blob + Cause, H: Sum, W: Write>(
     alloc: Global,
     version: Version,
