@@ -305,7 +305,7 @@ fn ask(rt: &HostRuntime, log: &mut Log, what: What) -> Result<bool, Error>
     }
 }
 
-// Whether the log opens and the answer to this is yes.
+// Whether the log opens, and the answer to `what` is yes.
 fn is_so(rt: &HostRuntime, path: &str, what: What) -> bool {
     match open(rt, path) {
         Ok(log) => is_so_of(rt, log, what),
