@@ -207,8 +207,8 @@ fn play_again<S: Subject>(
 
 /// Plays lines while the request for memory of this number, from 1 on, is refused. The first reply
 /// that isn't as expected must be that refusal. With `again`, the refused line and those after it
-/// are then played once more. If the request was one of the player itself, the lines end there.
-/// Answers whether a request was refused.
+/// are then played once more, unless a line works on the blob itself. If the request was one of the
+/// player itself, the lines end there. Answers whether a request was refused.
 pub fn play_refusing<S: Subject>(
     alloc: Global,
     subject: &mut S,
