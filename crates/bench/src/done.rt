@@ -10,7 +10,7 @@ pub struct Done {
     pub operations: u64,
     /// The logical bytes that the operations were asked for.
     pub bytes: u64,
-    /// The last checksum, where the operations are checksums.
+    /// The last checksum, if the operations are checksums.
     pub last: Option<u32>,
     /// The physical bytes that the device read and wrote.
     moved: u64,
@@ -20,7 +20,7 @@ pub struct Done {
 }
 
 impl Done {
-    /// The time that it took, as text.
+    /// The time that the rounds took, as text.
     pub fn took(&self) -> Took {
         Took(*self)
     }
@@ -77,7 +77,7 @@ impl Start {
         })
     }
 
-    /// Ends it, and adds what it took.
+    /// Ends the round, and adds what it took.
     pub fn end(self, rt: &HostRuntime, blob: &Device, done: &mut Done) -> Result<()> {
         let time = self.time.elapsed(rt)?.as_nanos();
         let moved = blob.read.saturating_add(blob.written);

@@ -43,7 +43,7 @@ impl fmt::Display for Compared {
 /// Appends records to a new file, each with a sync, by the layer, and then writes and syncs the
 /// same pages of another by the system's calls alone. Both are removed again.
 pub fn compare<H: Sum>(rt: &HostRuntime, path: &str, appends: u64) -> Result<Compared> {
-    // A file that is there stays as it is.
+    // This fails if the file is already there, which then stays as it is.
     drop(File::create_new(rt, path)?);
     let layer = append_by_layer::<H>(rt, path, appends)?;
     fs::remove_file(rt, path)?;

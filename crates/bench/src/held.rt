@@ -57,7 +57,7 @@ impl HeldWorkload {
     }
 }
 
-/// All of them, in the order in which they are played.
+/// All workloads of a full cache, in the order in which they are played.
 pub fn held_workloads() -> [HeldWorkload; 6] {
     [
         HeldWorkload::reading("cache of 1000, read 100 B", 1000, 1000),
@@ -120,8 +120,8 @@ fn put_all(cache: &mut CacheRef, page: &[u8], first: u64, count: u64)
     }
 }
 
-/// Reads bytes at each of these offsets, as far as pages that are held have them, and answers how
-/// many there were.
+/// Reads bytes at each of these offsets, as far as pages in the cache have them, and answers how
+/// many bytes there were.
 fn read_all_held(cache: &CacheRef, buf: &mut [u8], offsets: &[u64]) -> u64 {
     let mut had = 0u64;
     for &offset in offsets {

@@ -1,10 +1,11 @@
 //! Plays workloads on a blob in memory, to see what they take.
 //!
-//! With no argument each is played a few rounds, and a line says what it did: its operations, the
-//! logical bytes that they were asked for, and the pages and calls that the device was. With
-//! `time ROUNDS` it says what each operation took, and with `time ROUNDS NAME` it plays only the
-//! workloads whose line has that name in it. With `file PATH APPENDS` it appends to a new file,
-//! each append with a sync, and says what that took beside the same calls on a plain file.
+//! With no argument it plays each workload a few rounds, and prints a line for it: its operations,
+//! the logical bytes that they were asked for, and the physical pages and the calls that the device
+//! was asked for. With `time ROUNDS` it prints what each operation took, and with
+//! `time ROUNDS NAME` it plays only the workloads whose line has that name in it. With
+//! `file PATH APPENDS` it appends to a new file, each append with a sync, and prints what that took
+//! beside the same calls on a plain file.
 #![tactic(auto)]
 
 mod done;
@@ -29,7 +30,7 @@ use std::alloc::Global;
 use std::env;
 use std::process::ExitCode;
 
-/// How often a workload is played where no time is asked for.
+/// How often a workload is played if no time is asked for.
 const FEW: u64 = 3;
 
 /// What is asked of the program.

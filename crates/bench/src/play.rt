@@ -99,8 +99,8 @@ fn append_round<H: Sum>(
     }
 }
 
-/// A writer of the stage's blob, emptied, after so many appends of a record, and a sync where
-/// asked.
+/// Empties the stage's blob, appends a record so many times, syncs if that is asked for, and
+/// answers the writer.
 fn filled<H: Sum>(
     stage: &mut Stage,
     record: &[u8],
@@ -121,8 +121,8 @@ fn filled<H: Sum>(
     }
 }
 
-/// Reads of a blob that was filled by appends as long as a read, and synced where what is written
-/// is to be read.
+/// Plays reads of a blob that was filled by appends as long as a read. If the reads are of written
+/// pages, the blob is synced first.
 fn play_reads<H: Sum>(
     rt: &HostRuntime,
     workload: &Workload,

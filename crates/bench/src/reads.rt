@@ -79,7 +79,8 @@ pub fn scattered(alloc: Global, count: u64, span: u64) -> Result<Vec<u64>> {
     Ok(offsets)
 }
 
-/// One such offset in each of `count` parts of `part` bytes, `len` bytes before its end or further.
+/// One offset at random in each of `count` parts of `part` bytes, at least `len` bytes before the
+/// end of the part.
 fn spread(alloc: Global, count: u64, part: u64, len: u64) -> Result<Vec<u64>> {
     let mut offsets = Vec::new(alloc);
     let mut begin = 0u64;

@@ -15,7 +15,7 @@ use std::num::{NonZeroU16, NonZeroUsize};
 /// The logical bytes of a page; with its footer it has 4,096.
 pub const PAGE_SIZE: u16 = 4084;
 
-/// The bytes that a writer is to buffer.
+/// How many bytes a writer buffers.
 pub const CAPACITY: usize = 65536;
 
 /// The physical bytes of a page.
@@ -33,8 +33,8 @@ pub struct Stage {
 }
 
 impl Stage {
-    /// An empty blob, with memory for the pages of so many logical bytes that was written to
-    /// before. The cache may hold one page, or all of them.
+    /// An empty blob, with memory for the pages of so many logical bytes. All of that memory was
+    /// written to before. The cache may hold all of the pages if `cached`, or else one.
     pub fn new(alloc: Global, bytes: u64, cached: bool) -> Result<Self>
         ensures { IfOk result (λ stage. IsFresh stage.cache) }
     {
@@ -64,7 +64,7 @@ impl Stage {
         })
     }
 
-    /// The writer of the blob, emptied.
+    /// Empties the blob, and answers its writer.
     pub fn restart<H: Sum>(&mut self) -> Result<Writer<Device, H>, Error>
         requires { IsFresh self.old.cache }
         ensures { IfOk result (λ writer.
@@ -74,7 +74,7 @@ impl Stage {
         self.recover::<H>(NonZeroUsize::MIN)
     }
 
-    /// The writer of the blob, recovered with a buffer of so many bytes.
+    /// Recovers the blob with a buffer of so many bytes, and answers its writer.
     pub fn recover<H: Sum>(&mut self, buffer_size: NonZeroUsize) -> Result<Writer<Device, H>, Error>
         requires { IsFresh self.old.cache }
         ensures { IfOk result (λ writer.
@@ -91,7 +91,7 @@ impl Stage {
     }
 }
 
-/// The writer of a blob of `size` physical bytes, recovered with a buffer of so many bytes.
+/// Recovers a blob of `size` physical bytes with a buffer of so many bytes, and answers its writer.
 pub fn recovered<B: Blob, H: Sum>(
     alloc: Global,
     blob: &mut B,

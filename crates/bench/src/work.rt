@@ -11,7 +11,7 @@ use page::Sum;
 use paged::{Replay, Writer};
 use std::num::NonZeroUsize;
 
-/// So many appends of a record.
+/// Appends a record `count` times.
 pub fn append_all<B: Blob, H: Sum>(
     mut writer: Writer<B, H>,
     blob: &mut B,
@@ -29,7 +29,7 @@ pub fn append_all<B: Blob, H: Sum>(
     Ok(writer)
 }
 
-/// So many appends of a record, each tried first.
+/// Appends a record `count` times. Each append is tried in the buffer first.
 pub fn try_append_all<B: Blob, H: Sum>(
     mut writer: Writer<B, H>,
     blob: &mut B,
@@ -49,7 +49,7 @@ pub fn try_append_all<B: Blob, H: Sum>(
     Ok(writer)
 }
 
-/// So many times some appends of a record, and a sync.
+/// Syncs `syncs` times, each time after `each` appends of a record.
 pub fn append_synced<B: Blob, H: Sum>(
     mut writer: Writer<B, H>,
     blob: &mut B,
@@ -68,7 +68,7 @@ pub fn append_synced<B: Blob, H: Sum>(
     Ok(writer)
 }
 
-/// So many appends of a buffer, which isn't copied where it needn't be.
+/// Appends a buffer `count` times, which is copied only where it must be.
 pub fn append_owned_all<B: Blob, H: Sum>(
     mut writer: Writer<B, H>,
     blob: &mut B,
@@ -86,7 +86,7 @@ pub fn append_owned_all<B: Blob, H: Sum>(
     Ok(writer)
 }
 
-/// So many times some appends of a record, and a sync that is started and waited for.
+/// Starts a sync and waits for it `syncs` times, each time after `each` appends of a record.
 pub fn append_started<B: Blob, H: Sum>(
     mut writer: Writer<B, H>,
     blob: &mut B,
@@ -106,7 +106,7 @@ pub fn append_started<B: Blob, H: Sum>(
     Ok(writer)
 }
 
-/// A read of so many bytes at each of these offsets.
+/// Reads `len` bytes at each of these offsets.
 pub fn read_all<B: Blob, H: Sum>(
     writer: &Writer<B, H>,
     blob: &mut B,
@@ -123,7 +123,7 @@ pub fn read_all<B: Blob, H: Sum>(
     Ok(())
 }
 
-/// A read into a buffer at each of these offsets.
+/// Reads to a buffer at each of these offsets.
 pub fn read_into_all<B: Blob, H: Sum>(
     writer: &Writer<B, H>,
     blob: &mut B,
@@ -140,8 +140,8 @@ pub fn read_into_all<B: Blob, H: Sum>(
     Ok(())
 }
 
-/// So many reads into a buffer, each of `len` bytes at each of these offsets. `OffsetOverflow`
-/// where these overlap or aren't in order, or don't fill the buffer.
+/// Reads `len` bytes at each of these offsets to a buffer, all in one call, `count` times.
+/// `OffsetOverflow` if the ranges overlap or aren't in order, or don't fill the buffer.
 pub fn read_many_all<B: Blob, H: Sum>(
     writer: &Writer<B, H>,
     blob: &mut B,
@@ -167,7 +167,7 @@ pub fn read_many_all<B: Blob, H: Sum>(
     Ok(())
 }
 
-/// A replay of all bytes, in batches of a quarter of the pages that fit `buffer_size` bytes.
+/// Replays all bytes, in batches of a quarter of the pages that fit `buffer_size` bytes.
 pub fn replay_all<B: Blob, H: Sum>(
     writer: Writer<B, H>,
     blob: &mut B,
@@ -197,8 +197,8 @@ fn pass_all<B: Blob, H: Sum>(mut replay: Replay<B, H>, blob: &mut B) -> Result<(
     Ok(())
 }
 
-/// The checksum of these bytes, so often, each written over the first four before the next. It
-/// answers the last.
+/// Computes the checksum of these bytes `count` times, and writes each over the first four bytes
+/// before the next. Answers the last checksum.
 pub fn checksum_all<H: Sum>(bytes: &mut [u8], count: u64) -> u32 {
     let mut last = 0;
     for _ in 0..count {

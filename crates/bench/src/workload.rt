@@ -1,7 +1,7 @@
 // What is played.
 use crate::stage::PAGE_SIZE;
 
-/// How many offsets one call reads, where it reads many.
+/// How many offsets one call of `ReadMany` reads.
 pub const MANY: usize = 64;
 
 /// What an operation of a workload does. Bytes are logical.
@@ -9,27 +9,31 @@ pub const MANY: usize = 64;
 pub enum Work {
     /// Appends so many bytes.
     Append(usize),
-    /// Appends so many bytes where they fit what is buffered, and else all the same.
+    /// Tries to append so many bytes in the buffer, and appends them by the plain call if they
+    /// don't fit.
     TryAppend(usize),
     /// Appends a buffer of so many bytes.
     AppendOwned(usize),
     /// Appends so many bytes, with a sync after every so many appends.
     AppendSynced(usize, u64),
-    /// The same, with a sync that is started and waited for.
+    /// Appends so many bytes, with a sync that is started and waited for after every so many
+    /// appends.
     AppendStarted(usize, u64),
     /// Reads so many bytes of what is buffered.
     ReadTip(usize),
-    /// Reads so many bytes of the pages below.
+    /// Reads so many bytes of the pages below the buffer.
     ReadBelow(usize),
-    /// Reads so many bytes of them at random, where the cache holds all pages, or else one.
+    /// Reads so many bytes of these pages at random. With true the cache may hold all pages, or
+    /// else one.
     ReadRandom(usize, bool),
-    /// Reads so many bytes at each of `MANY` offsets in one call, where it holds all, or else one.
+    /// Reads so many bytes at each of `MANY` offsets in one call. With true the cache may hold all
+    /// pages, or else one.
     ReadMany(usize, bool),
-    /// Reads so many bytes of them, each time the next.
+    /// Reads so many bytes of these pages, each time the next ones.
     ReadThrough(usize),
-    /// Recovers a blob of so many bytes, with a buffer of so many.
+    /// Recovers a blob of so many logical bytes, with a buffer of so many bytes.
     Recover(usize, usize),
-    /// Replays a blob of so many bytes, with a buffer of so many.
+    /// Replays a blob of so many logical bytes, with a buffer of so many bytes.
     Replay(usize, usize),
     /// The checksum of a page.
     Checksum,
@@ -73,7 +77,7 @@ const KIB: usize = 1 << 10;
 
 const MIB: usize = 1 << 20;
 
-/// All of them, in the order in which they are played.
+/// All workloads, in the order in which they are played.
 pub fn workloads() -> [Workload; 22] {
     [
         Workload::new("append 16 B", Work::Append(16), 16384),

@@ -54,7 +54,7 @@ goes_on sum s now snapshot replay all cache after old new set leaves ready = rec
   along = replay_along s now replay ready.2 ready.4 set.along;
 }
 
--- one that gives a snapshot with them
+-- a call that gives the items back, and a snapshot of them
 pub seals : (sum : List ℕ → ℕ) (s now : ItemsState) (r : ItemsSnapshotState)
     (snapshot : Option ItemsSnapshotState) (replay : Option ItemsReplayState)
     (all : List (List ℕ)) (cache after : CacheState) (old new : Life)
@@ -70,7 +70,7 @@ seals sum s now r snapshot replay all cache after old new set leaves ready is be
   along = replay_along s now replay ready.2 ready.4 set.along;
 }
 
--- or a replay
+-- a call that gives the items back, and a replay of them
 pub begins : (sum : List ℕ → ℕ) (s now : ItemsState) (r : ItemsReplayState)
     (snapshot : Option ItemsSnapshotState) (replay : Option ItemsReplayState)
     (all : List (List ℕ)) (cache after : CacheState) (old new : Life)

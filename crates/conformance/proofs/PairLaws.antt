@@ -28,7 +28,7 @@ closed_apart other = record {
   snapshots = λ k o lt. closed_snapshot (get_or other.snapshots k o);
 }
 
--- it may take steps with any fresh cache
+-- a closed session may take steps with any fresh cache
 pub closed_ready : (sum : List ℕ → ℕ) (cache : CacheState) (d : Disk) → IsFresh cache
     → IsSessionReady sum closed cache d
 closed_ready sum cache d fresh = record {
@@ -61,7 +61,7 @@ goes_on sum other cache after d leaves fresh ready = record {
   fresh = fresh;
 }
 
--- a step of one leaves both
+-- a step of one session leaves both ready
 pub both_after : (sum : List ℕ → ℕ) (was now other : SessionState) (cache after : CacheState)
     (d was_d e : Disk) → AreBothReady sum was other cache was_d e
     → IsSessionReady sum now after d → LeavesOtherBlobs was now cache after
@@ -72,7 +72,7 @@ both_after sum was now other cache after d was_d e both ready leaves = record {
   apart = still_apart was now other cache after both.apart leaves;
 }
 
--- and so does an exchange
+-- an exchange of the two sessions leaves both ready
 pub exchanged : (sum : List ℕ → ℕ) (session other : SessionState) (cache : CacheState) (d e : Disk)
     → AreBothReady sum session other cache d e → AreBothReady sum other session cache e d
 exchanged sum session other cache d e both = record {
@@ -81,7 +81,7 @@ exchanged sum session other cache d e both = record {
   apart = apart_both session other both.apart;
 }
 
--- two closed ones with a new cache
+-- two closed sessions are ready with a new cache
 pub both_anew : (sum : List ℕ → ℕ) (P most : ℕ) (d e : Disk)
     → AreBothReady sum closed closed (empty_cache P most) d e
 both_anew sum P most d e = record {
@@ -90,7 +90,7 @@ both_anew sum P most d e = record {
   apart = closed_apart closed;
 }
 
--- the one that is closed leaves the other
+-- a session that is closed leaves both ready
 pub both_closed : (sum : List ℕ → ℕ) (was other : SessionState) (cache after : CacheState)
     (d was_d e : Disk) → AreBothReady sum was other cache was_d e → LeavesReads cache after
     → IsFresh after → AreBothReady sum closed other after d e
@@ -100,7 +100,7 @@ both_closed sum was other cache after d was_d e both leaves fresh = record {
   apart = closed_apart other;
 }
 
--- and so does one that begins
+-- a session that begins leaves both ready
 pub both_begun : (sum : List ℕ → ℕ) (was now other : SessionState) (cache after : CacheState)
     (d was_d e : Disk) → AreBothReady sum was other cache was_d e
     → IsSessionReady sum now after d → LeavesReads cache after → IsNewTo cache now

@@ -6,7 +6,7 @@ use Rattle.cache.specs.CacheState.{CacheState}
 use Rattle.writer_state.specs.WriterState.{WriterState}
 use Rattle.journal.specs.Reader.{ReaderState, IsReader, ReadersStay}
 
--- a call of the journal leaves it
+-- a call of the journal leaves its reader as it is
 pub reader_stays : (sum : List ℕ → ℕ) (reader : Option ReaderState) (w : WriterState)
     (cache after : CacheState) (old new : Life) → ReadersStay sum w cache after old new
     → IfSome reader (λ r. r.tail.full_pages ≤ w.full_pages)

@@ -16,7 +16,8 @@ IsAlong s r =
     (r.replay.tail.page_size ≡ s.writer.page_size)
     × (r.replay.tail.full_pages ≤ s.writer.full_pages)
 
--- the items, the snapshot and the replay are such, where they are there; the cache serves on
+-- the items, the snapshot and the replay, where they are there, are sound over the blob, and the
+-- cache is fresh
 pub record AreSet (sum : List ℕ → ℕ) (items : Option ItemsState)
     (snapshot : Option ItemsSnapshotState) (replay : Option ItemsReplayState) (cache : CacheState)
     (life : Life) : Type 0 where

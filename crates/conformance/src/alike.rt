@@ -1,4 +1,4 @@
-// Two devices that are to answer alike.
+// Two devices that must answer alike.
 use crate::devices::{DURABLE, add_copy, read};
 use crate::random::Numbers;
 use crate::words::{is_refusal, out_of_memory, say_done, say_started};
@@ -7,7 +7,7 @@ use std::alloc::Global;
 use std::io;
 use std::io::Write;
 
-// Syncs, and writes what is durable then.
+// Syncs, and then writes durably.
 fn write_durably<B: Blob>(blob: &mut B, offset: u64, bufs: &IoBufs) -> Result<(), Error> {
     blob.sync()?;
     blob.write_at(offset, bufs, DURABLE)
@@ -70,8 +70,8 @@ fn answers_alike<A: Blob, B: Blob>(
     Ok(first.as_slice() == second.as_slice())
 }
 
-/// Makes calls of two devices that look random, the same of both, and writes how many were answered
-/// alike: all, or those up to the first that wasn't.
+/// Makes the same calls, which look random, of two devices. Writes how many calls there were, if
+/// all were answered alike, or else the first that wasn't.
 pub fn try_alike<A: Blob, B: Blob>(
     alloc: Global,
     one: &mut A,

@@ -114,7 +114,7 @@ fn as_io<T: Drop>(answer: Result<T, Error>) -> io::Result<T> {
     }
 }
 
-/// Whether the buffer is these bytes at this offset, by all that it tells.
+/// Whether the buffer is these bytes at this offset, by all calls that report its content.
 fn holds(alloc: Global, buffer: &Buffer, offset: u64, bytes: &[u8]) -> Result<bool, Error> {
     if buffer.len() < buffer.page_size() && buffer.partial() != bytes {
         return Ok(false);
@@ -135,7 +135,7 @@ fn holds(alloc: Global, buffer: &Buffer, offset: u64, bytes: &[u8]) -> Result<bo
 }
 
 impl Buffered {
-    /// An empty buffer at an offset. Its capacity is to be whole pages.
+    /// An empty buffer at an offset. Its capacity must be whole pages.
     pub fn new(
         alloc: Global,
         offset: u64,
@@ -197,7 +197,7 @@ impl Buffered {
         write!(said, " tail {}", tail.len())
     }
 
-    // The offset and the bytes, if all that the buffer tells agrees.
+    // Writes whether the buffer is these bytes at this offset, or else what it holds.
     fn say_held(
         &self,
         alloc: Global,

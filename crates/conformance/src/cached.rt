@@ -56,7 +56,7 @@ fn piece_of(words: &Arguments) -> Piece {
     }
 }
 
-/// A cache, and what is read from it into.
+/// A cache, and the buffer to which its bytes are read.
 #[derive(Drop)]
 pub struct Cached {
     cache: CacheRef,
@@ -106,7 +106,7 @@ impl Cached {
         say_done(Ok(()), said)
     }
 
-    // Reads over the bytes that were read before.
+    // Reads to the buffer, over the bytes that it has.
     fn read(&mut self, id: u64, offset: u64, said: &mut Vec<u8>) -> io::Result<()> {
         let count = self.cache.read_cached(id, &mut self.buf, offset);
         write!(said, "read {count} {}", Hex(&self.buf))

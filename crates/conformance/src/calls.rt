@@ -24,7 +24,7 @@ fn say_call(call: &Call, said: &mut Vec<u8>) -> io::Result<()> {
     }
 }
 
-/// Writes the device calls from one on.
+/// Writes the device calls from the index `first` on.
 pub fn say_calls(calls: &[Call], first: usize, said: &mut Vec<u8>) -> io::Result<()> {
     if calls.len() <= first {
         return write!(said, "none");
@@ -56,8 +56,8 @@ pub fn is_write(call: &Call) -> bool {
     }
 }
 
-/// Whether a device call that fails may show later, or never: a start shows at a wait, if there is
-/// one.
+/// Whether the failure of a device call may show later, or never: that of a start shows at a wait,
+/// if there is one.
 pub fn may_be_silent(call: &Call) -> bool {
     match call {
         Call::StartSync | Call::StartReadMany(_) => true,

@@ -1,4 +1,4 @@
-// Cases, as their text tells them.
+// Cases, read from their text.
 use crate::line::Row;
 use crate::names::{Name, spelled};
 use crate::words::unreadable;
@@ -20,7 +20,7 @@ pub struct Case {
     pub plan: Vec<u8>,
     /// The lines that are tried.
     pub tried: Vec<Row>,
-    /// What comes after them.
+    /// The lines after the tried ones.
     pub after: Vec<Row>,
     // Which of the three a line is added to.
     part: Part,
@@ -55,7 +55,7 @@ impl Case {
         }
     }
 
-    // Goes on with the last line, if this one does that.
+    // Adds a line to the last row, and answers whether the line continues that row.
     fn go_on(&mut self, alloc: Global, line: &[u8]) -> io::Result<bool> {
         match self.rows().last_mut() {
             Some(row) => row.go_on(alloc, line),
@@ -102,7 +102,7 @@ struct Reader {
 }
 
 impl Reader {
-    // Goes on with a line that has no names any more.
+    // Adds a line in which each name is replaced by its text.
     fn add(&mut self, alloc: Global, number: usize, line: &[u8]) -> io::Result<()> {
         if let Some(name) = line.strip_prefix(b"case ") {
             self.cases.push(Case::new(alloc, name)?)?;

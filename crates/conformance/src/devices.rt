@@ -50,7 +50,7 @@ pub fn read<B: Blob>(
     }
 }
 
-// What was delivered, in that order: of each range its number and its bytes.
+// Writes what was delivered, in the order of delivery: for each range its number and its bytes.
 fn say_delivered(delivered: &[(usize, IoBuf)], said: &mut Vec<u8>) -> io::Result<()> {
     write!(said, "ranges")?;
     for (index, buf) in delivered {
@@ -59,7 +59,7 @@ fn say_delivered(delivered: &[(usize, IoBuf)], said: &mut Vec<u8>) -> io::Result
     Ok(())
 }
 
-// Something stands in the vector before.
+// Reads ranges to a vector that already has an entry.
 fn read_many<B: Blob>(
     alloc: Global,
     blob: &mut B,

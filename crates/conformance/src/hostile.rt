@@ -1,4 +1,4 @@
-// Blobs that were changed at random, and what is told of them.
+// Blobs that were changed at random, and what looks, surveys, recoveries and reads make of them.
 use crate::calls::is_write;
 use crate::opened::read;
 use crate::random::Numbers;
@@ -130,7 +130,8 @@ fn value<H: Sum>(page: &[u8]) -> &[u8] {
     }
 }
 
-// The values of the pages one after the other, up to the first that isn't full.
+// The text (what a recovery keeps): the values of the pages joined, up to and with the first that
+// isn't full.
 fn text<H: Sum>(alloc: Global, bytes: &[u8], page_size: NonZeroU16) -> Result<Vec<u8>, AllocError> {
     let len = usize::from(page_size.get());
     let mut text = Vec::new(alloc);
@@ -144,16 +145,16 @@ fn text<H: Sum>(alloc: Global, bytes: &[u8], page_size: NonZeroU16) -> Result<Ve
     Ok(text)
 }
 
-// Whether a survey says of a recovery what it did. Nothing goes, by a survey, exactly where the
-// recovery wrote nothing; and only zeros were cut where there is nothing to set aside.
+// Whether a survey fits what the recovery did. Its verdict is `Whole` exactly if the recovery wrote
+// nothing. If it has nothing to set aside, the recovery cut only zeros.
 fn is_right_of(survey: &Survey, page_size: NonZeroU16, cut: &[u8], wrote: bool) -> bool {
     let whole = survey.verdict(page_size, 0) == Verdict::Whole;
     let zeros = cut.iter().all(|byte| *byte == 0);
     whole != wrote && (zeros || survey.set_aside_len(page_size) > 0)
 }
 
-// A look and a survey tell what a recovery of these bytes does; it leaves their text, and a second
-// recovery changes nothing.
+// Whether a look and a survey report what a recovery of these bytes does, the recovery leaves their
+// text, and a second recovery writes nothing.
 fn goes<H: Sum>(
     stage: &mut Stage<H>,
     bytes: &[u8],
@@ -184,8 +185,8 @@ fn goes<H: Sum>(
     )
 }
 
-// Whether a read of a page is right where nobody recovered: it gives a page that is full, or tells
-// that it isn't.
+// Whether a read of a page is right in a blob that wasn't recovered: it answers the bytes of a full
+// page, or an error for a page that isn't full.
 fn is_right(answer: &Result<IoBuf, Error>, value: &[u8], len: usize) -> bool {
     match answer {
         Ok(buf) => buf.as_ref() == value && value.len() == len,
@@ -220,8 +221,8 @@ fn try_one<H: Sum>(stage: &Stage<H>, alloc: Global, bytes: &[u8]) -> Result<bool
     )
 }
 
-/// Tries blobs that are the stage's with some changes, or other bytes. The first that doesn't go
-/// well is told.
+/// Tries blobs that are the stage's with some changes, or other bytes. Writes the first that
+/// doesn't go well.
 pub fn try_hostile<H: Sum>(
     alloc: Global,
     stage: &Stage<H>,

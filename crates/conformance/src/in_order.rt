@@ -2,7 +2,8 @@
 ghost use Rattle.std.specs.Prelude.{◌≡◌, sum_by, IfSome};
 ghost use Rattle.page.specs.Geometry.{AreInOrder};
 
-/// How many bytes the ranges have together, where one call can take them.
+/// How many bytes the ranges have together. `None` if one call can't take them: they overlap,
+/// aren't in order, or are too long together.
 pub fn len_together(ranges: &[(u64, usize)]) -> Option<usize>
     ensures in_order { IfSome result (λ len. AreInOrder ranges.now) }
     ensures len { IfSome result (λ len. len ≡ sum_by (λ range. range.1) ranges.now) }

@@ -18,9 +18,9 @@ use std::num::NonZeroUsize;
 pub enum Told {
     /// The number of the item that was pushed.
     Item(u64),
-    /// There was no room for it, or nothing is left.
+    /// The buffer has no room for the item, a snapshot needs a write, or the replay is at its end.
     Nothing,
-    /// What was to be pushed isn't of the items' size.
+    /// The bytes to push don't have the items' size.
     BadItem,
     /// The numbers don't rise.
     BadNumbers,
@@ -36,7 +36,7 @@ pub enum Told {
     Bytes(Vec<u8>),
     /// An item whose bytes are shared with what was read.
     Shared(IoBuf),
-    /// How many items needed no device, and all of them.
+    /// How many items needed no device, and the bytes of all items, joined.
     Served(usize, Vec<u8>),
     /// A sync was started.
     Started(StartedSync),
@@ -82,7 +82,7 @@ fn room(alloc: Global, count: usize, size: usize) -> Result<Vec<u8>, Error>
     Ok(buf)
 }
 
-// Whether each number is greater than the one before, and the first at least this.
+// Whether each number is greater than the one before, and the first is at least `from`.
 fn are_rising(from: u64, numbers: &[u64]) -> bool
     ensures { result ≡ true → AreRisingFrom from numbers.now }
 {
@@ -160,7 +160,7 @@ impl<H: Sum> ItemStage<H> {
         Ok(Told::Recovered(count))
     }
 
-    /// Pushes an item. Items that refuse it are gone.
+    /// Pushes an item. After an error the items are gone.
     #[tactic(auto, using(crate::proofs::ItemLaws::goes_on))]
     pub fn push(&mut self, item: &[u8]) -> Result<Told, Error> {
         let Some(items) = self.items.take() else {
@@ -175,7 +175,7 @@ impl<H: Sum> ItemStage<H> {
         Ok(Told::Item(number))
     }
 
-    // Pushes a value of N bytes, if what is buffered has room.
+    // Pushes a value of N bytes, if the buffer has room for it.
     fn try_value<const N: usize>(&mut self, bytes: &[u8]) -> Result<Told, Error> {
         let Some(items) = &mut self.items else {
             return Ok(Told::Closed);
@@ -192,7 +192,7 @@ impl<H: Sum> ItemStage<H> {
         }
     }
 
-    /// Pushes a value if what is buffered has room: one of the sizes that there are types for.
+    /// Pushes a value if the buffer has room for it, of one of the sizes that have types here.
     pub fn try_push(&mut self, bytes: &[u8]) -> Result<Told, Error> {
         match bytes.len() {
             3 => self.try_value::<3>(bytes),
@@ -235,7 +235,7 @@ impl<H: Sum> ItemStage<H> {
         Ok(Told::Served(served, all))
     }
 
-    /// Makes all items durable. Items that refuse it are gone.
+    /// Makes all items durable. After an error the items are gone.
     pub fn sync(&mut self) -> Result<Told, Error> {
         let Some(items) = self.items.take() else {
             return Ok(Told::Closed);
@@ -245,7 +245,7 @@ impl<H: Sum> ItemStage<H> {
         Ok(Told::Done)
     }
 
-    /// Starts to make all items durable. Items that refuse it are gone.
+    /// Starts to make all items durable. After an error the items are gone.
     pub fn start_sync(&mut self) -> Result<Told, Error> {
         let Some(items) = self.items.take() else {
             return Ok(Told::Closed);
@@ -255,7 +255,7 @@ impl<H: Sum> ItemStage<H> {
         Ok(Told::Started(started))
     }
 
-    /// Waits for the sync that was started last. Items that refuse it are gone.
+    /// Waits for the sync that was started last. After an error the items are gone.
     #[tactic(auto, using(crate::proofs::ItemLaws::goes_on))]
     pub fn wait(&mut self) -> Result<Told, Error> {
         let Some(items) = self.items.take() else {
@@ -266,7 +266,7 @@ impl<H: Sum> ItemStage<H> {
         Ok(Told::Done)
     }
 
-    /// A snapshot of the items that there are, in place of an earlier one. Items that refuse it are
+    /// Makes a snapshot of the items, in place of an earlier one. After an error the items are
     /// gone.
     #[tactic(auto, using(crate::proofs::ItemLaws::seals))]
     pub fn snapshot(&mut self) -> Result<Told, Error> {
@@ -324,8 +324,7 @@ impl<H: Sum> ItemStage<H> {
         }
     }
 
-    /// A replay of the items that there are, in place of an earlier one. Items that refuse it are
-    /// gone.
+    /// Begins a replay of the items, in place of an earlier one. After an error the items are gone.
     #[tactic(auto, using(crate::proofs::ItemLaws::begins))]
     pub fn replay(&mut self, by: NonZeroUsize) -> Result<Told, Error> {
         let Some(items) = self.items.take() else {
@@ -366,7 +365,7 @@ impl<H: Sum> ItemStage<H> {
         }
     }
 
-    /// The bytes of the blob.
+    /// The physical bytes of the blob.
     pub fn bytes(&self) -> &[u8] {
         self.blob.bytes()
     }

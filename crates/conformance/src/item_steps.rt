@@ -103,8 +103,8 @@ fn recovered<H: Sum>(alloc: Global, stage: &mut ItemStage<H>) -> Result<Vec<u8>,
     Ok(all)
 }
 
-// Recovers the blob as it is. Its items, joined, begin with the floor, and are the beginning of the
-// whole, if that is told.
+// Recovers the blob as it is. Its items, joined, must begin with the floor (the durable prefix),
+// and be a beginning of the whole, if that is given.
 fn holds<H: Sum>(
     alloc: Global,
     stage: &mut ItemStage<H>,
@@ -119,7 +119,7 @@ fn holds<H: Sum>(
     }
 }
 
-// A step that reads.
+// Plays a step that reads.
 fn ask<H: Sum>(
     stage: &mut ItemStage<H>,
     verb: Verb,

@@ -34,8 +34,8 @@ pub struct Sizes {
 }
 
 impl Sizes {
-    /// Those that the words of a `start` line tell: pages of 16 bytes, a buffer of two and a cache
-    /// of one where there are none.
+    /// Reads the sizes from the words of a `start` line. Without three numbers there are pages of
+    /// 16 bytes, a buffer of two pages, and a cache of one.
     pub fn read(words: &Arguments) -> io::Result<Sizes> {
         let [page, capacity, pages] = match words.numbers.as_slice() {
             [page, capacity, pages] => [*page, *capacity, *pages],
@@ -249,7 +249,8 @@ impl<H: Sum, R: Sum> Journals<H, R> {
         }
     }
 
-    // The offset of its frame. A journal that refuses it is gone.
+    // Appends a record, and answers the offset of its frame, or `None` if there is no journal or
+    // the record is too long. After an error or a record that is too long the journal is gone.
     #[tactic(auto, using(crate::proofs::ReaderLaws::reader_stays))]
     fn append(&mut self, bytes: &[u8]) -> Result<Option<u64>, Error> {
         let Some(journal) = self.journal.take() else {
@@ -280,7 +281,7 @@ impl<H: Sum, R: Sum> Journals<H, R> {
         }
     }
 
-    // A reader of the records that there are. A journal that refuses it is gone.
+    // Begins a reader of the records that there are. After an error the journal is gone.
     fn begin_reader(&mut self) -> Result<(), Error> {
         let Some(journal) = self.journal.take() else {
             return Ok(());
@@ -298,8 +299,8 @@ impl<H: Sum, R: Sum> Journals<H, R> {
         }
     }
 
-    // A recovery for each of its device calls, which fails: how many of them are Ok all the same,
-    // with these records, since what wasn't read is read again.
+    // Recovers once for each device call of a recovery, with that call failing. Answers how many of
+    // these recoveries succeed with the wanted records, since they read again what wasn't read.
     fn recover_failing(&mut self, alloc: Global, calls: usize, wanted: &[u8]) -> io::Result<usize> {
         let mut again: usize = 0;
         for index in 0..calls as u64 {

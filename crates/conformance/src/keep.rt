@@ -3,7 +3,8 @@ use crate::forms::named;
 use scripts::parse_number;
 use std::alloc::{AllocError, Global};
 
-/// A way to go on after the tried lines: by a crash that keeps what these flags say, or by none.
+/// A way to go on after the tried lines: by crashes that keep some of what isn't durable, or
+/// without a crash.
 #[derive(Clone, Copy, PartialEq, Eq)]
 pub enum Keep {
     /// No crash comes.
@@ -12,11 +13,11 @@ pub enum Keep {
     Nothing,
     /// The crash keeps all.
     All,
-    /// The crash keeps so many of the first bytes, for each number up to this one.
+    /// For each number from 0 to this one, a crash that keeps so many of the first bytes.
     First(usize),
-    /// The crash keeps one byte, for each of so many.
+    /// For each of so many first bytes, a crash that keeps this byte alone.
     One(usize),
-    /// The crash keeps every choice of so many bytes.
+    /// For each choice from so many first bytes, a crash that keeps the chosen ones.
     Every(usize),
 }
 
@@ -34,7 +35,7 @@ fn width(word: &[u8]) -> usize {
 }
 
 impl Keep {
-    /// The way of a word.
+    /// The way that a word names.
     pub fn read(word: &[u8]) -> Option<Keep> {
         if let Some(count) = word.strip_prefix(b"first:") {
             return Some(Keep::First(width(count)));
@@ -48,7 +49,7 @@ impl Keep {
         named(&KEEPS, word)
     }
 
-    /// How many crashes it stands for.
+    /// How many runs it stands for: one for each of its crashes, or one without a crash.
     pub fn count(self) -> usize {
         match self {
             Keep::AtOnce | Keep::Nothing | Keep::All => 1,

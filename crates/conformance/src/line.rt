@@ -10,9 +10,9 @@ pub struct Row {
     pub number: usize,
     /// The step.
     pub step: Vec<u8>,
-    /// The reply. Where there is none, the step is not to be refused.
+    /// The expected reply. If there is none, the step must not be refused.
     pub reply: Option<Vec<u8>>,
-    /// The device calls, if they are told.
+    /// The device calls that the step should make, if the line lists them.
     pub calls: Option<Vec<u8>>,
     /// The lines of text that the step is given.
     pub given: Vec<u8>,
@@ -85,7 +85,7 @@ impl Row {
         })
     }
 
-    /// Goes on with a line that is no step, and answers whether it is such a one.
+    /// Adds a line that continues this row, and answers whether the line does.
     pub fn go_on(&mut self, alloc: Global, line: &[u8]) -> io::Result<bool> {
         match line {
             [b'|', more @ ..] => self.add_calls(alloc, more)?,
@@ -97,7 +97,7 @@ impl Row {
         Ok(true)
     }
 
-    // Goes on with its device calls.
+    // Adds to the device calls of the row.
     fn add_calls(&mut self, alloc: Global, more: &[u8]) -> io::Result<()> {
         let more = plain(alloc, more.trim_ascii())?;
         match &mut self.calls {

@@ -1,8 +1,9 @@
 //! Plays the cases that standard input holds, and compares what each step answers, what it asks of
-//! the device, and what a crash and a recovery leave, with what the case says.
+//! the device, and what a crash and a recovery leave, with what the case expects.
 //!
-//! It writes one line a case, and below it each difference. The exit status is 0 where there was
-//! none, 1 where there was one, and 2 where a case can't be read.
+//! It writes one line a case, and below it each difference. The exit status is 0 if there was no
+//! difference, 1 if there was one, and 2 if a case can't be read, or the input, the output or
+//! memory failed.
 #![tactic(auto)]
 
 mod alike;
@@ -52,7 +53,7 @@ use std::io;
 use std::io::{BufWriter, Read, Write};
 use std::process::ExitCode;
 
-// Plays each case, and answers whether all went as they say.
+// Plays each case, and answers whether all went as they expect.
 fn play_each<W: Write>(alloc: Global, cases: &[Case], out: &mut W) -> io::Result<bool> {
     let mut well = true;
     let mut total: u64 = 0;

@@ -92,7 +92,7 @@ impl Memory {
             .write_at(offset, &buffers(alloc, pieces)?, DURABLE)
     }
 
-    // Beside a plain blob.
+    // Makes the same calls of this blob and of a plain one.
     fn try_alike(
         &mut self,
         alloc: Global,
@@ -140,7 +140,7 @@ impl Memory {
     }
 }
 
-// Of pages of so many logical bytes.
+// Writes what a search finds, or a read answers, over pages of so many logical bytes.
 fn say_search(
     alloc: Global,
     blob: &mut MemBlob,

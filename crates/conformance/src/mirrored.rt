@@ -1,4 +1,4 @@
-// A mirror over a host that fails when it is told to.
+// A mirror over a host whose call of some number fails.
 use crate::alike::try_alike;
 use crate::devices::{DURABLE, buffers, play_call};
 use crate::forms::Argument::{Number, Pieces};
@@ -37,7 +37,7 @@ const STEPS: [Form<Verb>; 5] = [
 pub struct Mirrored {
     mirror: Mirror<Recorder>,
     started: Option<StartedRead>,
-    // Whether nothing was asked of it yet: then a write may be durable.
+    // Whether no call was made of the mirror yet: only then may a write be durable.
     new: bool,
 }
 
@@ -54,7 +54,7 @@ impl Model for Mirrored {
 }
 
 impl Mirrored {
-    /// An empty one, over a host whose call of this number fails, and whose runs have at most so
+    /// An empty mirror, over a host whose call of this number fails, and whose runs have at most so
     /// many bytes.
     pub fn new(alloc: Global, failing: u64, room: usize) -> io::Result<Box<Mirrored>> {
         let host = Recorder::new(alloc, failing as usize, room)?;
@@ -68,7 +68,7 @@ impl Mirrored {
         )?)
     }
 
-    // A durable write is asked for at first alone.
+    // Writes durably. Only the first call may.
     fn write_durably(
         &mut self,
         alloc: Global,
@@ -99,7 +99,7 @@ impl Mirrored {
         }
     }
 
-    // Beside a blob in memory.
+    // Makes the same calls of the mirror and of a blob in memory.
     fn try_alike(
         &mut self,
         alloc: Global,

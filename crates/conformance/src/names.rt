@@ -21,7 +21,7 @@ impl Name {
     }
 }
 
-// The text of a name; none where it is none of these.
+// The text of a name; no bytes if there is no such name.
 fn text_of<'a>(names: &'a [Name], name: &[u8]) -> &'a [u8] {
     for it in names {
         if it.name.as_slice() == name {

@@ -13,7 +13,7 @@ use std::io::Write;
 #[derive(Clone, Copy)]
 pub struct Nested;
 
-// Plays a case, and answers whether it went as it says.
+// Plays a case, and answers whether it went as it expects.
 fn play_one(alloc: Global, case: &Case, out: &mut Vec<u8>) -> io::Result<bool> {
     let mut told = Vec::new(alloc);
     let words = words(alloc, &case.start)?;
@@ -31,7 +31,8 @@ fn play_each(alloc: Global, cases: &[Case], out: &mut Vec<u8>) -> io::Result<boo
     Ok(well)
 }
 
-// Whether all went as they say, and what was written where that isn't what the line tells.
+// Writes whether all cases went as they expect, and what was written about them, if that isn't what
+// the line wants.
 fn play_given(alloc: Global, row: &Row, said: &mut Vec<u8>) -> io::Result<()> {
     let cases = read_cases(alloc, &row.given)?;
     let mut out = Vec::new(alloc);

@@ -12,7 +12,7 @@ use std::io;
 use std::io::Write;
 use std::num::{NonZeroU16, NonZeroUsize};
 
-// What the writer may hold back.
+// How many bytes the writer may hold back.
 const CAPACITY: usize = 8;
 
 // A cache of four pages.
@@ -23,7 +23,8 @@ fn new_cache(alloc: Global, page_size: NonZeroU16) -> Result<CacheRef, Error>
     CacheRef::new(alloc, page_size, pages)
 }
 
-// How many bytes it says, and how many of at most so many a scan from the first one on counts.
+// The size of a blob that is opened as it is, and how many logical bytes a scan from the first one
+// on counts, of at most so many.
 fn scanned(
     alloc: Global,
     blob: &mut MemBlob,

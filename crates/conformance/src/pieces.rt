@@ -13,7 +13,7 @@ const MOST_ROOM: usize = 65_536;
 pub enum Way {
     /// The input ends after its bytes.
     Ends,
-    /// The read after them fails. Whoever reads on finds the end.
+    /// The read after the bytes fails. A later read finds the end.
     Fails,
     /// Each byte comes alone. A read is interrupted before each and before the end.
     Interrupted,
@@ -35,7 +35,7 @@ pub struct Pieces {
 }
 
 impl Pieces {
-    /// The bytes that some lines tell.
+    /// The bytes that are written in some lines.
     pub fn read(alloc: Global, lines: &[u8], way: Way) -> io::Result<Pieces> {
         let mut bytes = Vec::new(alloc);
         let mut ends = Vec::new(alloc);

@@ -9,7 +9,8 @@ use std::alloc::Global;
 use std::io;
 use std::io::Write;
 
-// What a step asks for: that a script is played, the one below it or its own, or is refused.
+// What a step asks for: to play the script below it, to play its own script, or to name the line
+// for which its own can't be read.
 #[derive(Clone, Copy)]
 enum Verb {
     Given,
@@ -27,7 +28,7 @@ const STEPS: [Form<Verb>; 3] = [
 #[derive(Clone, Copy)]
 pub struct Scripts;
 
-// Adds a text where it isn't the one that is wanted.
+// Adds a text if it isn't the one that is wanted.
 fn say_other(word: &str, text: &[u8], wanted: &[u8], said: &mut Vec<u8>) -> io::Result<()> {
     if text == wanted {
         return Ok(());
@@ -37,7 +38,7 @@ fn say_other(word: &str, text: &[u8], wanted: &[u8], said: &mut Vec<u8>) -> io::
     Ok(())
 }
 
-// Plays a script, and writes its status, and what it wrote where that isn't what the line tells.
+// Plays a script. Writes its status, and what the script wrote, if that isn't what the line wants.
 fn play_script(alloc: Global, mut script: &[u8], row: &Row, said: &mut Vec<u8>) -> io::Result<()> {
     let mut out = Vec::new(alloc);
     let mut errors = Vec::new(alloc);
@@ -55,8 +56,8 @@ fn first_line(text: &[u8]) -> &[u8] {
     text.split(|byte| *byte == b'\n').next().unwrap_or(text)
 }
 
-// Which line a script that can't be read is refused for, where nothing is written of it but that
-// and a line below.
+// Writes for which line a script can't be read, if the script wrote nothing except that and one
+// line more of errors.
 fn name_line(alloc: Global, mut script: &[u8], said: &mut Vec<u8>) -> io::Result<()> {
     let mut out = Vec::new(alloc);
     let mut errors = Vec::new(alloc);
@@ -70,8 +71,9 @@ fn name_line(alloc: Global, mut script: &[u8], said: &mut Vec<u8>) -> io::Result
     }
 }
 
-// Whether the lines that were written are the wanted ones up to one that tells of a refusal, or but
-// for those of pages that the cache had no memory for.
+// Whether the lines that were written are the wanted ones, up to the first reply to a refused
+// request for memory. Lines that depend on what the cache holds may differ, since the cache may
+// have had no memory.
 fn go_to_refusal(text: &[u8], wanted: &[u8]) -> bool {
     let wanted = wanted.split(|byte| *byte == b'\n');
     for (line, want) in text.split(|byte| *byte == b'\n').zip(wanted) {
@@ -85,7 +87,7 @@ fn go_to_refusal(text: &[u8], wanted: &[u8]) -> bool {
     true
 }
 
-// (then another call fails where a page is read that the cache had no memory for)
+// (then another device call fails if a page is read for which the cache had no memory)
 fn lets_fail(script: &[u8]) -> bool {
     script.windows(6).any(|part| part == b"\nfail ".as_slice())
 }
@@ -96,8 +98,9 @@ fn is_of_cache(line: &[u8]) -> bool {
 
 const STOPPED: &[u8] = b", but said of errors\npagedctl: stopped\n";
 
-// Whether a script ended as one that is refused: by a step that says so; with status 1 where it was
-// read, or its replies were written; or without the line that explains one that can't be read.
+// Whether a script ended as one does to which memory is refused: with that reply to a step, with
+// status 1 as it was read or its replies were written, or without the line that explains why it
+// can't be read.
 fn is_refused(row: &Row, said: &[u8]) -> bool {
     if let Some(text) = said.strip_prefix(b"status 0, but wrote\n") {
         return lets_fail(&row.given) || go_to_refusal(text, &row.wanted);

@@ -21,7 +21,7 @@ impl Numbers {
         x
     }
 
-    /// One below a bound, or 0.
+    /// A number below the bound, or 0 if the bound is 0.
     pub fn below(&mut self, bound: usize) -> usize {
         let bound = bound.max(1);
         (self.next() % bound as u64) as usize

@@ -10,12 +10,12 @@ use std::io::{ErrorKind, Write};
 use std::marker::Model;
 use std::snapshot::Snapshot;
 
-/// What a host was asked for: of a put the offset and how many bytes.
+/// What a host was asked for: for a put the offset and how many bytes.
 #[derive(Clone, Copy)]
 pub enum Told {
-    /// The bytes at an offset.
+    /// To put so many bytes at an offset.
     Put(u64, usize),
-    /// The length.
+    /// To set the length in bytes.
     SetLen(u64),
     /// A sync.
     Sync,
@@ -31,7 +31,7 @@ struct Medium {
 }
 
 impl Medium {
-    // Notes a call, and fails where it is the one.
+    // Notes a call, and fails if it is the one that must fail.
     fn note(&mut self, told: Told) -> io::Result<()> {
         self.told.push(told)?;
         if self.told.len() == self.failing {
@@ -61,7 +61,7 @@ impl Sink for Medium {
     }
 }
 
-// What is done in memory fails for want of memory alone.
+// A call of a blob in memory fails only if there is no memory.
 fn done(answer: Result<(), Error>) -> io::Result<()> {
     match answer {
         Ok(()) => Ok(()),
@@ -88,7 +88,7 @@ impl Model for Recorder {
 }
 
 impl Recorder {
-    /// An empty one, whose runs have at most so many bytes.
+    /// An empty host, whose runs have at most so many bytes.
     pub fn new(alloc: Global, failing: usize, room: usize) -> Result<Self, AllocError>
         ensures { IfOk result (λ host. host ≡ []) }
     {
@@ -104,12 +104,12 @@ impl Recorder {
         })
     }
 
-    /// The bytes that it holds.
+    /// The bytes that the host holds.
     pub fn bytes(&self) -> &[u8] {
         self.medium.blob.bytes()
     }
 
-    /// What it was asked for.
+    /// What the host was asked for.
     pub fn told(&self) -> &[Told] {
         &self.medium.told
     }

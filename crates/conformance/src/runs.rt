@@ -19,22 +19,22 @@ use std::io::Write;
 /// More requests for memory than most lines make: those after so many aren't refused.
 pub const MOST: u32 = 1500;
 
-// What happens in a run. In the first run the lines go as they are told.
+// What happens in a run. In the first run nothing is made to fail.
 #[derive(Clone, Copy)]
 struct Plan {
     // Which device call of the tried lines fails, from 1 on and 0 for none.
     fails: u32,
-    // Which device call of the lines after them fails, in the same way. They are played once more
-    // then, and none fails.
+    // Which device call of the lines after the tried ones fails, from 1 on and 0 for none. Those
+    // lines are then played once more, and no call fails.
     again: u32,
-    // Which request for memory is refused in the tried lines, in the same way.
+    // Which request for memory is refused in the tried lines, from 1 on and 0 for none.
     refuses: u32,
     // How it goes on after the tried lines.
     keep: Option<Keep>,
     number: usize,
 }
 
-// What is planned for one number after the other.
+// What a case is run for with one number after the other.
 #[derive(Clone, Copy)]
 enum Planned {
     Fails,
@@ -63,7 +63,7 @@ impl Plan {
     }
 }
 
-// The refusal is that of the device call which failed.
+// Writes a difference if the refusal isn't that of the device call which failed.
 fn compare_fault(alloc: Global, call: &Call, fault: &[u8], told: &mut Vec<u8>) -> io::Result<()> {
     let mut want = Vec::new(alloc);
     say_error(error_of(call), &mut want)?;
@@ -88,7 +88,7 @@ fn crash<S: Tearable>(alloc: Global, stage: &mut S, keep: Keep, number: usize) -
     }
 }
 
-// Lines with a device call that fails. Answers whether they reach it.
+// Plays lines with a device call that fails. Answers whether they reach that call.
 fn play_failing<S: Tearable>(
     alloc: Global,
     stage: &mut S,
@@ -110,7 +110,7 @@ fn play_failing<S: Tearable>(
     }
 }
 
-// The tried lines. Answers whether they reach what is planned for them.
+// Plays the tried lines. Answers whether they reach what is planned for them.
 fn try_lines<S: Tearable>(
     alloc: Global,
     stage: &mut S,
@@ -128,8 +128,8 @@ fn try_lines<S: Tearable>(
     Ok(true)
 }
 
-// A crash, and the lines after it: with a call of theirs that fails they are played once more
-// after a further crash. Answers whether that call is reached.
+// Crashes, and plays the lines after the crash. If one of their device calls is to fail, they are
+// played once more after a further crash. Answers whether that call is reached.
 fn go_on<S: Tearable>(
     alloc: Global,
     stage: &mut S,
@@ -149,7 +149,7 @@ fn go_on<S: Tearable>(
     Ok(true)
 }
 
-// Answers whether what is planned is reached.
+// Plays a case on its stage. Answers whether what is planned is reached.
 fn run_on<S: Tearable>(
     alloc: Global,
     stage: &mut S,
@@ -226,7 +226,7 @@ fn say_plan(plan: Plan, told: &mut Vec<u8>) -> io::Result<()> {
     writeln!(told, ", request {refuses} refused, crash {number}")
 }
 
-// Runs it, and names the run where something was told of it. Answers whether what is planned is
+// Runs a case, and names the run if differences were written. Answers whether what is planned is
 // reached.
 fn run_named(
     alloc: Global,
@@ -248,8 +248,8 @@ fn run_named(
     Ok(reached)
 }
 
-// Runs it for each number from 1 on, until what is planned isn't reached. Answers how many runs
-// that were.
+// Runs a case for each number from 1 on, until what is planned isn't reached. Answers how many runs
+// reached it.
 fn run_each(
     alloc: Global,
     case: &Case,
@@ -266,7 +266,7 @@ fn run_each(
     Ok(u64::from(MOST))
 }
 
-// Each device call of the tried lines fails, and after it each one of the lines after them.
+// Each device call of the tried lines fails, and with it each device call of the lines after those.
 fn run_twice(
     alloc: Global,
     case: &Case,
@@ -306,7 +306,8 @@ fn run_which(
     Ok(u64::from(run_named(alloc, case, setting, plan, told)?))
 }
 
-// Each crash of a way to go on. Where each call fails, each request is refused too.
+// Runs a case for each crash of a way to go on. If each device call is to fail, each request for
+// memory is refused too.
 fn run_way(
     alloc: Global,
     case: &Case,
@@ -329,7 +330,8 @@ fn run_way(
     Ok(runs)
 }
 
-// What the `try` line asks for; without one each request of the lines is refused.
+// Each request for memory is refused, and then the case is run as its `try` line asks, if it has
+// one.
 fn run_plan(alloc: Global, case: &Case, setting: Setting, told: &mut Vec<u8>) -> io::Result<u64> {
     let words = words(alloc, &case.plan)?;
     let mut runs = run_each(alloc, case, setting, Plan::first(), Planned::Refuses, told)?;

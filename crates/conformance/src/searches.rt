@@ -108,7 +108,7 @@ pub fn say_range(
     }
 }
 
-/// Reads the last bytes, of so many physical ones.
+/// Reads the logical size of a blob of `physical_size` bytes, and its last `len` logical bytes.
 pub fn say_tail(
     alloc: Global,
     blob: &mut MemBlob,

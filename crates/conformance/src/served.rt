@@ -87,9 +87,9 @@ fn say_end(ended: Result<(), Stop>, said: &mut Vec<u8>) -> io::Result<()> {
     }
 }
 
-// Serves the requests of an input. Writes how that ends, the answers where they aren't those that
-// the row tells, and what no server may do. Answers after how many bytes of them the output was
-// flushed.
+// Serves the requests of an input. Writes how that ends, the answers if they aren't those that the
+// row wants, and what no server may do. Answers after how many bytes of answers the output was
+// flushed each time.
 fn serve<B: Blob + Cause>(
     alloc: Global,
     blob: &mut B,
@@ -126,7 +126,7 @@ fn serve<B: Blob + Cause>(
     Ok(flushed.ends)
 }
 
-// Over an empty blob whose device call of this number fails.
+// Serves requests over an empty blob whose device call of this number fails.
 fn serve_failing(
     alloc: Global,
     setting: &Setting,
@@ -142,7 +142,7 @@ fn serve_failing(
 }
 
 impl Server {
-    /// Over a blob of these bytes.
+    /// A server over a blob of these bytes.
     pub fn new(alloc: Global, bytes: Vec<u8>) -> io::Result<Box<Server>> {
         let blob = VecBlob::from_vec(bytes);
         match Box::new(alloc, Server { blob }) {
@@ -191,7 +191,7 @@ impl Server {
     }
 
     // Serves the first so many bytes of a row, for each count from the first to the last. Writes
-    // what all of them answer, or what the first that differs does.
+    // the answer if it is the same for all counts, or else the first that differs.
     fn serve_each(
         &self,
         alloc: Global,

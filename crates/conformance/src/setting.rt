@@ -48,7 +48,7 @@ pub struct Setting {
     pub sum: SumName,
     /// Whether a read of several ranges delivers the last one first.
     pub backwards: bool,
-    /// The bytes of an item, where it is run over items.
+    /// The bytes of an item, if the case is run over items.
     pub item_size: Option<NonZeroUsize>,
 }
 
@@ -61,7 +61,7 @@ fn count_of(words: &[u8]) -> usize {
     words.split(|byte| *byte == b',').count()
 }
 
-// One of them.
+// The word at an index, of those between commas.
 fn choice(words: &[u8], index: usize) -> Option<&[u8]> {
     words.split(|byte| *byte == b',').nth(index)
 }

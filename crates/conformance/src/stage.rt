@@ -59,7 +59,8 @@ impl<H: Sum> Stage<H> {
         self.setting.page_size
     }
 
-    /// Recovers the blob as it is, by reads of so many bytes, and tells how many are left.
+    /// Recovers the blob as it is, by reads of so many bytes, and answers how many logical bytes
+    /// are left.
     pub fn recover(&mut self, buffer_size: NonZeroUsize) -> Result<u64, Error> {
         self.session = Session::closed(self.alloc);
         let size = self.blob.len();
@@ -74,7 +75,8 @@ impl<H: Sum> Stage<H> {
         Ok(self.session.size().unwrap_or(0))
     }
 
-    /// Opens the blob as it is, without going over it, and tells how long the content is.
+    /// Opens the blob as it is, without going over it, and answers how many logical bytes the
+    /// content has.
     pub fn open(&mut self) -> Result<u64, Error> {
         self.session = Session::closed(self.alloc);
         let size = self.blob.len();
@@ -88,7 +90,7 @@ impl<H: Sum> Stage<H> {
         Ok(recovery.size())
     }
 
-    /// Opens the blob as it is, without going over it, and cuts it to so many bytes.
+    /// Opens the blob as it is, without going over it, and cuts it to so many logical bytes.
     pub fn cut(&mut self, size: u64) -> Result<u64, Error> {
         self.session = Session::closed(self.alloc);
         let len = self.blob.len();
@@ -114,7 +116,7 @@ impl<H: Sum> Stage<H> {
         look::<MemBlob, H>(self.alloc, &mut self.blob, size, page_size, buffer_size)
     }
 
-    /// What a recovery would make of the blob, and what would go with it.
+    /// What a recovery would make of the blob, and what the recovery would give up.
     pub fn survey(&mut self, buffer_size: NonZeroUsize) -> Result<Survey, Error> {
         let size = self.blob.len();
         self.session = Session::closed(self.alloc);
@@ -137,18 +139,19 @@ impl<H: Sum> Stage<H> {
         }
     }
 
-    /// Crashes, with these flags for what isn't durable, and tells how many bytes are left.
+    /// Crashes, with these flags for what isn't durable, and answers how many physical bytes are
+    /// left.
     pub fn crash(&mut self, keep: &[bool]) -> Result<u64, Error> {
         self.session.crash(&mut self.blob, keep)?;
         Ok(self.blob.len())
     }
 
-    /// The length of the content; 0 where there is no writer.
+    /// The logical bytes of the content; 0 if there is no writer.
     pub fn size(&self) -> u64 {
         self.session.size().unwrap_or(0)
     }
 
-    /// The bytes of the blob.
+    /// The physical bytes of the blob.
     pub fn bytes(&self) -> &[u8] {
         self.blob.bytes()
     }
@@ -158,12 +161,12 @@ impl<H: Sum> Stage<H> {
         self.blob.calls()
     }
 
-    /// From here on device calls are told.
+    /// Marks the device calls so far: `calls` writes those after the last mark.
     pub fn mark(&mut self) {
         self.mark = self.blob.calls().len();
     }
 
-    /// Where the last mark was.
+    /// How many device calls there were at the last mark.
     pub fn marked(&self) -> usize {
         self.mark
     }

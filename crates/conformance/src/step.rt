@@ -67,7 +67,8 @@ fn say_outlook(answer: Result<Outlook, Error>, said: &mut Vec<u8>) -> io::Result
     }
 }
 
-// Beside the verdict: how many bytes are to be set aside, or else how many a recovery would cut.
+// Writes the verdict of a survey, and how many physical bytes must be set aside or a recovery would
+// cut.
 fn say_survey<H: Sum>(
     stage: &mut Stage<H>,
     buffer_size: NonZeroUsize,
@@ -113,7 +114,8 @@ pub fn content<H: Sum>(stage: &mut Stage<H>) -> Result<Vec<u8>, Error> {
     }
 }
 
-// A try of a script. A line `try` of a case says what is tried.
+// What the line `try` of a script asks for. A case has another name for it, since its own line
+// `try` begins what is tried.
 fn try_append<H: Sum>(
     alloc: Global,
     stage: &mut Stage<H>,
@@ -124,8 +126,8 @@ fn try_append<H: Sum>(
     say(&reply, said)
 }
 
-// Recovers the blob as it is. Its content begins with the floor, and is the beginning of the whole,
-// if that is told.
+// Recovers the blob as it is. Its content must begin with the floor (the durable prefix), and be a
+// beginning of the whole, if that is given.
 fn holds<H: Sum>(
     stage: &mut Stage<H>,
     floor: &[u8],
@@ -142,7 +144,8 @@ fn holds<H: Sum>(
     }
 }
 
-/// Whether bytes begin with the floor, and are the beginning of the whole, if that is told.
+/// Whether bytes begin with the floor (the durable prefix), and are a beginning of the whole, if
+/// that is given.
 pub fn is_between(bytes: &[u8], floor: &[u8], whole: Option<&[u8]>) -> bool {
     let below = match whole {
         Some(whole) => whole.starts_with(bytes),

@@ -9,20 +9,21 @@ use std::io::{ErrorKind, Write};
 
 /// What a case is about: it plays the steps of its lines.
 pub trait Subject {
-    /// Plays the step of a line, and writes what it answers. `InvalidInput` where it can't be read.
+    /// Plays the step of a line, and writes what it answers. `InvalidInput` if the line can't be
+    /// read.
     fn play(&mut self, alloc: Global, row: &Row, said: &mut Vec<u8>) -> io::Result<()>;
 
-    /// Whether a reply tells that a request for memory was refused.
+    /// Whether a reply shows that a request for memory was refused.
     fn tells_refusal(&self, _row: &Row, said: &[u8]) -> bool {
         is_refusal(said)
     }
 
-    /// How many device calls there were: none where it has no device that tells them.
+    /// How many device calls there were: 0 for a subject without a device that lists them.
     fn calls(&self) -> usize {
         0
     }
 
-    /// Writes the device calls from one on.
+    /// Writes the device calls from the index `first` on.
     fn say_calls(&self, _first: usize, said: &mut Vec<u8>) -> io::Result<()> {
         write!(said, "none")
     }
@@ -33,14 +34,14 @@ pub trait Tearable: Subject {
     /// The device call of this index, across crashes, if there were so many.
     fn call_at(&self, index: usize) -> Option<&Call>;
 
-    /// The nth device call from now on is to fail, the next one at least.
+    /// Makes the nth device call from now on fail. With n = 0 it is the next one, as with 1.
     fn fail_at(&mut self, n: u64);
 
     /// Crashes, with these flags for what isn't durable. Nothing is open then.
     fn tear(&mut self, keep: &[bool]) -> Result<(), Error>;
 }
 
-// Plays the step of a line. Where it can't be read, that is what it answers.
+// Plays the step of a line. For a line that can't be read it writes `fault unreadable`.
 fn answer<S: Subject>(
     alloc: Global,
     subject: &mut S,
@@ -67,7 +68,7 @@ fn tell(row: &Row, word: &str, want: &[u8], got: &[u8], told: &mut Vec<u8>) -> i
     Ok(())
 }
 
-/// Whether a reply is the one that is told, or where none is, no fault.
+/// Whether a reply is the one that the line expects, or no fault, if the line has no reply.
 pub fn is_as_told(row: &Row, said: &[u8]) -> bool {
     match &row.reply {
         Some(want) => want.as_slice() == said,
@@ -116,7 +117,7 @@ fn play_and_compare<S: Subject>(
     compare_calls(alloc, subject, row, first, told)
 }
 
-/// Plays lines, and writes where they differ from what they tell.
+/// Plays lines, and writes each difference from what they expect.
 pub fn play_all<S: Subject>(
     alloc: Global,
     subject: &mut S,
@@ -129,7 +130,7 @@ pub fn play_all<S: Subject>(
     Ok(())
 }
 
-/// Plays lines of which one may be refused, and keeps the first reply that isn't as told.
+/// Plays lines of which one may be refused, and keeps the first reply that isn't as expected.
 pub fn play_refused<S: Subject>(
     alloc: Global,
     subject: &mut S,
@@ -146,8 +147,8 @@ pub fn play_refused<S: Subject>(
     Ok(())
 }
 
-// Whether the reply tells which pages are in the cache, which holds fewer where it had no memory, or
-// how many device calls it took.
+// Whether the reply depends on which pages are in the cache, or on how many device calls it took. A
+// cache that had no memory holds fewer pages.
 fn tells_cache(row: &Row, said: &[u8]) -> bool {
     let asks = row.step.starts_with(b"ca") || row.step.starts_with(b"has");
     (asks && !said.starts_with(b"fault"))
@@ -155,7 +156,8 @@ fn tells_cache(row: &Row, said: &[u8]) -> bool {
         || said.starts_with(b"read again")
 }
 
-// Plays lines up to the first whose reply isn't as told, and answers that one and those after it.
+// Plays lines up to the first whose reply isn't as expected, and answers that line and those after
+// it.
 fn play_to_fault<'a, S: Subject>(
     alloc: Global,
     subject: &mut S,
@@ -173,8 +175,8 @@ fn play_to_fault<'a, S: Subject>(
     Ok(&[])
 }
 
-// Whether a line works on the blob itself, which may have changed before it was refused, or lets a
-// device call fail.
+// Whether a line works on the blob itself, which may have changed before the line was refused, or
+// makes a device call fail.
 fn can_change(row: &Row) -> bool {
     row.step.starts_with(b"cut")
         || row.step.starts_with(b"open")
@@ -182,8 +184,8 @@ fn can_change(row: &Row) -> bool {
         || row.step.starts_with(b"fail")
 }
 
-// Goes on with the line that was refused. Unless it took the writer, nothing has changed, and this
-// line and those after it answer as they tell.
+// Plays the line that was refused once more, and those after it. Unless the refusal ended the
+// writer, nothing has changed, and these lines answer as they expect.
 fn play_again<S: Subject>(
     alloc: Global,
     subject: &mut S,
@@ -203,10 +205,10 @@ fn play_again<S: Subject>(
     Ok(())
 }
 
-/// Plays lines with a request for memory that is refused, the one of this number, from 1 on. The
-/// first reply that is another than told is to be that refusal; with `again` the line is played
-/// once more then, and those after it. Where the request is one of the lines' own player, they end
-/// there. Answers whether one was refused.
+/// Plays lines while the request for memory of this number, from 1 on, is refused. The first reply
+/// that isn't as expected must be that refusal. With `again`, the refused line and those after it
+/// are then played once more, unless a line works on the blob itself. If the request was one of the
+/// player itself, the lines end there. Answers whether a request was refused.
 pub fn play_refusing<S: Subject>(
     alloc: Global,
     subject: &mut S,

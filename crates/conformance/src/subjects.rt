@@ -54,8 +54,8 @@ const KINDS: [Form<Kind>; 14] = [
     (b"view", &[Number, Number], Kind::View),
 ];
 
-// Plays all lines of a case, with a request for memory that is refused, or with 0 none. Answers
-// whether one was.
+// Plays all lines of a case while the request for memory of this number is refused, or none with 0.
+// Answers whether a request was refused.
 fn play_once<S: Subject>(
     alloc: Global,
     subject: &mut S,
@@ -82,7 +82,7 @@ fn play_made<S: Subject + Drop>(
     play_once(alloc, &mut *subject, case, refuses, told)
 }
 
-// The pages of its blob and its records have the same checksum function.
+// Plays a case of a journal, whose pages and records have the same checksum function.
 fn over_journal(
     alloc: Global,
     case: &Case,
@@ -104,7 +104,7 @@ fn over_journal(
     }
 }
 
-// Over the devices.
+// Plays a case of a device, or of a server over one.
 fn over_device(
     alloc: Global,
     case: &Case,
@@ -118,7 +118,8 @@ fn over_device(
         Kind::Memory => play_made(alloc, Memory::new(alloc, &bytes), case, refuses, told),
         Kind::Plain => play_made(alloc, Plain::new(alloc, bytes), case, refuses, told),
         Kind::Requests => play_made(alloc, Server::new(alloc, bytes), case, refuses, told),
-        // (the host's call of a number fails; its runs have 16 bytes at most where none is told)
+        // (the host's call of the first number fails; its runs have at most as many bytes as the
+        // second number, or 16)
         _ => {
             let room = words.numbers.get(1).copied().unwrap_or(16);
             let made = Mirrored::new(alloc, words.number(0), room as usize);
@@ -153,7 +154,7 @@ fn play_kind(
             let made = Cached::new(alloc, page_size(first)?, len);
             play_made(alloc, made, case, refuses, told)
         }
-        // (the byte of the blob at an offset is another, if one is there)
+        // (the second number, if there is one, is the offset of a byte that is changed)
         Kind::View => {
             let changed = words.numbers.get(1).copied().unwrap_or(u64::MAX);
             let made = Viewed::new(alloc, words.length(0), changed as usize);
@@ -172,7 +173,7 @@ fn hides_refusals(kind: Kind) -> bool {
     }
 }
 
-// Plays a case that isn't a session's, and then with each request refused in turn.
+// Plays a case that isn't a session's, and then again with each request for memory refused in turn.
 fn play_other(
     alloc: Global,
     case: &Case,

@@ -90,7 +90,7 @@ fn pages(alloc: Global) -> Result<Vec<u8>, Error> {
     Ok(bytes)
 }
 
-// The bytes after them.
+// The bytes after the three pages.
 fn tip(alloc: Global) -> Result<Buffer, Error> {
     let mut tip = Buffer::from(alloc, BELOW as u64, &[], 2 * PAGE, PAGE)?;
     tip.append(&content(alloc, BELOW, TIP)?)?;
@@ -104,7 +104,7 @@ fn fours(alloc: Global, offsets: &[u64]) -> Result<Vec<(u64, usize)>, AllocError
     offsets.iter().map(|offset| (*offset, 4)).collect(alloc)
 }
 
-// How many bytes were read, or ranges served. None where the bytes are others than the content's.
+// Writes how many bytes were read, or ranges served: `None` if the bytes aren't the content's.
 fn say_count(
     word: &str,
     answer: Result<Option<usize>, Error>,
@@ -118,8 +118,8 @@ fn say_count(
 }
 
 impl Viewed {
-    /// With a cache of so many pages, and another value for the byte of the blob at an offset, if
-    /// one is there.
+    /// A new one, with a cache of so many pages. If the blob has a byte at the physical offset
+    /// `changed`, that byte is changed.
     pub fn new(alloc: Global, capacity: usize, changed: usize) -> io::Result<Box<Viewed>> {
         match Viewed::of_changed(alloc, capacity, changed) {
             Ok(viewed) => Ok(Box::new(alloc, viewed)?),
@@ -197,7 +197,8 @@ impl Viewed {
         self.compared(&bytes, offset, count)
     }
 
-    // Whether they are read with no device; `InvalidChecksum` where they are other bytes.
+    // Whether these bytes are read without the device. `InvalidChecksum` if they aren't the
+    // content's.
     fn try_read(&self, offset: u64, len: usize) -> Result<bool, Error> {
         let mut buf = Vec::new(self.alloc);
         buf.resize(len, 0)?;

@@ -22,7 +22,7 @@ pub fn out_of_memory() -> io::Error {
     io::Error::from(ErrorKind::OutOfMemory)
 }
 
-/// Whether a reply tells of a request for memory that was refused.
+/// Whether a reply is that to a refused request for memory.
 pub fn is_refusal(said: &[u8]) -> bool {
     said == b"fault E8 OutOfMemory".as_slice()
 }
@@ -47,12 +47,12 @@ pub fn length(word: &[u8]) -> io::Result<usize> {
     Ok(number(word)? as usize)
 }
 
-/// The size of a buffer: one byte at least.
+/// The size of a buffer in bytes: 0 counts as 1.
 pub fn buffer_size(number: u64) -> NonZeroUsize {
     NonZeroUsize::new(number as usize).unwrap_or(NonZeroUsize::MIN)
 }
 
-/// The size of a page: one byte at least.
+/// The size of a page in bytes. `InvalidInput` unless it is from 1 to 65535.
 pub fn page_size(number: u64) -> io::Result<NonZeroU16> {
     let size = u16::try_from(number).unwrap_or(0);
     NonZeroU16::new(size).ok_or(unreadable())

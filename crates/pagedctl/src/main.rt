@@ -57,7 +57,7 @@ fn read_task(rt: &HostRuntime) -> io::Result<Task> {
             let words: Vec<String> = words.collect(rt.alloc())?;
             Ok(Task::of(&words))
         }
-        // A word is no text.
+        // A word of the command line isn't UTF-8.
         Err(error) if error.kind() == ErrorKind::InvalidData => Ok(Task::Unknown),
         Err(error) => Err(error),
     }

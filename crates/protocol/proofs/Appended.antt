@@ -79,7 +79,7 @@ append_reply sum bytes more (reply ∷ replies) was now cache after old new (rea
 
 -- ---- the bytes of records
 
--- the last of these
+-- the last of four conditions that all hold
 and_last : (a b c d : Bool) → (a && b && c && d) ≡ true → d ≡ true
 and_last true true true d is = is
 and_last true true false d is = absurd (cc is)
@@ -91,12 +91,12 @@ and_first true true c d is = (refl, refl)
 and_first true false c d is = absurd (cc is)
 and_first false b c d is = absurd (cc is)
 
--- they are as long as their lengths tell
+-- the bytes of records are as long as their lengths together
 records_long : (fields : List ℕ) → tells_records fields ≡ true → sum (record_lengths fields) ≡ length (record_bytes fields)
 records_long fields are = eqb-true (sum (record_lengths fields)) (length (record_bytes fields))
     (and_last (nat_le 4 (length fields)) (nat_le (lengths_size fields) (length fields - 4)) (nat_lt (2 * lengths_size fields + 10) (2 ^ 32)) (sum (record_lengths fields) == length (record_bytes fields)) are)
 
--- their lengths are all there
+-- the lengths of records are all there
 lengths_there : (fields : List ℕ) → tells_records fields ≡ true → length (take (lengths_size fields) (drop 4 fields)) ≡ lengths_size fields
 lengths_there fields are =
     let both = and_first (nat_le 4 (length fields)) (nat_le (lengths_size fields) (length fields - 4)) (nat_lt (2 * lengths_size fields + 10) (2 ^ 32)) (sum (record_lengths fields) == length (record_bytes fields)) are in
@@ -108,7 +108,7 @@ bytes_after fields lengths tail are is after =
     let size : length lengths ≡ lengths_size fields = ap length is ∙ lengths_there fields are in
     after ∙ ap (λ (n : ℕ). drop (4 + n) fields) size ∙ sym (drop-drop (lengths_size fields) 4 fields)
 
--- the first reply tells where the records begin
+-- the first reply has the offset where the records begin
 pub records_reply : (sum_of : List ℕ → ℕ) (fields lengths : List ℕ) (bytes : Vec ℕ Global) (more : List Step) (replies : List Reply) (was now : SessionState) (cache after : CacheState) (old new : Life) → tells_records fields ≡ true
     → lengths ≡ take (lengths_size fields) (drop 4 fields) → bytes.items ≡ record_bytes fields → RunGoes sum_of (Append bytes ∷ more) was now cache after old new [] replies → IsAppendReply (sum (lengths_in lengths)) replies
 records_reply sum_of fields lengths bytes more replies was now cache after old new are is content runs =

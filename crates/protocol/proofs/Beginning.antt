@@ -14,11 +14,11 @@ use Rattle.protocol.specs.Serve.{HasAttempted, HasBegun, IsNotBegun, LookedAt, M
 use Rattle.protocol.specs.Stop.{stop_for}
 
 module _ (sum : List ℕ → ℕ) (setting : Setting) where
-  -- what is told of its bytes, where it was only looked at
+  -- the blob was only looked at, and a recovery would give up so many bytes
   told_at : (old new : Life) (cut : ℕ) → PutsAtStake sum (page_bytes setting) old.present.readable cut → Looked old new → LookedAt sum setting old new cut
   told_at old new cut cuts looked = record { outlook = cuts.0; is = cuts.1; stake = cuts.2; looked = looked }
 
-  -- it may be recovered, as its bytes tell
+  -- the blob may be recovered, by its bytes
   may_recover : (life : Life) → MayGo sum (page_bytes setting) setting.allowed life.present.readable → MayRecover sum setting life life
   may_recover life may = (may.0, told_at life life may.0 may.1 (looked_start life), may.2)
 
@@ -32,7 +32,7 @@ module _ (sum : List ℕ → ℕ) (setting : Setting) where
     begins = is.1;
   }
 
-  -- or doesn't
+  -- a session that doesn't begin
   pub begins_not : (cache : CacheState) (old new : Life) (why : Refusal) → cache.page_size ≡ page_bytes setting → BeginsWithin sum cache setting.capacity setting.allowed old new (Err why) → AttemptsThrough sum cache.page_size old new → IsNotBegun sum setting old new (stop_for why)
   begins_not cache old new (refusal.WouldCut cut) same is attempts =
       (told_at old new cut (subst (λ (n : ℕ). PutsAtStake sum n old.present.readable cut) same is.0) is.2, is.1)

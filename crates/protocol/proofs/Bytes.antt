@@ -10,18 +10,18 @@ pub length-number_bytes : (n : ℕ) → length (number_bytes n) ≡ 8
 unfolding number_bytes
 length-number_bytes n = refl
 
--- a length has four
+-- a length has four bytes
 pub length-length_bytes : (n : ℕ) → length (length_bytes n) ≡ 4
 unfolding length_bytes
 length-length_bytes n = refl
 
--- a number is told by its bytes
+-- two numbers with the same bytes are equal
 pub same_number : (m n : ℕ) → m < 2 ^ 64 → n < 2 ^ 64 → number_bytes m ≡ number_bytes n → m ≡ n
 unfolding number_bytes
 same_number m n low high same =
     sym (from_le_bytes-to_le_bytes_8 m low) ∙ ap (λ bs. from_le_bytes w64 bs) same ∙ from_le_bytes-to_le_bytes_8 n high
 
--- a length is told by its bytes
+-- two lengths with the same bytes are equal
 pub same_length : (m n : ℕ) → m < 2 ^ 32 → n < 2 ^ 32 → length_bytes m ≡ length_bytes n → m ≡ n
 unfolding length_bytes
 same_length m n low high same =
@@ -32,7 +32,7 @@ pub number_of_bytes : (bs : List ℕ) (n : ℕ) → length bs ≡ 8 → ((i : �
 unfolding number_bytes
 number_of_bytes bs n eight bytes is = le_bytes_8 bs n eight bytes is
 
--- those of a length, likewise
+-- bytes are those of the length that they give
 pub length_of_bytes : (bs : List ℕ) (n : ℕ) → length bs ≡ 4 → ((i : ℕ) → get_or bs i 0 < 256) → n ≡ from_le_bytes w32 bs → length_bytes n ≡ bs
 unfolding length_bytes
 length_of_bytes bs n four bytes is = le_bytes_4 bs n four bytes is

@@ -37,7 +37,7 @@ one_byte (b ∷ c ∷ room) count d one some = absurd (omega (arith, one))
 
 -- ---- a request after a length
 
--- where more of it was read first
+-- what reading a request answers, if more of its first bytes were read before
 after_more : (version : Version) (front more : List ℕ) (old mid new : Option (List ℕ)) (result : Result Request ReadError) → Consumes old mid more → ReadsAfter version (front ++ more) mid new result → ReadsAfter version front old new result
 after_more version front more old mid new (Ok request) takes reads =
     (reads.0, more ++ reads.1, reads.2 ∙ append_assoc front more reads.1, Consumes-trans old mid new more reads.1 takes reads.3)
@@ -48,7 +48,7 @@ after_more version front more (Some xs) (Some ys) new (Err (Malformed flaw)) tak
 after_more version front more old mid new (Err Failed) takes reads = tt
 after_more version front more old mid new (Err OutOfMemory) takes reads = tt
 
--- where its kind was read first
+-- what reading a request answers, if its kind was read before
 pub after_kind : (version : Version) (n len kind : ℕ) (bytes : List ℕ) (old mid new : Option (List ℕ)) (result : Result Request ReadError) → len + 1 ≡ n → bytes ≡ kind ∷ [] → Consumes old mid bytes
     → ReadsAfter version (length_bytes (len + 1) ++ kind ∷ []) mid new result → ReadsAfter version (length_bytes n) old new result
 after_kind version n len kind bytes old mid new result long is takes reads =
@@ -62,12 +62,12 @@ after_broken version front old new error (Err (Malformed flaw)) is broken = absu
 after_broken version front old new error (Err Failed) is broken = tt
 after_broken version front old new error (Err OutOfMemory) is broken = tt
 
--- nothing is after an empty frame
+-- an empty frame has no request
 pub after_empty : (version : Version) (n : ℕ) (old : Option (List ℕ)) → n ≡ 0 → HasNoRequest version Empty (length_bytes n) old
 after_empty version n None none = tt
 after_empty version n (Some xs) none = subst (λ (m : ℕ). IsFlawed version Empty (length_bytes m ++ xs)) (sym none) (no_empty version xs, (xs, (omega arith, refl)))
 
--- where the input ends in front of its kind
+-- there is no request if the input ends in front of the kind
 pub after_end : (version : Version) (n : ℕ) (bytes : List ℕ) (old new : Option (List ℕ)) → n < 2 ^ 32 → 0 < n → length bytes ≡ 0 → Consumes old new bytes → IsAtEnd new → HasNoRequest version Cut (length_bytes n) old
 after_end version n [] old new small some none takes ends =
     came_all old new [] (λ (bytes : List ℕ). IsFlawed version Cut (length_bytes n ++ bytes)) takes ends (no_kind version n small, inr (n, [], (small, refl), some))
@@ -80,26 +80,26 @@ flawed_after : (version : Version) (flaw : Flaw) (n kind : ℕ) (bytes : List �
 flawed_after version flaw n kind bytes wrong =
     subst (λ (all : List ℕ). IsFlawed version flaw all) (sym (append_assoc (length_bytes n) (kind ∷ []) bytes)) wrong
 
--- where the kind is none
+-- there is no request if the version has no such kind
 pub after_no_kind : (version : Version) (n kind : ℕ) (old : Option (List ℕ)) → n < 2 ^ 32 → 0 < n → IsNoKind version kind → HasNoRequest version (Kind kind) (length_bytes n ++ kind ∷ []) old
 after_no_kind version n kind None small some none = tt
 after_no_kind version n kind (Some xs) small some none =
     flawed_after version (Kind kind) n kind xs (no_such_kind version n kind xs small none, (n, xs, (small, refl), some, none))
 
--- where the length is not that of its kind
+-- there is no request whose length is not that of its kind
 pub after_wrong : (version : Version) (n kind count : ℕ) (old : Option (List ℕ)) → n < 2 ^ 32 → 0 < n → kind ≤ last_kind version → takes_bytes kind ≡ false → field_count kind ≡ Some count → n ≢ 8 * count + 1 → HasNoRequest version Length (length_bytes n ++ kind ∷ []) old
 after_wrong version n kind count None small some within other known wrong = tt
 after_wrong version n kind count (Some xs) small some within other known wrong =
     flawed_after version Length n kind xs (no_such_length version n kind count xs small other known wrong, (n, kind, xs, count, (small, refl), some, within, other, known, wrong))
 
--- where fewer bytes are left than its fields have
+-- there is no request if fewer bytes are left than its fields have
 pub after_few : (version : Version) (len kind : ℕ) (old : Option (List ℕ)) → len + 1 < 2 ^ 32 → TakesLength version kind (len + 1) → IfSome old (λ xs. length xs < len) → HasNoRequest version Cut (length_bytes (len + 1) ++ kind ∷ []) old
 after_few version len kind None small right short = tt
 after_few version len kind (Some xs) small right short =
     let few : length xs + 1 < len + 1 = omega (arith, short) in
     flawed_after version Cut (len + 1) kind xs (no_cut version (len + 1) kind xs small few, inr (len + 1, kind ∷ xs, (small, refl), (few, right)))
 
--- where its fields were not read
+-- what reading a request answers, if its fields were not read
 pub after_cut : (version : Version) (len kind : ℕ) (old new : Option (List ℕ)) (error : ReadError) (result : Result Request ReadError) → len + 1 < 2 ^ 32 → TakesLength version kind (len + 1) → IsErrAnd result (λ e. e ≡ error)
     → ReadsFields len old new (Err error) → ReadsAfter version (length_bytes (len + 1) ++ kind ∷ []) old new result
 after_cut version len kind old new error (Ok request) small right is reads = absurd is
@@ -109,7 +109,7 @@ after_cut version len kind old new error (Err (Malformed flaw)) small right is r
 after_cut version len kind old new error (Err Failed) small right is reads = tt
 after_cut version len kind old new error (Err OutOfMemory) small right is reads = tt
 
--- where it is built of its fields
+-- what reading a request answers, if it is built of its fields
 pub framed : (version : Version) (len kind : ℕ) (fields : List ℕ) (old new : Option (List ℕ)) (request : Request) → length fields ≡ len → Consumes old new fields → kind ≤ last_kind version → Builds kind fields (Ok request)
     → ReadsAfter version (length_bytes (len + 1) ++ kind ∷ []) old new (Ok request)
 framed version len kind fields old new request long takes within builds =
@@ -136,7 +136,7 @@ frame_flaw version flaw kind fields rest has wrong =
     subst (λ (bytes : List ℕ). HasFlaw version flaw bytes) (append_assoc (length_bytes (length (kind ∷ fields))) (kind ∷ fields) rest) (frame_has version flaw kind fields rest has wrong) in
     subst (λ (n : ℕ). HasFlaw version flaw (length_bytes n ++ kind ∷ (fields ++ rest))) more all
 
--- where none is built of them
+-- there is no request if none is built of the fields
 pub no_fields : (version : Version) (len kind : ℕ) (fields : List ℕ) (old new : Option (List ℕ)) (flaw : Flaw) → len + 1 < 2 ^ 32 → length fields ≡ len → HasFields kind fields → Consumes old new fields → Builds kind fields (Err flaw)
     → HasNoRequest version flaw (length_bytes (len + 1) ++ kind ∷ []) old
 no_fields version len kind fields old new flaw small long has takes builds =
@@ -156,18 +156,18 @@ request_broken version old new error (Err (Malformed flaw)) is broken = absurd (
 request_broken version old new error (Err Failed) is broken = tt
 request_broken version old new error (Err OutOfMemory) is broken = tt
 
--- where the input ends inside its length
+-- what reading a request answers, if the input ends inside its length
 pub request_cut : (version : Version) (old new : Option (List ℕ)) (bytes : List ℕ) → length bytes < 4 → 0 < length bytes → Consumes old new bytes → IsAtEnd new → IfSome old (λ all. (all ≢ []) × IsFlawed version Cut all)
 request_cut version old new bytes short some takes ends =
     came_all old new bytes (λ (all : List ℕ). (all ≢ []) × IsFlawed version Cut all) takes ends (λ none. absurd (omega (arith, some, ap length none)), (no_length version bytes short, inl short))
 
--- where its frame was read
+-- what reading a request answers, if its frame was read
 pub request_came : (version : Version) (n : ℕ) (bytes : List ℕ) (old mid new : Option (List ℕ)) (request : Request) → length_bytes n ≡ bytes → Consumes old mid bytes → ReadsAfter version (length_bytes n) mid new (Ok request)
     → ReadsRequest version old new (Ok (Some request))
 request_came version n bytes old mid new request is takes reads =
     (reads.0, subst (λ (all : List ℕ). Consumes old new all) (ap (λ (front : List ℕ). front ++ reads.1) (sym is) ∙ sym reads.2) (Consumes-trans old mid new bytes reads.1 takes reads.3))
 
--- where its frame was not read
+-- what reading a request answers, if its frame was not read
 pub request_refused : (version : Version) (n : ℕ) (bytes : List ℕ) (old mid new : Option (List ℕ)) (error : ReadError) (result : Result (Option Request) ReadError) → length bytes ≡ 4 → length_bytes n ≡ bytes
     → Consumes old mid bytes → IsErrAnd result (λ e. e ≡ error) → ReadsAfter version (length_bytes n) mid new (Err error) → ReadsRequest version old new result
 request_refused version n bytes old mid new error (Ok request) four is takes same reads = absurd same

@@ -8,7 +8,7 @@ use Rattle.std.proofs.KnownBytes.{Appends-nil, Appends-trans}
 use Rattle.protocol.specs.Request.{number_bytes}
 use Rattle.protocol.specs.Together.{lengths_in, record_starts}
 
--- the first four bytes tell a length
+-- the first four bytes encode a length
 pub lengths_first : (bytes : List ℕ) → 4 ≤ length bytes → lengths_in bytes ≡ from_le_bytes w32 (take 4 bytes) ∷ lengths_in (drop 4 bytes)
 lengths_first [] some = absurd (omega (arith, some))
 lengths_first (a ∷ []) some = absurd (omega (arith, some))
@@ -16,7 +16,7 @@ lengths_first (a ∷ b ∷ []) some = absurd (omega (arith, some))
 lengths_first (a ∷ b ∷ c ∷ []) some = absurd (omega (arith, some))
 lengths_first (a ∷ b ∷ c ∷ d ∷ rest) some = refl
 
--- fewer tell none
+-- fewer than four bytes encode no length
 pub no_lengths : (bytes : List ℕ) → length bytes < 4 → lengths_in bytes ≡ []
 no_lengths [] few = refl
 no_lengths (a ∷ []) few = refl
@@ -41,7 +41,7 @@ first_length rest four after n is then long told =
     ∙ ap (λ (bytes : List ℕ). from_le_bytes w32 four ∷ lengths_in bytes) (sym then)
     ∙ ap (λ (m : ℕ). m ∷ lengths_in after) (sym told)
 
--- one more was written
+-- the offset of one more record was written
 pub writing_more : (first : ℕ) (lengths : List ℕ) (at n : ℕ) (rest after : List ℕ) (out mid written : Option (List ℕ)) → lengths_in rest ≡ n ∷ lengths_in after → Writing first lengths at rest out mid
     → Appends mid written (number_bytes at) → Writing first lengths (at + n) after out written
 writing_more first lengths at n rest after out mid written is before answers =
@@ -54,7 +54,7 @@ writing_more first lengths at n rest after out mid written is before answers =
           ∙ before.all;
     }
 
--- all were
+-- the offsets of all records were written
 pub written_all : (first : ℕ) (lengths : List ℕ) (at : ℕ) (rest : List ℕ) (out written : Option (List ℕ)) → length rest < 4 → Writing first lengths at rest out written → Appends out written (flat_map number_bytes (record_starts first (lengths_in lengths)))
 written_all first lengths at rest out written few w =
     let none : flat_map number_bytes (record_starts at (lengths_in rest)) ≡ [] = ap (λ (ls : List ℕ). flat_map number_bytes (record_starts at ls)) (no_lengths rest few) in

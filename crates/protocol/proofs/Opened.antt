@@ -26,7 +26,7 @@ module _ (flag : ℕ) (numbers checksum set_aside : List ℕ) where
   abbrev pub told : List ℕ
   told = 2 ∷ flag ∷ flat_map number_bytes numbers ++ text_bytes checksum ++ text_bytes set_aside
 
-  -- how many bytes it has
+  -- how many bytes the hello has after its status
   pub length_of_told : length numbers ≡ 8 → length told ≡ length checksum + length set_aside + 82
   length_of_told eight =
       let sizes = flat_map number_bytes numbers in
@@ -48,7 +48,7 @@ module _ (flag : ℕ) (numbers checksum set_aside : List ℕ) where
       (Appends-trans a e f (((H ++ F) ++ N) ++ S) T
       (Appends-trans a d e ((H ++ F) ++ N) S (Appends-trans a c d (H ++ F) N (Appends-trans a b c H F head front) sizes) first) second)
 
-  -- it is too long for a frame
+  -- a hello that is too long for a frame
   pub too_long_told : length numbers ≡ 8 → IsLong (length checksum + length set_aside + 82) → IsTooLong (frame_bytes (0 ∷ told))
   too_long_told eight long =
       let body = 0 ∷ told in
@@ -62,7 +62,7 @@ hello_told setting checksum set_aside size cut len a b c d e f (Ok done) long he
     pieces_told (flag_byte setting.read_only) (hello_numbers setting size cut) checksum set_aside len a b c d e f refl long head front sizes first second
 hello_told setting checksum set_aside size cut len a b c d e f (Err stop) long head front sizes first second = tt
 
--- or it wasn't
+-- the hello wasn't written
 pub hello_untold : (setting : Setting) (checksum set_aside : List ℕ) (size cut : ℕ) (out written : Option (List ℕ)) (stop : Stop) (result : Result (Option ProtocolVersion) Stop) (opening : Opening) → opening ≡ Offer (Some Two) → IsErrAnd result (λ x. x ≡ stop)
     → IsWriteError (length checksum + length set_aside + 82) stop → TellsOpening opening (hello_bytes setting checksum set_aside size cut) out written result
 hello_untold setting checksum set_aside size cut out written stop (Ok version) opening two is why = absurd is

@@ -43,17 +43,17 @@ AnswerBy payload replies has_writer answer readable = elim readable [
   | false ↦ IsRefusalAnswer unreadable_status 0 0 answer
 ]
 
--- where they can't be read there are none
+-- bytes that can't be read as ranges have no steps
 pub no_steps : (setting : Setting) (fields : Vec ℕ Global) → tells_ranges fields.items ≡ false → AreSteps setting (Ranges fields) []
 no_steps setting fields none = subst (StepsBy fields.items []) (sym none) refl
 
--- and else they are read
+-- bytes that can be read as ranges have the step that reads them
 pub reads_ranges : (setting : Setting) (fields : Vec ℕ Global) (ranges : Vec (ℕ × ℕ) Global) → tells_ranges fields.items ≡ true → ranges.items ≡ ranges_in fields.items → AreSteps setting (Ranges fields) (ReadRanges ranges ∷ [])
 reads_ranges setting fields ranges are is = subst (StepsBy fields.items (ReadRanges ranges ∷ [])) (sym are) (ranges, is, refl)
 
 -- ---- requests that were taken
 
--- their steps were run, and an answer to them was written or not
+-- the steps of a request were run, and an answer to them was written or not
 pub runs_request : (sum : List ℕ → ℕ) (setting : Setting) (version : ProtocolVersion) (request : Request) (steps : List Step) (was now : SessionState) (cache after : CacheState) (old new : Life) (replies : List Reply) (out written : Option (List ℕ)) (wrote : Result (Unit {0}) Stop) (result : Result (Option Error) Stop)
     → (setting.read_only && asks_change request) ≡ false → AreSteps setting request steps → RunsSteps sum steps was now cache after old new replies (Ok tt) → ((answer : List ℕ) × IsAnswer version request replies now answer)
     → WritesAnswer (IsAnswer version request replies now) out written wrote → Finishes replies wrote result → TakesRequest sum setting version request was now old new out written result
@@ -109,7 +109,7 @@ unreadable sum setting request was life out written result may are none tells = 
         subst (λ (x : Stop). TakesRequest sum setting Two request was was life life out written (Err x)) (sym is)
         ([], [], frame_bytes (unreadable_status ∷ 0 ∷ number_bytes 0 ++ number_bytes 0 ++ []), served _ (record { number = 0; words = []; is = refl }), took_none sum was life, tt)
 
--- both hold
+-- two conditions that hold
 pub both : (a b : Bool) → a ≡ true → b ≡ true → (a && b) ≡ true
 both true b one other = other
 both false b one other = absurd (cc one)
@@ -145,7 +145,7 @@ change_refused sum setting version request was life out written (Err stop) resul
 
 -- ---- records
 
--- their steps, by whether they could be read
+-- the steps of records, by whether the records could be read
 abbrev RecordsBy : List ℕ → Then → List Step → Bool → Type 0
 RecordsBy fields next steps readable = elim readable [
   | true ↦ (bytes : Vec ℕ Global) × (bytes.items ≡ record_bytes fields) × (steps ≡ Append bytes ∷ steps_then next)
@@ -166,7 +166,7 @@ record_answers fields next replies now answer are is =
 
 -- ---- a flush
 
--- its answer was written, or not
+-- a flush was taken, and its answer was written or not
 pub flush_taken : (sum : List ℕ → ℕ) (setting : Setting) (version : ProtocolVersion) (was : SessionState) (life : Life) (out written : Option (List ℕ)) (wrote : Result (Unit {0}) Stop) (result : Result (Option Error) Stop) → 25 ≤ last_kind version
     → OnOk wrote (Appends out written (frame_bytes (0 ∷ []))) → IfErr wrote (IsWriteError 0) → Finishes [] wrote result → TakesRequest sum setting version Flush was was life life out written result
 flush_taken sum setting One was life out written wrote result within answers why told = absurd (omega (arith, within))

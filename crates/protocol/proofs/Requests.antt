@@ -1,4 +1,4 @@
--- What is told by the bytes of a request.
+-- What follows from the bytes of a request.
 use Rattle.std.proofs.Common.{inl, inr, ◌≡◌, ◌≢◌, ℕ, ◌+◌, ◌*◌, ◌<◌, ◌≤◌, ◌^◌, List, [], ◌∷◌, ◌++◌, length, refl, sym, ap, ◌∙◌, subst, append_assoc, arith, true}
 use Rattle.std.proofs.lemmas.List.{length-append}
 use Rattle.std.specs.Prelude.{Option, Some, None, Result, Ok, Err, IsErrAnd, Bool, false, ◌==◌, if◌then◌else◌, ◌||◌, ok_or}
@@ -110,32 +110,32 @@ body_of n bytes request rest small is same =
       body = parts.1;
     }
 
--- an empty frame is none
+-- an empty frame is no request
 pub no_empty : (version : Version) (bytes : List ℕ) → IsNoRequest version (length_bytes 0 ++ bytes)
 no_empty version bytes request rest is same =
     let has = body_of 0 bytes request rest (omega arith) is.0 same in
     absurd (omega (arith, has.long))
 
--- nor is one without a kind
+-- a frame without a kind is no request
 pub no_kind : (version : Version) (n : ℕ) → n < 2 ^ 32 → IsNoRequest version (length_bytes n ++ [])
 no_kind version n small request rest is same =
     let has = body_of n [] request rest small is.0 same in
     absurd (cc has.body)
 
--- nor is one that is cut before its fields end
+-- a frame that is cut before its fields end is no request
 pub no_cut : (version : Version) (n kind : ℕ) (fields : List ℕ) → n < 2 ^ 32 → length fields + 1 < n → IsNoRequest version (length_bytes n ++ kind ∷ fields)
 no_cut version n kind fields small short request rest is same =
     let has = body_of n (kind ∷ fields) request rest small is.0 same in
     let all : fields ≡ fields_of request ++ rest = (let e = has.body in cc) in
     absurd (omega (arith, has.long, short, ap length all, length-append (fields_of request) rest))
 
--- nor is one that is cut before its length ends
+-- a frame that is cut before its length ends is no request
 pub no_length : (version : Version) (bytes : List ℕ) → length bytes < 4 → IsNoRequest version bytes
 no_length version bytes short request rest is same =
     let inner = kind_of request ∷ fields_of request in
     absurd (omega (arith, short, ap length same, length-append (request_bytes request) rest, length-append (length_bytes (length inner)) inner, length-length_bytes (length inner)))
 
--- nor is one of no kind
+-- a frame of no kind is no request
 pub no_such_kind : (version : Version) (n kind : ℕ) (bytes : List ℕ) → n < 2 ^ 32 → IsNoKind version kind → IsNoRequest version (length_bytes n ++ kind ∷ bytes)
 no_such_kind version n kind bytes small (inl above) request rest is same =
     let has = body_of n (kind ∷ bytes) request rest small is.0 same in
@@ -149,7 +149,7 @@ no_such_kind version n kind bytes small (inr (other, none)) request rest is same
       | counts count known long few ↦ absurd (cc (sym none ∙ ap field_count e ∙ known))
     ]
 
--- nor is one of a wrong length
+-- a frame of a wrong length is no request
 pub no_such_length : (version : Version) (n kind count : ℕ) (bytes : List ℕ) → n < 2 ^ 32 → takes_bytes kind ≡ false → field_count kind ≡ Some count → n ≢ 8 * count + 1 → IsNoRequest version (length_bytes n ++ kind ∷ bytes)
 no_such_length version n kind count bytes small other known wrong request rest is same =
     let has = body_of n (kind ∷ bytes) request rest small is.0 same in
@@ -161,7 +161,7 @@ no_such_length version n kind count bytes small other known wrong request rest i
           absurd (wrong (omega (arith, has.long, long, counted)))
     ]
 
--- nor is one with fields that no request of its kind has
+-- a frame with fields that no request of its kind has is no request
 pub no_such_fields : (version : Version) (kind : ℕ) (fields bytes : List ℕ) → length fields + 1 < 2 ^ 32 → ((request : Request) → CanBeAsked request → kind ≡ kind_of request → fields ≢ fields_of request)
     → IsNoRequest version (length_bytes (length fields + 1) ++ kind ∷ (fields ++ bytes))
 no_such_fields version kind fields bytes small none request rest is same =
@@ -183,7 +183,7 @@ few_in false false true three count is = let e : 2 ≡ count = cc is in omega ar
 few_in false false false true count is = let e : 3 ≡ count = cc is in omega arith
 few_in false false false false count is = absurd (cc is)
 
--- there are three at most
+-- a kind has at most three numbers
 pub few_numbers : (kind count : ℕ) → field_count kind ≡ Some count → count ≤ 3
 few_numbers kind count is =
     few_in (has_kind (2 ∷ 3 ∷ 5 ∷ 8 ∷ 10 ∷ 16 ∷ 21 ∷ 22 ∷ 25 ∷ 26 ∷ []) kind) (has_kind (4 ∷ 9 ∷ 12 ∷ 23 ∷ 24 ∷ []) kind) (has_kind (6 ∷ 7 ∷ 13 ∷ 14 ∷ 15 ∷ []) kind) (kind == 11) count is
@@ -195,7 +195,7 @@ three_in false false true three count is three_of = let e : 2 ≡ count = cc is 
 three_in false false false true count is three_of = refl
 three_in false false false false count is three_of = absurd (cc is)
 
--- one kind has three
+-- one kind has three numbers
 pub snap_kind : (kind : ℕ) → field_count kind ≡ Some 3 → kind ≡ 11
 snap_kind kind is =
     eqb-true kind 11 (three_in (has_kind (2 ∷ 3 ∷ 5 ∷ 8 ∷ 10 ∷ 16 ∷ 21 ∷ 22 ∷ 25 ∷ 26 ∷ []) kind) (has_kind (4 ∷ 9 ∷ 12 ∷ 23 ∷ 24 ∷ []) kind) (has_kind (6 ∷ 7 ∷ 13 ∷ 14 ∷ 15 ∷ []) kind) (kind == 11) 3 is refl)
@@ -207,7 +207,7 @@ pub built_err : (kind : ℕ) (fields : List ℕ) (flaw : Flaw) (result : Result 
 built_err kind fields flaw (Ok request) is none = absurd is
 built_err kind fields flaw (Err other) is none = subst (λ (f : Flaw). Builds kind fields (Err f)) (sym is) none
 
--- nor is that of an `ok_or` another
+-- an error of an `ok_or` is the one that it was given
 pub of_none : {X : Type 0} (some : Option X) (flaw : Flaw) → Err flaw ≡ ok_or some NoBuffer → flaw ≡ NoBuffer
 of_none None flaw is = cc is
 of_none (Some x) flaw is = absurd (cc is)
@@ -227,7 +227,7 @@ ends_with_len kind = has_kind (6 ∷ 7 ∷ 14 ∷ []) kind
 pub asks_too_much : (kind : ℕ) (front : List ℕ) (len : ℕ) → asks_bytes kind ≡ true → len < 2 ^ 64 → (FitsAnswer len → ⊥) → FieldsHave LongRead kind (front ++ number_bytes len)
 asks_too_much kind front len asks small long = (asks, front, len, refl, small, long)
 
--- none reads more than an answer holds
+-- no request of two numbers reads more than an answer holds
 long_read : (first second : ℕ) → second < 2 ^ 64 → (FitsAnswer second → ⊥) → (request : Request) → CanBeAsked request → ends_with_len (kind_of request) ≡ true → number_bytes first ++ number_bytes second ≢ fields_of request
 long_read first second small long (Step (step.Read offset len)) is asks same = not_fitting first second offset len small long is.1 same
 long_read first second small long (Step (step.ReadUpTo offset len)) is asks same = not_fitting first second offset len small long is.1 same
@@ -243,7 +243,7 @@ no_long_read kind first second flaw small long ends asks is = (
   subst (λ (f : Flaw). FieldsHave f kind (number_bytes first ++ number_bytes second)) (sym is) (asks_too_much kind (number_bytes first) second asks small long),
 )
 
--- nor does a request of three numbers
+-- no request of three numbers reads more than an answer holds
 no_three : (index offset len : ℕ) → len < 2 ^ 64 → (FitsAnswer len → ⊥) → (request : Request) → CanBeAsked request → 11 ≡ kind_of request → number_bytes index ++ number_bytes offset ++ number_bytes len ≢ fields_of request
 no_three index offset len small long (Step (step.Snap i o n)) is e same =
     let fronts = two_numbers index offset ∙ sym (two_numbers i o) in

@@ -38,12 +38,12 @@ use Rattle.protocol.specs.Serve.{requests_bytes, AreSteps, IsAnswer, asks_change
 
 -- ---- lists of bytes
 
--- those of two lists
+-- the bytes of two lists, joined
 joined : {X : Type 0} (f : X → List ℕ) (xs ys : List X) → flat_map f (xs ++ ys) ≡ flat_map f xs ++ flat_map f ys
 joined f [] ys = refl
 joined f (x ∷ xs) ys = ap (λ (l : List ℕ). f x ++ l) (joined f xs ys) ∙ sym (append_assoc (f x) (flat_map f xs) (flat_map f ys))
 
--- one more
+-- the bytes of a list with one more item
 pub flat_map_snoc : {X : Type 0} (f : X → List ℕ) (xs : List X) (x : X) → flat_map f (xs ++ x ∷ []) ≡ flat_map f xs ++ f x
 flat_map_snoc f xs x = joined f xs (x ∷ []) ∙ ap (λ (l : List ℕ). flat_map f xs ++ l) (append-nil (f x))
 
@@ -54,7 +54,7 @@ kept_then (Some x) None c bs kept grown = absurd kept
 kept_then (Some x) (Some y) None bs kept grown = absurd grown
 kept_then (Some x) (Some y) (Some z) bs kept grown = grown ∙ ap (λ (l : List ℕ). l ++ bs) kept
 
--- and that grew, and then stayed
+-- known bytes that grew, and then stayed
 pub then_kept : (a b c : Option (List ℕ)) (bs : List ℕ) → Appends a b bs → Keeps b c → Appends a c bs
 then_kept None b c bs grown kept = tt
 then_kept (Some x) None c bs grown kept = absurd grown
@@ -63,13 +63,13 @@ then_kept (Some x) (Some y) (Some z) bs grown kept = kept ∙ grown
 
 -- ---- runs
 
--- none was taken
+-- no step was taken
 pub took_none : (sum : List ℕ → ℕ) (was : SessionState) (life : Life) → Took sum [] [] was was life life
 took_none sum was life =
     let runs = runs_none sum was life [] in
     record { runs = runs; promises = promised sum [] was was life life [] [] runs }
 
--- some were, and others after them
+-- some steps were taken, and others after them
 pub took_both : (sum : List ℕ → ℕ) (steps more : List Step) (replies others : List Reply) (was mid now : SessionState) (old between new : Life) → Took sum steps replies was mid old between
     → Took sum more others mid now between new → Took sum (steps ++ more) (replies ++ others) was now old new
 took_both sum steps more replies others was mid now old between new first second =
@@ -78,7 +78,7 @@ took_both sum steps more replies others was mid now old between new first second
 
 -- ---- requests and their answers
 
--- none was read
+-- no request was read
 pub answered_none : (sum : List ℕ → ℕ) (setting : Setting) (version : ProtocolVersion) (was : SessionState) (life : Life) (input out : Option (List ℕ)) → Answered sum setting version was was life life input input out out
 answered_none sum setting version was life input out = record {
   requests = [];
@@ -91,7 +91,7 @@ answered_none sum setting version was life input out = record {
   answers = Appends-nil out;
 }
 
--- one more was read, taken and answered
+-- one more request was read, taken and answered
 pub answered_more : (sum : List ℕ → ℕ) (setting : Setting) (version : ProtocolVersion) (request : Request) (was mid now : SessionState) (old between new : Life) (input rest last out written kept all : Option (List ℕ))
     → Answered sum setting version was mid old between input rest out written → Keeps written kept → IsRequest version request → Consumes rest last (request_bytes request) → TookFor sum setting version (Appends kept all) request mid now between new
     → Answered sum setting version was now old new input last out all
@@ -109,13 +109,13 @@ answered_more sum setting version request was mid now old between new input rest
 
 -- ---- how a request ends
 
--- no room for its replies
+-- there was no room for a request's replies, and no step was taken
 pub none_was_run : (was now : SessionState) (cache after : CacheState) (old new : Life) (earlier replies : List Reply) (result : Result (Unit {0}) Error) → is_err result ≡ true → IfErr result (λ e. TookNone e was now cache after old new earlier replies)
     → (now ≡ was) × (new ≡ old)
 none_was_run was now cache after old new earlier replies (Ok done) is none = absurd (cc is)
 none_was_run was now cache after old new earlier replies (Err error) is none = (none.session, none.life)
 
--- its steps were run, and their replies are the only ones
+-- the steps of a request were run, and their replies are the only ones
 pub took_of : (sum : List ℕ → ℕ) (steps : List Step) (was now : SessionState) (cache after : CacheState) (old new : Life) (replies : List Reply) → RunGoes sum steps was now cache after old new [] replies → Took sum steps replies was now old new
 took_of sum steps was now cache after old new replies runs =
     record { runs = runs.always; promises = promised sum steps was now old new [] replies runs.always }
@@ -152,17 +152,17 @@ among_later : (reply : Reply) (replies : List Reply) (fault : Option Error) → 
 among_later reply replies None is all = All-cons (λ r. reply_error r ≡ None) reply replies is all
 among_later reply replies (Some error) is there = Contains-append_right (reply ∷ []) replies (Fault error) there
 
--- that of the first reply, or of later ones
+-- the error of the first reply, or that of later ones
 among_first : (reply : Reply) (replies : List Reply) (own later : Option Error) → reply_error reply ≡ own → IsFaultAmong later replies → IsFaultAmong (elim own [ Some error ↦ Some error | None ↦ later ]) (reply ∷ replies)
 among_first reply replies (Some error) later is among = subst (λ (r : Reply). Contains (r ∷ replies) (Fault error)) (sym (is_fault reply error is)) (Contains-append_left (Fault error ∷ []) replies (Fault error) (Contains-push [] (Fault error)))
 among_first reply replies None later is among = among_later reply replies later is among
 
--- the first error of some replies is among them, or none tells one
+-- the first error of some replies is among them, or no reply has one
 fault_among : (replies : List Reply) → IsFaultAmong (fault_in replies) replies
 fault_among [] = All-nil (λ r. reply_error r ≡ None)
 fault_among (reply ∷ replies) = among_first reply replies (reply_error reply) (fault_in replies) refl (fault_among replies)
 
--- more replies
+-- the error that stays after more replies is among all replies, or no reply has one
 pub fault_more : (fault next : Option Error) (replies others : List Reply) (had_writer : Bool) → IsFaultAmong fault replies → IsFaultAmong next others → IsFaultAmong (later_fault fault next had_writer) (replies ++ others)
 fault_more None None replies others had_writer all more = All-append (λ r. reply_error r ≡ None) replies others all more
 fault_more None (Some error) replies others true all there = Contains-append_right replies others (Fault error) there
@@ -179,7 +179,7 @@ pub record Serving (sum : List ℕ → ℕ) (setting : Setting) (version : Proto
   pub among : IsFaultAmong fault answered.replies
   pub counts : number ≡ length answered.requests + 1
 
--- none is before the first
+-- no request is before the first
 pub serving_begins : (sum : List ℕ → ℕ) (setting : Setting) (version : ProtocolVersion) (was : SessionState) (life : Life) (input out : Option (List ℕ)) → Serving sum setting version was was life life input input out out None 1
 unfolding answered_none
 serving_begins sum setting version was life input out = record { answered = answered_none sum setting version was life input out; among = All-nil (λ r. reply_error r ≡ None); counts = refl }
@@ -325,18 +325,18 @@ greeting_fails sum setting was now old mid new out after written stop (Err why) 
     by_cause Failed this = inr (inr (mid, was, now, begins, this))
     by_cause OutOfMemory same = inr (inl (was, subst (λ (life : Life). HasBegun sum setting old life was) (sym same.1) begins))
 
--- nor asked for
+-- the greeting ended before the size was asked for
 pub greeting_cut : (sum : List ℕ → ℕ) (setting : Setting) (was : SessionState) (old new : Life) (out written : Option (List ℕ)) (result : Result (SessionState × CacheState) Stop) → IsErrAnd result (λ x. x ≡ Failed) → HasBegun sum setting old new was → Greets sum setting old new out written result
 greeting_cut sum setting was old new out written (Ok begun) is begins = absurd is
 greeting_cut sum setting was old new out written (Err why) is begins = subst (λ (x : Stop). Greets sum setting old new out written (Err x)) (sym is) (inr (inl (was, begins)))
 
--- or it isn't out
+-- the greeting couldn't be flushed
 pub greeting_unsent : (sum : List ℕ → ℕ) (setting : Setting) (was now : SessionState) (old mid new : Life) (out kept written : Option (List ℕ)) (fault : Option Error) (result : Result (SessionState × CacheState) Stop) → IsErrAnd result (λ x. x ≡ Failed)
     → HasBegun sum setting old mid was → TakesRequest sum setting One (StepOf Size) was now mid new kept written (Ok fault) → (last : Option (List ℕ)) → Greets sum setting old new out last result
 greeting_unsent sum setting was now old mid new out kept written fault result is begins (steps, replies, answer, served, took, (answers, told)) last =
     greeting_fails sum setting was now old mid new out kept last Failed result is begins (steps, replies, answer, served, took, tt)
 
--- all of it is
+-- the greeting was written and flushed
 pub greeted : (sum : List ℕ → ℕ) (setting : Setting) (was now : SessionState) (old mid new : Life) (out first second last : Option (List ℕ)) (fault : Option Error) → HasBegun sum setting old mid was → Appends out first (version_byte ∷ [])
     → TakesRequest sum setting One (StepOf Size) was now mid new first second (Ok fault) → Keeps second last → Greeted sum setting old new now out last
 greeted sum setting was now old mid new out first second last fault begins version (steps, replies, answer, served, took, (answers, told)) keeps = record {
@@ -377,7 +377,7 @@ file_not_greeted sum setting named old new input out written stop (Err why) is g
     by_cause Failed ends = inl ends
     by_cause OutOfMemory ends = inl ends
 
--- what the hello tells
+-- the hello has the size of the session and how many bytes were cut
 pub hello_is : (setting : Setting) (checksum set_aside : List ℕ) (old between : Life) (was : SessionState) (len left size cut : ℕ) (told : Option ℕ) → len ≡ length old.present.readable → left ≡ length between.present.readable → told ≡ option_map size_of was.writer
     → size ≡ unwrap_or told 0 → cut ≡ len - left → hello_bytes setting checksum set_aside size cut ≡ hello_for setting (names_of checksum set_aside) old between was
 hello_is setting checksum set_aside old between was len left size cut told first then_left has is goes =
@@ -403,7 +403,7 @@ file_unread sum setting named old new was input rest out greeting written error 
     by_error NoMemory none (same, kept) = turned OutOfMemory same (inl early)
 
 module _ (sum : List ℕ → ℕ) (setting : Setting) (named : Named) (old between : Life) (was : SessionState) (input after out greeting told : Option (List ℕ)) (opening : Opening) where
-  -- it was read, and answered
+  -- what the client begins with was read, and answered
   agrees : (result : Result (Option ProtocolVersion) Stop) → Greeted sum setting old between was out greeting → ReadsOpening input after (Ok opening) → TellsOpening opening (hello_for setting named old between was) greeting told result
       → Agrees sum setting named old between was input after out told result
   agrees result g reads tells = record { greeting = greeting; opening = opening; greeted = g; reads = reads; tells = tells }
@@ -414,7 +414,7 @@ module _ (sum : List ℕ → ℕ) (setting : Setting) (named : Named) (old betwe
   file_over g reads version none tells =
       inl (was, agrees (Ok None) g reads (subst (λ (v : Option ProtocolVersion). TellsOpening opening (hello_for setting named old between was) greeting told (Ok v)) none tells))
 
-  -- no version was told, or it couldn't be
+  -- no version was agreed on, or the answer couldn't be written
   pub file_not_opened : (stop : Stop) (result : Result (Unit {0}) Stop) → IsErrAnd result (λ x. x ≡ stop) → Greeted sum setting old between was out greeting → ReadsOpening input after (Ok opening)
       → TellsOpening opening (hello_for setting named old between was) greeting told (Err stop) → ServesFile sum setting named old between input after out told result
   file_not_opened stop (Ok done) is g reads tells = absurd is
@@ -431,7 +431,7 @@ module _ (sum : List ℕ → ℕ) (setting : Setting) (named : Named) (old betwe
       by_cause (Lost error) none = absurd none
       by_cause OutOfMemory none = absurd none
 
-  -- its requests were served
+  -- the requests of a session were served
   pub file_served : (new : Life) (now : SessionState) (rest written : Option (List ℕ)) (version : ProtocolVersion) (result : Result (Unit {0}) Stop) → Greeted sum setting old between was out greeting → ReadsOpening input after (Ok opening)
       → TellsOpening opening (hello_for setting named old between was) greeting told (Ok (Some version)) → Serves sum setting version was now between new after rest told written result → ServesFile sum setting named old new input rest out written result
   file_served new now rest written version result g reads tells serves = by_answer result serves
@@ -460,14 +460,14 @@ numbers_more head numbers i n more =
     append_assoc head (flat_map number_bytes (take i numbers)) (number_bytes n)
     ∙ ap (λ (l : List ℕ). head ++ l) (sym (flat_map_snoc number_bytes (take i numbers) n) ∙ ap (λ (l : List ℕ). flat_map number_bytes l) (sym more))
 
--- they have eight bytes each
+-- numbers have eight bytes each
 pub length_of_numbers : (numbers : List ℕ) → length (flat_map number_bytes numbers) ≡ 8 * length numbers
 length_of_numbers [] = refl
 length_of_numbers (n ∷ ns) =
     let rest = length_of_numbers ns in
     length-append (number_bytes n) (flat_map number_bytes ns) ∙ omega (arith, rest, length-number_bytes n)
 
--- where they are too many for an answer
+-- numbers that are too many for an answer
 pub numbers_unwritten : (numbers : List ℕ) (len : ℕ) (stop : Stop) (result : Result (Unit {0}) Stop) → IsErrAnd result (λ x. x ≡ stop) → len ≡ 8 * length numbers → IsWriteError len stop
     → IfErr result (IsWriteError (length (flat_map number_bytes numbers)))
 numbers_unwritten numbers len stop (Ok done) is long why = tt

@@ -7,7 +7,7 @@ use Rattle.std.specs.List.{sum_by}
 use Rattle.std.proofs.lemmas.List.Sums.{sum_by-cons, sum_by-append}
 use Rattle.protocol.specs.Together.{ranges_in}
 
--- the first sixteen bytes tell a range
+-- the first sixteen bytes encode a range
 ranges_first : (bytes : List ℕ) → 16 ≤ length bytes → ranges_in bytes ≡ (from_le_bytes w64 (take 8 bytes), from_le_bytes w64 (take 8 (drop 8 bytes))) ∷ ranges_in (drop 8 (drop 8 bytes))
 ranges_first (a ∷ b ∷ c ∷ d ∷ e ∷ f ∷ g ∷ h ∷ i ∷ j ∷ k ∷ l ∷ m ∷ n ∷ o ∷ p ∷ rest) some = refl
 ranges_first bytes some = absurd (omega (arith, some))
@@ -19,12 +19,12 @@ pub first_range : (rest first mid second after : List ℕ) (offset len : ℕ) �
 first_range rest first mid second after offset len is then long is_second then_after longer told told_len =
     ranges_first rest (omega (arith, long, longer)) ∙ cc (is, then, is_second, then_after, told, told_len)
 
--- fewer tell none
+-- an empty list of bytes encodes no ranges
 pub no_ranges : (bytes : List ℕ) → length bytes ≡ 0 → ranges_in bytes ≡ []
 no_ranges [] none = refl
 no_ranges (a ∷ bytes) none = absurd (omega (arith, none))
 
--- with one more
+-- the bytes that ranges ask for, with one range more
 pub size_more : (ranges : List (ℕ × ℕ)) (range : ℕ × ℕ) → sum_by (λ r. r.1) (ranges ++ range ∷ []) ≡ sum_by (λ r. r.1) ranges + range.1
 size_more ranges range = sum_by-append (λ (r : ℕ × ℕ). r.1) ranges (range ∷ []) ∙ ap (λ (n : ℕ). sum_by (λ (r : ℕ × ℕ). r.1) ranges + n) (sum_by-cons (λ (r : ℕ × ℕ). r.1) range [] ∙ omega arith)
 

@@ -78,7 +78,7 @@ AnswerOf payload has_writer answer first = elim first [
   | None ↦ answer ≡ frame_bytes (0 ∷ payload)
 ]
 
--- there is an answer
+-- some answer is one to these replies
 pub some_with : (payload : List ℕ) (replies : List Reply) (has_writer : Bool) → (answer : List ℕ) × IsAnswerWith payload replies has_writer answer
 some_with payload replies has_writer = by_first (first_refusal replies)
   where
@@ -89,16 +89,16 @@ some_with payload replies has_writer = by_first (first_refusal replies)
     )
     by_first None = (frame_bytes (0 ∷ payload), refl)
 
--- the first refusal was told
+-- the first refusal was written
 pub told_with : (payload : List ℕ) (replies : List Reply) (has_writer : Bool) (out written : Option (List ℕ)) → TellsRefusal replies has_writer out written (Ok true) → WritesAnswer (IsAnswerWith payload replies has_writer) out written (Ok tt)
 told_with payload replies has_writer out written (taken, reply, is, (answer, told, answers)) =
     (answer, subst (λ (first : Option (ℕ × Reply)). AnswerOf payload has_writer answer first) (sym is) told, answers)
 
--- or it couldn't be
+-- the first refusal couldn't be written
 pub untold_with : (payload : List ℕ) (replies : List Reply) (has_writer : Bool) (out written : Option (List ℕ)) (stop : Stop) → stop ≡ Failed → WritesAnswer (IsAnswerWith payload replies has_writer) out written (Err stop)
 untold_with payload replies has_writer out written stop is = subst (λ (x : Stop). WritesAnswer (IsAnswerWith payload replies has_writer) out written (Err x)) (sym is) tt
 
--- none refuses, and this is given
+-- no reply refuses, and this payload is given
 pub given_with : (payload : List ℕ) (replies : List Reply) (has_writer : Bool) (out mid written : Option (List ℕ)) (result : Result (Unit {0}) Stop) → first_refusal replies ≡ None → mid ≡ out → WritesAnswer (GivesPayload payload) mid written result
     → WritesAnswer (IsAnswerWith payload replies has_writer) out written result
 given_with payload replies has_writer out mid written result none same wrote =
@@ -124,7 +124,7 @@ accepted taken reply replies none =
     let both = either_none (status_byte reply == 0) (refusal_from (taken + 1) replies) (taken, reply) none in
     (eqb-true (status_byte reply) 0 both.0, both.1)
 
--- the answer to the last reply gives what that tells
+-- the answer to the last reply has that reply's payload
 pub last_answer : (taken : ℕ) (replies : List Reply) (last : Reply) → refusal_from taken replies ≡ None → Some last ≡ slice_get replies (length replies - 1) → answer_bytes last ≡ frame_bytes (0 ∷ last_payload replies)
 last_answer taken [] last none is = absurd (cc is)
 last_answer taken (reply ∷ []) last none is =
@@ -141,7 +141,7 @@ refusal_here taken reply rest more replies is refuses same =
     let here : refusal_from taken (reply ∷ more) ≡ Some (taken, reply) = ap (λ (b : Bool). if b then refusal_from (taken + 1) more else Some (taken, reply)) (ne_eqb (status_byte reply) 0 refuses) in
     sym same ∙ ap (refusal_from taken) is ∙ here
 
--- where all were passed none refuses
+-- no reply refuses if all were passed
 pub no_refusal : (taken : ℕ) (rest replies : List Reply) → length rest ≡ 0 → refusal_from taken rest ≡ first_refusal replies → first_refusal replies ≡ None
 no_refusal taken [] replies none same = sym same
 no_refusal taken (reply ∷ rest) replies none same = absurd (omega (arith, none))
@@ -177,7 +177,7 @@ whole_answer payload front more len out first second written is long head middle
     ∙ ap (λ (xs : List ℕ). length_bytes (len + 1) ++ 0 ∷ xs) (sym is) ∙ ap (λ (n : ℕ). length_bytes n ++ 0 ∷ payload) size in
     (frame_bytes (0 ∷ payload), refl, subst (λ (xs : List ℕ). Appends out written xs) same all)
 
--- nothing more
+-- nothing more was written
 pub append_none : (a b : Option (List ℕ)) → a ≡ b → Appends a b []
 append_none a b same = subst (λ (x : Option (List ℕ)). Appends a x []) same (Appends-nil a)
 

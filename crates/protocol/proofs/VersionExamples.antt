@@ -1,4 +1,4 @@
--- Examples of what version 2 reads and tells.
+-- Examples of what version 2 reads and answers.
 use Rattle.std.proofs.Common.{◌≡◌, ℕ, List, [], ◌∷◌, length, refl, ap, inl, inr, arith, true, false}
 use Rattle.std.specs.Prelude.{Some, None}
 use Rattle.disk.specs.declared.error.Error.TheVariants.{SyncFailed, ReadFailed, WriteFailed}
@@ -22,11 +22,11 @@ the_first_alone = refl
 pub none_is_known : highest_known (3 ∷ []) ≡ None
 none_is_known = refl
 
--- of two versions one came
+-- an offer of two versions, of which one came
 pub a_cut_offer : IsCutOffer (2 ∷ 2 ∷ 1 ∷ [])
 a_cut_offer = inr (2, 1 ∷ [], refl, omega arith)
 
--- one of one is whole
+-- an offer of one version is whole
 pub not_a_whole_one : IsCutOffer (2 ∷ 1 ∷ 2 ∷ []) → ⊥
 not_a_whole_one (inl short) = cc short
 not_a_whole_one (inr (count, versions, is, few)) =
@@ -51,11 +51,11 @@ their_bytes = refl
 pub three_are_told : tells_records records ≡ true
 three_are_told = refl
 
--- two lengths are told, and one is there
+-- two lengths are announced, and one is there
 pub one_is_missing : tells_records (2 ∷ 0 ∷ 0 ∷ 0 ∷ 1 ∷ 0 ∷ 0 ∷ 0 ∷ []) ≡ false
 one_is_missing = refl
 
--- one of one byte, and two follow
+-- one record of one byte, and two bytes follow
 pub they_add_up_to_less : tells_records (1 ∷ 0 ∷ 0 ∷ 0 ∷ 1 ∷ 0 ∷ 0 ∷ 0 ∷ 97 ∷ 98 ∷ []) ≡ false
 they_add_up_to_less = refl
 

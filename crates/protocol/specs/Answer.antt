@@ -36,7 +36,7 @@ abbrev pub started_bytes : StartedSync → List ℕ
 started_bytes AllDone = 0 ∷ []
 started_bytes (Named name) = 1 ∷ number_bytes name
 
--- yes or no
+-- yes or no, as a byte
 abbrev pub flag_byte : Bool → ℕ
 flag_byte flag = if flag then 1 else 0
 
@@ -58,21 +58,21 @@ reply_payload reply = []
 abbrev pub answer_bytes : Reply → List ℕ
 answer_bytes reply = frame_bytes (status_byte reply ∷ reply_payload reply)
 
--- the answer to a request for a change, where the client may only read
+-- the answer of version 1 to a request for a change by a client that may only read
 abbrev pub refusal_bytes : List ℕ
 refusal_bytes = frame_bytes (22 ∷ [])
 
 -- ---- refusals of version 2
 
--- the statuses of requests whose bytes tell no records or no ranges, and of a change where the
--- client may only read
+-- the statuses of requests whose bytes can't be read as records or as ranges, and of a change by a
+-- client that may only read
 abbrev pub unreadable_status : ℕ
 unreadable_status = 23
 
 abbrev pub read_only_status : ℕ
 read_only_status = 22
 
--- the status of what is no request
+-- the status for bytes that are no request
 abbrev pub flaw_status : Flaw → ℕ
 flaw_status flaw.Cut = 32
 flaw_status flaw.Empty = 33
@@ -97,15 +97,15 @@ advice_byte (Fault error) has_writer = advice_for error has_writer
 advice_byte Closed has_writer = 2
 advice_byte reply has_writer = 0
 
--- a refusal tells its status, what may be done next, how many steps of the request were taken, and
--- the system's number and words for why the file failed, if it did: else 0 and none
+-- a refusal has its status, what may be done next, how many steps of the request were taken, and
+-- the system's number and words for why the file failed, or 0 and no words if it didn't
 pub record IsRefusalAnswer (status advice taken : ℕ) (answer : List ℕ) : Type 0 where
   pub number : ℕ
   pub words : List ℕ
   pub is : answer ≡ frame_bytes (status ∷ advice ∷ number_bytes taken ++ number_bytes number
       ++ words)
 
--- such a refusal was written
+-- a refusal with this status, this advice and so many steps taken was written
 abbrev pub AppendsRefusal : (status advice taken : ℕ) → (out written : Option (List ℕ)) → Type 0
 AppendsRefusal status advice taken out written =
     (answer : List ℕ) × IsRefusalAnswer status advice taken answer × Appends out written answer
@@ -119,7 +119,8 @@ refusal_from taken (reply ∷ replies) =
 abbrev pub first_refusal : List Reply → Option (ℕ × Reply)
 first_refusal replies = refusal_from 0 replies
 
--- the answer of version 2 to a request with these replies, which gives this if none refuses
+-- the answer of version 2 to a request with these replies: the first refusal, or this payload if no
+-- reply refuses
 abbrev pub IsAnswerWith : (payload : List ℕ) → List Reply → (has_writer : Bool) → List ℕ → Type 0
 IsAnswerWith payload replies has_writer answer = elim (first_refusal replies) [
   | Some first ↦ IsRefusalAnswer (status_byte first.1) (advice_byte first.1 has_writer) first.0
@@ -127,7 +128,7 @@ IsAnswerWith payload replies has_writer answer = elim (first_refusal replies) [
   | None ↦ answer ≡ frame_bytes (0 ∷ payload)
 ]
 
--- the error that a reply tells; and of some replies the first
+-- the error of a reply, if it has one; and the first error among some replies
 abbrev pub reply_error : Reply → Option Error
 reply_error (Fault error) = Some error
 reply_error reply = None
@@ -139,7 +140,7 @@ fault_in (reply ∷ replies) = elim (reply_error reply) [
   | None ↦ fault_in replies
 ]
 
--- no frame holds this answer: its length has no four bytes
+-- no frame holds this answer: its length doesn't fit four bytes
 abbrev pub IsTooLong : List ℕ → Type 0
 IsTooLong answer = 2 ^ 32 + 4 ≤ length answer
 

@@ -10,7 +10,7 @@ use Rattle.protocol.specs.declared.stop.ReadError.TheVariants.{Malformed, Failed
 abbrev pub AreBytes : List ℕ → Type 0
 AreBytes xs = (i : ℕ) → slice_index xs i < 256
 
--- at most so many bytes came, after those that were there; where no more come, none is left
+-- at most so many bytes came, after those that were there; if no more come, the input is at its end
 pub record Gains (most : ℕ) (old new : Option (List ℕ)) (were are : List ℕ) (more : Bool) :
     Type 0 where
   pub added : List ℕ
@@ -31,13 +31,13 @@ IsBroken (Malformed flaw) = ⊥
 IsBroken Failed = Unit {0}
 IsBroken OutOfMemory = Unit {0}
 
--- these bytes begin with a whole frame: a length, and as many bytes as it tells
+-- these bytes begin with a whole frame: a length, and as many bytes as it states
 abbrev pub has_frame : List ℕ → Bool
 has_frame bytes =
     nat_le 4 (length bytes)
     && nat_le (from_le_bytes w32 (take 4 bytes)) (length bytes - 4)
 
--- of what was answered these bytes aren't out, and these have come of the next request: where it
--- hasn't come whole, and so may have to be waited for, all that was answered is out
+-- `come` is what has come of the next request, and `unsent` the answers that aren't flushed: if the
+-- request hasn't come whole, so that a read may have to wait for it, all answers are flushed
 abbrev pub IsSent : (come unsent : List ℕ) → Type 0
 IsSent come unsent = has_frame come ≡ false → unsent ≡ []

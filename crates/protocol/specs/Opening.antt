@@ -25,7 +25,7 @@ use Rattle.protocol.specs.Request.{frame_bytes, number_bytes}
 abbrev pub version_byte : ℕ
 version_byte = 1
 
--- that of an offer of versions
+-- the first byte of an offer of versions
 abbrev pub offer_byte : ℕ
 offer_byte = 2
 
@@ -49,7 +49,7 @@ IsCutOffer bytes =
     ⊎ ((count : ℕ) × (versions : List ℕ) × (bytes ≡ offer_byte ∷ count ∷ versions)
     × (length versions < count))
 
--- the versions of an offer were read, and the highest known one is told
+-- the versions of an offer were read, and the result is the highest known one
 abbrev pub ReadsVersions : Option (List ℕ) → Option (List ℕ)
     → Result (Option ProtocolVersion) ReadError → Type 0
 ReadsVersions input rest (Ok version) =
@@ -73,7 +73,7 @@ ReadsOpening input rest (Err (read.Malformed flaw)) = (flaw ≡ Cut) × IfSome i
 ReadsOpening input rest (Err read.Failed) = Unit {0}
 ReadsOpening input rest (Err read.OutOfMemory) = Unit {0}
 
--- ---- what it is answered
+-- ---- what a client is answered
 
 -- the status of an offer of which no version is known
 abbrev pub no_version_status : ℕ
@@ -83,7 +83,7 @@ no_version_status = 24
 abbrev pub agreed_bytes : List ℕ
 agreed_bytes = frame_bytes (0 ∷ 1 ∷ [])
 
--- that to an offer of which none is: the versions that are
+-- the answer to an offer of which no version is known: the versions that are
 abbrev pub known_bytes : List ℕ
 known_bytes = frame_bytes (no_version_status ∷ 1 ∷ 2 ∷ [])
 
@@ -95,32 +95,33 @@ most_bytes = 2 ^ 32 - 2
 abbrev pub most_ranges : ℕ
 most_ranges = most_bytes / 16
 
--- the most records of one: an answer holds an offset for each, and what starting a sync answers
+-- the most records of a request: an answer holds an offset for each, and what starting a sync
+-- answers
 abbrev pub most_records : ℕ
 most_records = (most_bytes - 9) / 8
 
--- a text, after how many bytes it has
+-- a text, with its length in bytes in front
 abbrev pub text_bytes : List ℕ → List ℕ
 text_bytes text = number_bytes (length text) ++ text
 
--- the numbers of the hello: the size of the content, the page size, the most bytes of an answer and
--- of a request, the most ranges, the most records, how many physical bytes were cut when the file
--- was opened, and how many might go then
+-- the numbers of the hello: the size of the content and of a page in logical bytes, the most bytes
+-- of an answer and of a request, the most ranges, the most records, how many physical bytes the
+-- recovery cut, and how many it was allowed to give up
 abbrev pub hello_numbers : Setting → (size cut : ℕ) → List ℕ
 hello_numbers setting size cut =
     size ∷ non_zero_u16_get setting.page_size ∷ most_bytes ∷ most_bytes ∷ most_ranges ∷ most_records
     ∷ cut ∷ setting.allowed ∷ []
 
 -- the hello of version 2: the version, whether the client may only read, these numbers, the name of
--- the checksum, and that of the copy that was made of what was cut, or an empty one
+-- the checksum, and the name of the copy that was made of what was cut, or an empty name
 abbrev pub hello_bytes : Setting → (checksum set_aside : List ℕ) → (size cut : ℕ) → List ℕ
 hello_bytes setting checksum set_aside size cut =
     frame_bytes (0 ∷ 2 ∷ flag_byte setting.read_only
     ∷ flat_map number_bytes (hello_numbers setting size cut) ++ text_bytes checksum
     ++ text_bytes set_aside)
 
--- what a client begins with was answered, where it is an offer; and the version to go on with is
--- told, or that there is nothing to go on with
+-- what a client begins with was answered, if it is an offer; the result is the version to go on
+-- with, or none if the input has no byte, or why the session stops
 abbrev pub TellsOpening : Opening → (hello : List ℕ) → (out written : Option (List ℕ))
     → Result (Option ProtocolVersion) Stop → Type 0
 TellsOpening opening hello out written (Ok None) = (opening ≡ End) × (written ≡ out)

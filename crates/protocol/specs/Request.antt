@@ -31,7 +31,7 @@ use Rattle.protocol.specs.declared.stop.ReadError.TheVariants.{Malformed, Failed
 unfoldable pub number_bytes : ℕ → List ℕ
 number_bytes n = to_le_bytes w64 n
 
--- a length of 32 bits, likewise
+-- a length of 32 bits, its lowest byte first
 unfoldable pub length_bytes : ℕ → List ℕ
 length_bytes n = to_le_bytes w32 n
 
@@ -69,7 +69,7 @@ kind_of CountOpen = 26
 kind_of Close = 16
 kind_of _ = 0
 
--- what is written after it
+-- what is written after the kind
 abbrev pub fields_of : Request → List ℕ
 fields_of (Step (Append bytes)) = bytes.items
 fields_of (Step (WaitSync name)) = number_bytes name
@@ -153,8 +153,8 @@ has_kind kinds kind = list_any (λ k. kind == k) kinds
 abbrev pub takes_bytes : ℕ → Bool
 takes_bytes kind = has_kind (1 ∷ 17 ∷ 18 ∷ 19 ∷ 20 ∷ []) kind
 
--- how many numbers a request of a kind has, except for those with bytes; none where there is no
--- such kind
+-- how many numbers a request of a kind has: `None` for a kind with bytes, and if there is no such
+-- kind
 abbrev pub field_count : ℕ → Option ℕ
 field_count kind =
     if has_kind (2 ∷ 3 ∷ 5 ∷ 8 ∷ 10 ∷ 16 ∷ 21 ∷ 22 ∷ 25 ∷ 26 ∷ []) kind then Some 0
@@ -174,15 +174,15 @@ pub record HasFields (kind : ℕ) (fields : List ℕ) : Type 0 where
 abbrev pub IsFramed : (n : ℕ) → (after bytes : List ℕ) → Type 0
 IsFramed n after bytes = (n < 2 ^ 32) × (bytes ≡ length_bytes n ++ after)
 
--- a frame of this length is one of the kind, which the version has: of one with bytes each but the
--- empty one, of another those that hold its numbers
+-- the version has this kind, and a frame of the kind may have this length: any length, if the kind
+-- has bytes, else the one that holds the kind and its numbers
 abbrev pub TakesLength : Version → (kind n : ℕ) → Type 0
 TakesLength version kind n =
     (kind ≤ last_kind version)
     × ((takes_bytes kind ≡ true)
     ⊎ ((count : ℕ) × (field_count kind ≡ Some count) × (n ≡ 8 * count + 1)))
 
--- fewer bytes came after a length than it tells; the length is one of the kind, where that came
+-- fewer bytes came after a length than it states; if the kind came, the length is one of that kind
 abbrev pub EndsInside : Version → (n : ℕ) → List ℕ → Type 0
 EndsInside version n [] = 0 < n
 EndsInside version n (kind ∷ fields) = (length fields + 1 < n) × TakesLength version kind n
@@ -210,7 +210,7 @@ FrameHas flaw bytes =
     (kind : ℕ) × (fields : List ℕ) × (rest : List ℕ) × (bytes ≡ frame_bytes (kind ∷ fields) ++ rest)
     × HasFields kind fields × FieldsHave flaw kind fields
 
--- what is wrong with bytes, by what they are; no two of these are true of the same ones
+-- what is wrong with bytes, by what they are; no two of these are true of the same bytes
 abbrev pub HasFlaw : Version → Flaw → List ℕ → Type 0
 HasFlaw version Cut bytes =
     (length bytes < 4)
@@ -227,7 +227,7 @@ HasFlaw version NoBuffer bytes = FrameHas NoBuffer bytes
 
 -- ---- what reading answers
 
--- the request of a kind with these fields; or none has them, and why
+-- the request of a kind with these fields; or no request has them, and what is wrong with them
 abbrev pub Builds : ℕ → List ℕ → Result Request Flaw → Type 0
 Builds kind fields (Ok request) =
     CanBeAsked request × (kind ≡ kind_of request) × (fields ≡ fields_of request)
@@ -235,7 +235,7 @@ Builds kind fields (Err flaw) =
     ((request : Request) → CanBeAsked request → kind ≡ kind_of request
     → fields ≢ fields_of request) × FieldsHave flaw kind fields
 
--- bytes of this number, where there are so many
+-- what reading so many bytes answers: the bytes, or that the known input has fewer
 abbrev pub ReadsFields : (len : ℕ) → Option (List ℕ) → Option (List ℕ)
     → Result (Vec ℕ Global) ReadError → Type 0
 ReadsFields len old new (Ok bytes) = Consumes old new bytes.items × (length bytes.items ≡ len)
@@ -244,7 +244,7 @@ ReadsFields len old new (Err (Malformed flaw)) =
 ReadsFields len old new (Err Failed) = Unit {0}
 ReadsFields len old new (Err OutOfMemory) = Unit {0}
 
--- no request of the version is written so, whatever stands after
+-- these bytes don't begin with a request of the version
 abbrev pub IsNoRequest : Version → List ℕ → Type 0
 IsNoRequest version bytes =
     (request : Request) (rest : List ℕ) → IsRequest version request
@@ -254,11 +254,12 @@ IsNoRequest version bytes =
 abbrev pub IsFlawed : Version → Flaw → List ℕ → Type 0
 IsFlawed version flaw bytes = IsNoRequest version bytes × HasFlaw version flaw bytes
 
--- the known bytes after these, its first ones, are no request, and this is wrong with them
+-- these first bytes and the input's bytes after them, where those are known, begin with no request,
+-- and this is wrong with them
 abbrev pub HasNoRequest : Version → Flaw → (front : List ℕ) → Option (List ℕ) → Type 0
 HasNoRequest version flaw front old = IfSome old (λ bytes. IsFlawed version flaw (front ++ bytes))
 
--- a request was read after these bytes, its first ones
+-- a request was read, of which these first bytes had been read before
 abbrev pub ReadsAfter : Version → (front : List ℕ) → Option (List ℕ) → Option (List ℕ)
     → Result Request ReadError → Type 0
 ReadsAfter version front old new (Ok request) =

@@ -62,13 +62,14 @@ page_bytes setting = non_zero_u16_get setting.page_size
 
 -- ---- what is done with requests
 
--- these steps were taken in a run with these replies, and its promise stands
+-- these steps were taken in a run with these replies, and the promise of that run holds
 pub record Took (sum : List ℕ → ℕ) (steps : List Step) (replies : List Reply)
     (was now : SessionState) (old new : Life) : Type 0 where
   pub runs : RunsAlways sum steps was now old new [] replies
   pub promises : Promises sum steps was now old new [] replies
 
--- what a client that may only read is refused: to append, to sync, to cut, and to end the recovery
+-- the steps that a client is refused that may only read: to append, to sync, to truncate, and to
+-- end the recovery
 abbrev pub changes : Step → Bool
 changes (Append bytes) = true
 changes Sync = true
@@ -85,7 +86,7 @@ steps_then follow.Nothing = []
 steps_then follow.Sync = Sync ∷ []
 steps_then follow.Start = StartSync ∷ []
 
--- the steps of a request: none where its bytes tell no records or no ranges
+-- the steps of a request: none if its bytes encode no records, or no ranges
 abbrev pub AreSteps : Setting → Request → List Step → Type 0
 AreSteps setting (StepOf step) steps = steps ≡ step ∷ []
 AreSteps setting (Records fields next) steps = elim (tells_records fields.items) [
@@ -113,7 +114,7 @@ asks_change request = false
 
 -- ---- answers of version 2
 
--- what the last of these replies tells
+-- the payload of the last of these replies
 abbrev pub last_payload : List Reply → List ℕ
 last_payload [] = []
 last_payload (reply ∷ []) = reply_payload reply
@@ -143,8 +144,8 @@ abbrev pub open_payload : SessionState → List ℕ
 open_payload now =
     number_bytes (count_open now.snapshots) ++ number_bytes (count_open now.replays)
 
--- what an answer to a request tells whose steps were all accepted: of records, where each begins;
--- of what is open, how many; else what the last reply tells
+-- the payload of the answer to a request whose steps were all accepted: for records, where each
+-- begins; for `CountOpen`, how many are open; else the payload of the last reply
 abbrev pub given_payload : Request → List Reply → SessionState → List ℕ
 given_payload (Records fields next) replies now =
     records_payload (record_lengths fields.items) replies
@@ -158,14 +159,14 @@ gives_last SyncSize = true
 gives_last Look = true
 gives_last request = false
 
--- whether the bytes of a request tell what it asks for
+-- whether the bytes of a request can be read as the records or ranges that it asks for
 abbrev pub can_be_read : Request → Bool
 can_be_read (Records fields next) = tells_records fields.items
 can_be_read (Ranges fields) = tells_ranges fields.items
 can_be_read request = true
 
--- the answer to a request with these replies: in version 1 that of its only reply; in version 2 the
--- first refusal, or what the request gives; or it couldn't be read
+-- the answer to a request with these replies: in version 1 that to its only reply; in version 2 the
+-- first refusal or what the request gives, or if its bytes couldn't be read, a refusal for that
 abbrev pub IsAnswer : ProtocolVersion → Request → List Reply → SessionState → List ℕ → Type 0
 IsAnswer One request replies now answer =
     (reply : Reply) × (replies ≡ reply ∷ []) × (answer ≡ answer_bytes reply)
@@ -174,13 +175,13 @@ IsAnswer Two request replies now answer = elim (can_be_read request) [
   | false ↦ IsRefusalAnswer unreadable_status 0 0 answer
 ]
 
--- the answer to a request for a change, where the client may only read
+-- the answer to a request for a change by a client that may only read
 abbrev pub IsChangeRefused : ProtocolVersion → List ℕ → Type 0
 IsChangeRefused One answer = answer ≡ refusal_bytes
 IsChangeRefused Two answer = IsRefusalAnswer read_only_status 0 0 answer
 
--- how a request is served: its steps are taken, and answered by their replies; or none is, where it
--- asks for a change that the client may not make, and it is answered so
+-- how a request is served: its steps are taken, and answered by their replies; or the client may
+-- only read, the request asks for a change, no step is taken, and the answer refuses it
 pub data Served (setting : Setting) (version : ProtocolVersion) : Request → List Step → List Reply
     → SessionState → List ℕ → Type 0 where
   taken : (request : Request) (steps : List Step) (replies : List Reply) (now : SessionState)
@@ -219,7 +220,7 @@ pub record Answered (sum : List ℕ → ℕ) (setting : Setting) (version : Prot
     pub takes : Consumes input rest (requests_bytes requests)
     pub answers : Appends out written bytes
 
--- the steps of a request were taken, and this is so of their replies and its answer
+-- the steps of a request were taken, and `Is` holds for their replies and the request's answer
 abbrev pub TookWith : (List ℕ → ℕ) → Setting → ProtocolVersion → (List Reply → List ℕ → Type 0)
     → Request → SessionState → SessionState → Life → Life → Type 0
 TookWith sum setting version Is request was now old new =
@@ -227,7 +228,7 @@ TookWith sum setting version Is request was now old new =
     × Served setting version request steps replies now answer
     × Took sum steps replies was now old new × Is replies answer
 
--- the steps of a request were taken, and this is so of its answer
+-- the steps of a request were taken, and `Is` holds for the request's answer
 abbrev pub TookFor : (List ℕ → ℕ) → Setting → ProtocolVersion → (List ℕ → Type 0) → Request
     → SessionState → SessionState → Life → Life → Type 0
 TookFor sum setting version Is request was now old new =
@@ -237,7 +238,8 @@ TookFor sum setting version Is request was now old new =
 abbrev pub IsAny : List ℕ → Type 0
 IsAny answer = Unit {0}
 
--- a request was served and answered, by how that ended; where it was, its error is told
+-- how a request was served and answered: the result is the first error of its replies, or why it
+-- wasn't answered
 abbrev pub TakesRequest : (List ℕ → ℕ) → Setting → ProtocolVersion → Request → SessionState
     → SessionState → Life → Life → (out written : Option (List ℕ)) → Result (Option Error) Stop
     → Type 0
@@ -262,7 +264,7 @@ ReadsNext version number input rest (Err Failed) = Unit {0}
 ReadsNext version number input rest (Err OutOfMemory) = Unit {0}
 ReadsNext version number input rest (Err other) = ⊥
 
--- one more request was read, whose steps were taken, and this is so of its answer
+-- one more request was read, whose steps were taken, and `Is` holds for its answer
 abbrev pub TookNext : (List ℕ → ℕ) → Setting → ProtocolVersion → (List ℕ → Type 0) → SessionState
     → SessionState → Life → Life → (input : Option (List ℕ)) → Type 0
 TookNext sum setting version Is was now old new input =
@@ -270,7 +272,8 @@ TookNext sum setting version Is was now old new input =
     × Consumes input rest (request_bytes request)
     × TookFor sum setting version Is request was now old new
 
--- the input begins with requests whose steps were taken and answered, and then it goes on so
+-- the input begins with requests whose steps were taken and answered, and `Then` holds for what
+-- follows them
 abbrev pub AnsweredThen : (List ℕ → ℕ) → Setting → ProtocolVersion → SessionState → Life
     → (input out : Option (List ℕ)) → (SessionState → Life → Option (List ℕ) → Type 0) → Type 0
 AnsweredThen sum setting version was old input out Then =
@@ -286,25 +289,25 @@ BreaksOff sum setting version was now old new input out =
     AnsweredThen sum setting version was old input out (λ mid between rest.
     ((now ≡ mid) × (new ≡ between)) ⊎ TookNext sum setting version IsAny mid now between new rest)
 
--- an error that requests were answered with is among these replies; or none of them tells one
+-- this error is among these replies; or there is none, and no reply has an error
 abbrev pub IsFaultAmong : Option Error → List Reply → Type 0
 IsFaultAmong None replies = All (λ reply. reply_error reply ≡ None) replies
 IsFaultAmong (Some error) replies = Contains replies (Fault error)
 
--- the last of two such errors, where there was a writer as the request of the later one was taken;
--- else the earlier one, if there is one
+-- the later of two such errors, if there was a writer when its request was taken, or no earlier
+-- error; else the earlier one
 abbrev pub later_fault : (fault next : Option Error) → (had_writer : Bool) → Option Error
 later_fault fault next had_writer =
     if is_some next && (had_writer || not (is_some fault)) then next else fault
 
--- how a session ends whose requests were answered, with this error last: well, where it has its
--- writer, or no request was answered with an error
+-- how a session ends whose requests were all answered, with this error last: with `Ok`, if it has
+-- its writer or no request was answered with an error, else with `Lost`
 abbrev pub EndsSession : SessionState → Option Error → Result (Unit {0}) Stop → Type 0
 EndsSession now fault (Ok done) = (is_some now.writer ≡ true) ⊎ (fault ≡ None)
 EndsSession now fault (Err (Lost error)) = (now.writer ≡ None) × (fault ≡ Some error)
 EndsSession now fault (Err other) = ⊥
 
--- what is no request is told in version 2, and in version 1 is not
+-- bytes that are no request get a refusal in version 2, and no answer in version 1
 abbrev pub TellsFlaw : ProtocolVersion → Flaw → (told written : Option (List ℕ)) → Type 0
 TellsFlaw One flaw told written = Appends told written []
 TellsFlaw Two flaw told written = AppendsRefusal (flaw_status flaw) 2 0 told written
@@ -314,7 +317,7 @@ abbrev pub is_close : Request → Bool
 is_close Close = true
 is_close request = false
 
--- all requests of an input were answered, up to its end or a close, and this is so of the replies
+-- all requests of an input were answered, up to its end or a close, and `Are` holds for the replies
 abbrev pub AnsweredAll : (List ℕ → ℕ) → Setting → ProtocolVersion → (List Reply → Type 0)
     → SessionState → SessionState → Life → Life → (input rest out written : Option (List ℕ))
     → Type 0
@@ -323,10 +326,10 @@ AnsweredAll sum setting version Are was now old new input rest out written =
     × (answered : Answered sum setting version was now old new input mid out written)
     × (IsAtEnd mid ⊎ Consumes mid rest (request_bytes Close)) × Are answered.replies
 
--- how the requests of an input were served, by how that ended: all of them up to the end or a
--- close, and the writer is there, unless no request was answered with an error; or it is gone, and
--- an error is told that a request was answered with; or those before the first that isn't one,
--- whose number is told
+-- how the requests of an input were served, by how that ended. With `Ok` all of them were, up to
+-- the end or a close, and the writer is there, or no request was answered with an error. With
+-- `Lost` all of them were, and the writer is gone; a request was answered with this error. With
+-- `Malformed` those before the first that isn't one were, whose number this is
 abbrev pub Serves : (List ℕ → ℕ) → Setting → ProtocolVersion → SessionState → SessionState → Life
     → Life → (input rest out written : Option (List ℕ)) → Result (Unit {0}) Stop → Type 0
 Serves sum setting version was now old new input rest out written (Ok done) =
@@ -352,8 +355,8 @@ Serves sum setting version was now old new input rest out written (Err other) = 
 
 -- ---- how a session begins
 
--- the blob was only looked at, which told that in a recovery of it so many bytes at its end would
--- go: those that it would cut, and those of a torn last page
+-- the blob was only looked at: a recovery would give up so many physical bytes at its end, those
+-- that it cuts and those of a torn last page
 pub record LookedAt (sum : List ℕ → ℕ) (setting : Setting) (old new : Life)
     (cut : ℕ) : Type 0 where
   pub outlook : Outlook
@@ -361,17 +364,17 @@ pub record LookedAt (sum : List ℕ → ℕ) (setting : Setting) (old new : Life
   pub stake : at_stake sum (page_bytes setting) old.present.readable outlook ≡ cut
   pub looked : Looked old new
 
--- no more than may go
+-- a recovery would give up no more than the setting allows
 abbrev pub MayRecover : (List ℕ → ℕ) → Setting → Life → Life → Type 0
 MayRecover sum setting old new =
     (cut : ℕ) × LookedAt sum setting old new cut × (cut ≤ setting.allowed)
 
--- a recovery would cut more than may go
+-- a recovery would give up more than the setting allows
 abbrev pub WouldCutMore : (List ℕ → ℕ) → Setting → Life → Life → ℕ → Type 0
 WouldCutMore sum setting old new cut =
     LookedAt sum setting old new cut × (setting.allowed < cut)
 
--- a look told that the blob may be recovered, and that began a session
+-- a look showed that the blob may be recovered, and the recovery began a session
 pub record HasBegun (sum : List ℕ → ℕ) (setting : Setting) (old new : Life)
     (was : SessionState) : Type 0 where
   pub between : Life
@@ -399,13 +402,13 @@ abbrev pub RecoversSession : (List ℕ → ℕ) → Setting → Life → Life
 RecoversSession sum setting old new (Ok begun) = HasBegun sum setting old new begun.0
 RecoversSession sum setting old new (Err stop) = IsNotBegun sum setting old new stop
 
--- the session began, and the step that asks for its size was taken; this is so of its answer
+-- the session began, and the step that asks for its size was taken; `Is` holds for its answer
 abbrev pub TookSize : (List ℕ → ℕ) → Setting → (List ℕ → Type 0) → Life → Life → Type 0
 TookSize sum setting Is old new =
     (mid : Life) × (was : SessionState) × (now : SessionState) × HasBegun sum setting old mid was
     × TookFor sum setting One Is (StepOf Size) was now mid new
 
--- a session began or it didn't; where it did its size was asked for, or not even that
+-- no session began; or one began, and its size was asked for or not
 abbrev pub EndsEarly : (List ℕ → ℕ) → Setting → Life → Life → Type 0
 EndsEarly sum setting old new =
     HasAttempted sum setting old new
@@ -421,14 +424,15 @@ pub record Greeted (sum : List ℕ → ℕ) (setting : Setting) (old new : Life)
   pub took : TookFor sum setting One (λ answer. Appends out written (version_byte ∷ answer))
       (StepOf Size) was now mid new
 
--- the recovery was refused, and so answered
+-- the recovery was refused, and the answer is its error
 abbrev pub IsRecoveryRefused : (List ℕ → ℕ) → Setting → Life → Life
     → (out written : Option (List ℕ)) → Error → Type 0
 IsRecoveryRefused sum setting old new out written error =
     HasAttempted sum setting old new
     × Appends out written (version_byte ∷ answer_bytes (Fault error))
 
--- a session was greeted or not, by why; where more would be cut than may be, nothing is written
+-- a session was greeted, or why it wasn't; if a recovery would give up more than the setting
+-- allows, nothing is written
 abbrev pub Greets : (List ℕ → ℕ) → Setting → Life → Life → (out written : Option (List ℕ))
     → Result (SessionState × CacheState) Stop → Type 0
 Greets sum setting old new out written (Ok begun) = Greeted sum setting old new begun.0 out written
@@ -443,7 +447,7 @@ Greets sum setting old new out written (Err other) = ⊥
 
 -- ---- a whole session
 
--- the logical bytes of its content; none where there is no writer
+-- the logical bytes of a session's content; 0 if there is no writer
 abbrev pub size_in : SessionState → ℕ
 size_in now = unwrap_or (option_map size_of now.writer) 0
 
@@ -475,13 +479,14 @@ pub record Agrees (sum : List ℕ → ℕ) (setting : Setting) (named : Named) (
   pub reads : ReadsOpening input rest (Ok opening)
   pub tells : TellsOpening opening (hello_for setting named old new was) greeting written result
 
--- so it is of some session
+-- some session was greeted, and what the client begins with was answered with this result
 abbrev pub HasAgreed : (List ℕ → ℕ) → Setting → Named → Life → Life
     → (input rest out written : Option (List ℕ)) → Result (Option ProtocolVersion) Stop → Type 0
 HasAgreed sum setting named old new input rest out written result =
     (was : SessionState) × Agrees sum setting named old new was input rest out written result
 
--- a session was greeted, and the client's offer ends before all its versions, which it was told
+-- a session was greeted, the client's offer ends before all its versions, and the answer is a
+-- refusal
 pub record OffersTooLittle (sum : List ℕ → ℕ) (setting : Setting) (old new : Life)
     (input out written : Option (List ℕ)) (number : ℕ) (flaw : Flaw) : Type 0 where
   pub was : SessionState

@@ -14,13 +14,13 @@ use Rattle.protocol.specs.declared.stop.Stop.TheVariants.{Malformed, Version, Wo
 use Rattle.protocol.specs.declared.stop.Stop.TheVariants.{Lost, LongAnswer, Failed, OutOfMemory}
 use Rattle.protocol.specs.declared.stop.Stop.TheVariants.{NoVersion}
 
--- where the request of this number isn't read
+-- why a session stops whose request of this number isn't read
 abbrev pub stop_at : ℕ → ReadError → Stop
 stop_at number (read.Malformed flaw) = Malformed number flaw
 stop_at number read.Failed = Failed
 stop_at number read.OutOfMemory = OutOfMemory
 
--- where the file isn't recovered
+-- why a session stops whose file isn't recovered
 abbrev pub stop_for : Refusal → Stop
 stop_for (refusal.WouldCut cut) = WouldCut cut
 stop_for (refusal.Failed error) = Refused error

@@ -21,7 +21,7 @@ use Rattle.protocol.specs.Answer.{answer_bytes, first_refusal, status_byte, unre
 use Rattle.protocol.specs.Request.{frame_bytes}
 use Rattle.protocol.specs.Serve.{TellsFlaw, last_payload}
 
--- an answer that is so was written, or it was too long, or the output failed
+-- an answer for which this holds was written, or it was too long, or the output failed
 abbrev pub WritesAnswer : (List ℕ → Type 0) → (out written : Option (List ℕ))
     → Result (Unit {0}) Stop → Type 0
 WritesAnswer Is out written (Ok done) = (answer : List ℕ) × Is answer × Appends out written answer
@@ -29,7 +29,8 @@ WritesAnswer Is out written (Err LongAnswer) = (answer : List ℕ) × Is answer 
 WritesAnswer Is out written (Err Failed) = Unit {0}
 WritesAnswer Is out written (Err other) = ⊥
 
--- the first reply that refuses was told, or none does, and nothing was written
+-- the first reply that refuses was written as a refusal, or no reply refuses, and nothing was
+-- written
 abbrev pub TellsRefusal : List Reply → (has_writer : Bool) → (out written : Option (List ℕ))
     → Result Bool Stop → Type 0
 TellsRefusal replies has_writer out written (Ok true) =
@@ -39,7 +40,7 @@ TellsRefusal replies has_writer out written (Ok false) =
     (first_refusal replies ≡ None) × (written ≡ out)
 TellsRefusal replies has_writer out written (Err stop) = stop ≡ Failed
 
--- what became of an answer, with the first error of the replies
+-- the first error of the replies, or why the answer wasn't written
 abbrev pub Finishes : List Reply → Result (Unit {0}) Stop → Result (Option Error) Stop → Type 0
 Finishes replies (Ok done) result = result ≡ Ok (fault_in replies)
 Finishes replies (Err stop) result = result ≡ Err stop
@@ -55,11 +56,12 @@ IsStepAnswer One replies has_writer answer = IsOnlyAnswer replies answer
 IsStepAnswer Two replies has_writer answer =
     IsAnswerWith (last_payload replies) replies has_writer answer
 
--- an answer that gives this
+-- an answer with status 0 and this payload
 abbrev pub GivesPayload : (payload answer : List ℕ) → Type 0
 GivesPayload payload answer = answer ≡ frame_bytes (0 ∷ payload)
 
--- steps were taken, with these replies and no others before; or none was
+-- steps were taken, with these replies and no others before; or there was no memory, and no step
+-- was taken
 abbrev pub RunsSteps : (List ℕ → ℕ) → List Step → SessionState → SessionState
     → (cache after : CacheState) → Life → Life → List Reply → Result (Unit {0}) Stop → Type 0
 RunsSteps sum steps was now cache after old new replies (Ok done) =
@@ -67,19 +69,19 @@ RunsSteps sum steps was now cache after old new replies (Ok done) =
 RunsSteps sum steps was now cache after old new replies (Err stop) =
     (stop ≡ OutOfMemory) × (now ≡ was) × (new ≡ old)
 
--- the first of these replies tells where so many bytes were appended, or refuses
+-- the first of these replies has the offset where so many bytes were appended, or refuses
 abbrev pub IsAppendReply : (size : ℕ) → List Reply → Type 0
 IsAppendReply size [] = Unit {0}
 IsAppendReply size (At at ∷ replies) = at + size < 2 ^ 64
 IsAppendReply size (reply ∷ replies) = status_byte reply ≢ 0
 
--- a request whose bytes couldn't be read was answered so
+-- a request whose bytes couldn't be read was refused with the status for that
 abbrev pub TellsUnreadable : (out written : Option (List ℕ)) → Result (Option Error) Stop → Type 0
 TellsUnreadable out written (Ok fault) =
     AppendsRefusal unreadable_status 0 0 out written × (fault ≡ None)
 TellsUnreadable out written (Err stop) = stop ≡ Failed
 
--- why a session stops, after a client of the second version was told what is no request
+-- why a session stops, after bytes that are no request were answered in version 2
 abbrev pub TellsStop : ProtocolVersion → Stop → (out written : Option (List ℕ)) → Stop → Type 0
 TellsStop version (Malformed number flaw) out written stop =
     ((stop ≡ Malformed number flaw) × TellsFlaw version flaw out written) ⊎ (stop ≡ Failed)

@@ -42,7 +42,7 @@ pub fn write_answer<W: Write>(out: &mut W, reply: &Reply) -> Result<(), Stop>
     }
 }
 
-/// Writes the answer to a request for a change, where the client may only read.
+/// Writes the answer of version 1 to a request for a change by a client that may only read.
 pub fn write_refusal<W: Write>(out: &mut W) -> Result<(), Stop>
     ensures answers { OnOk result
         (Appends (W.contents out.old) (W.contents out.new) refusal_bytes) }
@@ -51,7 +51,7 @@ pub fn write_refusal<W: Write>(out: &mut W) -> Result<(), Stop>
     write_frame(out, READ_ONLY, &[], &[])
 }
 
-// An answer with one number.
+// Writes an answer with one number.
 #[tactic(auto, unfolding(crate::specs::Request::number_bytes))]
 fn write_number<W: Write>(out: &mut W, number: u64) -> Result<(), Stop>
     ensures answers { OnOk result (Appends (W.contents out.old) (W.contents out.new)
@@ -61,7 +61,7 @@ fn write_number<W: Write>(out: &mut W, number: u64) -> Result<(), Stop>
     write_frame(out, 0, &number.to_le_bytes(), &[])
 }
 
-// An answer with these bytes in front of what starting a sync answered.
+// Writes an answer with these bytes and then what starting a sync answered.
 #[tactic(auto, unfolding(crate::specs::Request::number_bytes))]
 fn write_started<W: Write>(out: &mut W, front: &[u8], started: StartedSync) -> Result<(), Stop>
     ensures answers { OnOk result (Appends (W.contents out.old) (W.contents out.new)
@@ -77,7 +77,7 @@ fn write_started<W: Write>(out: &mut W, front: &[u8], started: StartedSync) -> R
     }
 }
 
-// An answer with these numbers.
+// Writes an answer with these numbers, eight bytes each.
 fn write_numbers<W: Write>(out: &mut W, numbers: &[usize]) -> Result<(), Stop>
     ensures answers { OnOk result (Appends (W.contents out.old) (W.contents out.new)
         (frame_bytes (0 ∷ flat_map number_bytes numbers.now))) }

@@ -3,9 +3,9 @@ use disk::{MemBlob, VecBlob};
 use file::{Host, Mirror};
 use std::io;
 
-/// A blob that can tell why a call of it failed.
+/// A blob that can report why a device call failed.
 pub trait Cause {
-    /// The error of the system, where there is one.
+    /// The error of the operating system, if there is one.
     fn cause(&self) -> Option<&io::Error>;
 }
 

@@ -7,8 +7,8 @@ use crate::stop::ReadError;
 use std::alloc::{AllocError, Global};
 use std::io::{BufRead, ErrorKind, Read};
 
-/// Reads as many bytes as there is room for, or all that are left where there are fewer, to the
-/// front of the room, and answers how many. It takes no memory.
+/// Reads bytes to the front of the room until the room is full or the input ends, and answers how
+/// many. It allocates nothing.
 pub fn read_front<R: Read>(input: &mut R, room: &mut [u8]) -> Result<usize, ReadError>
     ensures came { let old = R.remaining input.old in let new = R.remaining input.new in
         IfOk result (λ count. Came (length room.old) old new (take count room.new)) }
@@ -31,8 +31,8 @@ pub fn read_front<R: Read>(input: &mut R, room: &mut [u8]) -> Result<usize, Read
     Err(ReadError::Failed)
 }
 
-/// Reads so many bytes, or all that are left where there are fewer. No more memory is taken than
-/// for twice the bytes that came: the number is the client's word, and may be far from what comes.
+/// Reads `count` bytes, or all that are left if there are fewer. It allocates room for at most
+/// twice the bytes that came: the client chose `count`, and may send far fewer bytes.
 pub fn read_some<R: BufRead>(
     alloc: Global,
     input: &mut R,
@@ -56,8 +56,8 @@ pub fn read_some<R: BufRead>(
     Err(ReadError::Failed)
 }
 
-// Takes what has come, at most so many bytes, after those that are there, and waits only where
-// nothing has. Answers false at the end of the input.
+// Appends to `bytes` what has come, at most `most` bytes, and waits only if nothing has come.
+// Answers false at the end of the input.
 fn read_more<R: BufRead>(input: &mut R, most: usize, bytes: &mut Vec<u8>) -> Result<bool, ReadError>
     requires some { 0 < most }
     ensures gains { let old = R.remaining input.old in let new = R.remaining input.new in
@@ -80,8 +80,8 @@ fn read_more<R: BufRead>(input: &mut R, most: usize, bytes: &mut Vec<u8>) -> Res
     Ok(true)
 }
 
-// One byte more, by a read: what is empty in a buffer is the end of the input just where its bytes
-// are known. Answers false at the end.
+// Reads one byte more. An empty buffer shows the end of the input only where the input's bytes are
+// known, and so a read has to find it. Answers false at the end.
 fn read_byte<R: Read>(input: &mut R, bytes: &mut Vec<u8>) -> Result<bool, ReadError>
     ensures gains { let old = R.remaining input.old in let new = R.remaining input.new in
         IfOk result (Gains 1 old new bytes.old.items bytes.new.items) }
@@ -100,8 +100,8 @@ fn read_byte<R: Read>(input: &mut R, bytes: &mut Vec<u8>) -> Result<bool, ReadEr
     }
 }
 
-// Makes room for the next bytes, of which at most so many are to come: where there is too little,
-// for twice those that came, so the bytes are seldom moved.
+// Makes room for the next `count` bytes, of at most `most` that are still to come. If there is too
+// little, it makes room for twice all that came, so that the bytes are seldom moved.
 fn make_room(bytes: &mut Vec<u8>, count: usize, most: usize) -> Result<(), AllocError>
     requires within { count ≤ most }
     ensures items { bytes.new.items ≡ bytes.old.items }

@@ -25,22 +25,23 @@ const NO_VERSION: u8 = 24;
 // The most ranges of a request.
 const MOST_RANGES: u64 = MOST_BYTES / 16;
 
-// The most records of one: an answer holds an offset for each, and what starting a sync answers.
+// The most records of a request: an answer holds an offset of eight bytes for each, and at most
+// nine bytes of what starting a sync answers.
 const MOST_RECORDS: u64 = (MOST_BYTES - 9) / 8;
 
-// How many bytes of the hello stand after its status, except for those of its texts.
+// How many bytes the hello has after its status, apart from those of its two texts.
 const FIXED: usize = 82;
 
 /// What a client begins with.
 #[derive(Clone, Copy, Debug, PartialEq, Eq)]
 pub enum Opening {
-    /// Its input has no byte.
+    /// The input has no byte.
     End,
-    /// Version 1, and no other.
+    /// Version 1, without an offer.
     Single,
     /// An offer of versions. This is the highest of them that is known, if there is one.
     Offer(Option<Version>),
-    /// A byte with which no version begins.
+    /// The input begins with this byte, which is neither version 1 nor an offer.
     Other(u8),
 }
 
@@ -88,8 +89,9 @@ fn highest_known(versions: &[u8]) -> Option<Version>
     }
 }
 
-/// Answers what a client begins with, where that is an offer: version 2 with its hello. Returns the
-/// version to go on with; none where the client asks for nothing.
+/// Answers what a client begins with, if that is an offer: with the hello of version 2, with
+/// version 1, or with the known versions if the offer has none of them. Returns the version to go
+/// on with, or `None` if the input has no byte.
 pub fn tell_opening<W: Write>(
     opening: Opening,
     setting: &Setting,
@@ -169,7 +171,7 @@ fn write_all_numbers<W: Write>(out: &mut W, numbers: &[u64]) -> Result<(), Stop>
     Ok(())
 }
 
-// Writes a text, after how many bytes it has.
+// Writes a text: its length in bytes, and then its bytes.
 #[tactic(auto, unfolding(crate::specs::Request::number_bytes))]
 fn write_text<W: Write>(out: &mut W, text: &str) -> Result<(), Stop>
     ensures answers { OnOk result

@@ -14,13 +14,13 @@ use session::Reply;
 use std::alloc::Global;
 use std::io::{self, Write};
 
-/// The status of a request whose bytes tell no records, or no ranges.
+/// The status of a request whose bytes can't be read as records, or as ranges.
 pub const UNREADABLE: u8 = 23;
 
-/// The status of a change where the client may only read.
+/// The status of a request for a change by a client that may only read.
 pub const READ_ONLY: u8 = 22;
 
-// The last status of a call of the file that failed.
+// The highest status for a failed call of the file.
 const LAST_OF_FILE: u8 = 4;
 
 // The most bytes of the words for why a file failed.
@@ -42,7 +42,7 @@ pub fn status(reply: &Reply) -> u8
     }
 }
 
-/// The status of what is no request.
+/// The status for bytes that are no request.
 pub fn status_of_flaw(flaw: Flaw) -> u8
     ensures { result ≡ flaw_status flaw }
 {
@@ -56,7 +56,8 @@ pub fn status_of_flaw(flaw: Flaw) -> u8
     }
 }
 
-/// What a client may do after this reply, where there is a writer, or none.
+/// What a client may do after this reply, by whether there is a writer: 0, ask for something else;
+/// 1, ask again; 2, open the file anew; 3, give it up.
 pub fn advice(reply: &Reply, has_writer: bool) -> u8
     ensures { result ≡ advice_byte reply.now has_writer }
 {
@@ -79,8 +80,8 @@ fn advice_after(error: Error, has_writer: bool) -> u8
     }
 }
 
-/// Writes the first of these replies that refuses, where there is a writer, or none; false where
-/// none refuses, and then nothing is written.
+/// Writes the first of these replies that refuses, and answers true. If none refuses, it writes
+/// nothing and answers false.
 pub fn tell_refusal<W: Write>(
     alloc: Global,
     out: &mut W,
@@ -145,7 +146,7 @@ pub fn write_told<W: Write>(
     }
 }
 
-// A refusal with the number and the words of its cause.
+// Writes a refusal with the number and the words of its cause.
 #[tactic(auto, unfolding(crate::specs::Request::number_bytes))]
 fn write_cause<W: Write>(
     out: &mut W,

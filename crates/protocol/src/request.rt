@@ -19,8 +19,7 @@ use std::num::NonZeroUsize;
 /// The most bytes that one answer may hold after its status.
 pub const MOST_BYTES: u64 = 0xFFFF_FFFE;
 
-/// The most bytes that stand after the kind of a request, except for an append: those of three
-/// numbers.
+/// The most bytes that stand after the kind of a request with numbers: those of three numbers.
 const MOST_FIELDS: usize = 24;
 
 /// What follows an append of records.
@@ -39,19 +38,19 @@ pub enum Then {
 pub enum Request {
     /// A step of the session.
     Step(Step),
-    /// To append the records that these bytes tell, together.
+    /// To append, together, the records that these bytes encode.
     Records(Vec<u8>, Then),
-    /// To read the ranges that these bytes tell.
+    /// To read the ranges that these bytes encode.
     Ranges(Vec<u8>),
     /// A sync, and then the size.
     SyncSize,
-    /// How many bytes a recovery would keep now.
+    /// How many logical bytes a recovery would keep now.
     Look,
-    /// To send all answers.
+    /// To flush all answers.
     Flush,
     /// How many snapshots and replays are open.
     CountOpen,
-    /// The end.
+    /// To end the session.
     Close,
 }
 
@@ -76,7 +75,7 @@ pub fn read_request<R: BufRead>(
     Ok(Some(request))
 }
 
-// The length that four bytes tell.
+// The length that four bytes encode.
 fn length_of(bytes: &[u8; 4]) -> u32
     ensures small { result < 2 ^ 32 }
     ensures told { length_bytes result ≡ bytes.now }
@@ -105,8 +104,8 @@ fn read_frame<R: BufRead>(
     read_body(alloc, version, input, kind[0], length as usize - 1)
 }
 
-// Reads what stands after the kind of a request: so many bytes. A wrong length is told before they
-// are awaited.
+// Reads the `len` bytes after the kind of a request. A length that is wrong for the kind is
+// reported before these bytes are read.
 fn read_body<R: BufRead>(
     alloc: Global,
     version: Version,
@@ -142,7 +141,7 @@ fn read_body<R: BufRead>(
     }
 }
 
-// Reads the bytes of an append: so many, and not fewer.
+// Reads the bytes of a request that has bytes: exactly `len`.
 fn read_bytes<R: BufRead>(alloc: Global, input: &mut R, len: usize) -> Result<Vec<u8>, ReadError>
     ensures reads { ReadsFields len (R.remaining input.old) (R.remaining input.new) result }
     ensures bytes { IfOk result (λ bytes. AreBytes bytes.items) }
@@ -176,7 +175,7 @@ fn build_of_bytes(kind: u8, bytes: Vec<u8>) -> Request
     }
 }
 
-// How many numbers a request of this kind has, except for those with bytes; none where there is no
+// How many numbers a request of this kind has: `None` for a kind with bytes, and if there is no
 // such kind.
 fn fields_of_kind(kind: u8) -> Option<usize>
     ensures { result ≡ field_count kind }
@@ -270,7 +269,7 @@ fn build_two(kind: u8, first: u64, second: u64) -> Result<Request, Flaw>
     Ok(Request::Step(step))
 }
 
-// The request with three numbers: there is but one kind.
+// The request with three numbers: only one kind has three, a read of a snapshot.
 fn build_snap(index: u64, offset: u64, len: u64) -> Result<Request, Flaw>
     ensures { Builds 11 (number_bytes index ++ number_bytes offset ++ number_bytes len) result }
 {
@@ -278,7 +277,7 @@ fn build_snap(index: u64, offset: u64, len: u64) -> Result<Request, Flaw>
     Ok(Request::Step(Step::Snap(index as usize, offset, len)))
 }
 
-// How many bytes are asked for, where an answer holds as many.
+// The number of bytes asked for, if an answer can hold so many.
 fn len_of(number: u64) -> Result<usize, Flaw>
     ensures fits { OkIff result (FitsAnswer number) number }
     ensures flaw { IfErr result (λ flaw. flaw ≡ Flaw.LongRead) }

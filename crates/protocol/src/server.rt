@@ -30,15 +30,19 @@ use std::io::{BufReader, BufWriter, Read, Write};
 /// The first version of the protocol.
 pub const VERSION: u8 = 1;
 
-/// Recovers a blob, and serves it: the input is a client's whole session, from its version or its
-/// offer of versions on, and the output gets all that it is answered. Whenever the program may have
-/// to wait for input, what was answered is out. What is answered last may be held back by the
-/// output: the caller flushes it.
+/// Recovers a blob, and serves it to one client. The input is the client's whole session, from its
+/// version or its offer of versions on, and the output gets all answers. Before a read that may
+/// have to wait for input, all answers are flushed. The output may still hold back the last ones:
+/// the caller must flush it.
 ///
-/// In the recovery no more goes than the setting allows: [`Stop::WouldCut`] where more would go.
-/// Then the blob was only looked at, and nothing is read or written. A client of version 2 is told
-/// how many bytes went, and these two names: of the checksum, and of the copy that the caller made
-/// of what may go, or an empty one.
+/// The recovery gives up at most [`Setting::allowed`] physical bytes. If it would give up more, the
+/// call answers [`Stop::WouldCut`]: the blob was only looked at, no input was read, and no answer
+/// was written. If the recovery fails, the client is answered with its error, and the call answers
+/// [`Stop::Refused`].
+///
+/// The hello of version 2 has how many physical bytes the recovery cut, and two names: `checksum`,
+/// and `set_aside` for the copy that the caller made of what may go, which is empty if there is no
+/// copy.
 pub fn serve_file<B: Blob + Cause, H: Sum, R: Read, W: Write + Drop>(
     alloc: Global,
     blob: &mut B,
@@ -72,7 +76,7 @@ pub fn serve_file<B: Blob + Cause, H: Sum, R: Read, W: Write + Drop>(
     )
 }
 
-// Serves a client that was greeted, over a blob that had so many bytes before its recovery.
+// Serves a client that was greeted, over a blob that had `len` physical bytes before its recovery.
 fn serve_greeted<B: Blob + Cause, H: Sum, R: Read, W: Write + Drop>(
     alloc: Global,
     len: u64,
@@ -110,7 +114,7 @@ fn serve_greeted<B: Blob + Cause, H: Sum, R: Read, W: Write + Drop>(
     }
 }
 
-// Begins a session, and writes the version and the size, which are out then.
+// Begins a session, writes the version and the size in logical bytes, and flushes them.
 fn greet<B: Blob + Cause, H: Sum, W: Write + Drop>(
     alloc: Global,
     blob: &mut B,
@@ -151,7 +155,8 @@ fn greet<B: Blob + Cause, H: Sum, W: Write + Drop>(
     Ok((session, cache))
 }
 
-// A session on a blob, and its cache, unless more would go than the setting allows.
+// Recovers a blob into a session and its cache, unless the recovery would give up more than the
+// setting allows.
 fn recover<B: Blob, H: Sum>(
     alloc: Global,
     blob: &mut B,
@@ -176,7 +181,7 @@ fn recover<B: Blob, H: Sum>(
     Ok((session, cache))
 }
 
-// Reads what a client begins with. What was written is out.
+// Reads what a client begins with. The caller has flushed all that was written.
 fn read_begun<R: Read, W: Write + Drop>(
     input: &mut R,
     _out: &BufWriter<W>,
@@ -188,13 +193,13 @@ fn read_begun<R: Read, W: Write + Drop>(
 }
 
 /// Takes the requests of the input as steps of the session, one after another, and writes an
-/// answer to each after its steps, up to a close or the end of the input; where the client may only
-/// read, a request for a change is refused, and no step taken. What was answered is out before the
-/// program reads a request that hasn't come whole. In the second version what is no request is
-/// answered too, and is the last.
+/// answer to each after its steps, up to a close or the end of the input. If the client may only
+/// read, a request for a change is refused, and none of its steps is taken. All answers are flushed
+/// before the program reads a request that hasn't come whole. In version 2, bytes that are no
+/// request are answered too, and end the session.
 ///
-/// [`Stop::Lost`] at the end, where the writer is gone then, with the last error that a request was
-/// answered with while there was one.
+/// [`Stop::Lost`] if the writer is gone at the end and a request was answered with an error: the
+/// last such error while there was a writer, or the first one if there never was a writer.
 pub fn serve<B: Blob + Cause, H: Sum, R: Read, W: Write + Drop>(
     alloc: Global,
     version: Version,
@@ -245,7 +250,7 @@ pub fn serve<B: Blob + Cause, H: Sum, R: Read, W: Write + Drop>(
     Err(Stop::Failed)
 }
 
-// Tells a client of the second version what is no request, and answers why the session stops.
+// Answers bytes that are no request, in version 2, and returns why the session stops.
 fn tell_flaw<W: Write>(alloc: Global, version: Version, stop: Stop, out: &mut W) -> Stop
     ensures { TellsStop version stop (W.contents out.old) (W.contents out.new) result }
 {
@@ -267,8 +272,8 @@ fn is_close(request: &Request) -> bool
     matches!(request, Request::Close)
 }
 
-// The later of two errors, where there was a writer as its request was taken, or no error before;
-// else the earlier.
+// The later of two errors, if there was a writer when its request was taken, or no earlier error.
+// Else the earlier one.
 fn later(fault: Option<Error>, next: Option<Error>, had_writer: bool) -> Option<Error>
     ensures { result ≡ later_fault fault next had_writer }
 {
@@ -289,8 +294,8 @@ fn end<B: Blob, H: Sum>(session: &Session<B, H>, fault: Option<Error>) -> Result
     }
 }
 
-// The request of this number. Where it hasn't come whole, what was answered is out before the rest
-// of it is waited for.
+// Reads the request of this number. If the request hasn't come whole, all answers are flushed
+// before the read, which may wait for the rest.
 fn next_request<R: Read, W: Write + Drop>(
     alloc: Global,
     version: Version,
@@ -321,7 +326,7 @@ fn holds_frame(bytes: &[u8]) -> bool
     }
 }
 
-// Reads the request of this number. It has come whole, or what was answered is out.
+// Reads the request of this number. Either it has come whole, or all answers are flushed.
 fn read_sent<R: Read, W: Write + Drop>(
     alloc: Global,
     version: Version,

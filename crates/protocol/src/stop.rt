@@ -7,20 +7,20 @@ use paged::Refusal;
 use std::alloc::AllocError;
 use std::{fmt, io};
 
-/// What is wrong with a request.
+/// What is wrong with a request. An offer of versions can be [`Flaw::Cut`] too.
 #[derive(Clone, Copy, Debug, PartialEq, Eq)]
 pub enum Flaw {
-    /// The input ends inside its frame.
+    /// The input ends inside the request's frame, or inside the offer.
     Cut,
-    /// Its frame is empty, without even a kind.
+    /// The request's frame is empty, without even a kind.
     Empty,
-    /// There is no kind of this number.
+    /// The version has no kind of this number.
     Kind(u8),
-    /// Its frame is longer or shorter than those of its kind.
+    /// The request's frame is longer or shorter than those of its kind.
     Length,
-    /// A read of more bytes than an answer holds.
+    /// The request reads more bytes than an answer holds, which is 2^32 - 2.
     LongRead,
-    /// A replay without a buffer.
+    /// The request begins a replay with a buffer of 0 bytes.
     NoBuffer,
 }
 
@@ -38,23 +38,25 @@ pub enum ReadError {
 /// Why the program ends before the end of its input.
 #[derive(Clone, Copy, Debug, PartialEq, Eq)]
 pub enum Stop {
-    /// The request of this number isn't one. The first has the number 1. Each before it was
-    /// answered.
+    /// The request of this number isn't one. The first request has the number 1, and the offer of
+    /// versions 0. Each request before this one was answered.
     Malformed(u64, Flaw),
-    /// The input begins with this byte, with which neither version 1 nor an offer of versions does.
+    /// The input begins with this byte. Version 1 begins with 1, and an offer of versions with 2.
     Version(u8),
-    /// The client offered versions, and none of them is known. It was told those that are.
+    /// The client offered versions, and none of them is known. The answer names those that are.
     NoVersion,
-    /// In a recovery of the file so many physical bytes at its end would go, which is more than
-    /// may: those that it cuts, and those of a torn last page. The file was only looked at.
+    /// A recovery would give up so many physical bytes at the end of the file, which is more than
+    /// the setting allows: those that it cuts, and those of a torn last page. The file was only
+    /// looked at.
     WouldCut(u64),
-    /// The recovery of the file was refused.
+    /// The recovery of the file was refused with this error.
     Refused(Error),
     /// The input ended, or the client closed, and the writer was gone. This error is the last one
     /// that a request was answered with while there was a writer. What was synced is in the file;
     /// what was appended since may not be.
     Lost(Error),
-    /// The answer to a request is longer than a frame.
+    /// The answer to a request, or the hello, is longer than a frame. The steps of the request were
+    /// taken.
     LongAnswer,
     /// The input or the output failed.
     Failed,
@@ -63,7 +65,7 @@ pub enum Stop {
 }
 
 impl Stop {
-    /// Why a session stops whose request of this number isn't read.
+    /// Why a session stops if its request of this number isn't read.
     pub(crate) fn at(number: u64, error: ReadError) -> Self
         ensures { result ≡ stop_at number error }
     {
@@ -74,7 +76,8 @@ impl Stop {
         }
     }
 
-    /// The exit status.
+    /// The exit status: 2 if the client broke the protocol or offered no known version, 3 for
+    /// [`Stop::WouldCut`], else 1.
     pub fn status(self) -> u8
         ensures { result ≡ status_of self }
     {

@@ -29,9 +29,9 @@ use session::{Reply, Session, Step, run};
 use std::alloc::{AllocError, Global};
 use std::io::{self, Write};
 
-/// Takes the steps of a request, unless it is refused, and writes its answer after them. Returns
-/// the first error of their replies, if there is one. The room for the replies is kept from request
-/// to request, and the replies are not.
+/// Takes the steps of a request, unless the request is refused, and then writes its answer. Returns
+/// the first error of the replies, if there is one. `replies` must be empty, and is so again at
+/// `Ok`: only its memory is kept from request to request.
 pub fn take_request<B: Blob + Cause, H: Sum, W: Write>(
     alloc: Global,
     version: Version,
@@ -113,7 +113,7 @@ pub fn take_request<B: Blob + Cause, H: Sum, W: Write>(
     }
 }
 
-// Writes an answer that gives nothing, and sends all answers.
+// Writes an answer without a payload, and flushes all answers.
 fn write_flushed<W: Write>(out: &mut W) -> Result<(), Stop>
     ensures answers { OnOk result
         (Appends (W.contents out.old) (W.contents out.new) (frame_bytes (0 ∷ []))) }
@@ -124,7 +124,7 @@ fn write_flushed<W: Write>(out: &mut W) -> Result<(), Stop>
     Ok(())
 }
 
-// Writes an answer that tells how many snapshots and replays are open.
+// Writes an answer with how many snapshots and how many replays are open.
 #[tactic(auto, unfolding(crate::specs::Request::number_bytes))]
 fn write_open<W: Write>(out: &mut W, snapshots: usize, replays: usize) -> Result<(), Stop>
     ensures answers { let told = number_bytes snapshots ++ number_bytes replays in
@@ -150,7 +150,7 @@ fn is_change(request: &Request) -> bool
     }
 }
 
-// Answers a request for a change, where the client may only read.
+// Answers a request for a change by a client that may only read.
 fn refuse_change<W: Write>(alloc: Global, version: Version, out: &mut W) -> Result<(), Stop>
     ensures { let out_old = W.contents out.old in
         WritesAnswer (IsChangeRefused version) out_old (W.contents out.new) result }
@@ -161,7 +161,7 @@ fn refuse_change<W: Write>(alloc: Global, version: Version, out: &mut W) -> Resu
     }
 }
 
-// Takes these steps: their replies are all that there are then.
+// Takes these steps, and leaves their replies, and no others, in `replies`.
 fn take_steps<B: Blob, H: Sum>(
     replies: &mut Vec<Reply>,
     session: &mut Session<B, H>,
@@ -184,7 +184,7 @@ fn take_steps<B: Blob, H: Sum>(
     }
 }
 
-// What became of an answer, and the first error of the replies, which go.
+// Empties `replies`. Returns the first error among them, or why the answer wasn't written.
 fn finish(replies: &mut Vec<Reply>, written: Result<(), Stop>) -> Result<Option<Error>, Stop>
     ensures none { OnOk result (replies.new.items ≡ []) }
     ensures told { Finishes replies.old.items written result }
@@ -245,7 +245,7 @@ fn answer<W: Write>(
     }
 }
 
-// Answers the only reply.
+// Answers the only reply, in version 1.
 fn answer_one<W: Write>(out: &mut W, replies: &[Reply]) -> Result<(), Stop>
     requires { length replies.now ≡ 1 }
     ensures { let out_old = W.contents out.old in
@@ -320,7 +320,7 @@ fn answer_last<W: Write>(
     write_last(out, replies)
 }
 
-// Reads the ranges that these bytes tell.
+// Reads the ranges that these bytes encode, and answers, or refuses bytes that encode none.
 fn take_ranges<B: Blob + Cause, H: Sum, W: Write>(
     alloc: Global,
     replies: &mut Vec<Reply>,
@@ -352,7 +352,7 @@ fn take_ranges<B: Blob + Cause, H: Sum, W: Write>(
     )
 }
 
-// Answers a request whose bytes tell no records, or no ranges.
+// Refuses a request whose bytes can't be read as records, or as ranges.
 fn tell_unreadable<W: Write>(alloc: Global, out: &mut W) -> Result<Option<Error>, Stop>
     ensures { let out_old = W.contents out.old in
         TellsUnreadable out_old (W.contents out.new) result }
@@ -361,7 +361,8 @@ fn tell_unreadable<W: Write>(alloc: Global, out: &mut W) -> Result<Option<Error>
     Ok(None)
 }
 
-// Appends the records that these bytes tell, and does what follows.
+// Appends the records that these bytes encode, does what follows, and answers, or refuses bytes
+// that encode none.
 fn take_records<B: Blob + Cause, H: Sum, W: Write>(
     alloc: Global,
     replies: &mut Vec<Reply>,
@@ -405,7 +406,7 @@ fn copy_from(alloc: Global, bytes: &[u8], start: usize) -> Result<Vec<u8>, Alloc
     Ok(copy)
 }
 
-// Takes this step, and what follows an append.
+// Takes this append, and then a sync, the start of a sync, or nothing.
 fn append_then<B: Blob, H: Sum>(
     replies: &mut Vec<Reply>,
     session: &mut Session<B, H>,

@@ -1,4 +1,4 @@
-// Requests that tell records, or ranges, by their bytes.
+// Requests whose bytes encode records, or ranges.
 ghost use Rattle.std.specs.Prelude.{◌≡◌, ◌<◌, ◌+◌, ◌^◌, is_some, take, drop, length, IfSome, IfErr};
 ghost use Rattle.std.specs.Prelude.{IfOk, OnOk};
 ghost use Rattle.std.specs.List.{flat_map, sum};
@@ -12,11 +12,11 @@ use crate::stop::Stop;
 use std::alloc::{AllocError, Global};
 use std::io::Write;
 
-// The bytes that tell a range: an offset and a length.
+// How many bytes encode a range: an offset and a length, eight bytes each.
 const RANGE: usize = 16;
 
-/// The lengths of the records that a request's bytes tell, four bytes each; none where they don't
-/// tell records.
+/// The lengths of the records that a request's bytes encode, four bytes each. `None` if the bytes
+/// encode no records, or an answer can't hold the offsets of so many.
 pub fn record_lengths(fields: &[u8]) -> Option<&[u8]>
     requires { length fields.now < 2 ^ 32 }
     ensures tells { is_some result ≡ tells_records fields.now }
@@ -35,7 +35,7 @@ pub fn record_lengths(fields: &[u8]) -> Option<&[u8]>
     Some(lengths)
 }
 
-// What these lengths come to.
+// The sum of these lengths.
 fn total(lengths: &[u8]) -> u64
     requires { length lengths.now < 2 ^ 32 }
     ensures { result ≡ sum (lengths_in lengths.now) }
@@ -49,7 +49,7 @@ fn total(lengths: &[u8]) -> u64
     total
 }
 
-/// Writes where each record begins, if the first one begins here.
+/// Writes the logical offset of each record, if the first one begins at `first`.
 #[tactic(auto, unfolding(crate::specs::Request::number_bytes))]
 pub fn write_starts<W: Write>(out: &mut W, first: u64, lengths: &[u8]) -> Result<(), Stop>
     requires { first + sum (lengths_in lengths.now) < 2 ^ 64 }
@@ -67,8 +67,8 @@ pub fn write_starts<W: Write>(out: &mut W, first: u64, lengths: &[u8]) -> Result
     Ok(())
 }
 
-/// The ranges that a request's bytes tell, each an offset and a length; none where they don't tell
-/// ranges, or an answer doesn't hold their bytes.
+/// The ranges that a request's bytes encode, each a logical offset and a length in bytes. `None` if
+/// the bytes encode no ranges, or an answer can't hold what the ranges ask for.
 pub fn ranges_of(alloc: Global, fields: &[u8]) -> Result<Option<Vec<(u64, usize)>>, AllocError>
     requires { length fields.now < 2 ^ 32 }
     ensures tells { IfOk result (λ ranges. is_some ranges ≡ tells_ranges fields.now) }

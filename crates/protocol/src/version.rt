@@ -5,9 +5,9 @@ ghost use Rattle.protocol.specs.Request.{last_kind};
 /// A version of the protocol.
 #[derive(Clone, Copy, Debug, PartialEq, Eq)]
 pub enum Version {
-    /// Each request is one step, and a refusal tells only its status.
+    /// Each request is one step, and a refusal has only a status.
     One,
-    /// Requests that belong together are one, and a refusal tells its cause.
+    /// Steps that belong together can be one request, and a refusal also has its cause.
     Two,
 }
 

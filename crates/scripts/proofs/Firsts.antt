@@ -18,7 +18,7 @@ no_size words d below unread (Items start) is same =
     let item : get_or (map (λ (w : Bor (List ℕ)). w.now) words) 4 [] ≡ (get_or words 4 d).now = get_or-map (λ (w : Bor (List ℕ)). w.now) words 4 d [] below in
     unread start.size is.1 (sym item ∙ ap (λ (l : List (List ℕ)). get_or l 5 []) same)
 
--- the same of what reading a first line answers
+-- a first line whose last word is no item size isn't read
 pub size_unread : (words : List (Bor (List ℕ))) (d : Bor (List ℕ)) (e : ReadError) → 4 < length words
     → IsReadAs (λ (size : NonZeroUsize). decimal (non_zero_usize_get size)) (λ size. IsItemSize (non_zero_usize_get size)) (get_or words 4 d).now (Err e)
     → IsReadAs first_words IsFirst (codes "start-items" ∷ map (λ (w : Bor (List ℕ)). w.now) words) (Err e)

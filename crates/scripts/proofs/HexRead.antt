@@ -150,7 +150,7 @@ not_refused : (word : List ℕ) (e : FromHexError) (bytes : List ℕ) → (e ≡
 not_refused word e bytes (inl memory) decoded other = other memory
 not_refused word e bytes (inr refused) decoded other = let no : Err e ≡ Ok bytes = sym refused ∙ decoded in cc
 
--- where decoding is refused, but for memory, the word is that of no bytes
+-- where decoding is refused, except for memory, no bytes have this word
 pub hex_refused-reads : (word : List ℕ) (e : FromHexError) → (e ≡ hex.OutOfMemory) ⊎ (decode_of word ≡ Err e) → word ≢ codes "-"
     → IsReadAs (λ (bytes : Vec ℕ Global). hex_of bytes.items) (λ bytes. AreByteValues bytes.items) word (Err (hex_refused e))
 hex_refused-reads word hex.OutOfMemory refused other = tt
@@ -158,7 +158,7 @@ hex_refused-reads word (hex.InvalidHexCharacter c i) refused other = λ v all sa
 hex_refused-reads word hex.OddLength refused other = λ v all same. not_refused word _ v.items refused (hex_of-decoded word v.items all same other) (λ memory. cc)
 hex_refused-reads word hex.InvalidStringLength refused other = λ v all same. not_refused word _ v.items refused (hex_of-decoded word v.items all same other) (λ memory. cc)
 
--- the same of what the conversion of the error gave
+-- what the conversion of that error gives is what reading the word answers
 pub converted-reads : (word : List ℕ) (r : Result (Vec ℕ Global) ReadError) (e : FromHexError) → IsErrAnd r (λ x. x ≡ hex_refused e) → (e ≡ hex.OutOfMemory) ⊎ (decode_of word ≡ Err e) → word ≢ codes "-"
     → IsReadAs (λ (bytes : Vec ℕ Global). hex_of bytes.items) (λ bytes. AreByteValues bytes.items) word r
 converted-reads word (Ok bytes) e gives refused other = absurd gives

@@ -48,7 +48,7 @@ no_one_word name a b c d e f g h i j k (Step (Snap index offset len)) is same = 
 no_one_word name a b c d e f g h i j k (Step (ReadRanges ranges)) is same = no_name_alone ranges.items _ _ is same
 no_one_word name a b c d e f g h i j k (Step (TryReadRanges ranges)) is same = no_name_alone ranges.items _ _ is same
 
--- one of two words begins with one of these
+-- a line of two words begins with one of these
 pub no_two_words : (name word : List ℕ) → name ≢ codes "ranges" → name ≢ codes "cached-ranges" → name ≢ codes "append" → name ≢ codes "owned" → name ≢ codes "try" → name ≢ codes "wait-sync" → name ≢ codes "truncate" → name ≢ codes "fail" → name ≢ codes "crash" → name ≢ codes "replay"
     → (v : Line) → IsLine v → name ∷ word ∷ [] ≢ line_words v
 no_two_words name word x y a b c d e f g h (Step (Append bytes)) is same = a cc
@@ -83,7 +83,7 @@ no_two_words name word x y a b c d e f g h (Step Seal) is same = cc
 no_two_words name word x y a b c d e f g h (Step (DropSnapshot index)) is same = absurd is
 no_two_words name word x y a b c d e f g h (Step (DropReplay index)) is same = absurd is
 
--- one of three words begins with one of these
+-- a line of three words begins with one of these
 pub no_three_words : (name first second : List ℕ) → name ≢ codes "ranges" → name ≢ codes "cached-ranges" → name ≢ codes "read" → name ≢ codes "upto" → name ≢ codes "cached" → name ≢ codes "ensure" → name ≢ codes "take" → name ≢ codes "seek"
     → (v : Line) → IsLine v → name ∷ first ∷ second ∷ [] ≢ line_words v
 no_three_words name first second x y a b c d e f (Step (Read offset len)) is same = a cc
@@ -118,7 +118,7 @@ no_three_words name first second x y a b c d e f (Step Seal) is same = cc
 no_three_words name first second x y a b c d e f (Step (DropSnapshot index)) is same = absurd is
 no_three_words name first second x y a b c d e f (Step (DropReplay index)) is same = absurd is
 
--- one of four words begins with one of these
+-- a line of four words begins with one of these
 pub no_four_words : (name first second third : List ℕ) → name ≢ codes "ranges" → name ≢ codes "cached-ranges" → name ≢ codes "snap" → name ≢ codes "scan" → (v : Line) → IsLine v → name ∷ first ∷ second ∷ third ∷ [] ≢ line_words v
 no_four_words name first second third x y a b (Step (Snap index offset len)) is same = a cc
 no_four_words name first second third x y a b (Step (ReadRanges ranges)) is same = x cc

@@ -41,7 +41,7 @@ colon-at word at range first is same =
           ]
     ]
 
--- so what stands before it is the offset, and what stands after it the length
+-- what stands before the first colon is the offset, and what stands after it the length
 offset-of : (word : List ℕ) (at : ℕ) (range : ℕ × ℕ) → IsFirstColon word at → IsRangeOfU64 range → word ≡ range_word range → take at word ≡ decimal range.0
 offset-of word at range first is same =
     let e = colon-at word at range first is same in
@@ -57,14 +57,14 @@ pub offset-unread : (word : List ℕ) (at : ℕ) (e : ReadError) → IsFirstColo
 offset-unread word at Unreadable first unread = λ range is same. unread range.0 is.0 (offset-of word at range first is same)
 offset-unread word at OutOfMemory first unread = tt
 
--- nor where what stands after it is none
+-- a word is no range where what stands after its first colon is no number
 pub length-unread : (word : List ℕ) (at : ℕ) (e : ReadError) → IsFirstColon word at → IsReadAs decimal IsU64 (take (length word - (at + 1)) (drop (at + 1) word)) (Err e) → IsReadAs range_word IsRangeOfU64 word (Err e)
 length-unread word at Unreadable first unread = λ range is same.
     let all = take_all (length word - (at + 1)) (drop (at + 1) word) (omega (arith, length-drop (at + 1) word)) in
     unread range.1 is.1 (all ∙ length-of word at range first is same)
 length-unread word at OutOfMemory first unread = tt
 
--- nor where there is no colon
+-- a word without a colon is no range
 pub no_colon-unread : (word : List ℕ) → ((k : ℕ) → k < length word → get_or word k 0 ≢ 58) → (range : ℕ × ℕ) → IsRangeOfU64 range → word ≢ range_word range
 no_colon-unread word none range is same =
     let long : length word ≡ length (range_word range) = ap (λ (w : List ℕ). length w) same in
@@ -91,7 +91,7 @@ one_range_more read words i range d below so_far this =
     let item : get_or nows i [] ≡ (get_or words i d).now = get_or-map (λ (w : Bor (List ℕ)). w.now) words i d [] below in
     map-append range_word read (range ∷ []) ∙ rw (so_far, take_more nows i [] there, item, this) refl
 
--- no ranges have words of which one is no range
+-- words of which one is no range are no ranges
 pub ranges-unread : (words : List (Bor (List ℕ))) (i : ℕ) (e : ReadError) (d : Bor (List ℕ)) → i < length words → IsReadAs range_word IsRangeOfU64 (get_or words i d).now (Err e)
     → IsReadAs (λ (ranges : Vec (ℕ × ℕ) Global). ranges_words ranges.items) (λ ranges. AreRangesOfU64 ranges.items) (map (λ (w : Bor (List ℕ)). w.now) words) (Err e)
 ranges-unread words i Unreadable d below unread = λ v are same.

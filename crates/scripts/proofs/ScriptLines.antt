@@ -57,7 +57,7 @@ stops words IsOne others read i Unreadable below so_far this =
     )
 stops words IsOne others read i OutOfMemory below so_far this = tt
 
--- the same of lines that are lent
+-- a borrowed line that isn't read, after those that were
 pub stops_at : {V : Type 0} (words : V → List (List ℕ)) (IsOne : V → Type 0) (lines : List (Bor (List ℕ))) (read : List V) (i : ℕ) (e : ReadError) (d : Bor (List ℕ)) → i < length lines
     → map words read ≡ map words_of (take i (map (λ (l : Bor (List ℕ)). l.now) lines)) → IsReadAs words IsOne (words_of (get_or lines i d).now) (Err e)
     → ReadsLines words IsOne (map (λ (l : Bor (List ℕ)). l.now) lines) (Err (error_at (i + 2) e))
@@ -91,14 +91,14 @@ stopped form words IsOne first others (stop.Unreadable (suc (suc n))) begins rea
     (omega arith, omega (arith, fails.1), form, rw one (bars n (get_or others n []) unread), λ p before. before_it form words first others n begins reads fails.3 p before)
 stopped form words IsOne first others stop.Failed begins reads bars fails = tt
 
--- after the line `start`
+-- what reading answers where a line after the line `start` isn't read
 pub stopped_session : (first : List ℕ) (others : List (List ℕ)) (start : Start) (r : Result Script Stop) (e : Stop) → (words_of first ≡ start_words start) × IsStart start → ReadsLines line_words IsLine others (Err e)
     → IsErrAnd r (λ x. x ≡ e) → ReadsScript (first ∷ others) r
 stopped_session first others start (Ok read) e begins fails gives = absurd gives
 stopped_session first others start (Err x) e begins fails gives =
     rw gives (stopped of_session line_words IsLine first others e (start, begins.0, begins.1) (λ p line read. read) (λ p line unread. unread) fails)
 
--- after the line `start-items`
+-- what reading answers where a line after the line `start-items` isn't read
 pub stopped_items : (first : List ℕ) (others : List (List ℕ)) (start : ItemStart) (r : Result Script Stop) (e : Stop) → (words_of first ≡ item_start_words start) × IsItemStart start → ReadsLines item_line_words IsItemLine others (Err e)
     → IsErrAnd r (λ x. x ≡ e) → ReadsScript (first ∷ others) r
 stopped_items first others start (Ok read) e begins fails gives = absurd gives

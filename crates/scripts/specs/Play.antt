@@ -14,8 +14,8 @@ IsScript bytes = (read : Script) × ReadsScript (lines_of bytes) (Ok read)
 abbrev pub IsNoScript : ℕ → List ℕ → Type 0
 IsNoScript number bytes = ReadsScript (lines_of bytes) (Err (Unreadable number))
 
--- a play of this input, where it is known, and what was written then: the whole script, or nothing
--- where a line can't be read
+-- how a play ends, where the bytes of the input are known: they are a script; or a line of them
+-- can't be read, and nothing was written
 abbrev pub Plays : Option (List ℕ) → Option (List ℕ) → Option (List ℕ) → Result (Unit {0}) Stop
     → Type 0
 Plays input old new (Ok u) = IfSome input IsScript

@@ -37,14 +37,14 @@ use Rattle.std.specs.Prelude.{Vec}
 use Rattle.std.specs.declared.alloc.Global.{Global}
 use Rattle.scripts.specs.Text.{hex_of}
 
--- what reading answers, where each value has a text: the value of which this is the text, or that
--- it is the text of none
+-- what reading answers, where `text` is how a value is written: the value that is written so, or
+-- `Unreadable` if no value is
 abbrev pub IsReadAs : {V T : Type 0} → (V → T) → (V → Type 0) → T → Result V ReadError → Type 0
 IsReadAs text IsOne read (Ok v) = (read ≡ text v) × IsOne v
 IsReadAs {V} text IsOne read (Err Unreadable) = (v : V) → IsOne v → read ≢ text v
 IsReadAs text IsOne read (Err OutOfMemory) = Unit {0}
 
--- why a word isn't read where it isn't decoded
+-- why a word isn't read, by why its hexadecimal digits aren't decoded
 abbrev pub hex_refused : FromHexError → ReadError
 hex_refused hex.OutOfMemory = OutOfMemory
 hex_refused _ = Unreadable
@@ -53,7 +53,7 @@ hex_refused _ = Unreadable
 abbrev pub IsU64 : ℕ → Type 0
 IsU64 n = n < 2 ^ 64
 
--- there is a sign, or a zero in front of another digit
+-- the word begins with `+`, or with a `0` that another byte follows
 abbrev pub HasLead : List ℕ → Type 0
 HasLead word = (slice_index word 0 ≡ 43) ⊎ ((slice_index word 0 ≡ 48) × (1 < length word))
 
@@ -70,15 +70,15 @@ abbrev pub flags_text : List Bool → List ℕ
 flags_text [] = codes "-"
 flags_text (flag ∷ flags) = map flag_digit (flag ∷ flags)
 
--- the parts between the bytes that are this one
+-- the parts of some bytes, split at each byte that equals this one
 abbrev pub parts_of : ℕ → List ℕ → List (List ℕ)
 parts_of at bytes = slice_split (λ byte. byte == at) bytes
 
--- the words of a line: one space parts two of them
+-- the words of a line, split at each space
 abbrev pub words_of : List ℕ → List (List ℕ)
 words_of line = parts_of 32 line
 
--- all but the line feed at the end, where there is one
+-- the input without the line feed at its end, if there is one
 abbrev pub without_last_feed : List ℕ → List ℕ
 without_last_feed input =
     if starts_with nat_eq (drop (length input - 1) input) (10 ∷ [])
@@ -95,7 +95,8 @@ sum_word Add = codes "add"
 sum_word Const = codes "const"
 sum_word Crc32c = codes "crc32c"
 
--- the words of what a script runs over
+-- the words that both forms of a first line have: the page size and the capacity in bytes, the
+-- pages of the cache, and the checksum function
 abbrev pub settings_words : Start → List (List ℕ)
 settings_words start =
     decimal (non_zero_u16_get start.page_size) ∷ decimal start.capacity
@@ -116,7 +117,7 @@ abbrev pub first_words : First → List (List ℕ)
 first_words (first.Session start) = start_words start
 first_words (first.Items start) = item_start_words start
 
--- a range of bytes as a word: its index, a colon and its length
+-- a range of bytes as a word: its offset, a colon and its length
 abbrev pub range_word : ℕ × ℕ → List ℕ
 range_word range = decimal range.0 ++ 58 ∷ decimal range.1
 
@@ -124,7 +125,7 @@ range_word range = decimal range.0 ++ 58 ∷ decimal range.1
 abbrev pub ranges_words : List (ℕ × ℕ) → List (List ℕ)
 ranges_words ranges = map range_word ranges
 
--- the words of a step; a script has none for letting go
+-- the words of a step; no line of a script drops a snapshot or a replay
 abbrev pub step_words : step.Step → List (List ℕ)
 step_words (Append bytes) = codes "append" ∷ hex_of bytes.items ∷ []
 step_words (Owned bytes) = codes "owned" ∷ hex_of bytes.items ∷ []
@@ -183,7 +184,7 @@ item_line_words line.Dump = codes "dump" ∷ []
 abbrev pub IsRangeOfU64 : ℕ × ℕ → Type 0
 IsRangeOfU64 range = IsU64 range.0 × IsU64 range.1
 
--- there are ranges, and their numbers are in range
+-- there is at least one range, and the numbers of each are of 64 bits
 abbrev pub AreRangesOfU64 : List (ℕ × ℕ) → Type 0
 AreRangesOfU64 ranges = (0 < length ranges) × All IsRangeOfU64 ranges
 
@@ -258,8 +259,8 @@ pub data Form : Type 0 where
   of_session : Form
   of_items : Form
 
--- the line at this index of a script of this form can be read: index 0 has the first line, which
--- tells the form
+-- the line at this index of a script of this form can be read: index 0 is the first line, which
+-- names the form
 abbrev pub IsReadable : Form → ℕ → List ℕ → Type 0
 IsReadable of_session zero line =
     (start : Start) × (words_of line ≡ start_words start) × IsStart start
@@ -268,7 +269,7 @@ IsReadable of_items zero line =
 IsReadable of_session (suc index) line = (read : Line) × (words_of line ≡ line_words read)
 IsReadable of_items (suc index) line = (read : ItemLine) × (words_of line ≡ item_line_words read)
 
--- the line at this index is one of no script of this form; the first line, of no script at all
+-- no script of this form has this line at this index; at index 0, no script of either form has it
 abbrev pub IsUnreadable : Form → ℕ → List ℕ → Type 0
 IsUnreadable form zero line = (first : First) → IsFirst first → words_of line ≢ first_words first
 IsUnreadable of_session (suc index) line =
@@ -276,8 +277,8 @@ IsUnreadable of_session (suc index) line =
 IsUnreadable of_items (suc index) line =
     (read : ItemLine) → IsItemLine read → words_of line ≢ item_line_words read
 
--- what reading these lines answers: the script whose lines they are, or the number of the first
--- that can't be read, from 1, in a script of the form that the first line tells
+-- what reading these lines answers: the script whose lines they are, or the number, from 1, of the
+-- first line that can't be read in a script of the form that the first line names
 abbrev pub ReadsScript : List (List ℕ) → Result Script Stop → Type 0
 ReadsScript lines (Ok (script.Session start read)) =
     (map words_of lines ≡ start_words start ∷ map line_words read.items) × IsStart start
@@ -290,8 +291,9 @@ ReadsScript lines (Err (stop.Unreadable number)) =
     × ((index : ℕ) → index + 1 < number → IsReadable form index (slice_index_or lines index []))
 ReadsScript lines (Err stop.Failed) = Unit {0}
 
--- what reading the lines after the first answers, for a kind of line with these words, of which
--- these are in range: what the lines ask for, or the number of the first that can't be read, from 2
+-- what reading the lines after the first answers, where `words` is how a line is written, and
+-- `IsOne` whether its numbers are in range: what the lines ask for, or the number of the first that
+-- can't be read; the first of these lines has the number 2
 abbrev pub ReadsLines : {V : Type 0} → (V → List (List ℕ)) → (V → Type 0) → List (List ℕ)
     → Result (Vec V Global) Stop → Type 0
 ReadsLines words IsOne lines (Ok read) = map words_of lines ≡ map words read.items

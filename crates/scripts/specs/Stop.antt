@@ -6,7 +6,7 @@ use Rattle.scripts.specs.declared.stop.Stop.TheVariants as stop
 use Rattle.scripts.specs.declared.word.ReadError.{ReadError}
 use Rattle.scripts.specs.declared.word.ReadError.TheVariants.{Unreadable, OutOfMemory}
 
--- where the line of this number isn't read
+-- why a script stops whose line of this number isn't read
 abbrev pub error_at : ℕ → ReadError → Stop
 error_at number Unreadable = stop.Unreadable number
 error_at number OutOfMemory = stop.Failed

@@ -39,7 +39,7 @@ const NAMES: [&str; 29] = [
     "dump",
 ];
 
-/// The names of those in a script of items.
+/// The names of the lines after the first in a script of items.
 const ITEM_NAMES: [&str; 8] = [
     "push", "get", "len", "sync", "fail", "crash", "recover", "dump",
 ];
@@ -47,7 +47,7 @@ const ITEM_NAMES: [&str; 8] = [
 /// How many bytes of a text are shown at most.
 const MOST_SHOWN: usize = 60;
 
-/// Which line of a script a line is.
+/// Where a line stands in a script: first, or after the first in one of the two forms.
 #[derive(Clone, Copy)]
 enum Place {
     First,
@@ -66,7 +66,7 @@ impl Place {
     }
 }
 
-/// What a word is to be.
+/// What a word must be.
 #[derive(Clone, Copy)]
 enum Form {
     Start,
@@ -86,7 +86,7 @@ enum Form {
 }
 
 impl Form {
-    /// What the word at an index of a first line of this name is to be.
+    /// What the word at this index must be in a first line that begins with `name`.
     fn at_start(name: &[u8], index: usize) -> Self {
         match index {
             0 => Form::Start,
@@ -99,7 +99,8 @@ impl Form {
         }
     }
 
-    /// What the word after the name of another line is to be, the first one at index 1.
+    /// What the word at this index must be in a later line that begins with `name`, which has
+    /// index 0.
     fn after(name: &[u8], index: usize) -> Self {
         match name {
             b"append" | b"owned" | b"try" | b"push" if index == 1 => Form::Hex,
@@ -118,7 +119,7 @@ impl Form {
         }
     }
 
-    /// Whether a word is of this form. Where there is no memory to find out it counts as one.
+    /// Whether a word has this form. A word that there is no memory to read counts as having it.
     fn fits(self, alloc: Global, word: &[u8]) -> bool {
         match self {
             Form::Start => matches!(word, b"start" | b"start-items"),
@@ -176,7 +177,7 @@ fn is_read<T: Drop>(read: Result<T, ReadError>) -> bool {
     !matches!(read, Err(ReadError::Unreadable))
 }
 
-/// What the word at this index of a line is to be.
+/// What the word at this index of a line must be.
 fn form_at(place: Place, words: &[&[u8]], index: usize) -> Form {
     match (place, words) {
         (Place::First, [name, ..]) => Form::at_start(name, index),
@@ -187,8 +188,8 @@ fn form_at(place: Place, words: &[&[u8]], index: usize) -> Form {
     }
 }
 
-/// The first word of a line that isn't what it is to be, by its index, and what it is to be; the
-/// index after the last word where one is missing.
+/// The index of the first wrong word of a line, and what that word must be. If a word is missing,
+/// the index is the one after the last word.
 fn first_fault(alloc: Global, place: Place, words: &[&[u8]]) -> Option<(usize, Form)> {
     for (index, word) in words.iter().enumerate() {
         let form = form_at(place, words, index);
@@ -202,8 +203,8 @@ fn first_fault(alloc: Global, place: Place, words: &[&[u8]]) -> Option<(usize, F
     }
 }
 
-/// Bytes between backquotes: as they are where they are printable characters, and the first of
-/// them alone where there are many.
+/// Bytes between backquotes. Printable characters are shown as they are, other bytes as `\x` and
+/// two digits. Of many bytes only the first [`MOST_SHOWN`] are shown.
 #[derive(Clone, Copy)]
 struct Shown<'a>(&'a [u8]);
 
@@ -221,7 +222,7 @@ impl fmt::Display for Shown<'_> {
     }
 }
 
-/// Says which word of the line of this number is wrong, and what it is to be.
+/// Writes which word of the line of this number is wrong, and what that word must be.
 pub fn explain<E: Write>(alloc: Global, text: &[u8], number: u64, err: &mut E) -> io::Result<()> {
     let lines = parts(alloc, without_last_feed(text), b'\n')?;
     let at = number.saturating_sub(1) as usize;

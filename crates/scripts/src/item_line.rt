@@ -12,17 +12,19 @@ use std::num::NonZeroU64;
 pub enum ItemLine {
     /// A step of the items.
     Step(ItemStep),
-    /// The device call of this number from now on is to fail.
+    /// Makes the device call of this number fail, and no other one: the next call is number 1.
     Fail(NonZeroU64),
-    /// A crash that keeps what these flags say of what isn't durable.
+    /// Crashes the blob. Of what isn't durable, each byte of a write and each resize whose flag is
+    /// true is kept, in order; a missing flag is false.
     Crash(Vec<bool>),
-    /// A recovery after a crash.
+    /// Recovers the items after a crash.
     Recover,
-    /// Shows the readable bytes.
+    /// Writes the blob's readable bytes, which are physical, in hexadecimal.
     Dump,
 }
 
-/// Reads a line after the first of a script of items.
+/// Reads a line after the first, in a script of items. [`ReadError::Unreadable`] if no line is
+/// written so, [`ReadError::OutOfMemory`] if there is no memory to read it.
 pub fn parse_item_line(alloc: Global, line: &[u8]) -> Result<ItemLine, ReadError>
     ensures reads { IsReadAs item_line_words IsItemLine (words_of line.now) result }
 {

@@ -17,10 +17,11 @@ pub struct ItemStage<H: Sum> {
     alloc: Global,
     start: ItemStart,
     blob: MemBlob,
-    // None where there was no memory for it.
+    // `None` if there was no memory for the cache.
     cache: Option<CacheRef>,
     session: ItemSession<MemBlob, H>,
-    // Whether a crash stands before, with no line between that rules a recovery out.
+    // Whether a recovery may follow: the blob crashed, and no step, recovery or refused crash came
+    // since then.
     crashed: bool,
 }
 
@@ -48,8 +49,8 @@ impl<H: Sum> ItemStage<H> {
         }
     }
 
-    /// Recovers the items of the blob, and writes how many are left; where the recovery is refused
-    /// there are none to go on with.
+    /// Recovers the items of the blob, and writes how many are left. If the recovery is refused, it
+    /// writes the error, and the session has no items.
     pub fn open<W: Write>(&mut self, out: &mut W) -> io::Result<()> {
         match self.recover() {
             Ok(count) => writeln!(out, "recovered {count}"),

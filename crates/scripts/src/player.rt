@@ -16,9 +16,11 @@ use std::alloc::Global;
 use std::io;
 use std::io::{BufWriter, Read, Write};
 
-/// Plays the script that `input` holds, writes its replies to `out`, and answers the exit status.
-/// Where that isn't 0, `err` gets a line that says why, and where a line can't be read a second one
-/// that says what was expected there.
+/// Plays the script that `input` holds, writes its replies to `out`, and answers the exit status: 0
+/// at the end of the script, 2 if a line can't be read, and 1 if the input, the output or memory
+/// failed. With 2 nothing is played.
+///
+/// With 1 or 2 it writes to `err` why, and with 2 also what was expected of the line.
 pub fn play_on<R: Read, W: Write, E: Write>(
     alloc: Global,
     input: &mut R,
@@ -41,7 +43,7 @@ pub fn play_on<R: Read, W: Write, E: Write>(
     }
 }
 
-/// Plays a script with a reader and writers of its own.
+/// [`play_on`] with a reader and writers that the call takes and drops.
 pub fn play<R: Read + Drop, W: Write + Drop, E: Write + Drop>(
     alloc: Global,
     mut input: R,
@@ -56,8 +58,8 @@ pub fn play<R: Read + Drop, W: Write + Drop, E: Write + Drop>(
     play_on(alloc, &mut input, &mut out, &mut err)
 }
 
-// Says why a script stops, whose text this is; and where a line of it can't be read, in a line
-// below, what is wrong with that.
+// Writes why the script with this text stops. If a line of the script can't be read, a second line
+// says what is wrong with that one.
 fn say<E: Write>(alloc: Global, stop: Stop, text: &[u8], err: &mut E) -> io::Result<()> {
     writeln!(err, "{stop}")?;
     match stop {
@@ -66,7 +68,7 @@ fn say<E: Write>(alloc: Global, stop: Stop, text: &[u8], err: &mut E) -> io::Res
     }
 }
 
-// The input is put in `text`.
+// Reads the input into `text`, and plays it as a script.
 fn play_input<R: Read, W: Write>(
     alloc: Global,
     input: &mut R,

@@ -26,7 +26,7 @@ pub enum Script {
 }
 
 impl Script {
-    /// The name of its checksum function.
+    /// The name of the script's checksum function.
     pub fn sum(&self) -> SumName {
         match self {
             Script::Session(start, _) => start.sum,
@@ -40,25 +40,26 @@ impl Script {
 pub enum Line {
     /// A step of the session.
     Step(Step),
-    /// The device call of this number from now on is to fail.
+    /// Makes the device call of this number fail, and no other one: the next call is number 1.
     Fail(NonZeroU64),
-    /// A crash that keeps what these flags say of what isn't durable.
+    /// Crashes the blob. Of what isn't durable, each byte of a write and each resize whose flag is
+    /// true is kept, in order; a missing flag is false.
     Crash(Vec<bool>),
-    /// A recovery after a crash.
+    /// Recovers the blob after a crash.
     Recover,
-    /// Shows the readable bytes.
+    /// Writes the blob's readable bytes, which are physical, in hexadecimal.
     Dump,
 }
 
-/// A line after the first, of one of the forms.
+/// A line after the first, in one of the two forms of a script.
 trait AnyLine: Drop + Sized {
-    /// The words of one.
+    /// The words of a line.
     ghost words: { Self → List (List ℕ) };
 
-    /// One has words, and its numbers and bytes are in range.
+    /// The line has words, and its numbers and bytes are in range.
     ghost is_line: { Self → Type 0 };
 
-    /// Reads one.
+    /// Reads a line.
     fn parse(alloc: Global, line: &[u8]) -> Result<Self, ReadError>
         ensures reads { IsReadAs words is_line (words_of line.now) result };
 }
@@ -101,7 +102,7 @@ pub fn without_last_feed(input: &[u8]) -> &[u8]
     input.strip_suffix(b"\n").unwrap_or(input)
 }
 
-// The first line tells the form of the others.
+// Reads the first line, and then the others in the form that the first one names.
 fn parse_script(alloc: Global, first: &[u8], others: &[&[u8]]) -> Result<Script, Stop>
     ensures reads { ReadsScript (first.now ∷ map (λ line. line.now) others.now) result }
 {
@@ -118,7 +119,7 @@ fn parse_script(alloc: Global, first: &[u8], others: &[&[u8]]) -> Result<Script,
     }
 }
 
-// The lines after the first, all of one form.
+// Reads the lines after the first, all in one form.
 fn parse_lines<L: AnyLine>(alloc: Global, others: &[&[u8]]) -> Result<Vec<L>, Stop>
     ensures reads { ReadsLines L.words L.is_line (map (λ line. line.now) others.now) result }
 {
@@ -132,7 +133,8 @@ fn parse_lines<L: AnyLine>(alloc: Global, others: &[&[u8]]) -> Result<Vec<L>, St
     Ok(lines)
 }
 
-/// Reads a line after the first of a script of a session.
+/// Reads a line after the first, in a script of a session. [`ReadError::Unreadable`] if no line is
+/// written so, [`ReadError::OutOfMemory`] if there is no memory to read it.
 pub fn parse_line(alloc: Global, line: &[u8]) -> Result<Line, ReadError>
     ensures reads { IsReadAs line_words IsLine (words_of line.now) result }
 {
@@ -149,7 +151,7 @@ fn parse_words(alloc: Global, words: &[&[u8]]) -> Result<Line, ReadError>
     }
 }
 
-// A line by its first word, which names what it asks for, and the others.
+// Reads a line from its first word, which names what the line asks for, and the words after it.
 fn parse_named(alloc: Global, name: &[u8], others: &[&[u8]]) -> Result<Line, ReadError>
     ensures reads { IsReadAs line_words IsLine
         (name.now ∷ map (λ word. word.now) others.now) result }

@@ -20,10 +20,11 @@ pub struct Stage<H: Sum> {
     alloc: Global,
     start: Start,
     blob: MemBlob,
-    // None where there was no memory for it.
+    // `None` if there was no memory for the cache.
     cache: Option<CacheRef>,
     session: Session<MemBlob, H>,
-    // Whether a crash stands before, with no line between that rules a recovery out.
+    // Whether a recovery may follow: the blob crashed, and no step, recovery or refused crash came
+    // since then.
     crashed: bool,
 }
 
@@ -63,8 +64,8 @@ impl<H: Sum> Stage<H> {
         }
     }
 
-    /// Recovers the blob, and writes how many bytes are left. A session begins, unless the recovery
-    /// is refused.
+    /// Recovers the blob, begins a session, and writes how many logical bytes are left. If the
+    /// recovery is refused, it writes the error, and no session begins.
     pub fn open<W: Write>(&mut self, out: &mut W) -> io::Result<()>
         requires { IsDurable self.old.disk }
     {

@@ -63,7 +63,7 @@ pub enum SumName {
 }
 
 impl Start {
-    /// The cache that a script holds, or a new one where it holds none.
+    /// Answers the cache that a script holds, or a new one if it holds none.
     pub fn cache(&self, alloc: Global, held: Option<CacheRef>) -> Result<CacheRef, Error>
         requires fresh { ForSome held IsFresh }
         ensures fresh { IfOk result IsFresh }
@@ -74,7 +74,7 @@ impl Start {
         }
     }
 
-    /// How many bytes a recovery reads at a time: the capacity, and one at least.
+    /// How many bytes a recovery reads at a time: the capacity, or one byte if that is zero.
     pub fn buffer_size(&self) -> NonZeroUsize
         ensures { non_zero_usize_get result ≡ max self.now.capacity 1 }
     {
@@ -92,7 +92,7 @@ pub fn parse_first(alloc: Global, line: &[u8]) -> Result<First, ReadError>
     }
 }
 
-// A first line by its first word, which tells the form, and the others.
+// Reads a first line from its first word, which names the form, and the words after it.
 fn parse_named_first(name: &[u8], others: &[&[u8]]) -> Result<First, ReadError>
     ensures reads { IsReadAs first_words IsFirst
         (name.now ∷ map (λ word. word.now) others.now) result }
@@ -133,7 +133,7 @@ fn parse_item_start(words: &[&[u8]]) -> Result<First, ReadError>
     }
 }
 
-// The words that both forms of a first line have.
+// Reads the words that both forms of a first line have.
 fn parse_settings(
     page_size: &[u8],
     capacity: &[u8],
@@ -182,7 +182,7 @@ pub fn parse_item_size(word: &[u8]) -> Result<NonZeroUsize, ReadError>
     parse_up_to(word, MOST_ITEM_SIZE)
 }
 
-// A number from 1 on, and no greater than this one.
+// Reads a number from 1 to `most`.
 fn parse_up_to(word: &[u8], most: u64) -> Result<NonZeroUsize, ReadError>
     ensures reads { IsReadAs (λ n. decimal (non_zero_usize_get n))
         (λ n. (0 < non_zero_usize_get n) × (non_zero_usize_get n ≤ most)) word.now result }

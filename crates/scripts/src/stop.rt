@@ -17,7 +17,7 @@ pub enum Stop {
 }
 
 impl Stop {
-    /// Why a script stops whose line of this number isn't read.
+    /// Why a script stops if its line of this number can't be read, or memory was refused for it.
     pub fn at(number: u64, error: ReadError) -> Self
         ensures { result ≡ error_at number error }
     {
@@ -27,7 +27,7 @@ impl Stop {
         }
     }
 
-    /// The exit status.
+    /// The exit status: 2 for a line that can't be read, else 1.
     pub fn status(self) -> u8
         ensures { result ≡ script_status_of self }
     {

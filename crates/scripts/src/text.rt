@@ -43,7 +43,7 @@ impl fmt::Display for Numbers<'_> {
     }
 }
 
-/// A reply as a line of the output says it.
+/// A reply of a session, printed as its line of the output.
 #[derive(Clone, Copy)]
 pub struct Said<'a>(pub &'a Reply);
 
@@ -79,7 +79,7 @@ impl fmt::Display for Said<'_> {
     }
 }
 
-/// A reply of items as a line of the output says it.
+/// A reply of items, printed as its line of the output.
 #[derive(Clone, Copy)]
 pub struct SaidItem<'a>(pub &'a ItemReply);
 

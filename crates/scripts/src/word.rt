@@ -17,7 +17,7 @@ use std::num::NonZeroU64;
 /// Why a word or a line can't be read.
 #[derive(Clone, Copy, Debug, PartialEq, Eq)]
 pub enum ReadError {
-    /// The word is the text of nothing.
+    /// No value is written as this word, or no line as these words.
     Unreadable,
     /// A request for memory was refused.
     OutOfMemory,
@@ -59,7 +59,7 @@ impl From<FromHexError> for ReadError {
     }
 }
 
-// The parts of some bytes between those that are this one.
+// The parts of some bytes, split at each byte that equals `at`. There is at least one part.
 pub fn parts<'a>(alloc: Global, bytes: &'a [u8], at: u8) -> Result<Vec<&'a [u8]>, AllocError>
     ensures parts { IfOk result (λ parts.
         map (λ part. part.now) parts.items ≡ parts_of at bytes.now) }
@@ -68,7 +68,8 @@ pub fn parts<'a>(alloc: Global, bytes: &'a [u8], at: u8) -> Result<Vec<&'a [u8]>
     bytes.split(|byte| *byte == at).collect(alloc)
 }
 
-/// A number in decimal digits, with no zero in front of another digit.
+/// Reads a number below 2^64: decimal digits, with no sign and no zero in front of another digit.
+/// [`ReadError::Unreadable`] for any other word.
 pub fn parse_number(word: &[u8]) -> Result<u64, ReadError>
     ensures reads { IsReadAs decimal IsU64 word.now result }
 {
@@ -88,7 +89,7 @@ fn number(word: &[u8]) -> Option<u64>
     }
 }
 
-// The number of a device call, from 1 on.
+// Reads the number of a device call, from 1 on.
 pub fn parse_call_number(word: &[u8]) -> Result<NonZeroU64, ReadError>
     ensures reads { IsReadAs (λ number. decimal (non_zero_u64_get number))
         (λ number. IsCallNumber (non_zero_u64_get number)) word.now result }
@@ -99,7 +100,7 @@ pub fn parse_call_number(word: &[u8]) -> Result<NonZeroU64, ReadError>
     }
 }
 
-// Whether there is a sign, or a zero in front of another digit.
+// Whether the word begins with `+`, or with a `0` that another byte follows.
 fn has_lead(word: &[u8]) -> bool
     ensures { IsTrue result ↔ HasLead word.now }
 {
@@ -110,7 +111,9 @@ fn has_lead(word: &[u8]) -> bool
     }
 }
 
-/// Bytes in lower-case hexadecimal digits, two a byte, or `-` for none.
+/// Reads bytes: lower-case hexadecimal digits, two a byte, or `-` for no bytes.
+/// [`ReadError::Unreadable`] for any other word, [`ReadError::OutOfMemory`] if there is no memory
+/// for the bytes.
 pub fn parse_hex(alloc: Global, word: &[u8]) -> Result<Vec<u8>, ReadError>
     ensures reads { IsReadAs (λ bytes. hex_of bytes.items) (λ bytes. AreByteValues bytes.items)
         word.now
@@ -138,7 +141,7 @@ fn has_upper(word: &[u8]) -> bool
     word.iter().any(u8::is_ascii_uppercase)
 }
 
-// A range of bytes: an offset and a length, with a colon between.
+// Reads a range of bytes: an offset and a length, with a colon between them.
 pub fn parse_range(word: &[u8]) -> Result<(u64, usize), ReadError>
     ensures reads { IsReadAs range_word IsRangeOfU64 word.now result }
 {
@@ -150,7 +153,7 @@ pub fn parse_range(word: &[u8]) -> Result<(u64, usize), ReadError>
     Ok((offset, len))
 }
 
-/// Ranges of bytes, at least one, each a word.
+/// Reads ranges of bytes, one a word. There must be at least one.
 pub fn parse_ranges(alloc: Global, words: &[&[u8]]) -> Result<Vec<(u64, usize)>, ReadError>
     ensures reads { IsReadAs (λ ranges. ranges_words ranges.items)
         (λ ranges. AreRangesOfU64 ranges.items) (map (λ word. word.now) words.now) result }
@@ -165,7 +168,7 @@ pub fn parse_ranges(alloc: Global, words: &[&[u8]]) -> Result<Vec<(u64, usize)>,
     Ok(ranges)
 }
 
-/// Flags in digits 0 and 1, or `-` for none.
+/// Reads flags: digits 0 and 1, or `-` for no flags.
 pub fn parse_flags(alloc: Global, word: &[u8]) -> Result<Vec<bool>, ReadError>
     ensures reads { IsReadAs (λ flags. flags_text flags.items) (λ _. ⊤) word.now result }
 {

@@ -1,4 +1,4 @@
-// What was built, beside published checks and a sum that goes bit by bit.
+// The checksum as it was built, beside published checks and a sum that is computed bit by bit.
 use crc32c::Crc32c;
 use page::Sum;
 
@@ -15,7 +15,7 @@ fn bit_by_bit(bytes: &[u8]) -> u32 {
     !state
 }
 
-// The checksum that goes on from that of the first bytes.
+// The checksum of all bytes, computed from that of the first `known` ones.
 fn in_two(bytes: &[u8], known: usize) -> u32 {
     let known = known.min(bytes.len());
     Crc32c::sum_from(bytes, known, Crc32c::sum(&bytes[..known]))

@@ -33,7 +33,7 @@ fn change<B: Blob>(alloc: Global, blob: &mut B) -> Result<(), Error>
     blob.write_at(12, &bufs_of(alloc, &[])?, plain)
 }
 
-// What that leaves.
+// What `change` leaves in the file.
 const LEFT: &[u8] = b"abcdef\0\0so\0\0";
 
 // Whether an opening fails, in these words.
@@ -44,7 +44,7 @@ fn is_refused(rt: &HostRuntime, path: &str, words: &str) -> io::Result<bool> {
     }
 }
 
-// Whether the file is locked against who opens it, and against who reads it.
+// Whether the file is locked against another opening, and against a read.
 fn is_locked(rt: &HostRuntime, path: &str) -> io::Result<bool> {
     let is_read = file::read(rt, path).is_ok();
     Ok(!is_read && is_refused(rt, path, "another process has it open: end that one first")?)
@@ -54,7 +54,8 @@ fn holds(rt: &HostRuntime, path: &str, bytes: &[u8]) -> io::Result<bool> {
     Ok(fs::read(rt, path)?.as_slice() == bytes)
 }
 
-// Whether these bytes are what a new file has, what the blob in memory has, and what the file has.
+// Whether a new file is empty, and after `change` the blob in memory and the file have what it
+// leaves, and the file is locked.
 fn is_changed(rt: &HostRuntime, path: &str) -> Result<bool, Fail> {
     let mut blob = open(rt, path)?;
     let was_empty = blob.len() == 0;

@@ -247,7 +247,8 @@ fn do_harm(rt: &HostRuntime, harm: Harm) -> io::Result<()> {
     }
 }
 
-// Whether the first segment is refused once this was done to it; it is brought back.
+// Whether the first segment is refused after this harm was done to its file, and all records come
+// back once the file is restored.
 fn is_harm_told(rt: &HostRuntime, path: &str, how: Harm) -> io::Result<bool> {
     let [old, _] = SEGMENTS;
     let kept = fs::read(rt, old)?;
@@ -304,7 +305,7 @@ fn ask(rt: &HostRuntime, log: &mut Log, what: What) -> Result<bool, Error>
     }
 }
 
-// A log is let go of in this function alone.
+// Whether the log opens, and the answer to `what` is yes.
 fn is_so(rt: &HostRuntime, path: &str, what: What) -> bool {
     match open(rt, path) {
         Ok(log) => is_so_of(rt, log, what),

@@ -19,7 +19,7 @@ order_more len offsets i end next d there after is waits rest =
     waits (subst (λ (l : List ℕ). AreInOrderFrom end (ranges_of len l))
     (sym (drop_more offsets i d there)) (after, from))
 
--- none is left
+-- no range is left, and all are in order
 pub order_all : (len : ℕ) (offsets : List ℕ) (i end : ℕ) → length offsets ≤ i
     → OrderWaits len offsets i end → AreInOrder (ranges_of len offsets)
 order_all len offsets i end enough waits =

@@ -15,7 +15,7 @@ use page::Sum;
 use paged::Writer;
 use std::alloc::Global;
 
-/// A record is committed each time, or once after so many.
+/// How many records are appended before each commit.
 const EACH: [u64; 3] = [1, 16, 256];
 
 /// How many records are appended before a sync is started, and before it is waited for.
@@ -41,7 +41,7 @@ pub fn play_commits<H: Sum>(alloc: Global, plan: &Plan, digest: &mut Digest) -> 
     Ok(appended)
 }
 
-// Commits in an empty blob, and adds what stands on it then.
+// Commits records to the journal of an empty blob, and adds the blob's bytes to the digest.
 fn commit_round<H: Sum>(
     stage: &mut Stage,
     records: &mut Records,
@@ -59,7 +59,7 @@ fn commit_round<H: Sum>(
     Ok(())
 }
 
-// Starts syncs in an empty blob, and adds what stands on it then.
+// Appends records to an empty blob and starts syncs, and adds the blob's bytes to the digest.
 fn start_round<H: Sum>(
     stage: &mut Stage,
     records: &mut Records,
@@ -76,7 +76,7 @@ fn start_round<H: Sum>(
     Ok(())
 }
 
-/// So many times some appends of records, and a commit.
+/// Commits `commits` times, each time after `each` appends of a record.
 fn commit_all<B: Blob, H: Sum>(
     mut journal: Journal<B, H, H>,
     blob: &mut B,
@@ -98,7 +98,7 @@ fn commit_all<B: Blob, H: Sum>(
     Ok(journal)
 }
 
-/// So many appends of a record.
+/// Appends `count` records to a journal.
 pub fn append_records<B: Blob, H: Sum>(
     mut journal: Journal<B, H, H>,
     blob: &mut B,
@@ -120,7 +120,7 @@ pub fn append_records<B: Blob, H: Sum>(
     Ok(journal)
 }
 
-/// So many times some appends of records, a start of a sync, as many appends, and a wait for it.
+/// `starts` times: appends records, starts a sync, appends as many records, and waits for the sync.
 fn start_all<B: Blob, H: Sum>(
     mut writer: Writer<B, H>,
     blob: &mut B,
@@ -141,7 +141,7 @@ fn start_all<B: Blob, H: Sum>(
     Ok(writer)
 }
 
-/// So many appends of a record.
+/// Appends `count` records.
 pub fn append_all<B: Blob, H: Sum>(
     mut writer: Writer<B, H>,
     blob: &mut B,

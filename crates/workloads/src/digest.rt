@@ -15,7 +15,7 @@ impl Digest {
         }
     }
 
-    /// The number that it came to.
+    /// The digest as a number.
     pub fn value(&self) -> u64 {
         self.state
     }
@@ -26,8 +26,8 @@ impl Digest {
         self.state = mixed ^ (mixed >> 29);
     }
 
-    /// Adds the length of some bytes, and all of them: the sums of their lanes, and those of these
-    /// sums, which depend on the order. So it takes little time beside what is measured.
+    /// Adds the length of some bytes, the sums of their lanes, and the sums of these sums, which
+    /// depend on the order. That takes little time beside what is measured.
     pub fn bytes(&mut self, bytes: &[u8]) {
         self.number(bytes.len() as u64);
         let mut sums = u8x32::splat(0);

@@ -20,8 +20,8 @@ use std::num::NonZeroUsize;
 /// The buffers of the two replays, in bytes.
 const BUFFERS: [usize; 2] = [64 << 10, 1 << 20];
 
-/// Plays the workload, and answers how many bytes were loaded, each time as many as are asked for
-/// or some more.
+/// Plays the workload, and answers how many bytes were to be loaded. Each round loads its share or
+/// some bytes more, up to the end of its last value.
 pub fn play_loads<H: Sum>(alloc: Global, plan: &Plan, digest: &mut Digest) -> Result<u64> {
     let mut stage = Stage::new(alloc, plan, plan.pages() / 10)?;
     let mut records = Records::new(alloc, plan.seed, 3)?;
@@ -110,7 +110,7 @@ fn owned_value(records: &mut Records, owned: &IoBuf) -> Result<IoBuf, Error> {
     owned.slice(start, end)
 }
 
-/// A replay of all bytes by each buffer.
+/// Replays all bytes with each buffer.
 fn replay_both<B: Blob, H: Sum>(
     mut writer: Writer<B, H>,
     blob: &mut B,
@@ -127,7 +127,7 @@ fn replay_both<B: Blob, H: Sum>(
     Ok(writer)
 }
 
-/// A replay of all bytes, in batches of a quarter of the pages that fit `buffer_size` bytes.
+/// Replays all bytes, in batches of a quarter of the pages that fit `buffer_size` bytes.
 fn replay_all<B: Blob, H: Sum>(
     writer: Writer<B, H>,
     blob: &mut B,
@@ -164,7 +164,7 @@ fn pass_all<B: Blob, H: Sum>(
     Ok(())
 }
 
-/// A snapshot, and the end of the writer.
+/// Makes a snapshot, seals the writer, and waits for its sync.
 fn seal_all<B: Blob, H: Sum>(
     writer: Writer<B, H>,
     blob: &mut B,

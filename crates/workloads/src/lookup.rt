@@ -63,7 +63,7 @@ fn read_round<H: Sum>(
     Ok(())
 }
 
-/// So many reads of places.
+/// Reads `count` places, by a call each.
 fn read_all<B: Blob, H: Sum>(
     writer: &Writer<B, H>,
     blob: &mut B,
@@ -84,7 +84,7 @@ fn read_all<B: Blob, H: Sum>(
     Ok(())
 }
 
-/// So many appends of a record, and after each a read of the last bytes.
+/// Appends `count` records, and reads the last bytes after each.
 fn append_and_read<B: Blob, H: Sum>(
     mut writer: Writer<B, H>,
     blob: &mut B,
@@ -103,7 +103,7 @@ fn append_and_read<B: Blob, H: Sum>(
     Ok(writer)
 }
 
-/// A read of what was appended last.
+/// Reads the last bytes of the content.
 fn read_last<B: Blob, H: Sum>(
     writer: &Writer<B, H>,
     blob: &mut B,
@@ -121,7 +121,7 @@ fn read_last<B: Blob, H: Sum>(
     Ok(())
 }
 
-/// So many calls, each of which reads many places in order.
+/// Makes `calls` calls, each of which reads [`MANY`] places in order.
 fn read_many_all<B: Blob, H: Sum>(
     writer: &Writer<B, H>,
     blob: &mut B,
@@ -142,8 +142,8 @@ fn read_many_all<B: Blob, H: Sum>(
     Ok(())
 }
 
-/// A read of many places. `OffsetOverflow` where these overlap or aren't in order, or don't fill
-/// the buffer.
+/// Reads many places in one call. `OffsetOverflow` if the places overlap or aren't in order, or
+/// don't fill the buffer.
 fn read_places<B: Blob, H: Sum>(
     writer: &Writer<B, H>,
     blob: &mut B,
@@ -214,7 +214,8 @@ fn follow_round<H: Sum>(
     Ok(())
 }
 
-/// So many records of a reader. `BlobInsufficientLength` where it ends before the last one.
+/// Reads `count` records by a reader. `BlobInsufficientLength` if the reader ends before the last
+/// one.
 fn go_through<B: Blob, H: Sum>(
     reader: &mut Reader<B, H, H>,
     blob: &mut B,

@@ -56,7 +56,7 @@ const JOBS: [(&str, Job, u64, u64); 7] = [
     ("reopen", Job::Reopen, 32 << 20, 4),
 ];
 
-/// The content of a blob where no job is named.
+/// The content of a blob in bytes, if no job is named.
 const LITTLE: u64 = 128 << 10;
 
 /// The logical bytes of a page; with its footer it has 4,096.

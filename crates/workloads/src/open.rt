@@ -19,7 +19,8 @@ use std::num::{NonZeroU16, NonZeroUsize};
 /// How often each blob is damaged and opened.
 const OPENED: u64 = 24;
 
-/// The most bytes that a crash cuts off, and that it leaves after the text.
+/// The most bytes that a crash cuts off, and the most that it leaves after the text (what a
+/// recovery keeps).
 const PART: u64 = 1 << 20;
 
 /// The bytes of a page that a torn write changed.
@@ -46,7 +47,7 @@ pub fn play_opens<H: Sum>(alloc: Global, plan: &Plan, digest: &mut Digest) -> Re
     Ok(plan.rounds.saturating_mul(2 * OPENED))
 }
 
-/// A blob with so many bytes of content, durably.
+/// Fills an empty blob with so many bytes of content, or some more, and syncs.
 pub fn fill<H: Sum>(
     stage: &mut Stage,
     records: &mut Records,
@@ -63,7 +64,7 @@ pub fn fill<H: Sum>(
     Ok(())
 }
 
-/// A journal of so many records, all of them committed.
+/// Fills the journal of an empty blob with so many records, and commits them.
 fn fill_journal<H: Sum>(
     stage: &mut Stage,
     records: &mut Records,
@@ -86,7 +87,7 @@ fn buffer_of(number: u64) -> NonZeroUsize {
     NonZeroUsize::new(bytes).unwrap_or(NonZeroUsize::MIN)
 }
 
-/// Opens a blob, and looks at it before where the number is odd.
+/// Opens a blob. If the number is odd, it surveys the blob before.
 fn open_once<H: Sum>(
     stage: &mut Stage,
     plan: &Plan,
@@ -112,7 +113,7 @@ fn open_once<H: Sum>(
     Ok(())
 }
 
-/// Looks at a blob.
+/// Surveys a blob: what a recovery would make of it, and what would go.
 pub fn survey_once<H: Sum>(
     alloc: Global,
     blob: &mut VecBlob,
@@ -142,8 +143,8 @@ fn open_journal<H: Sum>(stage: &mut Stage, number: u64, digest: &mut Digest) -> 
     Ok(())
 }
 
-/// What a crash leaves: a blob that ends inside a page; one whose last page was torn; one with
-/// pages after the text that have no value; or with some that have a wrong one.
+/// Changes a blob to what a crash leaves: a blob that ends inside a page, whose last page was torn,
+/// or that has pages after the text with no value, or with a wrong one.
 pub fn damage(
     stage: &mut Stage,
     records: &mut Records,

@@ -28,7 +28,7 @@ impl Random {
         mixed ^ (mixed >> 31)
     }
 
-    /// A number below a bound, or 0 where that is 0.
+    /// A number below a bound, or 0 if the bound is 0.
     pub fn below(&mut self, bound: u64) -> u64 {
         self.next() % bound.max(1)
     }
@@ -83,7 +83,7 @@ pub struct Records {
 }
 
 impl Records {
-    /// The numbers of a seed; another stream gives others.
+    /// The records of a seed; another stream gives others.
     pub fn new(alloc: Global, seed: u64, stream: u64) -> Result<Self> {
         let mut random = Random::new(seed, stream);
         let mut pool = Vec::with_capacity(alloc, POOL as usize)?;

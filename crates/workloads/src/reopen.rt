@@ -16,7 +16,7 @@ use std::alloc::{AllocError, Global};
 /// How often each blob is opened.
 const OPENED: u64 = 24;
 
-/// How often its client goes on then.
+/// How often the client of an opened blob goes on.
 const REQUESTS: u64 = 64;
 
 /// Plays the workload, and answers how often a blob was opened.
@@ -29,7 +29,7 @@ pub fn play_reopens<H: Sum>(alloc: Global, plan: &Plan, digest: &mut Digest) -> 
         for number in 0..OPENED {
             crash(&mut stage, &mut records, plan, number)?;
             let client = client_of(alloc, &mut records, plan)?;
-            // Every second blob is first served so that nothing of it may go.
+            // Every second blob is first served with a setting that lets no byte of it go.
             let allowed = if number % 2 == 0 { u64::MAX } else { 0 };
             let (blob, setting) = (&mut stage.blob, setting_of(plan, allowed));
             answers = serve_once::<H>(alloc, blob, &setting, &client.bytes, answers, digest)?;
@@ -39,7 +39,7 @@ pub fn play_reopens<H: Sum>(alloc: Global, plan: &Plan, digest: &mut Digest) -> 
     Ok(plan.rounds.saturating_mul(OPENED))
 }
 
-// What a crash leaves: each third blob whole.
+// Changes a blob to what a crash leaves. Each third blob stays whole.
 fn crash(stage: &mut Stage, records: &mut Records, plan: &Plan, number: u64) -> Result<(), Error>
     requires { IsFresh stage.old.cache }
     ensures { OnOk result (IsFresh stage.new.cache) }

@@ -14,8 +14,8 @@ use std::io::{BufReader, BufWriter, Read, Write};
 #[derive(Drop)]
 pub struct Client {
     pub bytes: Vec<u8>,
-    /// How many bytes are there to be read, as far as it knows, and how many syncs it has started,
-    /// and snapshots and replays begun.
+    /// How many logical bytes the client can read, as far as it knows, and how many syncs,
+    /// snapshots and replays it has begun.
     size: u64,
     starts: u64,
     snapshots: u64,
@@ -52,7 +52,8 @@ const ENSURE: u8 = 13;
 const TAKE: u8 = 14;
 
 impl Client {
-    /// One that has sent its version, and ended the recovery, of a content of so many bytes.
+    /// A client of a content of `size` logical bytes, which has sent its version and ended the
+    /// recovery.
     pub fn new(alloc: Global, size: u64) -> Result<Self, AllocError> {
         let mut bytes = Vec::new(alloc);
         bytes.push(VERSION)?;
@@ -96,7 +97,7 @@ impl Client {
         self.ask(kind, &[offset, len])
     }
 
-    // Starts a sync, appends a record, and waits for the sync.
+    // Appends a record, starts a sync, appends the record again, and waits for the sync.
     fn start(&mut self, record: &[u8]) -> Result<(), AllocError> {
         self.append(record)?;
         self.ask(START_SYNC, &[])?;
@@ -171,7 +172,7 @@ pub fn play_serve<H: Sum>(alloc: Global, plan: &Plan, digest: &mut Digest) -> Re
     Ok(plan.rounds.saturating_mul(count))
 }
 
-/// How a blob is served of which so many bytes may go.
+/// How a blob is served of which a recovery may give up `allowed` physical bytes.
 pub fn setting_of(plan: &Plan, allowed: u64) -> Setting {
     Setting {
         page_size: plan.page_size,
@@ -180,8 +181,8 @@ pub fn setting_of(plan: &Plan, allowed: u64) -> Setting {
     }
 }
 
-/// Serves a blob, and answers the memory of the answers, for those of the next one. A session that
-/// ends before its last request is an error.
+/// Serves a blob, and returns the memory that the answers took, for those of the next blob. A
+/// session that ends before its last request is an error.
 pub fn serve_once<H: Sum>(
     alloc: Global,
     blob: &mut VecBlob,
@@ -206,8 +207,8 @@ pub fn serve_once<H: Sum>(
     Ok(answers)
 }
 
-// Serves a blob. Where more would go than the setting allows, that is asked first: the blob is
-// looked at more closely, and then so much may go.
+// Serves a blob. If a recovery would give up more than the setting allows, the blob is surveyed,
+// and then served with a setting that allows so much.
 fn serve_asked<H: Sum, R: Read, W: Write + Drop>(
     alloc: Global,
     blob: &mut VecBlob,

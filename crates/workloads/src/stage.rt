@@ -14,7 +14,7 @@ use paged::{Writer, recover};
 use std::alloc::Global;
 use std::num::{NonZeroU16, NonZeroUsize};
 
-/// The bytes that a writer is to buffer.
+/// How many bytes a writer buffers.
 pub const CAPACITY: usize = 65_536;
 
 /// What a workload is played on, and how much of it.
@@ -44,13 +44,13 @@ pub struct Stage {
 }
 
 impl Stage {
-    /// An empty blob, with memory for the content that was written to before, and a cache of so
-    /// many pages.
+    /// An empty blob and a cache of so many pages. The blob has memory for the content, and all of
+    /// that memory was written to before.
     pub fn new(alloc: Global, plan: &Plan, cached: u64) -> Result<Self>
         ensures { IfOk result (λ stage. IsFresh stage.cache) }
     {
         let page = u64::from(plan.page_size.get()) + CHECKSUM_SIZE;
-        // A part more, since content isn't cut where its last record passes the end.
+        // Some memory more, since the last record of a content may pass its end.
         let room = plan.pages().saturating_mul(page).saturating_add(4 << 20) as usize;
         let mut memory = Vec::with_capacity(alloc, room)?;
         memory.resize(room, 0)?;
@@ -63,7 +63,7 @@ impl Stage {
         })
     }
 
-    /// The writer of the blob, emptied.
+    /// Empties the blob, and answers its writer.
     pub fn restart<H: Sum>(&mut self) -> Result<Writer<VecBlob, H>, Error>
         requires { IsFresh self.old.cache }
         ensures { IfOk result (λ writer.
@@ -73,7 +73,7 @@ impl Stage {
         self.recover::<H>(NonZeroUsize::MIN)
     }
 
-    /// The writer of the blob, recovered with a buffer of so many bytes.
+    /// Recovers the blob with a buffer of so many bytes, and answers its writer.
     pub fn recover<H: Sum>(
         &mut self,
         buffer_size: NonZeroUsize,
@@ -86,7 +86,8 @@ impl Stage {
         recovered(alloc, &mut self.blob, size, &mut self.cache, buffer_size)
     }
 
-    /// The journal of the blob, recovered with a buffer of so many bytes, and its records.
+    /// Recovers the journal of the blob with a buffer of so many bytes, and answers it with its
+    /// records.
     pub fn recover_journal<H: Sum>(
         &mut self,
         buffer_size: NonZeroUsize,
@@ -101,7 +102,7 @@ impl Stage {
         Journal::recover(alloc, blob, size, CAPACITY, cache, buffer_size)
     }
 
-    /// The journal of the blob, emptied.
+    /// Empties the blob, and answers its journal.
     pub fn restart_journal<H: Sum>(&mut self) -> Result<Journal<VecBlob, H, H>, Error>
         requires { IsFresh self.old.cache }
         ensures fresh { IsFresh self.new.cache }
@@ -114,7 +115,7 @@ impl Stage {
     }
 }
 
-/// The writer of a blob of `size` physical bytes, recovered with a buffer of so many bytes.
+/// Recovers a blob of `size` physical bytes with a buffer of so many bytes, and answers its writer.
 pub fn recovered<B: Blob, H: Sum>(
     alloc: Global,
     blob: &mut B,
