@@ -1,4 +1,4 @@
--- What each call of a writer answers and owes, from what the private calls do.
+-- What each call of a writer answers and guarantees, from what the private calls do.
 use Rattle.std.proofs.Common.{◌≡◌, ◌⊎◌, inl, inr, ℕ, ◌≤◌, ◌<◌, ◌+◌, ◌^◌, List, [], ◌++◌, length, take, refl, sym, ap, ◌∙◌, subst, arith, append-nil, Ok, Err, Result}
 use Rattle.std.proofs.lemmas.List.{take_all}
 use Rattle.std.specs.Prelude.{IfOk, OnOk}
@@ -75,7 +75,7 @@ usable_after {A} sum writer w more bytes old new cache after a usable is goes pu
       (caches_law {A = A} sum writer w more bytes old cache after (Ok a) usable.consistent usable.can.page_size is puts) usable.can.given usable.fresh;
 }
 
--- and ready where it was
+-- and ready where the writer was ready before
 pub stays_usable : {A : Type 0} (sum : List ℕ → ℕ) (writer : A → WriterState) (w : WriterState) (more bytes : List ℕ) (old new : Life) (cache after : CacheState) (a : A) → CanGoOn sum w cache old
     → bytes ≡ w.tip ++ more → CarriesOn sum w old more (writer a) new → Caches {A = A} writer w bytes cache after (Ok a) → StaysUsable {A = A} sum writer w cache after old new (Ok a)
 stays_usable {A} sum writer w more bytes old new cache after a asked is goes puts =
@@ -132,7 +132,7 @@ module _ (sum : List ℕ → ℕ) (w now : WriterState) (bytes : List ℕ) (cach
 
 -- ---- calls that append nothing
 
--- what one owes, whatever it answers
+-- what a call that appends nothing guarantees, whatever it answers
 pub owes_same : {A : Type 0} (sum : List ℕ → ℕ) (writer : A → WriterState) (w : WriterState) (cache after : CacheState) (old new : Life) (result : Result A Error) → IsUsable sum w cache old
     → StaysThrough sum w.page_size (content w old.present.readable) old new → PagesStay w.page_size w.full_pages old new → CoversThrough sum w.page_size (content w old.present.readable) old new → StartsCanBeAwaited new.present
     → Caches writer w w.tip cache after result → Owes sum w (content w old.present.readable) cache after old new
@@ -140,7 +140,7 @@ owes_same sum writer w cache after old new result ready stays pages covers start
     owes_of sum w (content w old.present.readable) cache after old new ready (whole (content w old.present.readable)) stays pages covers starts
     (caches_law_same sum writer w old cache after result ready.consistent ready.can.page_size puts)
 
--- it was refused
+-- a call that was refused
 pub refused : (sum : List ℕ → ℕ) (w : WriterState) (content : List ℕ) (old new : Life) (e : Error) → Fails sum w content old new e → IsRefused w old new e
 refused sum w content old new e refuses = record { cause = refuses.cause; log = refuses.log }
 
@@ -228,19 +228,19 @@ pub ready_if : {E : Type 0} (sum : List ℕ → ℕ) (cache : CacheState) (life 
 ready_if sum cache life (Ok w) sound can fresh = ready_of sum w cache life sound can fresh
 ready_if sum cache life (Err e) sound can fresh = tt
 
--- after a recovery
+-- a new writer is ready after a recovery
 pub new_writer : {E : Type 0} (sum : List ℕ → ℕ) (cache : CacheState) (new : Life) (result : Result WriterState E) → IfOk result (λ w. HasWriterPages w new) → IfOk result (λ w. HoldsWithin w) → IfOk result (λ w. w.id ≡ cache.ids_given)
     → IfOk result (λ w. TailIsMended sum w new.present.base) → IfOk result (λ w. IsNewWriter sum cache new w)
 new_writer sum cache new (Ok w) there within id mended = record { there = there; within = within; id = id; mended = mended }
 new_writer sum cache new (Err e) there within id mended = tt
 
--- and after a cut
+-- a writer is ready after a cut
 pub ready_cut : (sum : List ℕ → ℕ) (w : WriterState) (cache after : CacheState) (old new : Life) (result : Result WriterState Error) → IsReady sum w cache old → IfOk result (λ v. IsSound sum v new.present)
     → IfOk result (λ v. ReadsOn w v cache after old new) → (w.id < cache.ids_given → IsFresh cache → IsFresh after) → IfOk result (λ v. IsReady sum v after new)
 ready_cut sum w cache after old new (Ok v) ready sound reads fresh = ready_of sum v after new sound (reads ready.can) (fresh ready.can.given ready.fresh)
 ready_cut sum w cache after old new (Err e) ready sound reads fresh = tt
 
--- a read leaves it so
+-- a writer that is ready is still after a read
 pub ready_still : (sum : List ℕ → ℕ) (w : WriterState) (cache after : CacheState) (old new : Life) → ReadLeaves sum (tail_of w) cache after old new → IsReady sum w cache old → IsReady sum w after new
 ready_still sum w cache after old new leaves ready = ready_of sum w after new (leaves.writers w ready.sound).sound (leaves.can_read (tail_of w) ready.can) (leaves.fresh ready.fresh)
 
@@ -248,7 +248,7 @@ pub usable_still : (sum : List ℕ → ℕ) (w : WriterState) (cache after : Cac
 unfolding IsConsistent
 usable_still sum w cache after old new leaves usable = record { consistent = looked_consistent sum w old new usable.consistent leaves.looked; can = leaves.can_read (tail_of w) usable.can; fresh = leaves.fresh usable.fresh }
 
--- and a wait
+-- a writer that is usable is still after a wait
 usable_waited : (sum : List ℕ → ℕ) (w now : WriterState) (cache : CacheState) (old new : Life) → WaitsOver sum w old new (Ok now) → IsUsable sum w cache old → IsUsable sum now cache new
 usable_waited sum w now cache old new waits usable =
     let goes = waits.0 in

@@ -1,4 +1,4 @@
--- What an append owes.
+-- What an append guarantees.
 use Rattle.std.proofs.Common.{◌≡◌, ℕ, ◌+◌, ◌/◌, ◌%◌, ◌<◌, ◌≤◌, Bool, true, false, List, [], ◌++◌, length, refl, sym, ap, arith, ◌∙◌, subst, append-nil, Ok, Err, Result}
 use Rattle.std.specs.Prelude.{Option, Some, None, nat_le, not, ◌==◌, ◌&&◌, ◌||◌}
 use Rattle.std.proofs.lemmas.Bool.Decides.{nat_tests}
@@ -42,7 +42,7 @@ append_goes sum w v now old new bytes sound is goes =
       waits = h.waits;
     }
 
--- or is refused
+-- bytes are buffered, and what is written then is refused
 pub append_refused : (sum : List ℕ → ℕ) (w v : WriterState) (old new : Life) (bytes : List ℕ) (e : Error) → IsConsistent sum w old.present → v ≡ record w { tip = w.tip ++ bytes }
     → Fails sum v (content v old.present.readable) old new e → Fails sum w (content w old.present.readable ++ bytes) old new e
 unfolding IsConsistent
@@ -69,7 +69,7 @@ append_unbuffered sum w now life bytes InvalidChecksum sound goes = absurd goes
 append_unbuffered sum w now life bytes BlobInsufficientLength sound goes = absurd goes
 append_unbuffered sum w now life bytes IdsExhausted sound goes = absurd goes
 
--- told by what fits
+-- bytes that weren't buffered, by whether they fit
 pub unbuffered_all : (w now : WriterState) (life : Life) (bytes : List ℕ) (e : Error) → Buffers w bytes now (Err e) → BuffersAll w bytes life life (Err e)
 unbuffered_all w now life bytes OffsetOverflow goes = refl
 unbuffered_all w now life bytes OutOfMemory goes = refl
@@ -111,7 +111,7 @@ unfolding IsConsistent
 buffered_goes sum w now bytes life sound is =
     append_goes sum w now now life life bytes sound is (goes_on_same sum now life (subst (λ (v : WriterState). IsConsistent sum v life.present) (sym is) (longer_consistent sum w life.present sound bytes)))
 
--- whatever it answers, the pages below the tip stay the same
+-- whatever a buffering call answers, the pages below the tip stay the same
 pub keeps_pages : (w now : WriterState) (bytes : List ℕ) (result : Result (Option ℕ) Error) → TryAppendGoes w bytes now result → KeepsPages w now
 keeps_pages w now bytes (Ok (Some at)) tries = (ap (λ (v : WriterState). v.page_size) tries.3, ap (λ (v : WriterState). v.full_pages) tries.3)
 keeps_pages w now bytes (Ok None) tries = (ap (λ (v : WriterState). v.page_size) tries.2, ap (λ (v : WriterState). v.full_pages) tries.2)
@@ -129,7 +129,7 @@ keeps_pages w now bytes (Err IdsExhausted) tries = absurd tries
 abbrev pub with_tip : (P id : ℕ) → Option ActiveChecksum → Option ActiveChecksum → SyncState → Tip → WriterState
 with_tip P id flushed durable sync tip = record { page_size = P; id = id; capacity = tip.capacity; full_pages = tip.offset / P; tip = tip.bytes; flushed = flushed; durable = durable; sync = sync }
 
--- what its buffer does is what the writer does
+-- what the buffer of such a writer does is what the writer does
 module _ (P id : ℕ) (flushed durable : Option ActiveChecksum) (sync : SyncState) (some : 0 < P) (old new : Tip) (bytes : List ℕ) (is : IsWriter P old) where
   tries_with : (result : Result (Option ℕ) Error) → FitsBlob P (old.offset / P) (length old.bytes + length bytes) → TipTryAppendGoes old bytes new result
       → TryAppendGoes (with_tip P id flushed durable sync old) bytes (with_tip P id flushed durable sync new) result

@@ -68,14 +68,14 @@ module _ (w : WriterState) (whole rest : List ℕ) (direct : IsDirect w whole re
   pub direct_rest : rest_of (buffering w (whole ++ rest)) ≡ rest
   direct_rest = rest_left w.page_size whole rest (w.tip ++ (whole ++ rest)) direct.pages direct.short tip_is
 
-  -- they can be written
+  -- the whole pages can be written
   pub direct_can : CanWrite w.page_size (w.tip ++ (whole ++ rest)) (full_in (buffering w (whole ++ rest))) false
   direct_can =
       let some = some_page w.page_size (length whole) direct.pages direct.some in
       let len : length (w.tip ++ (whole ++ rest)) ≡ length whole + length rest = ap length tip_is ∙ length-append whole rest in
       (omega (arith, some, direct_pages), omega (arith, len, length-whole w.page_size whole rest (whole ++ rest) direct.pages direct.short refl, ap (λ k. k * w.page_size) direct_pages))
 
-  -- and are what a flush of it writes
+  -- the whole pages are what a flush of that writer writes
   pub direct_bytes : (sum : List ℕ → ℕ) → built sum w.page_size w.durable (length whole / w.page_size) whole ≡ flush_bytes sum (buffering w (whole ++ rest)) false
   direct_bytes sum =
       let k = full_in (buffering w (whole ++ rest)) in
@@ -83,19 +83,19 @@ module _ (w : WriterState) (whole rest : List ℕ) (direct : IsDirect w whole re
       ∙ ap (λ l. built sum w.page_size w.durable k l) (sym (whole_taken w.page_size whole rest (w.tip ++ (whole ++ rest)) direct.pages direct.short tip_is))
       ∙ built-take sum w.page_size w.durable k (w.tip ++ (whole ++ rest))
 
-  -- its offsets are numbers of 64 bits
+  -- the offsets of that writer are numbers of 64 bits
   pub direct_fits : FitsBlob w.page_size w.full_pages (length (w.tip ++ (whole ++ rest)))
   direct_fits = subst (λ n. FitsBlob w.page_size w.full_pages n) (sym (ap length tip_is ∙ length-append whole rest)) direct.fits
 
   pub direct_offsets : FitsBlob w.page_size w.full_pages (length w.tip + length (whole ++ rest))
   direct_offsets = subst (λ n. FitsBlob w.page_size w.full_pages n) (omega (arith, ap length direct.empty, length-append whole rest)) direct.fits
 
-  -- after it the rest is in its tip
+  -- after that flush the rest is in the writer's tip
   pub direct_left : (sum : List ℕ → ℕ) (now : WriterState) (result : Result (Unit {0}) Error) → OnOk result (now ≡ written sum (buffering w (whole ++ rest)) false false) → OnOk result (now.tip ≡ rest)
   direct_left sum now (Ok done) state = ap (λ (v : WriterState). v.tip) state ∙ direct_rest
   direct_left sum now (Err e) state = tt
 
--- a wait and a durable slot brought up to date leave them that
+-- a wait, and a durable slot brought up to date, leave them whole pages and a rest
 pub direct_carried : (w v : WriterState) (whole rest : List ℕ) → v ≡ carried w → IsDirect w whole rest → IsDirect v whole rest
 direct_carried w v whole rest is direct =
     subst (λ (u : WriterState). IsDirect u whole rest) (sym is) (record { empty = direct.empty; some = direct.some; pages = direct.pages; short = direct.short; fits = direct.fits })
@@ -118,7 +118,7 @@ put_after P old new start whole rest size empty pages short at is =
     let left : rest ≡ drop (full_len (joined old (whole ++ rest))) bytes = sym (ap (λ n. drop n bytes) len ∙ rest_left P whole rest bytes pages short tip) in
     is ∙ (λ i. record old { offset = offset i; bytes = left i })
 
--- the writer then
+-- the writer with such a tip
 module _ (P id start : ℕ) (old new : Tip) (flushed durable : Option ActiveChecksum) (sync : SyncState) (w : WriterState) (whole rest : List ℕ) (some : 0 < P) (is : IsWriter P old)
     (view : record { page_size = P; id = id; capacity = old.capacity; full_pages = old.offset / P; tip = old.bytes; flushed = flushed; durable = durable; sync = sync } ≡ w) (direct : IsDirect w whole rest)
     (at : start ≡ old.offset + length whole) (goes : new ≡ record old { offset = start; bytes = rest }) where

@@ -35,7 +35,7 @@ fresh_of_puts id from P to bytes cache after same puts given fresh =
     (puts_only id from P to front bytes (front ++ bytes) cache after (length-replicate (from * P) 0) refl same puts)
     given fresh
 
--- and what reads of another blob stand on is left
+-- reads of another blob go on
 pub others_of_puts : (id from P to : ℕ) (bytes : List ℕ) (cache after : CacheState)
     → cache.page_size ≡ P → PutsUpTo id from P bytes to cache after → LeavesOthers id cache after
 others_of_puts id from P to bytes cache after same puts =
@@ -108,7 +108,7 @@ written_reads sum w m old mid cache after stands written same idle puts = by_wor
         (pages_read w.page_size w.id w.full_pages w.full_pages w.tip w.tip cache old.present mid.present
         (omega arith) (through_end (SamePages w.page_size w.full_pages old.present) old mid written.pages) can))
 
--- and once it is cut
+-- once the blob is cut, reads go on
 pub shortened_reads : (sum : List ℕ → ℕ) (n : ℕ) (m now : WriterState) (mid new : Life)
     (cache : CacheState) → n / m.page_size ≤ m.full_pages → IsShortened sum n m mid new now
     → PagesStay m.page_size (n / m.page_size) mid new → ReadsOn m now cache cache mid new

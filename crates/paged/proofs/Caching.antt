@@ -47,7 +47,7 @@ refused_before {A} Q w now bytes cache result is =
     subst (λ (r : Result A Error). CachesTo w now bytes cache cache r) (sym p.1)
     (refused_nothing A w now bytes cache p.0)
 
--- what was put before a refusal
+-- what was put before a later part of the call was refused
 pub refused_after : {A : Type 0} (Q : Error → Type 0) (w now : WriterState) (bytes : List ℕ)
     (cache after : CacheState) (to : ℕ) (result : Result A Error) → IsErrAnd result Q
     → PutsUpTo w.id w.full_pages w.page_size bytes to cache after
@@ -56,7 +56,7 @@ refused_after {A} Q w now bytes cache after to result is puts =
     let p = err_from_is_err_and {Q = Q} result is in
     subst (λ (r : Result A Error). CachesTo w now bytes cache after r) (sym p.1) (to, puts)
 
--- whether the call is refused afterwards or not
+-- what was put, whether the call is refused afterwards or not
 pub put_either : {A : Type 0} (w now : WriterState) (bytes : List ℕ) (cache after : CacheState)
     (to : ℕ) (result : Result A Error) → now.full_pages ≡ to
     → PutsUpTo w.id w.full_pages w.page_size bytes to cache after
@@ -137,7 +137,7 @@ tip_put id first P full pages tip old new some same are is within puts =
           (puts_longer id first (length pages) (concat pages) (drop (full * P) tip) old new fits puts);
     }
 
--- and that a writer takes out of its tip
+-- the pages that a writer takes out of its tip
 pub taken_put : (w : WriterState) (id first : ℕ) (pages shown : List (List ℕ)) (old new : CacheState)
     → id ≡ w.id → first ≡ w.full_pages → shown ≡ pages → 0 < w.page_size
     → old.page_size ≡ w.page_size → ArePages w.page_size pages
@@ -259,13 +259,13 @@ page_of_front P page front rest fits =
     ap (take P) (drop-append-le (page * P) front rest within)
     ∙ take-append-le P (drop (page * P) front) rest (omega (arith, fits, length-drop (page * P) front))
 
--- the settings stay
+-- the cache's settings stay
 pub puts_settings : (id from P to : ℕ) (bytes : List ℕ) (old new : CacheState)
     → PutsUpTo id from P bytes to old new → new.page_size ≡ old.page_size
 puts_settings id from P to bytes old new p =
     (put_all_settings id from p.count bytes old new p.puts).page_size
 
--- all that it does is put pages of the content
+-- such a call only puts pages of the content
 pub puts_only : (id from P to : ℕ) (front bytes all : List ℕ) (old new : CacheState)
     → length front ≡ from * P → all ≡ front ++ bytes → old.page_size ≡ P
     → PutsUpTo id from P bytes to old new → CachesOnly id from all old new
@@ -280,7 +280,7 @@ puts_only id from P to front bytes all old new size is same p =
     (omega (arith, p.within, size, ap length is, length-append front bytes)))
     (subst (λ (b : List ℕ). PutsAll id from p.count b old new) (sym there) p.puts)
 
--- and what is held below the tip stays true
+-- what is held below the tip stays true
 pub puts_true : (id from P to : ℕ) (front bytes all held : List ℕ) (old new : CacheState)
     → length front ≡ from * P → all ≡ front ++ bytes → take (from * P) held ≡ front
     → old.page_size ≡ P → PutsUpTo id from P bytes to old new
@@ -359,7 +359,7 @@ puts_buffered {A} w v now more bytes cache after (Ok a) is puts =
 puts_buffered {A} w v now more bytes cache after (Err e) is puts =
     subst (λ (u : WriterState). CachesTo {A = A} u now bytes cache after (Err e)) is puts
 
--- of the same bytes
+-- what is put of the same bytes
 pub puts_alike : {A : Type 0} (w now : WriterState) (bytes same : List ℕ) (cache after : CacheState)
     (result : Result A Error) → bytes ≡ same → CachesTo w now bytes cache after result
     → CachesTo w now same cache after result
@@ -385,7 +385,7 @@ pub started_pages : {A : Type 0} (f : A → SyncState) (w now : WriterState) (re
 started_pages f w now (Ok a) is = ap (λ (v : WriterState). v.full_pages) is
 started_pages f w now (Err e) is = tt
 
--- where nothing is written
+-- where nothing is written nothing is put
 pub settled_nothing : (sum : List ℕ → ℕ) (w now : WriterState) (bytes : List ℕ)
     (cache : CacheState) (old new : Life) (result : Result (Unit {0}) Error)
     → Settles sum w old new (with_value now result) → CachesTo w now bytes cache cache result
@@ -416,7 +416,7 @@ filled_pages sum w m first old mid sound goes empty =
       length-append w.tip first,
     )
 
--- ---- what a public call owes
+-- ---- what a public call guarantees
 
 pub only_law : (sum : List ℕ → ℕ) (w : WriterState) (more bytes : List ℕ) (old : Life)
     (cache after : CacheState) (to : ℕ) → IsConsistent sum w old.present
@@ -442,7 +442,7 @@ caches_law sum writer w more bytes old cache after (Ok a) sound same is puts =
 caches_law sum writer w more bytes old cache after (Err e) sound same is (to, puts) =
     only_law sum w more bytes old cache after to sound same is puts
 
--- the same, of a call that appends nothing
+-- a call that appends nothing puts pages of the content alone, whatever it answers
 pub caches_law_same : {A : Type 0} (sum : List ℕ → ℕ) (writer : A → WriterState) (w : WriterState)
     (old : Life) (cache after : CacheState) (result : Result A Error) → IsConsistent sum w old.present
     → cache.page_size ≡ w.page_size → Caches writer w w.tip cache after result
@@ -458,7 +458,7 @@ pub fresh_law : (id from : ℕ) (all : List ℕ) (cache after : CacheState)
 fresh_law id from all cache after only given fresh =
     fresh_stays id from all cache after given only fresh
 
--- reads go on after each call that appends, or nothing
+-- reads go on after each call that appends something or nothing
 pub reads_after : {A : Type 0} (sum : List ℕ → ℕ) (writer : A → WriterState) (w : WriterState)
     (more bytes : List ℕ) (old new : Life) (cache after : CacheState) (a : A)
     → cache.page_size ≡ w.page_size → bytes ≡ w.tip ++ more

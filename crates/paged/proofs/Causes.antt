@@ -45,7 +45,7 @@ sync_cause s old new OffsetOverflow goes = absurd goes
 sync_cause s old new OutOfMemory goes = tt
 sync_cause s old new IdsExhausted goes = absurd goes
 
--- so does a wait, and also where the sync had failed
+-- a wait answers an error for a failed device or for no memory, and also where the sync had failed
 pub wait_cause : (name : ℕ) (old new : Life) (e : Error) → WaitGoes name old new (Err e) → CallCause (Pending name) old new e
 wait_cause name old new ReadFailed goes = absurd goes
 wait_cause name old new WriteFailed goes = absurd goes
@@ -60,7 +60,8 @@ wait_cause name old new OffsetOverflow goes = absurd goes
 wait_cause name old new OutOfMemory goes = tt
 wait_cause name old new IdsExhausted goes = absurd goes
 
--- what a later part of a call answers has a cause in the whole call, where a sync that it waits for has failed in this call or had before
+-- what a later part of a call answers has a cause in the whole call, where a sync that it waits for
+-- has failed in this call or had before
 pub cause_later : (s t : SyncState) (old mid new : Life) (e : Error) → LogGrows old.present mid.present → LogGrows mid.present new.present → (PendingSyncFailed t mid.present → CallCause s old mid SyncFailed) → CallCause t mid new e → CallCause s old new e
 cause_later s t old mid new ReadFailed grows more waits cause = cause
 cause_later s t old mid new WriteFailed grows more waits cause = failed_later WriteFailed old.present mid.present new.present grows cause
@@ -93,7 +94,7 @@ pub write_unasked : (offset : ℕ) (bytes : List ℕ) (sync : Bool) (life : Life
 write_unasked offset bytes true life e is fits = subst (λ e. WriteGoes offset bytes true life life (Err e)) (sym is) (refl, fits)
 write_unasked offset bytes false life e is fits = subst (λ e. WriteGoes offset bytes false life life (Err e)) (sym is) (refl, fits)
 
--- a wait that was answered stands in the log
+-- a wait that was answered is in the log
 pub waited_log : (name : ℕ) (c : ℕ × List ℕ) (d : Disk) → (logged (WaitSync name) false (disk_settled_to c d)).log ≡ d.log ++ record { request = WaitSync name; failed = false } ∷ []
 waited_log name c d = ap (λ (log : List Entry). log ++ record { request = WaitSync name; failed = false } ∷ []) (settles_same c d).1
 
@@ -124,7 +125,7 @@ write_asks offset bytes true old new (Err OffsetOverflow) (is, passes) = none_as
 write_asks offset bytes true old new (Err OutOfMemory) (is, has) = none_asked old new is
 write_asks offset bytes true old new (Err IdsExhausted) goes = absurd goes
 
--- and so is a sync
+-- a sync is one device call at most
 pub sync_asks : (old new : Life) (result : Result (Unit {0}) Error) → SyncGoes old new result → AsksAtMost 1 old new
 sync_asks old new (Ok done) is = one_more old.present.log new.present.log _ (ap (λ l. l.present.log) is)
 sync_asks old new (Err ReadFailed) goes = absurd goes
@@ -137,7 +138,7 @@ sync_asks old new (Err OffsetOverflow) goes = absurd goes
 sync_asks old new (Err OutOfMemory) is = none_asked old new is
 sync_asks old new (Err IdsExhausted) goes = absurd goes
 
--- and a wait
+-- a wait is one device call at most
 pub wait_asks : (name : ℕ) (old new : Life) (result : Result (Unit {0}) Error) → WaitGoes name old new result → AsksAtMost 1 old new
 wait_asks name old new (Ok done) (s, named, well, is) = one_more old.present.log new.present.log _ (ap (λ l. l.present.log) is ∙ waited_log name (s.covers, s.bytes) old.present)
 wait_asks name old new (Err ReadFailed) goes = absurd goes
@@ -150,7 +151,7 @@ wait_asks name old new (Err OffsetOverflow) goes = absurd goes
 wait_asks name old new (Err OutOfMemory) is = none_asked old new is
 wait_asks name old new (Err IdsExhausted) goes = absurd goes
 
--- and a start
+-- a start is one device call at most
 pub start_asks : (old new : Life) (result : Result StartedSync Error) → StartGoes old new result → AsksAtMost 1 old new
 start_asks old new (Ok (Named name)) (last, failed, is) = one_more old.present.log new.present.log _ (ap (λ l. l.present.log) is)
 start_asks old new (Ok Done) goes = absurd goes
@@ -199,7 +200,7 @@ write_grows offset bytes true old new (Err OffsetOverflow) (is, passes) = grows_
 write_grows offset bytes true old new (Err OutOfMemory) (is, has) = grows_same old.present new.present (ap (λ (l : Life). l.present.log) is)
 write_grows offset bytes true old new (Err IdsExhausted) goes = absurd goes
 
--- a sync
+-- the log goes on over a sync
 pub sync_grows : (old new : Life) (result : Result (Unit {0}) Error) → SyncGoes old new result → LogGrows old.present new.present
 sync_grows old new (Ok done) is = (_ ∷ [], ap (λ l. l.present.log) is)
 sync_grows old new (Err ReadFailed) goes = absurd goes
@@ -212,7 +213,7 @@ sync_grows old new (Err OffsetOverflow) goes = absurd goes
 sync_grows old new (Err OutOfMemory) is = grows_same old.present new.present (ap (λ (l : Life). l.present.log) is)
 sync_grows old new (Err IdsExhausted) goes = absurd goes
 
--- a wait
+-- the log goes on over a wait
 pub wait_grows : (name : ℕ) (old new : Life) (result : Result (Unit {0}) Error) → WaitGoes name old new result → LogGrows old.present new.present
 wait_grows name old new (Ok done) (s, named, well, is) = (_ ∷ [], ap (λ l. l.present.log) is ∙ waited_log name (s.covers, s.bytes) old.present)
 wait_grows name old new (Err ReadFailed) goes = absurd goes
@@ -225,7 +226,7 @@ wait_grows name old new (Err OffsetOverflow) goes = absurd goes
 wait_grows name old new (Err OutOfMemory) is = grows_same old.present new.present (ap (λ (l : Life). l.present.log) is)
 wait_grows name old new (Err IdsExhausted) goes = absurd goes
 
--- and a start
+-- the log goes on over a start
 pub start_grows : (old new : Life) (result : Result StartedSync Error) → StartGoes old new result → LogGrows old.present new.present
 start_grows old new (Ok (Named name)) (last, failed, is) = (_ ∷ [], ap (λ l. l.present.log) is)
 start_grows old new (Ok Done) goes = absurd goes

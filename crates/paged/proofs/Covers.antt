@@ -24,7 +24,7 @@ pub flush_covers : (sum : List ℕ → ℕ) (w : WriterState) (rest sync : Bool)
 unfolding IsConsistent
 flush_covers sum w rest sync old new answer small sound ready can goes = write_covers_through sum w old new (full_in w) rest (flush_bytes sum w rest) small sound ready can refl sync answer goes
 
--- or was brought up to date
+-- a flush by a writer whose durable slot was brought up to date
 pub carried_covers : (sum : List ℕ → ℕ) (w v : WriterState) (rest sync : Bool) (old new : Life) (answer : Result (Unit {0}) Error) → IsSmall sum → IsConsistent sum w old.present → MayFlush w.sync w.flushed (guard_slot w.sync w.flushed w.durable) → v ≡ carried w
     → CanWrite v.page_size v.tip (full_in v) rest → WriteGoes (offset_of v) (flush_bytes sum v rest) sync old new answer → CoversThrough sum w.page_size (content w old.present.readable) old new
 unfolding IsConsistent
@@ -51,7 +51,7 @@ longer_covers sum w v bytes old new sound is covers =
     covers_shorter sum w.page_size (content w old.present.readable) (content w old.present.readable ++ bytes) old new (begins (content w old.present.readable) bytes)
     (subst (λ (c : List ℕ). CoversThrough sum w.page_size c old new) (longer_content sum w old.present sound.stands bytes) h)
 
--- a writer that waits no more for the sync that it waited for: that has completed
+-- where a writer no longer waits for the sync that it waited for, that sync has completed
 pub completed : (sum : List ℕ → ℕ) (w now : WriterState) (old new : Life) → IsConsistent sum now new.present → CoversThrough sum w.page_size (content w old.present.readable) old new
     → Completed sum w.page_size (content w old.present.readable) w.sync now.sync old new
 unfolding IsConsistent

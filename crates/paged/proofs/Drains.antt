@@ -16,19 +16,19 @@ use Rattle.paged.proofs.Flushing.{fits-rest}
 length-full : (P : ℕ) (old : Tip) → old.page_size ≡ P → full_len old ≡ length old.bytes / P * P
 length-full P old size = ap (λ p. length old.bytes / p * p) size
 
--- its offset without them
+-- the tip's offset without its full pages
 offset-drained : (P : ℕ) (old : Tip) → IsWriter P old → (drained old).offset ≡ (old.offset / P + length old.bytes / P) * P
 offset-drained P old is = omega (arith, is.whole, length-full P old is.page_size, add-mul (old.offset / P) (length old.bytes / P) P)
 
--- the full pages before it
+-- how many full pages stand before that offset
 full_pages-drained : (P : ℕ) (old : Tip) → 0 < P → IsWriter P old → (drained old).offset / P ≡ old.offset / P + length old.bytes / P
 full_pages-drained P old some is = ap (λ offset. offset / P) (offset-drained P old is) ∙ mul-div_cancel (old.offset / P + length old.bytes / P) some
 
--- what is left of its bytes
+-- what is left of the tip's bytes
 rest-drained : (P : ℕ) (old : Tip) → old.page_size ≡ P → (drained old).bytes ≡ drop (length old.bytes / P * P) old.bytes
 rest-drained P old size = ap (λ n. drop n old.bytes) (length-full P old size)
 
--- it is a writer's tip still
+-- what is left is a writer's tip still
 pub is_writer_drained : (P : ℕ) (old new : Tip) → 0 < P → IsWriter P old → new ≡ drained old → IsWriter P new
 is_writer_drained P old new some is goes =
     let full = full_pages-drained P old some is in
@@ -47,11 +47,11 @@ pub slot_gone : (slot : Option ActiveChecksum) (k : ℕ) → 0 < k → None ≡ 
 slot_gone slot zero some = absurd (omega (arith, some))
 slot_gone slot (suc k) some = refl
 
--- there is one among a page's bytes and more
+-- there is a full page where there are as many bytes as a page has
 pub full_some : (P : ℕ) (bytes : List ℕ) → 0 < P → P ≤ length bytes → 0 < length bytes / P
 full_some P bytes some enough = le-div 1 (length bytes) P some (omega (arith, enough))
 
--- the writer then
+-- the writer with what is left of its tip
 pub drained_state : (P id : ℕ) (old new : Tip) (flushed durable durable_now : Option ActiveChecksum) (sync : SyncState) (w : WriterState) → 0 < P → IsWriter P old → new ≡ drained old
     → record { page_size = P; id = id; capacity = old.capacity; full_pages = old.offset / P; tip = old.bytes; flushed = flushed; durable = durable; sync = sync } ≡ w
     → durable_now ≡ durable_after durable (length old.bytes / P)

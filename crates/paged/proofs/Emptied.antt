@@ -1,4 +1,5 @@
--- What opening leaves of a blob's bytes: the pages up to the last that has a value, and the bad slot of that page emptied.
+-- What opening leaves of a blob's bytes: the pages up to the last that has a value, and the bad
+-- slot of that page emptied.
 use Rattle.std.proofs.Common.{◌≡◌, ◌≢◌, ◌⊎◌, inl, inr, ℕ, zero, suc, ◌+◌, ◌-◌, ◌*◌, ◌/◌, ◌<◌, ◌≤◌, max, List, [], ◌∷◌, ◌++◌, length, take, drop, get_or, slice_get, refl, sym, ◌∙◌, ap, ap₂, subst, arith, rules, Bool, true, false, length-take, length-take-le, length-drop, length-append}
 use Rattle.std.specs.Prelude.{Option, Some, None, if◌then◌else◌, nat_le, nat_lt, not, ◌&&◌, ◌==◌}
 use Rattle.std.specs.Bool.{then_some}
@@ -142,7 +143,7 @@ module _ (sum : List ℕ → ℕ) (P full : ℕ) (a : ActiveChecksum) (t : Slot)
       some_of true x is = absurd (cc is)
       some_of false x is = same_Some x a is
 
-  -- the page is told by the same slot
+  -- the page's value has the same slot as before
   active_new : active sum P held ≡ Some a
   active_new =
       let crc : slot_crc (slot_of P (value_slot sum P held) held) ≡ slot_crc (slot_of P (value_slot sum P was) was) =
@@ -200,7 +201,7 @@ module _ (sum : List ℕ → ℕ) (P full : ℕ) (a : ActiveChecksum) (t : Slot)
     | inr past ↦ omega (arith, get_or_past held i 0 (omega (arith, past, length-take (P + 12) (drop (full * (P + 12)) new))))
   ]
 
-  -- it isn't as it was: the bad slot isn't all zero
+  -- the page isn't as it was: the bad slot isn't all zero
   changed : new ≡ bytes → ⊥
   changed same =
       absurd (cc (sym (ap (λ (c : Bool). then_some (not c && not (verifies sum P (other a.slot) was)) (other a.slot)) clear) ∙ sym (ap (λ (o : Option ActiveChecksum). bad_beside sum P was o) told) ∙ bad))
@@ -210,7 +211,7 @@ module _ (sum : List ℕ → ℕ) (P full : ℕ) (a : ActiveChecksum) (t : Slot)
 
 -- ---- the pages that are kept, with the bad slot emptied
 
--- what holds of them
+-- what holds of the pages that are kept
 pub record AreKept (sum : List ℕ → ℕ) (P full : ℕ) (found : Option (List ℕ × ActiveChecksum)) (bytes new : List ℕ) : Type 0 where
   pub size : length new ≡ length bytes
   pub after : After sum P (pages P new) full found
@@ -410,7 +411,7 @@ module _ (sum : List ℕ → ℕ) (P : ℕ) (bytes : List ℕ) where
   kept_are = subst (λ (b : Option Slot). AreKept sum P opened.full_pages opened.partial kept (emptied P opened.full_pages b kept)) (sym same_bad)
       (are_kept sum P opened.full_pages opened.partial kept (kept_size) kept_stands)
 
-  -- there are as many bytes
+  -- there are as many bytes as the kept pages have
   pub length-opened : length (opened_bytes sum P bytes) ≡ opened_size sum P bytes
   length-opened = kept_are.size ∙ kept_size
 
@@ -425,7 +426,7 @@ module _ (sum : List ℕ → ℕ) (P : ℕ) (bytes : List ℕ) where
   pub opened_has : HasBytes P opened.full_pages bytes opened.partial → HasBytes P opened.full_pages (opened_bytes sum P bytes) opened.partial
   opened_has has = kept_are.has (has_kept opened.partial has)
 
-  -- the pages below it are as they were
+  -- the pages below the tip are as they were
   pub opened_full : AreFull sum P (take opened.full_pages (pages P bytes)) → AreFull sum P (take opened.full_pages (pages P (opened_bytes sum P bytes)))
   opened_full are =
       let n = opened.full_pages * (P + 12) in
@@ -444,7 +445,7 @@ module _ (sum : List ℕ → ℕ) (P : ℕ) (bytes : List ℕ) where
   pub opened_beside : HasBytes P opened.full_pages bytes opened.partial → BesideIsMended sum P opened.full_pages (opened_bytes sum P bytes) (slot_of_tip opened.partial)
   opened_beside has = kept_are.beside (has_kept opened.partial has)
 
-  -- and the text stays
+  -- and the text stays as it was
   pub kept_says : 0 < P → text sum P kept ≡ text sum P bytes
   kept_says some = text_of_beginning sum P (opened_size sum P bytes) bytes some reach (first_size_le sum P bytes some)
 
@@ -455,7 +456,7 @@ module _ (sum : List ℕ → ℕ) (P : ℕ) (bytes : List ℕ) where
   pub opened_mending : (t : Slot) → bad_in sum P bytes opened ≡ Some t → Mending sum P opened.full_pages t kept
   opened_mending t bad = mending_is sum P opened.full_pages opened.partial t kept kept_size kept_stands (sym same_bad ∙ bad)
 
-  -- that is another byte list
+  -- with that slot emptied the bytes are others
   pub opened_changed : (t : Slot) → bad_in sum P bytes opened ≡ Some t → opened_bytes sum P bytes ≢ bytes
   opened_changed t bad = λ same.
       let m = opened_mending t bad in

@@ -1,4 +1,4 @@
--- What each moment of emptying a bad slot keeps and says.
+-- What each moment of emptying a bad slot keeps, and which text it has.
 use Rattle.std.proofs.Common.{◌≡◌, inl, inr, ℕ, ◌+◌, ◌*◌, ◌<◌, ◌≤◌, List, length, refl, sym, subst, arith, Bool, true, false, Result, Ok, Err}
 use Rattle.disk.specs.Disk.{Disk, Life, HasOperated, Request, SyncGoes, WriteGoes, settled_disk}
 use Rattle.disk.specs.Disk.Operation.{Write}

@@ -1,4 +1,5 @@
--- What a writer's calls are told by, at a few bytes. Pages have 4 bytes, and the checksum is their sum.
+-- Definitions of a writer's calls, at a few bytes. Pages have 4 bytes, and the checksum is their
+-- sum.
 use Rattle.std.proofs.Common.{◌≡◌, List, [], ◌∷◌, ◌++◌, length, length-append, ap, refl, sym, subst, inl, inr, arith}
 use Rattle.std.specs.Prelude.{None, Some, Ok, true, false}
 use Rattle.disk.specs.Disk.{Life, Entry, LogGrows, SomeFailed, HasFailed, next, logged, failed_at}
@@ -25,7 +26,7 @@ use Rattle.paged.specs.Reads.{HasWriterPages, size_of}
 pub a_physical_size : physical_blob_size 4 1 5 ≡ 48
 a_physical_size = refl
 
--- that is an offset of 64 bits
+-- its end is an offset of 64 bits
 pub it_fits : FitsBlob 4 1 5
 it_fits = omega arith
 
@@ -37,11 +38,11 @@ a_size = refl
 abbrev pub with_j : WriterState
 with_j = record with_g { tip = 101 ∷ 102 ∷ 103 ∷ 104 ∷ 105 ∷ 106 ∷ [] }
 
--- its tip has one full page
+-- the tip of "efghij" has one full page
 pub full_pages_of_a_tip : full_in with_j ≡ 1
 full_pages_of_a_tip = refl
 
--- and "ij" after it
+-- after that page "ij" is left
 pub the_rest : rest_of with_j ≡ 105 ∷ 106 ∷ []
 the_rest = refl
 
@@ -49,11 +50,11 @@ the_rest = refl
 pub work_for_full_pages : has_work with_j false ≡ true
 work_for_full_pages = refl
 
--- a tip of "efg" has none
+-- a tip of "efg" has no full page
 pub no_full_page : has_work with_g false ≡ false
 no_full_page = refl
 
--- but a rest of another length than the one that was written
+-- with the rest there is work for "efg", since "ef" is what was written
 pub work_for_a_rest : has_work with_g true ≡ true
 work_for_a_rest = refl
 
@@ -61,7 +62,7 @@ work_for_a_rest = refl
 pub a_written_rest : has_work (record with_g { tip = 101 ∷ 102 ∷ [] }) true ≡ false
 a_written_rest = refl
 
--- it writes after the full page
+-- such a flush writes at offset 16, after the full page
 pub the_offset : offset_of with_g ≡ 16
 the_offset = refl
 
@@ -69,12 +70,13 @@ the_offset = refl
 pub the_flush : flush_bytes add_sum with_g true ≡ efg_page
 the_flush = refl
 
--- of "efghij" first a full page that repeats the slot of "ef", and then the page of "ij" with an empty slot
+-- of "efghij" first a full page that repeats the slot of "ef", and then the page of "ij" with an
+-- empty slot
 pub two_pages_flushed : flush_bytes add_sum with_j true
     ≡ 101 ∷ 102 ∷ 103 ∷ 104 ∷ 0 ∷ 2 ∷ 0 ∷ 0 ∷ 0 ∷ 203 ∷ 0 ∷ 4 ∷ 0 ∷ 0 ∷ 1 ∷ 154 ∷ 105 ∷ 106 ∷ 0 ∷ 0 ∷ 0 ∷ 2 ∷ 0 ∷ 0 ∷ 0 ∷ 211 ∷ 0 ∷ 0 ∷ 0 ∷ 0 ∷ 0 ∷ 0 ∷ []
 two_pages_flushed = refl
 
--- of which the second is the rest's
+-- the second of these pages is the rest's
 pub the_rest_page : rest_bytes add_sum with_j true ≡ 105 ∷ 106 ∷ 0 ∷ 0 ∷ 0 ∷ 2 ∷ 0 ∷ 0 ∷ 0 ∷ 211 ∷ 0 ∷ 0 ∷ 0 ∷ 0 ∷ 0 ∷ 0 ∷ []
 the_rest_page = refl
 
@@ -82,7 +84,7 @@ the_rest_page = refl
 pub a_carried_slot : carried (record with_g { durable = None }) ≡ with_g
 a_carried_slot = refl
 
--- a dirty one keeps what it has
+-- a dirty writer keeps the durable slot that it has
 pub a_kept_slot : carried (record with_g { durable = None; sync = Dirty }) ≡ record with_g { durable = None; sync = Dirty }
 a_kept_slot = refl
 
@@ -98,7 +100,7 @@ after_a_sync = refl
 pub settled : IsSettled (record with_g { tip = 101 ∷ 102 ∷ [] })
 settled = record { clean = refl; short = omega arith; flushed = refl }
 
--- not one of "abcdefg", of which "g" isn't written
+-- a writer of "abcdefg", of which "g" isn't written, isn't settled
 pub not_settled : IsSettled with_g → ⊥
 not_settled is = omega (arith, is.flushed)
 
@@ -106,23 +108,23 @@ not_settled is = omega (arith, is.flushed)
 abbrev pub old : Life
 old = record { present = at_rest (abcd_page ++ ef_page); past = [] }
 
--- a read of it failed
+-- that blob after a read that failed
 abbrev pub failed_read : Life
 failed_read = next old (logged (ReadAt 0 16) true old.present)
 
--- so a call may answer ReadFailed
+-- so a call may answer `ReadFailed`
 pub a_cause : RecoveryCause old failed_read ReadFailed
 a_cause = (record { request = ReadAt 0 16; failed = true } ∷ [], refl, inl (refl, refl))
 
--- but not where no call failed
+-- a call doesn't answer `ReadFailed` where no device call failed
 pub no_cause : RecoveryCause old (next old (logged (ReadAt 0 16) false old.present)) ReadFailed → ⊥
 no_cause (more, is, some) = elim (subst (λ entries. SomeFailed ReadFailed entries) (sym is) some) [ inl failed ↦ absurd (cc (failed.0)) | inr none ↦ none ]
 
--- nor where another call failed
+-- a call doesn't answer `SyncFailed` where a read failed
 pub no_other_cause : RecoveryCause old failed_read SyncFailed → ⊥
 no_other_cause (more, is, some) = elim (subst (λ entries. SomeFailed SyncFailed entries) (sym is) some) [ inl failed ↦ absurd (cc (failed.1)) | inr none ↦ none ]
 
--- its log goes on
+-- the log goes on over that read
 pub the_log_grows : LogGrows old.present failed_read.present
 the_log_grows = (record { request = ReadAt 0 16; failed = true } ∷ [], refl)
 
@@ -138,7 +140,7 @@ has_pages = omega arith
 pub a_buffered_try : TryAppendGoes with_g (104 ∷ []) (record with_g { tip = 101 ∷ 102 ∷ 103 ∷ 104 ∷ [] }) (Ok (Some 7))
 a_buffered_try = (omega arith, omega arith, refl, refl)
 
--- six bytes don't
+-- six bytes don't fit
 pub a_try_that_does_not_fit : TryAppendGoes with_g (104 ∷ 105 ∷ 106 ∷ 107 ∷ 108 ∷ 109 ∷ []) with_g (Ok None)
 a_try_that_does_not_fit = (omega arith, omega arith, refl)
 
@@ -146,11 +148,11 @@ a_try_that_does_not_fit = (omega arith, omega arith, refl)
 pub footers_of_two : with_footers ((97 ∷ []) ∷ (98 ∷ []) ∷ []) (footers_of add_sum None ((97 ∷ []) ∷ (98 ∷ []) ∷ [])) ≡ built add_sum 1 None 2 (97 ∷ 98 ∷ [])
 footers_of_two = refl
 
--- the slot of "ef" tells the first of "efg"
+-- the slot of "ef" covers the first bytes of "efg"
 pub a_slot_of_the_first : TellsFirst add_sum (Some (record { slot = First; len = 2; crc = 203 })) (101 ∷ 102 ∷ 103 ∷ [])
 a_slot_of_the_first = (omega arith, refl)
 
--- and of pages the first alone
+-- of these pages it covers the first bytes of the first
 pub a_page_of_the_first : TellsFirstPage add_sum (Some (record { slot = First; len = 2; crc = 203 })) ((101 ∷ 102 ∷ 103 ∷ []) ∷ (97 ∷ []) ∷ [])
 a_page_of_the_first = (omega arith, refl)
 
@@ -160,7 +162,7 @@ a_page_of_the_first = (omega arith, refl)
 abbrev pub ab_waits : WriterState
 ab_waits = record { page_size = 4; id = 0; capacity = 8; full_pages = 0; tip = 97 ∷ 98 ∷ []; flushed = Some (record { slot = First; len = 2; crc = 195 }); durable = None; sync = Pending 0 }
 
--- the same with "c" after it
+-- the same writer with "c" after what is written
 abbrev pub abc_waits : WriterState
 abc_waits = record ab_waits { tip = 97 ∷ 98 ∷ 99 ∷ [] }
 
@@ -172,7 +174,7 @@ calls_of_a_sync = (refl, refl)
 pub calls_of_a_start : (start_calls ab_waits ≡ 0) × (start_calls abc_waits ≡ 3)
 calls_of_a_start = (refl, refl)
 
--- so it answers the same name
+-- so it answers the name of the started sync
 pub the_same_name : started_already ab_waits.sync ≡ Named 0
 the_same_name = refl
 
@@ -191,7 +193,7 @@ failed = record { present = record ab_started { started = failed_at 0 ab_started
 pub it_had_failed : CallCause (Pending 0) failed failed SyncFailed
 it_had_failed = inr refl
 
--- but not where nothing had failed
+-- the call doesn't answer `SyncFailed` where nothing had failed
 no_failure : (life : Life) → HasFailed SyncFailed life.present life.present → ⊥
 no_failure life (entries, is, some) = some_none entries (let none : length entries ≡ 0 = omega (arith, ap length is, length-append life.present.log entries) in none) some
   where
@@ -203,7 +205,7 @@ pub it_had_not_failed : CallCause (Pending 0) started started SyncFailed → ⊥
 it_had_not_failed (inl fails) = no_failure started fails
 it_had_not_failed (inr had) = absurd (cc had)
 
--- nor by a writer that waits for nothing
+-- a writer that waits for nothing doesn't answer `SyncFailed` for that sync
 pub nothing_was_awaited : CallCause Dirty failed failed SyncFailed → ⊥
 nothing_was_awaited (inl fails) = no_failure failed fails
 nothing_was_awaited (inr had) = had
@@ -222,7 +224,7 @@ a_fill = refl
 pub six_are_too_big : goes_direct with_g 6 ≡ true
 six_are_too_big = refl
 
--- five don't pass it
+-- five don't pass the buffer
 pub five_are_not : goes_direct with_g 5 ≡ false
 five_are_not = refl
 

@@ -1,4 +1,4 @@
--- What the prefix of some pages says of them.
+-- What the prefix of some pages is, and which text they have.
 use Rattle.std.proofs.Common.{◌≡◌, ◌≢◌, inl, inr, ℕ, zero, suc, ◌+◌, ◌*◌, ◌/◌, ◌<◌, ◌≤◌, List, [], ◌∷◌, ◌++◌, length, take, drop, refl, sym, ◌∙◌, ap, subst, arith, append-nil, append_assoc, length-append, take-append-drop}
 use Rattle.std.specs.Prelude.{slice_get, Option, Some, None}
 use Rattle.std.specs.List.{flat_map}
@@ -92,7 +92,7 @@ module _ (sum : List ℕ → ℕ) (P : ℕ) where
     | inr part ↦ absurd (omega (arith, lt, ap (λ (q : Prefix). prefix_pages q) (prefix_part sum P head rest part), partial_pages_le (value_and_slot (active sum P head) head)))
   ]
 
-  -- and say no other text
+  -- and the pages of the prefix have the whole text
   pub text_take : (some : List (List ℕ)) (j : ℕ) → 0 < P → prefix_pages (prefix_of sum P some) ≤ j → text_of_pages sum P (take j some) ≡ text_of_pages sum P some
   text_take [] zero positive le = refl
   text_take [] (suc j) positive le = refl
@@ -113,7 +113,7 @@ module _ (sum : List ℕ → ℕ) (P : ℕ) where
         text_part sum P page (take j rest) less ∙ sym (text_part sum P page rest less)
   ]
 
-  -- so long are these pages
+  -- each of these pages has at least P bytes
   abbrev pub AreLong : List (List ℕ) → Type 0
   AreLong some = (q : ℕ) (page : List ℕ) → slice_get some q ≡ Some page → P ≤ length page
 
@@ -143,7 +143,8 @@ module _ (sum : List ℕ → ℕ) (P : ℕ) where
         )
   ]
 
-  -- it begins what all pages in front would say, were they full, with the text of those after
+  -- a text begins what all pages in front would have as text, were they full, with the text of
+  -- those after
   pub text_begins : (front back : List (List ℕ)) → (rest : List ℕ) × (flat_map (take P) front ++ text_of_pages sum P back ≡ text_of_pages sum P (front ++ back) ++ rest)
   text_begins [] back = ([], sym (append-nil (text_of_pages sum P back)))
   text_begins (page ∷ front) back =
@@ -179,7 +180,7 @@ module _ (sum : List ℕ → ℕ) (P : ℕ) where
       ∙ pieces_of_take n (P + 12) m bytes reach
       ∙ sym (take-pieces n (length bytes / (P + 12)) (P + 12) bytes (pages_fit P n bytes (omega (arith, reach))))
 
-  -- bytes that were cut after the prefix have it, and say the same
+  -- bytes that were cut after the prefix have it, and the same text
   module _ (m : ℕ) (bytes : List ℕ) (positive : 0 < P) (le : m ≤ length bytes) (kept : prefix_pages (prefix_of sum P (pages P bytes)) * (P + 12) ≤ m) where
     enough : prefix_pages (prefix_of sum P (pages P bytes)) ≤ m / (P + 12)
     enough = omega (arith, pages_fit P (prefix_pages (prefix_of sum P (pages P bytes))) (take m bytes) (omega (arith, kept, length-take-le m bytes le)), ap (λ (k : ℕ). k / (P + 12)) (length-take-le m bytes le))

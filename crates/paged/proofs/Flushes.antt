@@ -1,4 +1,4 @@
--- From what a device call did to what a flush and a sync owe.
+-- From what a device call did to what a flush and a sync guarantee.
 use Rattle.std.proofs.Common.{◌≡◌, ℕ, ◌+◌, ◌*◌, ◌%◌, ◌<◌, ◌≤◌, inl, inr, ◌⊎◌, List, [], ◌++◌, length, take, refl, sym, ap, ◌∙◌, subst, arith, append-nil, Bool, true, false, Result, Ok, Err}
 use Rattle.std.specs.Prelude.{IfOk, OnOk, IsErrOf, not, ◌==◌, ◌&&◌, if◌then◌else◌}
 use Rattle.std.proofs.lemmas.List.{take_at}
@@ -40,7 +40,8 @@ size_is_length sum w life sound = size_holds sum w life (sound_holds_together su
 pub stays_nil : (sum : List ℕ → ℕ) (P : ℕ) (content : List ℕ) (old new : Life) → StaysThrough sum P content old new → StaysThrough sum P (content ++ []) old new
 stays_nil sum P content old new stays = subst (λ c. StaysThrough sum P c old new) (sym (append-nil content)) stays
 
--- a flush of the full pages, and of the rest where asked, by a writer whose durable slot is up to date
+-- a flush of the full pages, and of the rest where asked, by a writer whose durable slot is up to
+-- date
 pub flush_goes : (sum : List ℕ → ℕ) (w now : WriterState) (rest : Bool) (old new : Life) (result : Result (Unit {0}) Error) → IsSmall sum → IsConsistent sum w old.present
     → MayFlush w.sync w.flushed w.durable → CanWrite w.page_size w.tip (full_in w) rest → WriteGoes (offset_of w) (flush_bytes sum w rest) false old new result
     → OnOk result (now ≡ after_write sum w (full_in w) rest) → (IsErrOf result OffsetOverflow → ⊥) → Flushes sum w old new (with_value now result)
@@ -214,7 +215,7 @@ pub dirty_state : (w : WriterState) (s : SyncState) → s ≡ w.sync → WaitsFo
 dirty_state w s is none (inl dirty) = sym is ∙ dirty
 dirty_state w s is none (inr (name, pending)) = absurd (subst (λ (t : SyncState). WaitsForNone t) (sym is ∙ pending) none)
 
--- so all that was started is settled
+-- so all syncs that a dirty writer started are settled
 pub dirty_settled : (sum : List ℕ → ℕ) (w : WriterState) (d : Disk) → IsConsistent sum w d → w.sync ≡ Dirty → AllSettled d
 unfolding IsConsistent
 dirty_settled sum w d sound dirty = flush_settled d w.sync w.flushed w.durable (dirty_carried w dirty) sound.stands.starts
@@ -270,7 +271,7 @@ flush_short sum w v now rest (Ok done) some is state =
     omega (arith, length-rest v, mod-lt (length v.tip) (let page : 0 < v.page_size = omega (arith, some, same) in page), same, tip)
 flush_short sum w v now rest (Err e) some is state = tt
 
--- and with the rest all is written
+-- after a flush with the rest all is written
 pub flush_written : (sum : List ℕ → ℕ) (w v now : WriterState) (asked rest : Bool) (result : Result (Unit {0}) Error) → 0 < w.page_size → v ≡ carried w → rest ≡ (asked && not (length w.tip % w.page_size == 0))
     → OnOk result (now ≡ written sum v rest false) → asked ≡ true → OnOk result (IsWritten now)
 flush_written sum w v now asked rest (Ok done) some is rests state all =
@@ -280,7 +281,7 @@ flush_written sum w v now asked rest (Ok done) some is rests state all =
     subst IsWritten (sym is_now) (record { short = carry.short; flushed = carry.flushed })
 flush_written sum w v now asked rest (Err e) some is rests state all = tt
 
--- it is dirty
+-- after a flush the writer is dirty
 pub flush_dirty : (sum : List ℕ → ℕ) (v now : WriterState) (rest : Bool) (result : Result (Unit {0}) Error) → OnOk result (now ≡ written sum v rest false) → OnOk result (now.sync ≡ Dirty)
 flush_dirty sum v now rest (Ok done) state = ap (λ (w : WriterState). w.sync) state
 flush_dirty sum v now rest (Err e) state = tt
@@ -290,19 +291,19 @@ pub sync_within : (sum : List ℕ → ℕ) (w : WriterState) (old new : Life) (r
 sync_within sum w old new (Ok now) room syncs = omega (arith, syncs.1.short, syncs.0.same.page_size, syncs.0.same.capacity, room)
 sync_within sum w old new (Err e) room syncs = tt
 
--- a sync that writes and syncs, in two
+-- a sync that writes and syncs, in two calls
 pub sync_asks_twice : (w : WriterState) (old mid new : Life) → has_work w true ≡ true → w.sync ≡ Dirty → AsksAtMost 1 old mid → AsksAtMost 1 mid new → AsksAtMost (sync_calls w) old new
 sync_asks_twice w old mid new work dirty first second =
     let write : (if has_work w true then 1 else 0) ≡ 1 = ap {B = ℕ} (λ b. if b then 1 else 0) work in
     omega (arith, first, second, ap settle_calls dirty, write)
 
--- in one
+-- a sync that writes durably, in one call
 pub sync_asks_once : (w : WriterState) (old new : Life) → has_work w true ≡ true → AsksAtMost 1 old new → AsksAtMost (sync_calls w) old new
 sync_asks_once w old new work first =
     let write : (if has_work w true then 1 else 0) ≡ 1 = ap {B = ℕ} (λ b. if b then 1 else 0) work in
     omega (arith, first, write)
 
--- and where something isn't written
+-- where something isn't written a sync has something to do
 pub sync_due : (w : WriterState) → has_work w true ≡ true → sync_calls w ≡ 0 → ⊥
 sync_due w work none =
     let write : (if has_work w true then 1 else 0) ≡ 1 = ap {B = ℕ} (λ b. if b then 1 else 0) work in

@@ -40,7 +40,7 @@ length-full w = length-take-le (full_in w * w.page_size) w.tip (omega (arith, di
 pub rest_bytes-short : (sum : List ℕ → ℕ) (w : WriterState) → length w.tip < w.page_size → rest_bytes sum w true ≡ page_of sum w.page_size w.durable w.tip
 rest_bytes-short sum w short = ap (λ k. page_of sum w.page_size (durable_after w.durable k) (drop (k * w.page_size) w.tip)) (div-eq_of_lt short) ∙ ap (λ n. page_of sum w.page_size w.durable (drop n w.tip)) (zero-mul w.page_size)
 
--- the same, where the full pages were taken out of the tip
+-- the page of what is left, where the full pages were taken out of the tip
 pub short_drained : (w : WriterState) → 0 < w.page_size → length (rest_of w) < w.page_size
 short_drained w some = omega (arith, length-rest w, mod-lt (length w.tip) some)
 
@@ -48,7 +48,7 @@ rest_bytes-drained : (sum : List ℕ → ℕ) (w : WriterState) (flushed : Optio
 rest_bytes-drained sum w flushed false some = refl
 rest_bytes-drained sum w flushed true some = rest_bytes-short sum (after_flush w flushed w.sync) (short_drained w some)
 
--- the same, as a program builds it: first the full pages
+-- the full pages that a flush writes, as a program builds them
 pub pages-drained : (sum : List ℕ → ℕ) (w : WriterState) (durable : Option ActiveChecksum) (pages : List (List ℕ)) → 0 < w.page_size → durable ≡ w.durable
     → ArePages w.page_size pages → concat pages ≡ take (full_in w * w.page_size) w.tip
     → with_footers pages (footers_of sum durable pages) ≡ built sum w.page_size w.durable (full_in w) w.tip
@@ -59,7 +59,7 @@ pages-drained sum w durable pages some slot are is =
     ∙ (λ i. built sum w.page_size (slot i) (count i) (is i))
     ∙ built-take sum w.page_size w.durable (full_in w) w.tip
 
--- and then the rest
+-- and then the page of the rest, as a program builds it
 pub flush_bytes-drained : (sum : List ℕ → ℕ) (w v : WriterState) (flushed : Option ActiveChecksum) (rest : Bool) → 0 < w.page_size → v ≡ after_flush w flushed w.sync
     → built sum w.page_size w.durable (full_in w) w.tip ++ rest_bytes sum v rest ≡ flush_bytes sum w rest
 flush_bytes-drained sum w v flushed rest some state =
@@ -90,7 +90,7 @@ div_ceil-rest n r P some is =
     let same : r ≡ n % P = omega (arith, div-add-mod' n P) in
     omega (arith, div-eq_of_lt small, mod-eq_of_lt small, ap (λ x. min 1 x) same)
 
--- the same as offsets
+-- the physical size of a blob, with pages that are counted off
 pub fits-rest : (P full n r : ℕ) → 0 < P → r ≡ n - n / P * P → physical_blob_size P (full + n / P) r ≡ physical_blob_size P full n
 fits-rest P full n r some is = ap (λ pages. pages * (P + 12)) (omega (arith, div_ceil-rest n r P some is))
 
@@ -133,7 +133,8 @@ can_sync w true some work is =
     let left : 0 < length w.tip % w.page_size = grind (arith, nat_tests, is) in
     (omega (arith, div-add-mod' (length w.tip) w.page_size), omega (arith, div-add-mod' (length w.tip) w.page_size, mod-lt (length w.tip) some))
 
--- the same where the rest is written if it is asked for and there is some
+-- what a sync has to write can be written, where the rest is written if it is asked for and there
+-- is some
 pub can_flush_rest : (w : WriterState) (rest after : Bool) → 0 < w.page_size → has_work w rest ≡ true → after ≡ (rest && not (length w.tip % w.page_size == 0)) → CanWrite w.page_size w.tip (full_in w) after
 can_flush_rest w false after some work is = subst (λ (b : Bool). CanWrite w.page_size w.tip (full_in w) b) (sym is) (can_flush w some work)
 can_flush_rest w true after some work is = can_sync w after some work is

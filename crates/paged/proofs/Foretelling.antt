@@ -1,4 +1,4 @@
--- What a look tells, and what a recovery leaves.
+-- What a look foretells, and what a recovery leaves.
 use Rattle.std.proofs.Common.{◌≡◌, ℕ, ◌+◌, ◌*◌, ◌/◌, ◌<◌, ◌≤◌, ◌^◌, min, List, length, refl, sym, ◌∙◌, ap, arith, Result, Ok, Err}
 use Rattle.std.specs.Prelude.{Option, Some, None, IfOk}
 use Rattle.std.specs.Int.{div_ceil}
@@ -38,22 +38,22 @@ pages_with_rest : (P full rest : ℕ) → rest < P → full + min 1 rest ≡ div
 pages_with_rest P full rest short =
     omega (arith, div-mul-add full P rest short, ap (λ (n : ℕ). min 1 n) (mod-mul-add full P rest short))
 
--- what has a byte takes a page
+-- some bytes take at least one page
 one_for_some : (n : ℕ) → 0 < n → 1 ≡ min 1 n
 one_for_some n some = omega (arith, some)
 
--- the value after the full pages takes one, if there is one
+-- the value after the full pages takes one page, if there is one
 partial_takes : (sum : List ℕ → ℕ) (P : ℕ) (some : List (List ℕ)) (full : ℕ) (found : Option (List ℕ × ActiveChecksum)) → AreLong sum P some → After sum P some full found → partial_pages found ≡ min 1 (length (tip_of found))
 partial_takes sum P some full None long is = refl
 partial_takes sum P some full (Some v) long is =
     one_for_some (length v.0) (omega (arith, (active_is sum P is.0 v.1 is.2).some, told_len sum P some full (Some v) (long full) is))
 
--- so does the flushed slot of a writer of which all is written
+-- the flushed slot of a writer of which all is written takes one page, if there is one
 slot_takes : (sum : List ℕ → ℕ) (P full : ℕ) (tip readable : List ℕ) (flushed : Option ActiveChecksum) → kept_len flushed ≡ length tip → TipPage sum P full tip readable flushed → slot_pages flushed ≡ min 1 (length tip)
 slot_takes sum P full tip readable None written is = ap (λ (n : ℕ). min 1 n) written
 slot_takes sum P full tip readable (Some f) written is = one_for_some (length tip) (omega (arith, is.some, written))
 
--- ---- what is told
+-- ---- what a look answers
 
 module _ (sum : List ℕ → ℕ) (P : ℕ) (bytes : List ℕ) (p : Prefix) (is : p ≡ prefix_of sum P (pages P bytes)) where
   abbrev first : Prefix
@@ -63,7 +63,7 @@ module _ (sum : List ℕ → ℕ) (P : ℕ) (bytes : List ℕ) (p : Prefix) (is 
   len_is : prefix_size P p ≡ length (text sum P bytes)
   len_is = ap (λ (q : Prefix). prefix_size P q) is ∙ prefix_size_is sum P (pages P bytes) (long_pages sum P bytes)
 
-  -- and has as many pages as that
+  -- a prefix has as many pages as its length needs
   pages_are : 0 < P → prefix_pages p ≡ div_ceil (prefix_size P p) P
   pages_are some =
       let facts = prefix_is sum P (pages P bytes) in
@@ -86,7 +86,7 @@ pub whole_there : (P size r len : ℕ) → r ≡ P + 12 → size ≡ len → siz
 whole_there P size r len is all = omega (arith, div-mul-le_self size r, ap (λ (n : ℕ). size / r * n) is, all)
 
 module _ (sum : List ℕ → ℕ) (P size r : ℕ) (bytes : List ℕ) (p : Prefix) (is : r ≡ P + 12) (found : p ≡ prefix_from sum P 0 (size / r) bytes) where
-  -- those of the text lie within the blob
+  -- the pages of the text lie within the blob
   pub found_there : prefix_pages p * (P + 12) ≤ size
   found_there =
       let more : (P + 12) * prefix_pages p ≤ (P + 12) * (size / r) = mul-le-mul_left (P + 12) (scanned_within sum P 0 (size / r) bytes p found (omega arith)) in
@@ -95,7 +95,7 @@ module _ (sum : List ℕ → ℕ) (P size r : ℕ) (bytes : List ℕ) (p : Prefi
   pub found_few : size < 2 ^ 64 → p.full_pages + 1 < 2 ^ 64
   found_few fits = omega (arith, found_there, fits)
 
-  -- they are the prefix of all pages
+  -- the prefix that was found is that of all pages
   pub found_first : size ≡ length bytes → p ≡ prefix_of sum P (pages P bytes)
   found_first all =
       found
@@ -103,7 +103,7 @@ module _ (sum : List ℕ → ℕ) (P size r : ℕ) (bytes : List ℕ) (p : Prefi
       ∙ ap (λ (n : ℕ). prefix_of sum P (pieces (size / n) (P + 12) bytes)) is
       ∙ ap (λ (n : ℕ). prefix_of sum P (pieces (n / (P + 12)) (P + 12) bytes)) all
 
-  -- less than a page has none
+  -- less than a page has no pages
   pub found_none : size < P + 12 → size / r ≡ 0
   found_none less = div-eq_of_lt (omega (arith, less, is))
 
@@ -121,7 +121,7 @@ pub finds_only_looks : (p : Prefix) (old new : Life) (result : Result Prefix Err
 finds_only_looks p old new (Ok found) finds = finds.1
 finds_only_looks p old new (Err e) finds = finds_looked p old new e finds
 
--- ---- what a look owes
+-- ---- what a look guarantees
 
 module _ (old new : Life) (looked : Looked old new) where
   pub look_keeps_text : (sum : List ℕ → ℕ) (P : ℕ) → KeepsText sum P old new
@@ -160,6 +160,6 @@ module _ (sum : List ℕ → ℕ) (P : ℕ) (bytes : List ℕ) (outlook : Outloo
     foretold_at (Ok w) recovered = (left_len w recovered, left_pages w recovered)
     foretold_at (Err e) recovered = tt
 
-  -- what was told of it
+  -- what a look foretold of the recovery
   pub foretold : Foretells sum P bytes outlook
   foretold cache capacity old new result same begins recovers = foretold_at cache capacity old new same begins result recovers

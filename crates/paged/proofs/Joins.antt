@@ -30,7 +30,7 @@ use Rattle.paged.proofs.Sizes.{fits_by_size}
 pub fits_fewer : (P full n m : ℕ) → 0 < P → n ≤ m → FitsBlob P full m → FitsBlob P full n
 fits_fewer P full n m some less fits = (fits_by_size P full n some).1 (omega (arith, (fits_by_size P full m some).0 fits, less))
 
--- nor do the same after more pages
+-- the bytes after more pages need no more offsets
 pub fits_after : (P full n ahead m : ℕ) → 0 < P → ahead * P + m ≡ full * P + n → FitsBlob P full n → FitsBlob P ahead m
 fits_after P full n ahead m some same fits = (fits_by_size P ahead m some).1 (omega (arith, (fits_by_size P full n some).0 fits, same))
 
@@ -123,7 +123,7 @@ module _ (sum : List ℕ → ℕ) (w m : WriterState) (old mid new : Life) (xs y
   appends_join n (Ok done) sound fits goes = (size_holds sum w old sound, goes_on_join n goes.1)
   appends_join n (Err e) sound fits refused = later_refused e fits refused
 
-  -- and what is covered
+  -- and what started syncs cover through both parts
   pub covers_join : CoversThrough sum w.page_size (content w old.present.readable) old mid → CoversThrough sum m.page_size (content m mid.present.readable) mid new → CoversThrough sum w.page_size (content w old.present.readable) old new
   covers_join one two =
       let held = content w old.present.readable in
@@ -138,7 +138,7 @@ no_bytes : (xs : List ℕ) → length xs ≡ 0 → xs ≡ []
 no_bytes [] none = refl
 no_bytes (x ∷ xs) none = absurd (omega (arith, none))
 
--- it takes the tip to a page boundary
+-- filling takes the tip to a page boundary
 filled_whole : (P n : ℕ) → 0 < P → (k : ℕ) × (n + (P - n % P) % P ≡ k * P)
 filled_whole P n some = elim (cases_lt 0 (n % P)) [
   | inl part ↦
@@ -149,7 +149,7 @@ filled_whole P n some = elim (cases_lt 0 (n % P)) [
       (n / P, omega (arith, left, none, div-add-mod' n P))
 ]
 
--- so after a flush nothing is left in it
+-- so after filling and a flush nothing is left in the tip
 module _ (sum : List ℕ → ℕ) (w m : WriterState) (old mid : Life) (xs : List ℕ) (sound : Consistency sum w old.present) (first : CarriesOn sum w old xs m mid) where
   pub filled_size : m.full_pages * w.page_size + length m.tip ≡ w.full_pages * w.page_size + (length w.tip + length xs)
   filled_size =

@@ -1,4 +1,4 @@
--- A slot that tells the first bytes of the tip's page.
+-- A slot that covers the first bytes of the tip's page.
 use Rattle.std.proofs.Common.{◌≡◌, ℕ, zero, suc, ◌*◌, ◌<◌, ◌≤◌, List, [], ◌∷◌, length, take, drop, refl, sym, ap, ◌∙◌, subst, arith, length-take, length-append}
 use Rattle.std.specs.Prelude.{Option, None, Some}
 use Rattle.std.specs.List.{concat}
@@ -14,12 +14,12 @@ use Rattle.writer_state.specs.Sound.{IsConsistent, TipPage}
 use Rattle.paged.specs.Flush.{TellsFirst, TellsFirstPage, full_in, rest_of, after_flush, carried}
 use Rattle.paged.proofs.Flushing.{short_drained}
 
--- with no slot there is nothing to tell
+-- with no slot there is nothing to cover
 pub tells_none : (sum : List ℕ → ℕ) (pages : List (List ℕ)) → TellsFirstPage sum None pages
 tells_none sum [] = tt
 tells_none sum (page ∷ pages) = tt
 
--- of a sound writer's tip the slot that was written last
+-- the slot that was written last in the page of a sound writer's tip covers the tip's first bytes
 tip_tells : (sum : List ℕ → ℕ) (P full : ℕ) (tip readable : List ℕ) (flushed : Option ActiveChecksum) → TipPage sum P full tip readable flushed
     → TellsFirst sum flushed (take P tip)
 tip_tells sum P full tip readable None is = tt
@@ -35,7 +35,7 @@ consistent_tells sum w d sound = tip_tells sum w.page_size w.full_pages w.tip d.
 pub carried_tells : (sum : List ℕ → ℕ) (w v : WriterState) (d : Disk) → IsConsistent sum w d → v ≡ carried w → TellsFirst sum v.flushed (take v.page_size v.tip)
 carried_tells sum w v d sound is = subst (λ (u : WriterState). TellsFirst sum u.flushed (take u.page_size u.tip)) (sym is) (consistent_tells sum w d sound)
 
--- the first page of some bytes
+-- a slot covers the first bytes of the first page of some bytes
 pub pages_tell : (sum : List ℕ → ℕ) (P n : ℕ) (slot : Option ActiveChecksum) (pages : List (List ℕ)) (bytes : List ℕ) → ArePages P pages → concat pages ≡ take n bytes
     → TellsFirst sum slot (take P bytes) → TellsFirstPage sum slot pages
 pages_tell sum P n slot [] bytes are is tells = tt
@@ -45,7 +45,7 @@ pages_tell sum P n slot (page ∷ pages) bytes are is tells =
     let first : page ≡ take P bytes = sym (take_at page (concat pages) P full) ∙ ap (take P) is ∙ take-take P n bytes enough in
     subst (λ (p : List ℕ). TellsFirst sum slot p) (sym first) tells
 
--- and of the rest the one that stays, where no page before it is full
+-- the slot that stays where no page before the rest is full covers the first bytes of the rest
 pub rest_tells : (sum : List ℕ → ℕ) (w v : WriterState) → 0 < w.page_size → v ≡ after_flush w (durable_after w.flushed (full_in w)) w.sync
     → TellsFirst sum w.flushed (take w.page_size w.tip) → TellsFirst sum v.flushed v.tip
 rest_tells sum w v some is tells =

@@ -22,11 +22,11 @@ use Rattle.paged.proofs.Recoveries.{cause_later}
 use Rattle.paged.proofs.Recovered.{looked_durable}
 use Rattle.paged.proofs.Trims.{Owes, looked_owe, keeps_text}
 
--- nothing was asked for
+-- a recovery that asked for nothing
 pub none_owe : (sum : List ℕ → ℕ) (P : ℕ) (life : Life) → 0 < P → ReadsImage life → Owes sum P life life
 none_owe sum P life some image = looked_owe sum P life life some image (looked_start life)
 
--- what a recovery owes to the moment before the look
+-- what a recovery guarantees, by the moment before the look
 pub owe_after : (sum : List ℕ → ℕ) (P : ℕ) (old mid new : Life) → 0 < P → ReadsImage old → Looked old mid → Owes sum P mid new → Owes sum P old new
 owe_after sum P old mid new some image looked owes =
     let content = text sum P old.present.readable in
@@ -57,7 +57,8 @@ module _ (sum : List ℕ → ℕ) (cache : CacheState) (capacity : ℕ) (old mid
     log = grows_joins old.present mid.present new.present looked.log is.log;
   }
 
-  -- the same is recovered, and for the same cause it fails; its capacity is known to fit
+  -- after a look the same is recovered, and a recovery fails for the same cause. Its capacity is
+  -- known to fit
   pub recovers_after : (result : Result WriterState Error) → adjusted capacity cache.page_size < 2 ^ 64 → Recovers sum cache capacity mid new result → Recovers sum cache capacity old new result
   recovers_after (Ok w) fits is = recovered_after w is
   recovers_after (Err ReadFailed) fits cause = cause_later old mid new ReadFailed looked.log cause
@@ -70,12 +71,12 @@ module _ (sum : List ℕ → ℕ) (cache : CacheState) (capacity : ℕ) (old mid
   recovers_after (Err OutOfMemory) fits cause = tt
   recovers_after (Err IdsExhausted) fits cause = cause
 
--- a look told how many go
+-- a look answered how many bytes go
 pub would_cut : (sum : List ℕ → ℕ) (P Q stake : ℕ) (bytes : List ℕ) (outlook : Outlook) → Q ≡ P → IsOutlook sum Q bytes outlook → stake ≡ at_stake sum Q bytes outlook → PutsAtStake sum P bytes stake
 would_cut sum P Q stake bytes outlook same is goes =
     (outlook, subst (λ (n : ℕ). IsOutlook sum n bytes outlook) same is, sym (goes ∙ ap (λ (n : ℕ). at_stake sum n bytes outlook) same))
 
--- a look told that no more goes than is allowed
+-- a look answered that no more bytes go than are allowed
 pub may_cut : (sum : List ℕ → ℕ) (P Q allowed stake : ℕ) (bytes : List ℕ) (outlook : Outlook) → Q ≡ P → IsOutlook sum Q bytes outlook → stake ≡ at_stake sum Q bytes outlook → stake ≤ allowed → MayGo sum P allowed bytes
 may_cut sum P Q allowed stake bytes outlook same is goes few =
     (stake, would_cut sum P Q stake bytes outlook same is goes, few)

@@ -16,7 +16,7 @@ use Rattle.paged.proofs.Opened.{tail_is_mended}
 use Rattle.paged.proofs.Recovered.{CutToText, scanned_as_opened}
 use Rattle.paged.proofs.Truncated.{shortened_mended}
 
--- a cut, or none
+-- a cut, or none, leaves no bad slot
 cut_mended : (sum : List ℕ → ℕ) (n : ℕ) (w : WriterState) (old : Life) → IsSmall sum → w.page_size < 2 ^ 16 → IsAsOpened sum w old.present → 0 < w.page_size → TailIsMended sum w old.present.readable
     → (less : Bool) → nat_lt n (size_of w) ≡ less
     → TailIsMended sum (if less then shortened_writer sum w n old.present.readable else synced w) (if less then shortened sum w.page_size n old.present.readable else old.present.readable)
@@ -24,7 +24,7 @@ cut_mended sum n w old small_sum small opened some mended true is = shortened_me
 cut_mended sum n w old small_sum small opened some mended false is = mended
 
 module _ (sum : List ℕ → ℕ) (cache : CacheState) (capacity n : ℕ) (old mid scanned : Life) (w : WriterState) (cuts : CutToText sum cache capacity n old mid scanned w) (small_sum : IsSmall sum) (some : 0 < w.page_size) (small : w.page_size < 2 ^ 16) where
-  -- a recovery that ends leaves none
+  -- a recovery that ends leaves no bad slot
   pub recovers_mended : (new : Life) (answer : Result WriterState Error) → Truncates sum n w scanned new answer → IfOk answer (IsCut sum n w scanned new) → IfOk answer (λ v. TailIsMended sum v new.present.base)
   recovers_mended new (Ok now) is exact =
       let bytes = scanned.present.readable in

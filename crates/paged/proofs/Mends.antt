@@ -28,7 +28,7 @@ use Rattle.paged.proofs.Recoveries.{back_cause, cause_later, kept_back, opened_i
 
 -- ---- one write
 
--- why it isn't done
+-- why a write isn't done
 call_cause : (old new : Life) (e : Error) → CallCause Clean old new e → RecoveryCause old new e
 call_cause old new ReadFailed cause = absurd cause
 call_cause old new WriteFailed cause = cause
@@ -43,7 +43,7 @@ call_cause old new IdsExhausted cause = absurd cause
 write_fault : (offset : ℕ) (bytes : List ℕ) (sync : Bool) (old new : Life) (e : Error) → offset + length bytes < 2 ^ 64 → WriteGoes offset bytes sync old new (Err e) → RecoveryCause old new e
 write_fault offset bytes sync old new e fits goes = call_cause old new e (write_cause Clean offset bytes sync old new e goes (no_overflow offset bytes sync old new e goes fits))
 
--- what it leaves, done
+-- what a write that is done leaves
 pub write_done : (offset : ℕ) (bytes : List ℕ) (sync : Bool) (old new : Life) → WriteGoes offset bytes sync old new (Ok tt) → new.present.readable ≡ applied (Write offset bytes) old.present.readable
 write_done offset bytes true old new (d, is, done) = ap (λ (l : Life). l.present.readable) is ∙ done.done refl
 write_done offset bytes false old new (d, is, done) = ap (λ (l : Life). l.present.readable) is ∙ done.done refl
@@ -94,7 +94,7 @@ module _ (P kept page : ℕ) (bad : Option Slot) (old mid new : Life) (looked : 
   cut_readable s last (whole all seen) = looked_readable old last seen ∙ sym all
   cut_readable s last (cut more readable durable) = readable
 
-  -- where it is done
+  -- the pages that are kept, where that is done
   pub pages_kept : (s : SyncState) → ((t : Slot) → bad ≡ Some t → emptied P page bad (take kept old.present.readable) ≢ old.present.readable) → CutsAndMends P kept page bad mid new (Ok s)
       → IsCutBack old new (emptied P page bad (take kept old.present.readable)) s × LogGrows old.present new.present
   pages_kept s changed (state, last, cuts, mends, is) = by_bad bad changed mends is
@@ -115,7 +115,7 @@ module _ (P kept page : ℕ) (bad : Option Slot) (old mid new : Life) (looked : 
             grows_joins old.present last.present new.present back.1 done.2,
           )
 
-  -- and where it isn't
+  -- why that isn't done
   pub pages_cause : (e : Error) → ((t : Slot) → bad ≡ Some t → (page + 1) * (P + 12) < 2 ^ 64) → CutsAndMends P kept page bad mid new (Err e) → RecoveryCause old new e
   pages_cause e fits (inl cuts) = back_cause kept old mid new e looked le cuts
   pages_cause e fits (inr (state, last, cuts, mends)) = by_bad bad fits mends
@@ -131,7 +131,7 @@ pub pages_unmended : (P kept page : ℕ) (bad : Option Slot) (old new : Life) (s
 pages_unmended P kept page None old new s none cuts = (s, new, cuts, (refl, refl), refl)
 pages_unmended P kept page (Some t) old new s none cuts = absurd (none t refl)
 
--- one is
+-- the answer of emptying a slot, as an answer with the sync state
 abbrev pub emptied_answer : Result (Unit {0}) Error → Result SyncState Error
 emptied_answer (Ok u) = Ok Clean
 emptied_answer (Err e) = Err e
@@ -150,7 +150,7 @@ pages_mended P kept page size bad t old mid new s answer length_is is cuts goes 
     by_answer (Ok u) goes = (s, mid, cuts, goes, refl)
     by_answer (Err e) goes = inr (s, mid, cuts, goes)
 
--- the same, with the numbers that a program has
+-- the pages that are kept, with the numbers that a program has
 keeps_alike : (P Q kept n page full : ℕ) (bad b : Option Slot) (old new : Life) (answer : Result SyncState Error) → Q ≡ P → kept ≡ n → page ≡ full → bad ≡ b → CutsAndMends Q kept page bad old new answer → CutsAndMends P n full b old new answer
 keeps_alike P Q kept n page full bad b old new answer same kept_is page_is bad_is keeps =
     subst (λ (x : Option Slot). CutsAndMends P n full x old new answer) bad_is

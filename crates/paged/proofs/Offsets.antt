@@ -51,11 +51,11 @@ pub record IsPlaced (P room : ℕ) (p : Prefix) (tip : Tip) : Type 0 where
   pub offset : tip.offset ≡ p.full_pages * P
   pub bytes : tip.bytes ≡ tip_of p.partial
 
--- the full pages before it
+-- how many full pages stand before that buffer
 full_pages_placed : (P room : ℕ) (p : Prefix) (tip : Tip) → IsPlaced P room p tip → tip.offset / P ≡ p.full_pages
 full_pages_placed P room p tip is = ap (λ offset. offset / P) is.offset ∙ mul-div_cancel p.full_pages is.some
 
--- it is a writer's tip
+-- the buffer is a writer's tip
 pub is_writer_placed : (P room : ℕ) (p : Prefix) (tip : Tip) → IsPlaced P room p tip → P ≤ room → FitsBlob P p.full_pages (length (tip_of p.partial)) → IsWriter P tip
 is_writer_placed P room p tip is enough fits =
     let full = full_pages_placed P room p tip is in
@@ -75,7 +75,7 @@ within_at : (P id room : ℕ) (p : Prefix) (sync : SyncState) (w : WriterState) 
 within_at P id room p sync w enough short is = omega (arith, enough, short, ap (λ (w : WriterState). length w.tip) is, ap (λ (w : WriterState). w.capacity) is)
 
 module _ (sum : List ℕ → ℕ) (cache : CacheState) (capacity : ℕ) (some : 0 < cache.page_size) (old new : Life) where
-  -- opened
+  -- a writer that was opened buffers less than a page
   pub opens_within : (result : Result WriterState Error) → Opens sum cache capacity old new result → IfOk result (λ w. HoldsWithin w)
   opens_within (Ok w) opened =
       let p = opened_prefix sum cache.page_size old.present.readable in

@@ -39,7 +39,8 @@ use Rattle.paged.proofs.Recovered.{kept_readable, kept_durable, opened_stays_dur
 
 -- ---- where a writer is sound
 
--- a writer whose durable slot is the one that was written last is as sound in the state in which opening leaves it
+-- a writer whose durable slot is the one that was written last is as sound in the state in which
+-- opening leaves it
 at_state : (sum : List ℕ → ℕ) (P id room : ℕ) (p : Prefix) (old new : Life) (bytes : List ℕ) (s : SyncState) → IsCutBack old new bytes s → IsSound sum (at_prefix P id room p Clean) new.present → IsSound sum (at_prefix P id room p s) new.present
 unfolding IsSound
 at_state sum P id room p old new bytes s (cut more readable durable) sound = sound
@@ -68,7 +69,7 @@ at_state sum P id room p old new bytes s (whole all looked) sound = record {
   full = sound.full;
 }
 
--- the pages that a prefix has are all that is left
+-- where the pages that a prefix has are all that is left
 module _ (sum : List ℕ → ℕ) (P : ℕ) (bytes readable : List ℕ) (is : readable ≡ opened_bytes sum P bytes) where
   abbrev prefix : Prefix
   prefix = opened_prefix sum P bytes
@@ -85,7 +86,7 @@ module _ (sum : List ℕ → ℕ) (P : ℕ) (bytes readable : List ℕ) (is : re
   left_good : PageIsGood sum P prefix.full_pages readable
   left_good = subst (λ (l : List ℕ). PageIsGood sum P prefix.full_pages l) (sym is) (opened_good sum P bytes)
 
--- what a cut of it asks for: the tip's page
+-- the tip's page, as a cut asks for it
 tip_page_opened : (sum : List ℕ → ℕ) (P full : ℕ) (bytes readable : List ℕ) (found : Option (List ℕ × ActiveChecksum)) → After sum P (pages P bytes) full found → HasBytes P full bytes found → length bytes ≡ (full + partial_pages found) * (P + 12)
     → readable ≡ take ((full + partial_pages found) * (P + 12)) bytes → TipPage sum P full (tip_of found) readable (slot_of_tip found)
 tip_page_opened sum P full bytes readable None after has size is = ap length is ∙ length-take-le ((full + 0) * (P + 12)) bytes (omega (arith, size)) ∙ omega arith
@@ -103,7 +104,7 @@ settled_fits d Dirty none all = all
 settled_fits d (Pending name) none all = absurd none
 
 module _ (sum : List ℕ → ℕ) (P : ℕ) (old new : Life) (s : SyncState) (kept : IsCutBack old new (opened_bytes sum P old.present.readable) s) (covered : AreCovered new.present) where
-  -- the writer that opening gives
+  -- the writer that opening gives is sound
   pub opened_sound : (id room : ℕ) → IsSmall sum → 0 < P → P < 2 ^ 16
       → HasBytes P (opened_prefix sum P old.present.readable).full_pages old.present.readable (opened_prefix sum P old.present.readable).partial
       → SoundWhereFull sum P old new (at_prefix P id room (opened_prefix sum P old.present.readable) s)
@@ -117,7 +118,8 @@ module _ (sum : List ℕ → ℕ) (P : ℕ) (old new : Life) (s : SyncState) (ke
       (omega (arith, left_pages sum P bytes new.present.readable is)) (opened_full sum P bytes are) (opened_stands sum P bytes) (opened_has sum P bytes has) (left_taken sum P bytes new.present.readable is) (left_good sum P bytes new.present.readable is) in
       (at_state sum P id room p old new left s kept stands.0, stands.1 ∙ opened_says sum P bytes positive)
 
-  -- it is consistent with its blob, whatever its pages
+  -- the writer that opening gives is consistent with its blob, whether its pages are full or
+  -- damaged
   pub opened_consistent : (id room : ℕ) → IsSmall sum → 0 < P → P < 2 ^ 16
       → HasBytes P (opened_prefix sum P old.present.readable).full_pages old.present.readable (opened_prefix sum P old.present.readable).partial
       → IsDurable old.present → IsConsistent sum (at_prefix P id room (opened_prefix sum P old.present.readable) s) new.present
@@ -163,7 +165,7 @@ opens_end sum cache capacity old new s room p (Err OffsetOverflow) covered small
 opens_end sum cache capacity old new s room p (Err OutOfMemory) covered small_sum positive small room_is is bytes kept stands = tt
 opens_end sum cache capacity old new s room p (Err IdsExhausted) covered small_sum positive small room_is is bytes kept stands = (stands, s, kept.0)
 
--- ---- what holds of it
+-- ---- what holds of the writer that opening gives
 
 -- the pages below its tip are in the blob
 pub opened_there : (sum : List ℕ → ℕ) (cache : CacheState) (capacity : ℕ) (old new : Life) (result : Result WriterState Error) → Opens sum cache capacity old new result → IfOk result (λ w. HasWriterPages w new)
@@ -214,7 +216,7 @@ module _ (sum : List ℕ → ℕ) (cache : CacheState) (capacity : ℕ) (old new
       subst (λ (x : WriterState). TailIsMended sum x new.present.readable) (sym opened.state)
       (subst (λ (l : List ℕ). BesideIsMended sum P p.full_pages l (slot_of_tip p.partial)) (sym (opened_readable sum cache capacity old new w opened)) (opened_beside sum P bytes has_partial))
 
-  -- durably
+  -- no slot of the tip's page is bad, durably
   mended_durably : IsDurable old.present → TailIsMended sum w new.present.base
   mended_durably durable =
       subst (λ (l : List ℕ). TailIsMended sum w l) (sym (opened_stays_durable old new (opened_bytes sum cache.page_size old.present.readable) opened.sync opened.kept durable).base) tail_is_mended

@@ -34,7 +34,7 @@ new_reads w cache d is_id same there fresh = record {
       (λ page bytes below held. fresh_true (logical_bytes (tail_of w) d.readable) w.full_pages cache fresh page bytes below held);
 }
 
--- as a blob is opened
+-- a writer can be read as its blob is opened
 pub opened_reads : (sum : List ℕ → ℕ) (cache after : CacheState) (capacity : ℕ) (old new : Life)
     (result : Result WriterState Error) → Opens sum cache capacity old new result
     → IfOk result (λ w. HasWriterPages w new) → after ≡ cache_after result cache → IsFresh cache
@@ -65,7 +65,7 @@ looked_reads t cache old new looked can =
       cached = can.cached;
     })
 
--- a writer that was opened, and cut
+-- a writer that was opened, and cut, can be read
 pub cut_reads : (w : WriterState) (cache after : CacheState) (old new : Life)
     (result : Result WriterState Error) → CanRead (tail_of w) cache old.present
     → IfOk result (λ now. ReadsOn w now cache after old new)
@@ -73,13 +73,13 @@ pub cut_reads : (w : WriterState) (cache after : CacheState) (old new : Life)
 cut_reads w cache after old new (Ok now) can reads = reads can
 cut_reads w cache after old new (Err e) can reads = tt
 
--- an id was given, whatever came of it
+-- an id was given, whether the call succeeded or not
 pub gives_id : (w : WriterState) (cache after : CacheState) (result : Result WriterState Error)
     → after ≡ cache_after (Ok w) cache → GivesId result cache after
 gives_id w cache after (Ok now) is = is
 gives_id w cache after (Err e) is = inr is
 
--- what reads of other blobs stand on is left, as an id is given
+-- other blobs can still be read, as an id is given
 pub opened_others : (result : Result WriterState Error) (cache after : CacheState)
     → after ≡ cache_after result cache → LeavesReads cache after
 opened_others (Ok w) cache after is = given_reads cache after (inr is)

@@ -1,4 +1,5 @@
--- Calls over a blob that may be damaged: what each of their moments owes, and what they promise where it isn't.
+-- Calls over a blob that may be damaged: what each of their moments guarantees, and what they
+-- promise where it isn't.
 use Rattle.std.proofs.Common.{◌≡◌, ℕ, ◌≤◌, arith, List, [], ◌++◌, sym, ◌∙◌, subst, append-nil, Ok, Err, Result}
 use Rattle.std.specs.Prelude.{OnOk, IfOk, None, Option, Some}
 use Rattle.disk.specs.Disk.{Life}
@@ -13,7 +14,7 @@ use Rattle.paged.specs.Calls.{AppendsOver, BuffersOver, CarriesOn, HoldsWithin, 
 use Rattle.paged.proofs.Appends.{append_unasked, buffered_goes}
 use Rattle.paged.proofs.Flushes.{size_holds}
 
--- ---- what is owed
+-- ---- what is guaranteed
 
 pub goes_stay : (sum : List ℕ → ℕ) (w now : WriterState) (old new : Life) → CarriesOn sum w old [] now new → StaysThrough sum w.page_size (content w old.present.readable) old new
 goes_stay sum w now old new goes = subst (λ c. StaysThrough sum w.page_size c old new) (append-nil (content w old.present.readable)) goes.stays
@@ -76,7 +77,7 @@ sound_goes sum w now more old new sound goes = record {
   waits = goes.waits;
 }
 
--- and what goes on sound goes on
+-- a call that `Succeeds` carries on over a blob that may be damaged, too (`CarriesOn`)
 pub goes_over : (sum : List ℕ → ℕ) (w now : WriterState) (more : List ℕ) (old new : Life) → Succeeds sum w old more now new → CarriesOn sum w old more now new
 goes_over sum w now more old new goes = record {
   holds = sound_holds_together sum now new.present goes.sound;
@@ -96,7 +97,7 @@ sound_syncs sum w old new (Err e) sound refused = refused
 
 -- ---- bytes that are buffered
 
--- over any blob
+-- bytes that are buffered are an append, over any blob
 pub buffers_over : (sum : List ℕ → ℕ) (w now : WriterState) (bytes : List ℕ) (result : Result (Option ℕ) Error) → TryAppendGoes w bytes now result → BuffersOver sum w bytes now result
 buffers_over sum w now bytes (Ok (Some at)) tries = λ life sound.
     let holds = sound_holds_together sum w life.present sound in
@@ -104,7 +105,7 @@ buffers_over sum w now bytes (Ok (Some at)) tries = λ life sound.
 buffers_over sum w now bytes (Ok None) tries = tt
 buffers_over sum w now bytes (Err e) tries = tt
 
--- whatever it answers, the writer is sound where it was
+-- whatever a buffering call answers, a writer that was sound still is
 pub keeps_sound : (sum : List ℕ → ℕ) (w now : WriterState) (bytes : List ℕ) (result : Result (Option ℕ) Error) → TryAppendGoes w bytes now result → KeepsSound sum w now
 keeps_sound sum w now bytes (Ok (Some at)) tries = λ d sound.
     let life : Life = record { present = d; past = [] } in

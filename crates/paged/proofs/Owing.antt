@@ -1,4 +1,4 @@
--- What a call owes, in one record: how it is put together, and what follows from it.
+-- What a call guarantees, in one record: how it is put together, and what follows from it.
 use Rattle.std.proofs.Common.{◌≡◌, inl, inr, ℕ, ◌≤◌, List, [], ◌∷◌, ◌++◌, length, take, refl, sym, ap, ◌∙◌, subst, arith, length-take}
 use Rattle.std.proofs.lemmas.List.{append_cancel_right, reverse-reverse}
 use mathlib.Core.List.{reverse, reverse_aux, reverse_aux-eq}
@@ -55,9 +55,9 @@ through_both Q R old new first second = record {
       (subst (λ (l : List Disk). Each R l) (sym (same_moments old first.moments second.moments (sym first.goes ∙ second.goes))) second.each);
 }
 
--- ---- a moment's
+-- ---- what a moment guarantees
 
--- where each floor of a longer content is kept, each floor of any content is, of a sound writer
+-- for a sound writer, where each floor of a longer content is kept, each floor of any content is
 floors_at : (sum : List ℕ → ℕ) (w : WriterState) (all : List ℕ) (d e : Disk) → IsConsistent sum w d
     → content w d.readable ≡ take (length (content w d.readable)) all → Stays sum w.page_size all d e
     → (other : List ℕ) (floor : ℕ) → floor ≤ length other → AllKeep sum w.page_size other floor d → AllKeep sum w.page_size other floor e
@@ -95,7 +95,7 @@ module _ (sum : List ℕ → ℕ) (w : WriterState) (all : List ℕ) (old new : 
       (through_both (Stays sum P all old.present) (λ d. SamePages P k old.present d × CoversStay sum P held old.present d) old new stays
       (through_both (SamePages P k old.present) (CoversStay sum P held old.present) old new pages covers))
 
--- ---- a call's
+-- ---- what a call guarantees
 
 pub owes_of : (sum : List ℕ → ℕ) (w : WriterState) (all : List ℕ) (cache after : CacheState) (old new : Life) → IsUsable sum w cache old
     → content w old.present.readable ≡ take (length (content w old.present.readable)) all → StaysThrough sum w.page_size all old new
@@ -111,7 +111,7 @@ owes_of sum w all cache after old new ready begins stays pages covers starts cac
   others = others_stay w.id w.full_pages all cache after cached;
 }
 
--- a wait's
+-- what a wait guarantees
 pub owes_waiting : (sum : List ℕ → ℕ) (w : WriterState) (old new : Life) → IsConsistent sum w old.present → StaysThrough sum w.page_size (content w old.present.readable) old new
     → PagesStay w.page_size w.full_pages old new → CoversThrough sum w.page_size (content w old.present.readable) old new → StartsCanBeAwaited new.present → OwesWaiting sum w old new
 owes_waiting sum w old new sound stays pages covers starts = record {
@@ -121,7 +121,7 @@ owes_waiting sum w old new sound stays pages covers starts = record {
   replays = replays_stay w.page_size w.full_pages old new pages;
 }
 
--- ---- and what each moment of it owes to the content that it leaves
+-- ---- and what each moment of it guarantees for the content that it leaves
 
 pub owed_stays : (sum : List ℕ → ℕ) (w : WriterState) (all : List ℕ) (old new : Life) → OwedThrough sum w.page_size w.full_pages (content w old.present.readable) all old new
     → content w old.present.readable ≡ take (length (content w old.present.readable)) all → StaysThrough sum w.page_size all old new

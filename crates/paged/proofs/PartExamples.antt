@@ -1,4 +1,5 @@
--- Examples of the parts of which a recovery and the calls that it makes are told. Pages have 4 bytes, and the checksum is their sum.
+-- Examples of the definitions of the parts of a recovery and of its calls. Pages have 4 bytes, and
+-- the checksum is their sum.
 use Rattle.std.proofs.Common.{◌≡◌, ◌^◌, ℕ, List, [], ◌∷◌, refl}
 use Rattle.std.specs.Prelude.{Some, None}
 use Rattle.cache.specs.CacheState.{ids_given}
@@ -15,7 +16,7 @@ use Rattle.paged.specs.Recovery.{emptied, slot_of_tip}
 
 -- ---- the page in which the text ends
 
--- its value and the slot that tells it, if there is one
+-- the value of the page, and its slot, if there is one
 abbrev pub ef : List ℕ
 ef = 101 ∷ 102 ∷ []
 
@@ -43,7 +44,7 @@ its_slot_is_the_tips = refl
 pub no_slot_of_no_tip : slot_of_tip None ≡ None
 no_slot_of_no_tip = refl
 
--- where it is torn, the other slot is bad, and is emptied
+-- where the page is torn, the other slot is bad, and is emptied
 pub a_bad_slot_beside_it : bad_beside_value add_sum 4 torn_page (Some (ef, ef_slot)) ≡ Some Second
 a_bad_slot_beside_it = refl
 
@@ -62,7 +63,7 @@ nothing_is_emptied = refl
 pub six_are_told : logical_bytes (record { page_size = 4; id = 0; full_pages = 1; bytes = ef }) durable.readable ≡ six
 six_are_told = refl
 
--- without a full page, those alone
+-- without a full page, the bytes in memory alone
 pub two_are_told : logical_bytes (record { page_size = 4; id = 0; full_pages = 0; bytes = ef }) durable.readable ≡ ef
 two_are_told = refl
 
@@ -75,7 +76,7 @@ a_wait = refl
 pub no_wait : wait_calls Clean ∷ wait_calls Dirty ∷ [] ≡ 0 ∷ 0 ∷ []
 no_wait = refl
 
--- and one is started only where something isn't covered
+-- a sync is started only where something isn't covered
 pub a_start : unstarted_calls Dirty ≡ 1
 a_start = refl
 

@@ -15,7 +15,7 @@ use Rattle.page.specs.declared.slot.Slot.{Slot}
 use Rattle.paged.specs.Recovery.{Cuts, CutsBack}
 use Rattle.paged.specs.Mends.{Empties, CutsAndMends, Mends, is_unsynced}
 
--- none of these reads
+-- none of these requests reads
 abbrev AreQuiet : List Request → Type 0
 AreQuiet [] = Unit {0}
 AreQuiet (ReadAt offset len ∷ rest) = ⊥
@@ -30,7 +30,7 @@ quiet_joins (ReadMany ranges ∷ xs) ys first second = absurd first
 quiet_joins (StartReadMany ranges ∷ xs) ys first second = absurd first
 quiet_joins (_ ∷ xs) ys first second = quiet_joins xs ys first second
 
--- reads that fall, and then none
+-- reads that fall, and then requests that don't read
 fall_then_quiet : (size top : ℕ) (xs ys : List Request) → FallFrom size top xs → AreQuiet ys → FallFrom size top (xs ++ ys)
 fall_then_quiet size top [] [] fall quiet = tt
 fall_then_quiet size top [] (ReadAt offset len ∷ ys) fall quiet = absurd quiet

@@ -46,7 +46,7 @@ use Rattle.paged.proofs.Firsts.{After, AreLong, prefix_is, prefix_size_is, text_
 use Rattle.paged.proofs.Flushes.{size_is_length}
 use Rattle.paged.proofs.Recoveries.{cause_later}
 
--- what is kept is readable
+-- what opening keeps is readable
 pub kept_readable : (old new : Life) (bytes : List ℕ) (s : SyncState) → IsCutBack old new bytes s → new.present.readable ≡ bytes
 kept_readable old new bytes s (whole all looked) = looked_readable old new looked ∙ sym all
 kept_readable old new bytes s (cut more readable durable) = readable
@@ -56,19 +56,19 @@ pub kept_durable : (old new : Life) (bytes : List ℕ) (s : SyncState) → IsCut
 kept_durable old new bytes s (whole all looked) is = absurd (cc)
 kept_durable old new bytes s (cut more readable durable) is = durable
 
--- a look leaves it so
+-- a look leaves the blob durable
 pub looked_durable : (old new : Life) → Looked old new → IsDurable old.present → IsDurable new.present
 looked_durable old new looked durable = record {
   since = ap (λ (d : Disk). d.since) looked.same ∙ durable.since;
   base = ap (λ (d : Disk). d.base) looked.same ∙ durable.base ∙ sym (looked_readable old new looked);
 }
 
--- so it is durable, where all was before
+-- so the opened blob is durable, where all was before
 pub opened_stays_durable : (old new : Life) (bytes : List ℕ) (s : SyncState) → IsCutBack old new bytes s → IsDurable old.present → IsDurable new.present
 opened_stays_durable old new bytes s (whole all looked) durable = looked_durable old new looked durable
 opened_stays_durable old new bytes s (cut more readable is) durable = is
 
--- a value's slot takes as many pages as it does
+-- the slot of a value takes as many pages as the value does
 slot_pages_is : (found : Option (List ℕ × ActiveChecksum)) → slot_pages (slot_of_tip found) ≡ partial_pages found
 slot_pages_is None = refl
 slot_pages_is (Some v) = refl
@@ -78,7 +78,7 @@ module _ (sum : List ℕ → ℕ) (cache : CacheState) (capacity : ℕ) (old mid
   pub opened_page_size : w.page_size ≡ cache.page_size
   opened_page_size = ap (λ (x : WriterState). x.page_size) opened.state
 
-  -- which isn't zero
+  -- the page size isn't zero
   pub opened_positive : (page_size : ℕ) → 0 < page_size → page_size ≡ w.page_size → 0 < cache.page_size
   opened_positive page_size some is = omega (arith, some, is, opened_page_size)
 
@@ -109,7 +109,7 @@ module _ (sum : List ℕ → ℕ) (cache : CacheState) (capacity : ℕ) (old mid
       ∙ ap (λ (l : List (List ℕ)). prefix_of sum page_size l) (sym (pages_whole page_size count mid.present.readable (counted_length count page_size same counted)))
       ∙ ap (λ (n : ℕ). prefix_of sum n (pages n mid.present.readable)) same
 
-  -- and the text of those pages, which is that of all that there was
+  -- what is kept is the text of those pages, which is that of all that there was
   pub kept_is : (count page_size : ℕ) → 0 < cache.page_size → page_size ≡ cache.page_size → count ≡ w.full_pages + slot_pages w.flushed
       → text_of_first sum page_size count mid.present.readable ≡ text sum cache.page_size old.present.readable
   kept_is count page_size some same counted =
@@ -118,7 +118,7 @@ module _ (sum : List ℕ → ℕ) (cache : CacheState) (capacity : ℕ) (old mid
       ∙ ap (λ (l : List ℕ). text sum cache.page_size l) opened_readable
       ∙ opened_says sum cache.page_size old.present.readable some
 
--- what holds whatever was answered holds of what was
+-- what holds at any answer holds at `Ok`
 pub on_ok : {A E : Type 0} {Q : Type 0} (result : Result A E) → Q → OnOk result Q
 on_ok (Ok a) holds = holds
 on_ok (Err e) holds = tt
@@ -127,17 +127,17 @@ on_ok (Err e) holds = tt
 pub found_within : (sum : List ℕ → ℕ) (P count : ℕ) (bytes : List ℕ) (p : Prefix) → p ≡ prefix_of sum P (pieces count (P + 12) bytes) → prefix_pages p ≤ count
 found_within sum P count bytes p is = omega (arith, (prefix_is sum P (pieces count (P + 12) bytes)).within, ap (λ (q : Prefix). prefix_pages q) is, length-pieces count (P + 12) bytes)
 
--- what is after them is less than a page
+-- what is after the full pages of a prefix is less than a page
 pub found_short : (sum : List ℕ → ℕ) (P count : ℕ) (bytes : List ℕ) (p : Prefix) → 0 < P → p ≡ prefix_of sum P (pieces count (P + 12) bytes) → length (tip_of p.partial) < P
 found_short sum P count bytes p some is = omega (arith, (prefix_is sum P (pieces count (P + 12) bytes)).tip some, ap (λ (q : Prefix). length (tip_of q.partial)) is)
 
--- ---- what a writer that was opened stands for, and the text
+-- ---- the content of a writer that was opened, and the text
 
 -- each page of a blob has its payload
 pub long_pages : (sum : List ℕ → ℕ) (P : ℕ) (bytes : List ℕ) → AreLong sum P (pages P bytes)
 long_pages sum P bytes = λ q page is. omega (arith, length-page P q bytes page is)
 
--- the page after the first ones has no less a value than the prefix says
+-- the page after the first ones has a value of at least as many bytes as the prefix has of it
 told_enough : (sum : List ℕ → ℕ) (P full : ℕ) (bytes : List ℕ) (found : Option (List ℕ × ActiveChecksum)) → After sum P (pages P bytes) full found → length (tip_of found) ≤ value_len sum P (page_at P full bytes)
 told_enough sum P full bytes None after = omega arith
 told_enough sum P full bytes (Some v) after =
@@ -171,15 +171,15 @@ module _ (sum : List ℕ → ℕ) (P n : ℕ) (bytes : List ℕ) (some : 0 < P) 
   ends_at : n % P ≡ length (tip_of first.partial)
   ends_at = ap (λ (k : ℕ). k % P) ends_there ∙ mod-mul-add first.full_pages P (length (tip_of first.partial)) tip_less
 
-  -- which tells no fewer bytes
+  -- the value of that page has at least as many bytes
   pub tells_enough : n % P ≤ value_len sum P (page_at P (n / P) bytes)
   tells_enough = rw (ends_in, ends_at) (told_enough sum P first.full_pages bytes first.partial (prefix_is sum P (pages P bytes)).after)
 
-  -- those before it are full
+  -- the pages before that one are full
   pub full_before : AreFull sum P (take (n / P) (pages P bytes))
   full_before = rw ends_in (prefix_is sum P (pages P bytes)).full
 
--- the text of the page after some others, where the blob ends with it
+-- the text of the page after some others, where the blob ends with that page
 last_says : (sum : List ℕ → ℕ) (P full : ℕ) (tip readable : List ℕ) (flushed : Option ActiveChecksum) → kept_len flushed ≡ length tip → TipPage sum P full tip readable flushed → text_of_pages sum P (drop full (pages P readable)) ≡ tip
 last_says sum P full tip readable None written is =
     ap (λ (l : List (List ℕ)). text_of_pages sum P (drop full l)) (pages_whole P full readable is)
@@ -196,7 +196,7 @@ last_says sum P full tip readable (Some f) written is =
     ∙ take_all f.len tip (omega (arith, written))
 
 module _ (sum : List ℕ → ℕ) (w : WriterState) (d : Disk) (is : IsAsOpened sum w d) where
-  -- what the writer stands for begins with the text
+  -- the writer's content begins with the text
   says_more : (rest : List ℕ) × (content w d.readable ≡ text sum w.page_size d.readable ++ rest)
   says_more =
       let P = w.page_size in
@@ -217,7 +217,7 @@ module _ (sum : List ℕ → ℕ) (w : WriterState) (d : Disk) (is : IsAsOpened 
     length-content w d.readable (tip_reach sum w.page_size w.full_pages w.tip d.readable w.flushed is.page).0,
   )
 
-  -- and is what a cut to its length leaves
+  -- the text is what a cut to its length leaves
   pub text_taken : take (length (text sum w.page_size d.readable)) (content w d.readable) ≡ text sum w.page_size d.readable
   text_taken = ap (λ (l : List ℕ). take (length (text sum w.page_size d.readable)) l) says_more.1 ∙ take-append_seam (text sum w.page_size d.readable) says_more.0
 
@@ -231,7 +231,7 @@ module _ (sum : List ℕ → ℕ) (w : WriterState) (d : Disk) (is : IsAsOpened 
       ∙ ap (λ (b : Bool). not (partial == 0) && not b) same
       ∙ and-false (not (partial == 0))
 
--- it stays so under a look
+-- the writer stays as it was opened, as the blob is looked at
 pub looked_as_opened : (sum : List ℕ → ℕ) (w : WriterState) (old new : Life) → Looked old new → IsAsOpened sum w old.present → IsAsOpened sum w new.present
 looked_as_opened sum w old new looked is = record {
   page = subst (λ (l : List ℕ). TipPage sum w.page_size w.full_pages w.tip l w.flushed) (sym (looked_readable old new looked)) is.page;
@@ -243,7 +243,7 @@ looked_as_opened sum w old new looked is = record {
   durable = λ clean. looked_durable old new looked (is.durable clean);
 }
 
--- no sync that it waits for has failed
+-- a writer that waits for no sync waits for none that failed
 none_had_failed : (s : SyncState) (d : Disk) → WaitsForNone s → PendingSyncFailed s d → ⊥
 none_had_failed Clean d none had = had
 none_had_failed Dirty d none had = had
@@ -303,14 +303,14 @@ module _ (sum : List ℕ → ℕ) (cache : CacheState) (capacity n : ℕ) (old m
   scanned_readable : scanned.present.readable ≡ opened_bytes sum cache.page_size old.present.readable
   scanned_readable = looked_readable mid scanned cuts.looked ∙ opened_readable sum cache capacity old mid w cuts.opened
 
-  -- and the text
+  -- the blob has the text that it had
   pub scanned_text : text sum cache.page_size scanned.present.readable ≡ text sum cache.page_size old.present.readable
   scanned_text =
       let P = cache.page_size in
       let bytes = old.present.readable in
       ap (λ (l : List ℕ). text sum P l) scanned_readable ∙ opened_says sum P bytes cuts.positive
 
-  -- that it is cut to
+  -- the text's length is what the blob is cut to
   pub scanned_length : n ≡ length (text sum w.page_size scanned.present.readable)
   scanned_length =
       cuts.text
@@ -324,7 +324,7 @@ module _ (sum : List ℕ → ℕ) (cache : CacheState) (capacity n : ℕ) (old m
   pub scanned_as_opened : IsAsOpened sum w scanned.present
   scanned_as_opened = looked_as_opened sum w mid scanned cuts.looked cuts.as_opened
 
-  -- the first bytes of what it stands for are the text
+  -- the first bytes of the writer's content are the text
   scanned_taken : take n (content w scanned.present.readable) ≡ text sum cache.page_size old.present.readable
   scanned_taken =
       ap (λ (k : ℕ). take k (content w scanned.present.readable)) scanned_length
@@ -333,7 +333,7 @@ module _ (sum : List ℕ → ℕ) (cache : CacheState) (capacity n : ℕ) (old m
       ∙ scanned_text
 
   module _ (new : Life) (now : WriterState) (is : IsTruncated sum n w scanned new now) (kept : SoundAndKept sum n w scanned new now) where
-    -- the pages below its tip are those below the text's end
+    -- the pages below the new writer's tip are those below the text's end
     below : now.full_pages ≡ n / w.page_size
     below =
         let less : length now.tip < w.page_size = omega (arith, is.settled.short, is.same.page_size) in
@@ -341,7 +341,7 @@ module _ (sum : List ℕ → ℕ) (cache : CacheState) (capacity n : ℕ) (old m
         ap (λ (k : ℕ). now.full_pages * k + length now.tip) (sym is.same.page_size) ∙ is.size ∙ (let e : min n (size_of w) ≡ n = omega (arith, scanned_length, text_within sum w scanned.present scanned_as_opened) in e) in
         sym (div-mul-add now.full_pages w.page_size (length now.tip) less) ∙ ap (λ (k : ℕ). k / w.page_size) offset
 
-    -- so it is sound, and all of it kept
+    -- so the new writer is sound, and all of the text is kept
     cut_full : IsSound sum now new.present × KeepsAll sum w.page_size (take n (content w scanned.present.readable)) new
     cut_full = kept (subst (λ (k : ℕ). AreFull sum w.page_size (take k (pages w.page_size scanned.present.readable))) (sym below) (full_before sum w.page_size n scanned.present.readable scanned_some scanned_length))
 

@@ -68,7 +68,7 @@ sync_cause old new OffsetOverflow goes = absurd goes
 sync_cause old new OutOfMemory goes = tt
 sync_cause old new IdsExhausted goes = absurd goes
 
--- what fails in a later part of a call fails in it
+-- what fails in a later part of a call fails in the call
 pub cause_later : (old mid new : Life) (e : Error) → LogGrows old.present mid.present → RecoveryCause mid new e → RecoveryCause old new e
 cause_later old mid new ReadFailed grows cause = failed_later ReadFailed old.present mid.present new.present grows cause
 cause_later old mid new WriteFailed grows cause = failed_later WriteFailed old.present mid.present new.present grows cause
@@ -141,7 +141,7 @@ module _ (sum : List ℕ → ℕ) (P Q size physical : ℕ) (readable : List ℕ
   pub opened_last : IsLast sum P (length readable / (P + 12)) readable p
   opened_last = subst (λ (x : Prefix). IsLast sum P (length readable / (P + 12)) readable x) (sym opened_is) (last_is sum P (length readable / (P + 12)) readable)
 
-  -- its pages are there
+  -- the pages of what was found are there
   pub opened_reach : prefix_pages p * (P + 12) ≤ length readable
   opened_reach = pages_reach P (prefix_pages p) readable opened_last.within
 
@@ -165,7 +165,7 @@ kept_back kept old mid new Clean looked le cuts =
     )
 kept_back kept old mid new (Pending name) looked le cuts = absurd cuts
 
--- the same, not done
+-- a look, and then a cut where there is more, that isn't done
 pub back_cause : (kept : ℕ) (old mid new : Life) (e : Error) → Looked old mid → kept ≤ length old.present.readable → CutsBack kept mid new (Err e) → RecoveryCause old new e
 back_cause kept old mid new e looked le cuts = cause_later old mid new e looked.log (cut_cause kept mid new e (omega (arith, ap length (looked_readable old mid looked))) cuts)
 

@@ -1,4 +1,5 @@
--- What opening and recovering a blob keep, at a few bytes. Pages have 4 bytes, and the checksum is their sum.
+-- What opening and recovering a blob keep, at a few bytes. Pages have 4 bytes, and the checksum is
+-- their sum.
 use Rattle.std.proofs.Common.{◌≡◌, inl, inr, ℕ, List, [], ◌∷◌, ◌++◌, map, Ok, false, refl, sym, subst, lit<, arith, rules, ◌<◌, length, take, drop, ap}
 use Rattle.std.specs.Prelude.{Some, None, get_or}
 use Rattle.disk.specs.Disk.{Disk, Life, Entry, ReadAt, ResizeTo, SyncAll, Write, applied, next, settled_disk, logged}
@@ -47,7 +48,7 @@ a_cache = empty_cache 4 10
 pub a_prefix : prefix_of add_sum 4 (pages 4 (abcd_page ++ ef_page ++ abcd_page)) ≡ record { full_pages = 1; partial = Some (101 ∷ 102 ∷ [], slot_of_ef) }
 a_prefix = refl
 
--- a page without a value ends it
+-- a page without a value ends the prefix
 pub a_prefix_that_ends : prefix_of add_sum 4 (pages 4 (abcd_page ++ no_page ++ abcd_page)) ≡ record { full_pages = 1; partial = None }
 a_prefix_that_ends = refl
 
@@ -55,19 +56,20 @@ a_prefix_that_ends = refl
 pub a_last_prefix : last_prefix add_sum 4 3 (no_page ++ abcd_page ++ no_page) ≡ record { full_pages = 2; partial = None }
 a_last_prefix = refl
 
--- here it is "ef"
+-- here the last page with a value is "ef"
 pub an_opened_prefix : opened_prefix add_sum 4 (abcd_page ++ ef_page ++ no_page) ≡ record { full_pages = 1; partial = Some (101 ∷ 102 ∷ [], slot_of_ef) }
 an_opened_prefix = refl
 
--- which are two pages
+-- the pages up to that one are two
 pub pages_of_a_prefix : prefix_pages (opened_prefix add_sum 4 (abcd_page ++ ef_page ++ no_page)) ≡ 2
 pages_of_a_prefix = refl
 
--- of 32 bytes: the zeros are cut
+-- they have 32 bytes: the zeros after them are cut
 pub an_opened_size : opened_size add_sum 4 (abcd_page ++ ef_page ++ no_page) ≡ 32
 an_opened_size = refl
 
--- of zeros, a full page and "ef", opening keeps all three; a recovery keeps none, since the first has no value
+-- of zeros, a full page and "ef", opening keeps all three; a recovery keeps none, since the first
+-- has no value
 pub all_is_opened : opened_size add_sum 4 (no_page ++ abcd_page ++ ef_page) ≡ 48
 all_is_opened = refl
 
@@ -100,11 +102,12 @@ an_opened_writer = opened_writer add_sum a_cache 8 (ab_page ++ efgh_page) Dirty
 pub both_are_opened : an_opened_writer ≡ record { page_size = 4; id = 0; capacity = 8; full_pages = 2; tip = []; flushed = None; durable = None; sync = Dirty }
 both_are_opened = refl
 
--- which a cut of it asks for
+-- that writer can be cut
 pub an_opening_to_cut : IsAsOpened add_sum an_opened_writer (record durable { readable = ab_page ++ efgh_page })
 an_opening_to_cut = record { page = refl; written = record { short = omega arith; flushed = refl }; carries = omega arith; tells = tt; good = λ page is s. absurd (cc is); waits = tt; durable = λ clean. absurd (cc clean) }
 
--- a recovery cuts after the first page, which is told by the slot that wasn't its value's: the other is zero
+-- a recovery cuts after the first page. The slot that wasn't its value's covers what is left, and
+-- the other is zero
 pub a_page_before_the_last : recovered_bytes add_sum a_cache 8 (ab_page ++ efgh_page) ≡ 97 ∷ 98 ∷ 0 ∷ 0 ∷ 0 ∷ 0 ∷ 0 ∷ 0 ∷ 0 ∷ 0 ∷ 0 ∷ 2 ∷ 0 ∷ 0 ∷ 0 ∷ 195 ∷ []
 a_page_before_the_last = refl
 
@@ -115,7 +118,7 @@ pub a_writer_there : recovered_writer add_sum a_cache 8 (ab_page ++ efgh_page)
     ≡ record { page_size = 4; id = 0; capacity = 8; full_pages = 0; tip = 97 ∷ 98 ∷ []; flushed = Some slot_of_ab; durable = Some slot_of_ab; sync = Clean }
 a_writer_there = refl
 
--- those 16 bytes say the same
+-- those 16 bytes have the same text
 pub the_same_text : text add_sum 4 (recovered_bytes add_sum a_cache 8 (ab_page ++ efgh_page)) ≡ 97 ∷ 98 ∷ []
 the_same_text = refl
 
@@ -123,7 +126,7 @@ the_same_text = refl
 pub all_durable : IsDurable durable
 all_durable = record { since = refl; base = refl }
 
--- not after a write that isn't synced
+-- not all is durable after a write that isn't synced
 pub not_all_durable : IsDurable rewritten → ⊥
 not_all_durable is = omega (arith, ap length is.since)
 
@@ -131,11 +134,11 @@ not_all_durable is = omega (arith, ap length is.since)
 pub a_kept_text : KeepsText add_sum 4 before before
 a_kept_text = keeps_text add_sum 4 before before (floors_none add_sum 4 (text add_sum 4 durable.readable) before before refl)
 
--- and leaves no other
+-- a call that does nothing leaves no other text
 pub no_other_text : LeavesText add_sum 4 before before
 no_other_text = leaves_text add_sum 4 before before (λ rests. rest_through_start add_sum 4 (text add_sum 4 durable.readable) before rests.since rests.base refl)
 
--- one that leaves the second page alone leaves another: "ef"
+-- a call that leaves the second page alone leaves another text: "ef"
 pub another_text : LeavesText add_sum 4 before (next before (at_rest ef_page)) → ⊥
 another_text leaves =
     let only : AllOnly add_sum 4 six six (at_rest ef_page) = through_end (AllOnly add_sum 4 six six) before (next before (at_rest ef_page)) (leaves all_durable) in
@@ -144,7 +147,8 @@ another_text leaves =
       | inr is ↦ omega (arith, ap (λ (l : List ℕ). get_or l 0 0) is)
     ]
 
--- "abcdefg" is readable, and its last page unsynced: what is readable is one of the things that a crash may leave
+-- "abcdefg" is readable, and its last page unsynced: what is readable is one of the things that a
+-- crash may leave
 unsynced_image : ReadsImage after
 unsynced_image = whole_is_image rewritten rewritten.readable (inr refl)
 
@@ -154,14 +158,15 @@ floors_of_a_sync = floors_sync add_sum 4 seven after (next after (settled_disk (
 
 -- ---- a bad slot
 
--- the page of "ef", of which a torn write made a second slot that says three bytes, and the wrong checksum
+-- the page of "ef", in which a torn write left a second slot with a length of three bytes, and the
+-- wrong checksum
 abbrev torn_page : List ℕ
 torn_page = 101 ∷ 102 ∷ 103 ∷ 0 ∷ 0 ∷ 2 ∷ 0 ∷ 0 ∷ 0 ∷ 203 ∷ 0 ∷ 3 ∷ 0 ∷ 0 ∷ 0 ∷ 0 ∷ []
 
 pub a_bad_slot : bad_in add_sum 4 (abcd_page ++ torn_page) (opened_prefix add_sum 4 (abcd_page ++ torn_page)) ≡ Some Second
 a_bad_slot = refl
 
--- opening empties it, and cuts what follows
+-- opening empties that slot, and cuts what follows
 pub an_emptied_slot : opened_bytes add_sum 4 (abcd_page ++ torn_page ++ no_page) ≡ abcd_page ++ 101 ∷ 102 ∷ 103 ∷ 0 ∷ 0 ∷ 2 ∷ 0 ∷ 0 ∷ 0 ∷ 203 ∷ 0 ∷ 0 ∷ 0 ∷ 0 ∷ 0 ∷ 0 ∷ []
 an_emptied_slot = refl
 
@@ -172,7 +177,7 @@ an_empty_slot_stays = refl
 pub a_full_page_stays : opened_bytes add_sum 4 (97 ∷ 98 ∷ 99 ∷ 100 ∷ 0 ∷ 4 ∷ 0 ∷ 0 ∷ 1 ∷ 138 ∷ 0 ∷ 3 ∷ 0 ∷ 0 ∷ 0 ∷ 0 ∷ []) ≡ 97 ∷ 98 ∷ 99 ∷ 100 ∷ 0 ∷ 4 ∷ 0 ∷ 0 ∷ 1 ∷ 138 ∷ 0 ∷ 3 ∷ 0 ∷ 0 ∷ 0 ∷ 0 ∷ []
 a_full_page_stays = refl
 
--- then it is six zeros, where it was bad before
+-- after opening the slot is six zeros, where it was bad before
 pub a_mended_tail : TailIsMended add_sum (opened_writer add_sum a_cache 8 (abcd_page ++ torn_page) Clean) (opened_bytes add_sum 4 (abcd_page ++ torn_page))
 a_mended_tail = inr refl
 
@@ -180,14 +185,16 @@ pub a_tail_to_mend : TailIsMended add_sum (opened_writer add_sum a_cache 8 (abcd
 a_tail_to_mend (inl verifies) = omega (arith, verifies)
 a_tail_to_mend (inr zeros) = absurd (cc zeros)
 
--- "b" is durable under the first slot, and "c", which isn't, is over it: the second slot verifies over "ac", and the first is bad
+-- "b" is durable under the first slot, and "c", which isn't, is over it: the second slot verifies
+-- over "ac", and the first is bad
 abbrev ab_ac_page : List ℕ
 ab_ac_page = 97 ∷ 98 ∷ 0 ∷ 0 ∷ 0 ∷ 2 ∷ 0 ∷ 0 ∷ 0 ∷ 195 ∷ 0 ∷ 2 ∷ 0 ∷ 0 ∷ 0 ∷ 196 ∷ []
 
 abbrev half_written : Disk
 half_written = record durable { readable = applied (Write 1 (99 ∷ [])) ab_ac_page; base = ab_ac_page; since = Write 1 (99 ∷ []) ∷ [] }
 
--- every image begins with "a", but no slot holds it: emptying the bad one might leave "ab" under no slot
+-- every image begins with "a", but no slot holds it: emptying the bad one might leave "ab" under no
+-- slot
 pub no_slot_holds : AllKeep add_sum 4 (97 ∷ []) 1 half_written → ⊥
 no_slot_holds keeps =
     let g = keeps.held.guards 0 (lit< tt) in
@@ -210,7 +217,8 @@ no_byte_is_left_out is = omega (arith, ap length is.content)
 pub nothing_is_left_unsynced : (w : WriterState) → IsRecovered add_sum a_cache 8 before after w → ⊥
 nothing_is_left_unsynced w is = not_all_durable is.durable
 
--- opening the durable blob leaves it as it is; its page below the tip is full, so the writer is sound
+-- opening the durable blob leaves it as it is; its page below the tip is full, so the writer is
+-- sound
 pub a_sound_opening : SoundWhereFull add_sum 4 before before (at_prefix 4 0 8 (opened_prefix add_sum 4 durable.readable) Dirty)
 a_sound_opening = opened_sound add_sum 4 before before Dirty (whole refl (looked_start before)) (λ name c is. absurd (cc is)) 0 8 small_add_sum (omega arith) (lit< tt) (bytes_from_all ef_page (search rules))
 
@@ -227,11 +235,11 @@ read offset len = record { request = ReadAt offset len; failed = false }
 pub read_back : ReadsBack 16 before (reads (read 16 16 ∷ read 0 16 ∷ []))
 read_back = (read 16 16 ∷ read 0 16 ∷ [], refl, (refl, omega arith, (refl, omega arith, tt)))
 
--- not the first page twice
+-- the first page isn't read twice
 pub not_twice : ReadsBack 16 before (reads (read 0 16 ∷ read 0 16 ∷ [])) → ⊥
 not_twice (more, is, fall) = let here : FallFrom 16 32 (ReadAt 0 16 ∷ ReadAt 0 16 ∷ []) = subst (λ (l : List Entry). FallFrom 16 32 (map (λ e. e.request) l)) (sym is) fall in omega (arith, here.2.1)
 
--- nor both in one read
+-- two pages aren't read in one read
 pub not_both : ReadsBack 16 before (reads (read 0 32 ∷ [])) → ⊥
 not_both (more, is, fall) = let here : FallFrom 16 32 (ReadAt 0 32 ∷ []) = subst (λ (l : List Entry). FallFrom 16 32 (map (λ e. e.request) l)) (sym is) fall in omega (arith, here.0)
 
@@ -239,11 +247,11 @@ not_both (more, is, fall) = let here : FallFrom 16 32 (ReadAt 0 32 ∷ []) = sub
 pub bytes_of_a_scan : scan_bytes 4 40 ∷ scan_bytes 4 8 ∷ [] ≡ 32 ∷ 16 ∷ []
 bytes_of_a_scan = refl
 
--- both in one read, and a cut
+-- two pages in one read, and a cut, are within 32 bytes
 pub reads_within : ReadsWithin 32 before (reads (read 0 32 ∷ record { request = ResizeTo 16; failed = false } ∷ []))
 reads_within = (read 0 32 ∷ record { request = ResizeTo 16; failed = false } ∷ [], refl, (omega arith, tt))
 
--- which is too long a read for 16 bytes
+-- a read of two pages is too long for 16 bytes
 pub not_within : ReadsWithin 16 before (reads (read 0 32 ∷ [])) → ⊥
 not_within (more, is, within) = let here : AreReadsWithin 16 (ReadAt 0 32 ∷ []) = subst (λ (l : List Entry). AreReadsWithin 16 (map (λ e. e.request) l)) (sym is) within in omega (arith, here.0)
 
@@ -251,6 +259,6 @@ not_within (more, is, within) = let here : AreReadsWithin 16 (ReadAt 0 32 ∷ []
 pub one_call : AsksAtMost 1 before after
 one_call = omega arith
 
--- and not none
+-- one write is more than no device call
 pub a_call : AsksAtMost 0 before after → ⊥
 a_call none = omega (arith, none)

@@ -12,7 +12,7 @@ use Rattle.writer_state.specs.declared.sync_state.SyncState.TheVariants.{Clean, 
 use Rattle.paged.specs.Calls.{WaitsForNone, wait_calls, waited_writer, waited_state}
 use Rattle.paged.specs.Caches.{PutsOnceWaited, IsNotBefore}
 
--- nothing was put
+-- where nothing was put, any answer may be given
 pub puts_none : {A : Type 0} (cache : CacheState) (result : Result A Error)
     → PutsOnceWaited cache cache result
 puts_none cache (Ok a) = tt
@@ -26,7 +26,7 @@ puts_none cache (Err OffsetOverflow) = refl
 puts_none cache (Err OutOfMemory) = tt
 puts_none cache (Err IdsExhausted) = tt
 
--- another answer is given
+-- another answer than these two may be given, whatever was put
 pub puts_late : {A : Type 0} (old new : CacheState) (result : Result A Error)
     → IsNotBefore result → PutsOnceWaited old new result
 puts_late old new (Ok a) late = tt

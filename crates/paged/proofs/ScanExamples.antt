@@ -1,4 +1,5 @@
--- What scans answer, and what is told of a blob that nobody opened, at a few bytes. Pages have 4 bytes, and the checksum is their sum.
+-- What scans answer, and what raw reads find in a blob that nobody opened, at a few bytes. Pages
+-- have 4 bytes, and the checksum is their sum.
 use Rattle.std.proofs.Common.{◌≡◌, ℕ, List, [], ◌∷◌, ◌++◌, Ok, Err, refl, arith}
 use Rattle.disk.specs.Disk.{ReadAt}
 use Rattle.disk.specs.declared.error.Error.TheVariants.{InvalidChecksum, BlobInsufficientLength}
@@ -24,7 +25,7 @@ damaged = abcd_page ++ (154 ∷ 102 ∷ 103 ∷ 104 ∷ 0 ∷ 4 ∷ 0 ∷ 0 ∷ 
 pub scans_of_six : scan add_sum 4 1 2 0 100 six ∷ scan add_sum 4 1 2 6 100 six ∷ scan add_sum 4 1 2 0 3 six ∷ scan add_sum 4 1 2 0 0 six ∷ [] ≡ 6 ∷ 6 ∷ 3 ∷ 0 ∷ []
 scans_of_six = refl
 
--- a damaged page ends it, unless it is taken for proven
+-- a damaged page ends the scan, unless it is taken for proven
 pub a_damaged_scan : scan add_sum 4 2 3 0 100 damaged ∷ scan add_sum 4 2 3 0 6 damaged ∷ scan add_sum 4 2 3 8 100 damaged ∷ [] ≡ 4 ∷ 4 ∷ 10 ∷ []
 a_damaged_scan = refl
 
@@ -32,11 +33,11 @@ a_damaged_scan = refl
 pub reads_forward : AreForward 16 0 32 (ReadAt 0 16 ∷ ReadAt 16 16 ∷ [])
 reads_forward = (refl, omega arith, omega arith, (refl, omega arith, omega arith, tt))
 
--- not after the bound
+-- no read ends after the bound
 pub not_past_the_bound : AreForward 16 0 16 (ReadAt 0 16 ∷ ReadAt 16 16 ∷ []) → ⊥
 not_past_the_bound go = omega (arith, go.3.2)
 
--- nor from the second page on
+-- reads don't begin with the second page
 pub not_a_page_late : AreForward 16 0 32 (ReadAt 16 16 ∷ []) → ⊥
 not_a_page_late go = omega (arith, go.0)
 
@@ -47,7 +48,7 @@ a_tail = refl
 pub a_torn_tail : tail_told add_sum 4 33 3 six ≡ Err BlobInsufficientLength
 a_torn_tail = refl
 
--- no bytes of none, and not one
+-- an empty blob gives no bytes, and refuses one
 pub no_tail : (tail_told add_sum 4 0 0 [] ≡ Ok (0, [])) × (tail_told add_sum 4 0 1 [] ≡ Err BlobInsufficientLength)
 no_tail = (refl, refl)
 

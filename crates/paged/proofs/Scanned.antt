@@ -34,13 +34,13 @@ module _ (sum : List ℕ → ℕ) (P first pages : ℕ) (readable : List ℕ) (p
       let rest = pages_from P (pages - first) first readable in
       omega (arith, le, ap (λ (q : Prefix). prefix_pages q) is, (prefix_is sum P rest).within, length-pieces (pages - first) (P + 12) (drop (first * (P + 12)) readable))
 
-  -- and their offsets are numbers
+  -- the offsets of the pages that a scan found are numbers of 64 bits
   pub scanned_fits : first ≤ pages → pages * (P + 12) < 2 ^ 64 → prefix_pages p * (P + 12) < 2 ^ 64
   scanned_fits le fits =
       let more : (P + 12) * prefix_pages p ≤ (P + 12) * pages = mul-le-mul_left (P + 12) (scanned_within le) in
       omega (arith, more, fits)
 
-  -- less than a page of the last
+  -- the partial value after these pages is less than a page
   pub scanned_short : 0 < P → length (tip_of p.partial) < P
   scanned_short some =
       omega (arith, ap (λ (q : Prefix). length (tip_of q.partial)) is, (prefix_is sum P (pages_from P (pages - first) first readable)).tip some)
@@ -53,9 +53,9 @@ scanned_size sum P full end proven start size readable p begins is counts =
     ∙ ap (λ (n : ℕ). prefix_size P (prefix_from sum P n end readable)) begins
     ∙ prefix_from_counts sum P (scan_start P full end proven) end readable
 
--- ---- one that is refused
+-- ---- a scan that is refused
 
--- whatever it looked for
+-- a look that is refused, whatever it looked for
 pub look_refused : {A : Type 0} (reach len : ℕ) (a : A) (old new : Life) (e : Error) → LooksThrough reach a old new (Err e) → ScanAnswers reach len old new (Err e)
 look_refused reach len a old new ReadFailed looks = looks
 look_refused reach len a old new WriteFailed looks = looks
@@ -67,7 +67,7 @@ look_refused reach len a old new OffsetOverflow looks = absurd looks
 look_refused reach len a old new OutOfMemory looks = looks
 look_refused reach len a old new IdsExhausted looks = looks
 
--- it only looks
+-- a scan only looks
 pub scan_looks : (reach len : ℕ) (old new : Life) (result : Result ℕ Error) → ScanAnswers reach len old new result → Looked old new
 scan_looks reach len old new (Ok n) scans = scans.1
 scan_looks reach len old new (Err ReadFailed) scans = scans.1
@@ -82,14 +82,14 @@ scan_looks reach len old new (Err IdsExhausted) scans = absurd scans
 
 -- ---- what it answers
 
--- another number, where that is the same
+-- the number that a scan answers is any that equals it
 pub scan_answers : (reach len other : ℕ) (old new : Life) (result : Result ℕ Error) → ScanAnswers reach len old new result → len ≡ other → IfOk result (λ n. n ≡ other)
 scan_answers reach len other old new (Ok n) scans same = scans.0 ∙ same
 scan_answers reach len other old new (Err e) scans same = tt
 
 -- ---- a writer's own blob
 
--- it ends with the pages that were flushed
+-- a writer's own blob ends with the pages that were flushed
 pub flushed_reach : (sum : List ℕ → ℕ) (P full : ℕ) (tip readable : List ℕ) (flushed : Option ActiveChecksum) → TipPage sum P full tip readable flushed → length readable ≡ (full + slot_pages flushed) * (P + 12)
 flushed_reach sum P full tip readable None is = is ∙ ap (λ (n : ℕ). n * (P + 12)) (let e : full ≡ full + 0 = omega arith in e)
 flushed_reach sum P full tip readable (Some f) is = is.size
@@ -99,7 +99,7 @@ one_page : (P n pages : ℕ) → 0 < n → n ≤ pages * P → 1 ≤ pages
 one_page P n zero some le = absurd (omega (arith, some, le))
 one_page P n (suc k) some le = omega arith
 
--- whose offsets are numbers
+-- the offsets of the flushed pages are numbers of 64 bits
 pub flushed_fits : (sum : List ℕ → ℕ) (P full : ℕ) (tip readable : List ℕ) (flushed : Option ActiveChecksum) → 0 < P → TipPage sum P full tip readable flushed → FitsBlob P full (length tip)
     → (full + slot_pages flushed) * (P + 12) < 2 ^ 64
 flushed_fits sum P full tip readable None some is fits =
@@ -117,7 +117,7 @@ module _ (sum : List ℕ → ℕ) (w : WriterState) (d : Disk) where
   stands_tip (inl sound) = sound.stands.tip_page
   stands_tip (inr opened) = opened.page
 
-  -- so a scan of it is refused for no offset
+  -- so a scan of it answers neither `OffsetOverflow` nor `BlobInsufficientLength`
   pub scan_within : (end len : ℕ) (old new : Life) (result : Result ℕ Error) → old.present ≡ d → 0 < w.page_size → FitsBlob w.page_size w.full_pages (length w.tip) → end ≤ flushed_pages w
       → IsSound sum w d ⊎ IsAsOpened sum w d → ScanAnswers (end * (w.page_size + 12)) len old new result → IsWithinBlob result
   scan_within end len old new (Ok n) is some fits le stands scans = tt
@@ -137,7 +137,7 @@ module _ (sum : List ℕ → ℕ) (w : WriterState) (d : Disk) where
   scan_within end len old new (Err OutOfMemory) is some fits le stands scans = tt
   scan_within end len old new (Err IdsExhausted) is some fits le stands scans = tt
 
-  -- all its pages below the tip are told
+  -- all pages below a sound writer's tip are full
   pub sound_proven : (proven : ℕ) → IsSound sum w d → IsProven sum w.page_size w.full_pages proven d.readable
   unfolding IsSound
   sound_proven proven sound =
@@ -147,19 +147,19 @@ module _ (sum : List ℕ → ℕ) (w : WriterState) (d : Disk) where
       subst (λ (l : List (List ℕ)). AreFull sum P l) (take-pages P k d.readable (fewer_fit P k w.full_pages d.readable (omega arith) reach))
       (AreFull_fewer sum P k w.full_pages (pages P d.readable) (omega arith) sound.full)
 
-  -- and what was flushed tells the blob's text
+  -- and the flushed pages have the blob's text
   pub sound_text : IsSound sum w d → text_of_first sum w.page_size (flushed_pages w) d.readable ≡ text sum w.page_size d.readable
   unfolding IsSound
   sound_text sound =
       let P = w.page_size in
       ap (λ (l : List (List ℕ)). text_of_pages sum P l) (sym (pages_whole P (flushed_pages w) d.readable (flushed_reach sum P w.full_pages w.tip d.readable w.flushed sound.stands.tip_page)))
 
-  -- so a scan of all counts that text
+  -- so a scan of all flushed pages counts that text
   pub sound_scan : (proven : ℕ) → IsSound sum w d → scan_to sum w.page_size w.full_pages (flushed_pages w) proven d.readable ≡ length (text sum w.page_size d.readable)
   sound_scan proven sound =
       scan_counts_text sum w.page_size w.full_pages (flushed_pages w) proven d.readable (sound_proven proven sound) ∙ ap (λ (l : List ℕ). length l) (sound_text sound)
 
-  -- and one of the first bytes no more than those
+  -- and a scan of the first bytes counts no more than those
   pub sound_scan_most : (proven most : ℕ) → 0 < w.page_size → IsSound sum w d
       → min most (scan_to sum w.page_size w.full_pages (scan_end w.page_size (flushed_pages w) most) proven d.readable) ≡ min most (length (text sum w.page_size d.readable))
   sound_scan_most proven most some sound =

@@ -1,4 +1,4 @@
--- The pages of a sound writer are there, and full.
+-- The pages of a sound writer are in its blob, and each is full.
 use Rattle.std.proofs.Common.{ℕ, List}
 use Rattle.disk.specs.Disk.{Disk}
 use Rattle.writer_state.specs.WriterState.{WriterState}
@@ -7,7 +7,7 @@ use Rattle.writer_state.proofs.FlushLaws.{tip_reach}
 use Rattle.paged_read.specs.Tail.{HasPages, HasFullPages}
 use Rattle.paged.specs.Caches.{tail_of}
 
--- a sound writer's pages are there, and full
+-- a sound writer's pages are in its blob, and (`sound_full`) each is full
 pub sound_there : (sum : List ℕ → ℕ) (w : WriterState) (d : Disk) → IsSound sum w d
     → HasPages (tail_of w) d
 unfolding IsSound

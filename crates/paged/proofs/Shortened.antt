@@ -1,4 +1,5 @@
--- A cut of a blob of which all was durable: what it leaves, exactly, and what its calls owe together.
+-- A cut of a blob of which all was durable: what it leaves, exactly, and what its calls guarantee
+-- together.
 use Rattle.std.proofs.Common.{◌≡◌, ◌≢◌, ◌⊎◌, inl, inr, ℕ, zero, suc, ◌+◌, ◌-◌, ◌*◌, ◌/◌, ◌%◌, ◌^◌, ◌<◌, ◌≤◌, List, [], ◌++◌, length, take, drop, Some, None, Result, Ok, Err, Bool, true, false, refl, sym, ap, ◌∙◌, subst, arith, append-nil, append_assoc, length-append, length-take, length-drop, length-take-le, mul-le-mul_right, drop-drop}
 use Rattle.std.specs.Prelude.{OnOk, IfErr, IsOkUnless, Option, min, replicate, ◌==◌, if◌then◌else◌}
 use Rattle.std.specs.Int.{w16, w32, to_be_bytes, div_ceil}
@@ -97,7 +98,7 @@ is_not_zero : (m : ℕ) → 0 < m → (m == 0) ≡ false
 is_not_zero zero some = absurd (omega (arith, some))
 is_not_zero (suc m) some = grind (arith, nat_tests)
 
--- the slot that is told is the value's
+-- the active slot of a page is its value's
 pub told_slot : (sum : List ℕ → ℕ) (P : ℕ) (page : List ℕ) (f : ActiveChecksum) → active sum P page ≡ Some f → f.slot ≡ value_slot sum P page
 told_slot sum P page f is = by_test (value_len sum P page == 0) is
   where
@@ -106,7 +107,7 @@ told_slot sum P page f is = by_test (value_len sum P page == 0) is
     by_test false is = sym (ap (λ (a : ActiveChecksum). a.slot) (same_Some (record { slot = value_slot sum P page; len = value_len sum P page; crc = slot_crc (slot_of P (value_slot sum P page) page) }) f is))
 
 module _ (sum : List ℕ → ℕ) (P n : ℕ) (R : List ℕ) where
-  -- what a cut leaves after a page, and within one
+  -- what a cut at the end of a page leaves, and within a page
   pub shortened_whole : n % P ≡ 0 → shortened sum P n R ≡ take (n / P * (P + 12)) R
   shortened_whole none = rw (is_zero (n % P) none) refl
 
@@ -147,7 +148,7 @@ module _ (sum : List ℕ → ℕ) (P n : ℕ) (R : List ℕ) where
 page_of_first : (P page n : ℕ) (R : List ℕ) → (page + 1) * (P + 12) ≤ n → page_at P page (take n R) ≡ page_at P page R
 page_of_first P page n R within = within_take (P + 12) (page * (P + 12)) n R (omega (arith, within))
 
--- a resize, where there was more
+-- how many device calls a resize takes: one, where there was more
 abbrev pub resize_calls : Bool → ℕ
 resize_calls false = 0
 resize_calls true = 1
@@ -347,7 +348,7 @@ module _ (sum : List ℕ → ℕ) (P held size n : ℕ) (old : Life) (some : 0 <
         first_reach : (n / P + 1) * (P + 12) ≤ length first_pages
         first_reach = omega (arith, length-take-le ((n / P + 1) * (P + 12)) old.present.readable page_reach)
 
-        -- the slot that tells what is left
+        -- the slot that covers what is left
         pub slot_left : Some (record { slot = other f.slot; len = n % P; crc = crc }) ≡ shortened_slot sum P n old.present.readable
         slot_left =
             (λ i. Some (record { slot = other (told_slot sum P (page_at P (n / P) old.present.readable) f told_old i); len = n % P; crc = sum_old i }))
@@ -432,7 +433,7 @@ device_shortens sum P n old new OffsetOverflow cause = absurd cause
 device_shortens sum P n old new OutOfMemory cause = tt
 device_shortens sum P n old new IdsExhausted cause = absurd cause
 
--- or the page has no such value
+-- or the value of the page has fewer bytes
 pub read_shortens : (sum : List ℕ → ℕ) (P n : ℕ) (old mid late : Life) (e : Error) → LogGrows old.present mid.present → page_at P (n / P) mid.present.readable ≡ page_at P (n / P) old.present.readable → ReadsValue sum P (n / P) (n % P) mid late (Err e)
     → ShortenCause sum P n old late e
 read_shortens sum P n old mid late ReadFailed grows same cause = device_later old mid late ReadFailed grows cause
@@ -501,7 +502,7 @@ module _ (sum : List ℕ → ℕ) (w : WriterState) (n q : ℕ) (old : Life) (sa
       once : ReadsOnce P (n / P) mid late
       once = subst (λ (k : ℕ). ReadsOnce P (n / k) mid late) same_size reads
 
-      -- the page wasn't read, or has no such value
+      -- the page wasn't read, or its value has fewer bytes
       pub within_unread : (e : Error) → ReadsValue sum P (n / q) (n % q) mid late (Err e) → CutsTo sum n w old late × ShortenCause sum P n old late e
       within_unread e goes = (
         read_cut sum P held (size_of w) n old some_size at_rest whole ceil less_size part unsynced mid late within_left once,
@@ -536,7 +537,7 @@ module _ (sum : List ℕ → ℕ) (w : WriterState) (n q : ℕ) (old : Life) (sa
         pub within_unwritten : (last : Life) (e : Error) → Rewrites P (n / q) value.slot new.len new.crc unsynced late last (Err e) → CutsTo sum n w old last × ShortenCause sum P n old last e
         within_unwritten last e goes = let owed = wrote last (Err e) goes in (owed.cuts, device_shortens sum P n old last e owed.failed)
 
-        -- they are done
+        -- the three writes are done
         pub within_written : (last : Life) (now : WriterState) (result : Result (Unit {0}) Error) → Rewrites P (n / q) value.slot new.len new.crc unsynced late last (Ok tt) → OnOk result (now ≡ writer_at w (n / q) bytes (Some new)) → IsOkUnless result OutOfMemory
             → CutsTo sum n w old last × Shortens sum n w old last (with_value now result)
         within_written last now result goes ok err =
@@ -556,7 +557,7 @@ opened_idle sum w d opened =
     let same : length w.tip % w.page_size ≡ length w.tip = mod-eq_of_lt opened.written.short in
     grind (arith, nat_tests, same, opened.written.short, opened.written.flushed)
 
--- so one with something to write is sound
+-- so a writer with something to write is sound
 pub sound_working : (sum : List ℕ → ℕ) (w : WriterState) (d : Disk) → IsSound sum w d ⊎ IsAsOpened sum w d → has_work w true ≡ true → IsSound sum w d
 sound_working sum w d (inl sound) work = sound
 sound_working sum w d (inr opened) work = absurd (cc (opened_idle sum w d opened, work))

@@ -1,4 +1,5 @@
--- The calls of a cut of which all was durable: what each owes whatever it answers, and what they owe together.
+-- The calls of a cut of which all was durable: what each guarantees whatever it answers, and what
+-- they guarantee together.
 use Rattle.std.proofs.Common.{◌≡◌, ◌⊎◌, inl, inr, ℕ, ◌+◌, ◌*◌, ◌^◌, ◌<◌, ◌≤◌, List, [], ◌∷◌, ◌++◌, length, take, drop, slice_get, Some, Result, Ok, Err, Bool, true, false, refl, sym, ap, ◌∙◌, subst, arith, append-nil, mul-le-mul_right, length-take-le, ◌-◌, length-drop}
 use Rattle.std.specs.Prelude.{OnOk, IfErr, slice_range}
 use Rattle.std.specs.Int.{w16, to_be_bytes}
@@ -176,15 +177,15 @@ module _ (sum : List ℕ → ℕ) (P : ℕ) (told : List ℕ) (F k : ℕ) where
     holds = through_joins (HoldsText sum P told F) old mid new first.holds second.holds;
   }
 
-  -- with fewer calls than that
+  -- a cut with a greater bound on its calls
   pub cutting_fewer : (c1 c2 : ℕ) (old new : Life) → c1 ≤ c2 → Cutting sum P told F k c1 old new → Cutting sum P told F k c2 old new
   cutting_fewer c1 c2 old new less cuts = record { asks = omega (arith, cuts.asks, less); reads = cuts.reads; pages = cuts.pages; started = cuts.started; holds = cuts.holds }
 
-  -- the log goes on
+  -- a cut leaves the log no shorter
   pub cutting_grows : (c : ℕ) (old new : Life) → Cutting sum P told F k c old new → LogGrows old.present new.present
   cutting_grows c old new cuts = (cuts.reads.0, cuts.reads.1)
 
-  -- no call
+  -- a cut of no call
   pub cutting_none : (life : Life) → HoldsText sum P told F life.present → Cutting sum P told F k 0 life life
   cutting_none life holds = record {
     asks = omega arith;
@@ -225,7 +226,8 @@ module _ (sum : List ℕ → ℕ) (P : ℕ) (told : List ℕ) (F k : ℕ) where
       one_call (ReadAt (page * (P + 12)) (P + 12)) old new (read_asked P page old new once) (omega arith, tt)
       (looked_pages_stay P page old new once k) (looked_goes_on old new looked) (looked_holds sum P told F old new looked holds)
 
-  -- what calls owe that begin in such a life: they are parts of the cut, end so where they are done, and else a device call failed
+  -- what calls guarantee that begin in such a life: they are parts of the cut, they end so if they
+  -- succeed, and else a device call failed
   pub record Owed (c : ℕ) (Post : Life → Type 0) (old new : Life) (answer : Result (Unit {0}) Error) : Type 0 where
     pub cuts : Cutting sum P told F k c old new
     pub done : OnOk answer (Post new)
@@ -257,7 +259,7 @@ module _ (sum : List ℕ → ℕ) (P : ℕ) (told : List ℕ) (F k : ℕ) where
 pub rest_is_latest : (d : Disk) → d.since ≡ [] → IsImage d d.readable → d.readable ≡ latest d.base d.since
 rest_is_latest d at_rest image = only_image d d.readable at_rest image ∙ sym (ap (λ (os : List Operation). latest d.base os) at_rest)
 
--- so a write into a slot leaves what the other one holds
+-- so a write into a slot leaves what the other slot covers
 pub slot_spared : (sum : List ℕ → ℕ) (P page : ℕ) (f : ActiveChecksum) (s : Slot) (written : List ℕ) (sync : Bool) (old new : Life) (answer : Result (Unit {0}) Error) → s ≡ other f.slot → IsImage old.present old.present.readable
     → (sync ≡ true → old.present.since ≡ []) → length written ≤ 6 → WritesSlot P page s written sync old new answer → SparesSlot sum P page f old new
 slot_spared sum P page f s written sync old new answer is image at_rest few goes told held =
@@ -282,7 +284,7 @@ rewrites_last P page s t len crc unsynced old mid late new (Err e) is first seco
 
 -- a page that was read
 module _ (sum : List ℕ → ℕ) (P page len : ℕ) (readable bytes seen : List ℕ) (there : (page + 1) * (P + 12) ≤ length readable) (is : bytes ≡ take (P + 12) (drop (page * (P + 12)) readable)) (same : seen ≡ bytes) where
-  -- it is the blob's
+  -- the page that was read is the blob's
   seen_page : seen ≡ page_at P page readable
   seen_page = same ∙ is
 
@@ -292,11 +294,11 @@ module _ (sum : List ℕ → ℕ) (P page len : ℕ) (readable bytes seen : List
   seen_size : length seen - 12 ≡ P
   seen_size = omega (arith, page_there, ap length seen_page)
 
-  -- its value may have fewer bytes
+  -- the page's value may have fewer bytes
   pub value_short : value_len sum (length seen - 12) seen < len → value_len sum P (page_at P page readable) < len
   value_short short = subst (λ (n : ℕ). n < len) (ap (λ (n : ℕ). value_len sum n seen) seen_size ∙ ap (λ (l : List ℕ). value_len sum P l) seen_page) short
 
-  -- or as many
+  -- the page's value may have as many bytes
   pub value_found : (a : ActiveChecksum) (kept : List ℕ) → active sum (length seen - 12) seen ≡ Some a → len ≤ a.len → AreBytes seen → kept ≡ slice_range bytes 0 len
       → (kept ≡ take len (drop (page * (P + 12)) readable)) × (active sum P (page_at P page readable) ≡ Some a) × (len ≤ a.len) × AreBytes (page_at P page readable)
   value_found a kept told less are cut =
@@ -320,25 +322,25 @@ sync_failed old new (Err e) goes = write_device old new e (sync_cause Clean old 
 
 -- ---- the three writes together
 
--- the calls of the first, made durable
+-- how many calls the first write takes, made durable
 abbrev pub stage_calls : Bool → ℕ
 stage_calls false = 1
 stage_calls true = 2
 
 module _ (sum : List ℕ → ℕ) (P : ℕ) (told : List ℕ) (F page : ℕ) (f : ActiveChecksum) (R : List ℕ) (len crc : ℕ) (small : IsSmall sum) (small_page : P < 2 ^ 16) (within : F ≤ length told) (enough : F ≤ page * P + len)
     (reach : (page + 1) * (P + 12) ≤ length R) (fits : (page + 1) * (P + 12) < 2 ^ 64) (some : 0 < len) (less : len ≤ f.len) (part : len < P) (is_sum : crc ≡ sum (take len (drop (page * (P + 12)) R))) where
-  -- the slot that tells the page once it was rewritten
+  -- the slot of the page's value once it was rewritten
   abbrev new_slot : ActiveChecksum
   new_slot = record { slot = other f.slot; len = len; crc = crc }
 
-  -- before one of the writes these bytes are readable, and this slot may hold the page
+  -- before one of the writes these bytes are readable, and this slot may cover the page
   pub record Ready (bytes : List ℕ) (g : ActiveChecksum) (life : Life) : Type 0 where
     pub readable : life.present.readable ≡ bytes
     pub latest_is : life.present.readable ≡ latest life.present.base life.present.since
     pub holds : HoldsText sum P told F life.present
     pub may : MayHold sum P told page g life.present
 
-  -- and all is durable
+  -- before a write, also with all durable
   pub record ReadyAtRest (bytes : List ℕ) (g : ActiveChecksum) (life : Life) : Type 0 where
     pub ready : Ready bytes g life
     pub durable : IsDurable life.present
@@ -346,7 +348,7 @@ module _ (sum : List ℕ → ℕ) (P : ℕ) (told : List ℕ) (F page : ℕ) (f 
   slot_fits : (s : Slot) (n : ℕ) → n ≤ 6 → page * (P + 12) + P + slot_offset s + n < 2 ^ 64
   slot_fits s n few = omega (arith, fits, slot_offset_le s, few)
 
-  -- a write into a slot, by what the crash laws say of it
+  -- a write into a slot, by the crash laws
   slot_cuts : (s : Slot) (written : List ℕ) (sync : Bool) (old new : Life) (answer : Result (Unit {0}) Error) → (page + 1) * (P + 12) ≤ length old.present.readable → Through (HoldsText sum P told F) old new
       → WritesSlot P page s written sync old new answer → Cutting sum P told F page 1 old new
   slot_cuts s written sync old new answer there holds goes =
@@ -378,7 +380,7 @@ module _ (sum : List ℕ → ℕ) (P : ℕ) (told : List ℕ) (F page : ℕ) (f 
   there_latest : (bytes : List ℕ) (g : ActiveChecksum) (life : Life) → length bytes ≡ length R → Ready bytes g life → (page + 1) * (P + 12) ≤ length (latest life.present.base life.present.since)
   there_latest bytes g life size ready = omega (arith, there_in bytes g life size ready, ap length ready.latest_is)
 
-  -- the first, durable or not
+  -- the first write, durable or not
   stage_goes : (sync : Bool) → Goes sum P told F page 1 (Ready R f) (λ old new answer. WritesSlot P page (other f.slot) (slot_bytes 0 crc) sync old new answer) (Ready (applied (staged P page f.slot crc) R) f)
   stage_goes sync old new answer ready goes =
       let through = stage_holds sum P told F page f crc sync old new answer goes (there_latest R f old refl ready) ready.latest_is (may_hold_spares sum P told page f F old.present within (omega (arith, enough, less)) ready.may) ready.holds in
@@ -401,7 +403,7 @@ module _ (sum : List ℕ → ℕ) (P : ℕ) (told : List ℕ) (F page : ℕ) (f 
             may = may_hold_on sum P told page f old new (λ held. stays_held sum P told page f (slot_bytes 0 crc) sync old new (Ok u) held goes (omega (arith, six)) (λ is. ready.latest_is)) ready.may;
           }
 
-  -- a sync after the first
+  -- a sync after the first write
   sync_done : (old new : Life) (answer : Result (Unit {0}) Error) → Ready (applied (staged P page f.slot crc) R) f old → SyncGoes old new answer → OnOk answer (ReadyAtRest (applied (staged P page f.slot crc) R) f new)
   sync_done old new (Err e) ready goes = tt
   sync_done old new (Ok u) ready goes = record {
@@ -424,7 +426,7 @@ module _ (sum : List ℕ → ℕ) (P : ℕ) (told : List ℕ) (F page : ℕ) (f 
     failed = sync_failed old new answer goes;
   }
 
-  -- the same, made durable
+  -- the first write, made durable
   stages_goes : (unsynced : Bool) → Goes sum P told F page (stage_calls unsynced) (Ready R f) (λ old new answer. Stages P page f.slot crc unsynced old new answer) (ReadyAtRest (applied (staged P page f.slot crc) R) f)
   stages_goes false old new answer ready goes =
       let owed = stage_goes true old new answer ready goes in
@@ -456,7 +458,7 @@ module _ (sum : List ℕ → ℕ) (P : ℕ) (told : List ℕ) (F page : ℕ) (f 
   published_size : length published_bytes ≡ length R
   published_size = let two : length (to_be_bytes w16 len) ≡ 2 = refl in omega (arith, two, reach, staged_size, slot_offset_le (other f.slot), length-applied_write (page * (P + 12) + P + slot_offset (other f.slot)) (to_be_bytes w16 len) staged_bytes)
 
-  -- the second
+  -- the second write
   publish_goes : Goes sum P told F page 1 (ReadyAtRest staged_bytes f) (λ old new answer. WritesSlot P page (other f.slot) (to_be_bytes w16 len) true old new answer) (ReadyAtRest published_bytes new_slot)
   publish_goes old new answer at_rest goes =
       let ready = at_rest.ready in
@@ -490,7 +492,7 @@ module _ (sum : List ℕ → ℕ) (P : ℕ) (told : List ℕ) (F page : ℕ) (f 
             durable = durable;
           }
 
-  -- the third
+  -- the third write
   clear_goes : Goes sum P told F page 1 (ReadyAtRest published_bytes new_slot) (λ old new answer. WritesSlot P page f.slot (slot_bytes 0 0) true old new answer) (λ life. (life.present.readable ≡ applied (cleared P page f.slot) published_bytes) × IsDurable life.present)
   clear_goes old new answer at_rest goes =
       let ready = at_rest.ready in
@@ -508,7 +510,7 @@ module _ (sum : List ℕ → ℕ) (P : ℕ) (told : List ℕ) (F page : ℕ) (f 
           let offset = page * (P + 12) + P + slot_offset f.slot in
           (write_done offset (slot_bytes 0 0) true old new u goes ∙ ap (λ (l : List ℕ). applied (cleared P page f.slot) l) at_rest.ready.readable, write_durable offset (slot_bytes 0 0) old new u goes)
 
-  -- together
+  -- the three writes together
   pub rewrite_goes : (unsynced : Bool) → Goes sum P told F page (stage_calls unsynced + 2) (Ready R f) (λ old new answer. Rewrites P page f.slot len crc unsynced old new answer)
       (λ life. (life.present.readable ≡ applied (cleared P page f.slot) published_bytes) × IsDurable life.present)
   rewrite_goes unsynced = then_goes sum P told F page (stage_calls unsynced) 2 (Ready R f) (ReadyAtRest staged_bytes f) (λ life. (life.present.readable ≡ applied (cleared P page f.slot) published_bytes) × IsDurable life.present)

@@ -6,7 +6,8 @@ use Rattle.std.proofs.lemmas.Grind.{div_ceil_times}
 use Rattle.std.proofs.lemmas.Bool.{cases_lt}
 use Rattle.paged.specs.Writer.{FitsBlob}
 
--- full pages, and pages for bytes after them, are no more than so many where the bytes of all are within theirs
+-- full pages, and pages for bytes after them, are no more than so many where the bytes of all are
+-- within theirs
 pages_within : (P full n c most : ℕ) → n ≤ c * P → c * P < n + P → (full + c ≤ most) ↔ (full * P + n ≤ most * P)
 pages_within P full n c most up near = (
   λ le. let more : (full + c) * P ≤ most * P = mul-le-mul_right P le in omega (arith, more, add-mul full c P, up),

@@ -1,4 +1,4 @@
--- Snapshots of a writer: what they tell, and what the calls that make them owe.
+-- Snapshots of a writer: which content they give, and what the calls that make them guarantee.
 use Rattle.std.proofs.Common.{◌≡◌, ℕ, ◌+◌, ◌<◌, List, [], length, refl, sym, ap, ◌∙◌, subst, arith, append-nil, Bool, true, false, Result, Ok, Err}
 use Rattle.std.specs.Prelude.{IfOk, nat_eq, if◌then◌else◌}
 use Rattle.disk.specs.Disk.{Life, WaitStartedGoes}
@@ -24,9 +24,9 @@ use Rattle.paged.proofs.Over.{goes_stay}
 use Rattle.paged.proofs.There.{consistent_has_pages}
 use Rattle.paged.proofs.Waits.{wait_readable}
 
--- ---- what a snapshot tells
+-- ---- the content that a snapshot gives
 
--- the tail of a writer that goes on tells what was told before
+-- the tail of a writer that goes on gives the content from before
 pub goes_tells : (sum : List ℕ → ℕ) (w now : WriterState) (old new : Life)
     → IsIntact sum w old.present → CarriesOn sum w old [] now new
     → IsTailOf sum (tail_of now) (content w old.present.readable) new.present
@@ -36,7 +36,7 @@ goes_tells sum w now old new full goes = record {
   is = goes.content ∙ append-nil (content w old.present.readable);
 }
 
--- so does a snapshot of it
+-- a snapshot of that writer gives that content
 pub made_tells : (sum : List ℕ → ℕ) (w now : WriterState) (t : Tail) (old new : Life)
     → IsIntact sum w old.present → CarriesOn sum w old [] now new → t ≡ tail_of now
     → IsTailOf sum t (content w old.present.readable) new.present
@@ -44,7 +44,7 @@ made_tells sum w now t old new full goes is =
     subst (λ (u : Tail). IsTailOf sum u (content w old.present.readable) new.present) (sym is)
     (goes_tells sum w now old new full goes)
 
--- which can be read where the writer could be
+-- the snapshot can be read where the writer could be
 pub made_stands : (sum : List ℕ → ℕ) (w now : WriterState) (t : Tail) (cache after : CacheState)
     (old new : Life) → IsIntact sum w old.present → CarriesOn sum w old [] now new → t ≡ tail_of now
     → ReadsOn w now cache after old new → CanRead (tail_of w) cache old.present
@@ -70,7 +70,7 @@ pub begin_stays : (sum : List ℕ → ℕ) (w : WriterState) (size : ℕ) (old n
 begin_stays sum w size old new (Ok r) begins = goes_stay sum w r.0 old new begins.0
 begin_stays sum w size old new (Err e) refused = refused.stays
 
--- the pages that it is of are there
+-- the pages of a replay are there
 pub begun_can : (sum : List ℕ → ℕ) (w now : WriterState) (size : ℕ) (r : ReplayState)
     (old new : Life) → CarriesOn sum w old [] now new → r ≡ new_replay (tail_of now) size
     → CanReplay r new.present
@@ -81,7 +81,7 @@ begun_can sum w now size r old new goes is =
       queue = λ k a below. absurd (omega (arith, below));
     })
 
--- it gives what was told before
+-- a replay gives the content from before
 pub begun_gives : (sum : List ℕ → ℕ) (w now : WriterState) (size : ℕ) (r : ReplayState)
     (old new : Life) → IsIntact sum w old.present → CarriesOn sum w old [] now new → r ≡ new_replay (tail_of now) size
     → IsReplayOf sum r (content w old.present.readable) new.present

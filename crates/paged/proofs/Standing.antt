@@ -50,7 +50,7 @@ module _ (sum : List ℕ → ℕ) (P : ℕ) (bytes readable : List ℕ) (full : 
         tip = after.3 ∙ ap (λ (l : List ℕ). take a.len l) (page_eq ∙ page_same) ∙ take-take a.len (P + 12) (drop k readable) (omega (arith, part));
       }
 
-  -- it is the tip's page
+  -- that page is the tip's page
   pub page_after : HasBytes P full bytes (Some v) → readable ≡ take ((full + 1) * (P + 12)) bytes → HasTipPage sum P full v.0 readable v.1
   page_after has cut =
       let shown = told_after cut in
@@ -58,11 +58,11 @@ module _ (sum : List ℕ → ℕ) (P : ℕ) (bytes readable : List ℕ) (full : 
       has_page sum P full v.0 readable v.1 shown.size are_bytes shown.told shown.part shown.tip
 
 module _ (sum : List ℕ → ℕ) (small_sum : IsSmall sum) (P id capacity : ℕ) (bytes : List ℕ) (d : Disk) (positive : 0 < P) (small : P < 2 ^ 16) (durable : IsDurable d) (covered : AreCovered d) where
-  -- it is sound, and stands for what the bytes say
+  -- a writer after this prefix is sound, and its content is the bytes' text
   abbrev pub StandsFor : Prefix → Type 0
   StandsFor p = Soundness sum (at_prefix P id capacity p Clean) d × (content (at_prefix P id capacity p Clean) d.readable ≡ text sum P bytes)
 
-  -- after full pages alone
+  -- a writer after full pages alone
   stands_none : (full : ℕ) → full ≤ length (pages P bytes) → AreFull sum P (take full (pages P bytes)) → After sum P (pages P bytes) full None → d.readable ≡ take (full * (P + 12)) bytes
       → StandsFor (record { full_pages = full; partial = None })
   stands_none full within are after cut =
@@ -78,7 +78,7 @@ module _ (sum : List ℕ → ℕ) (small_sum : IsSmall sum) (P id capacity : ℕ
             ∙ text_cut sum P full bytes positive are reach (λ more. after (page_at P full bytes) (pages_at P full bytes more)),
       )
 
-  -- after full pages and a page with a shorter value
+  -- a writer after full pages and a page with a shorter value
   stands_some : (full : ℕ) (v : List ℕ × ActiveChecksum) → AreFull sum P (take full (pages P bytes)) → After sum P (pages P bytes) full (Some v) → HasBytes P full bytes (Some v) → d.readable ≡ take ((full + 1) * (P + 12)) bytes → PageIsGood sum P full d.readable
       → StandsFor (record { full_pages = full; partial = Some v })
   stands_some full v are after has cut good =

@@ -1,4 +1,4 @@
--- From what the start of a sync did to what a writer owes.
+-- From what the start of a sync did to what a writer guarantees.
 use Rattle.std.proofs.Common.{◌≡◌, ℕ, ◌+◌, ◌<◌, inl, List, [], ◌∷◌, ◌++◌, length, refl, sym, ap, ◌∙◌, subst, arith, append-nil, Bool, true, false, Result, Ok, Err}
 use Rattle.std.specs.Prelude.{IfOk, if◌then◌else◌, Option, slice_get, ◌-◌}
 use Rattle.disk.specs.Disk.{Disk, Life, Started, starts, next, had_failed, is_failed, StartGoes}
@@ -50,7 +50,7 @@ module _ (sum : List ℕ → ℕ) (w : WriterState) (old new : Life) (small : Is
       (through_more (Stays sum w.page_size (content w old.present.readable) old.present) old old (starts failed old.present)
       (stays_through_start sum w.page_size (content w old.present.readable) old sound.truthful sound.vouched) (start_stays sum w old.present sound failed))
 
-  -- the new one stands for all, where all is written
+  -- the new sync covers all, where all is written
   start_ok : (now : WriterState) (name : ℕ) (failed : Bool) → IsWritten w → name ≡ length old.present.started → new ≡ next old (starts failed old.present) → now ≡ record w { sync = Pending name }
       → StartsOver sum w old new (Ok (now, Named name))
   unfolding IsConsistent
@@ -118,7 +118,7 @@ start_fresh old new (Ok (Named name)) (last, failed, is) = ap (λ (n : ℕ). Nam
 start_fresh old new (Ok Done) goes = absurd goes
 start_fresh old new (Err e) goes = tt
 
--- the same by a dirty writer
+-- what a start by a dirty writer does, whatever it answers
 pub record Starting (sum : List ℕ → ℕ) (w now : WriterState) (old new : Life) (result : Result StartedSync Error) : Type 0 where
   pub starts_sync : StartsOver sum w old new (paired now result)
   pub pages : PagesStay w.page_size w.full_pages old new

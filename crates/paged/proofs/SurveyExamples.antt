@@ -1,4 +1,5 @@
--- What a survey tells, how much is set aside, and the verdict, at a few bytes. Pages have 4 bytes, and the checksum is their sum.
+-- What a survey answers, how much is set aside, and the verdict, at a few bytes. Pages have 4
+-- bytes, and the checksum is their sum.
 use Rattle.std.proofs.Common.{◌≡◌, Bool, true, false, ℕ, List, [], ◌∷◌, ◌++◌, refl, lit≤}
 use Rattle.page.specs.Sums.{add_sum}
 use Rattle.page.proofs.Examples.{abcd_page, ef_page, efg_page}
@@ -11,7 +12,8 @@ use Rattle.paged.proofs.RecoveryExamples.{no_page}
 abbrev told : (pages len cut beyond : ℕ) (blank torn : Bool) → Survey
 told pages len cut beyond blank torn = record { outlook = record { pages = pages; len = len; cut = cut }; beyond = beyond; blank = blank; torn = torn }
 
--- "efg" as a crash may leave it: the second slot says 3 bytes, and another sum than theirs
+-- "efg" as a crash may leave it: the second slot has a length of 3 bytes, and another checksum than
+-- theirs
 abbrev torn_page : List ℕ
 torn_page = 101 ∷ 102 ∷ 103 ∷ 0 ∷ 0 ∷ 2 ∷ 0 ∷ 0 ∷ 0 ∷ 203 ∷ 0 ∷ 3 ∷ 0 ∷ 0 ∷ 1 ∷ 51 ∷ []
 
@@ -39,11 +41,11 @@ two_slots = record { outlook = record { len = refl; pages = refl; cut = refl }; 
 pub whole_is_recovered : verdict_of 4 31 (told 2 6 0 0 true false) ≡ Whole
 whole_is_recovered = refl
 
--- nor of a page that is full, whatever its other slot says
+-- nothing of a page that is full goes, whatever its other slot has
 pub a_full_page : IsSurvey add_sum 4 full_page (told 1 4 0 0 true false)
 a_full_page = record { outlook = record { len = refl; pages = refl; cut = refl }; beyond = refl; blank = refl; torn = refl }
 
--- nor of no byte
+-- nothing goes of an empty blob
 pub an_empty_blob : IsSurvey add_sum 4 [] (told 0 0 0 0 true false)
 an_empty_blob = record { outlook = record { len = refl; pages = refl; cut = refl }; beyond = refl; blank = refl; torn = refl }
 
@@ -67,7 +69,7 @@ torn_page_is_kept = refl
 pub all_of_it : set_aside_of 4 (told 2 6 0 0 true true) ≡ 16
 all_of_it = refl
 
--- one of which no slot verifies, or of which none says anything, though it has bytes
+-- a page of which no slot verifies, or whose slots are both empty, though it has bytes
 pub a_rotten_page : IsSurvey add_sum 4 (abcd_page ++ rotten_page) (told 1 4 16 0 false false)
 a_rotten_page = record { outlook = record { len = refl; pages = refl; cut = refl }; beyond = refl; blank = refl; torn = refl }
 
@@ -77,14 +79,14 @@ an_unsaid_page = record { outlook = record { len = refl; pages = refl; cut = ref
 pub rotten_is_kept : verdict_of 4 31 (told 1 4 16 0 false false) ≡ Keep
 rotten_is_kept = refl
 
--- a rest below a page, of zeros too: the page may have been cut off
+-- a rest of less than a page, even of zeros: the page may have been cut off
 pub a_rest : IsSurvey add_sum 4 (abcd_page ++ ef_page ++ 0 ∷ []) (told 2 6 1 0 true false)
 a_rest = record { outlook = record { len = refl; pages = refl; cut = refl }; beyond = refl; blank = refl; torn = refl }
 
 pub rest_is_kept : verdict_of 4 31 (told 2 6 1 0 true false) ≡ Keep
 rest_is_kept = refl
 
--- with a torn page both are
+-- with a torn page and a rest both are set aside
 pub a_torn_page_and_a_rest : set_aside_of 4 (told 2 6 1 0 true true) ≡ 17
 a_torn_page_and_a_rest = refl
 
@@ -100,21 +102,21 @@ value_is_refused = refl
 
 -- ---- nothing would be kept
 
--- of a blob whose first page has no value, whatever follows
+-- nothing would be kept of a blob whose first page has no value, whatever follows
 pub nothing_first : IsSurvey add_sum 4 (no_page ++ abcd_page ++ abcd_page) (told 0 0 48 2 false false)
 nothing_first = record { outlook = record { len = refl; pages = refl; cut = refl }; beyond = refl; blank = refl; torn = refl }
 
 pub nothing_is_refused : verdict_of 4 100 (told 0 0 48 2 false false) ≡ Refuse
 nothing_is_refused = refl
 
--- of one page that has none
+-- nothing would be kept of one page that has no value
 pub one_rotten_page : IsSurvey add_sum 4 rotten_page (told 0 0 16 0 false false)
 one_rotten_page = record { outlook = record { len = refl; pages = refl; cut = refl }; beyond = refl; blank = refl; torn = refl }
 
 pub one_page_is_refused : verdict_of 4 100 (told 0 0 16 0 false false) ≡ Refuse
 one_page_is_refused = refl
 
--- of zeros alone
+-- nothing would be kept of zeros alone
 pub zeros_alone : IsSurvey add_sum 4 no_page (told 0 0 16 0 true false)
 zeros_alone = record { outlook = record { len = refl; pages = refl; cut = refl }; beyond = refl; blank = refl; torn = refl }
 
@@ -123,26 +125,26 @@ zeros_are_refused = refl
 
 -- ---- a recovery that may give up so much
 
--- of two pages none goes
+-- of two whole pages no byte goes
 pub whole_at_stake : at_stake add_sum 4 (abcd_page ++ ef_page) (record { pages = 2; len = 6; cut = 0 }) ≡ 0
 whole_at_stake = refl
 
--- of zeros all, though none is set aside
+-- of a blob that ends with zeros all zeros go, though none is set aside
 pub zeros_at_stake : at_stake add_sum 4 (abcd_page ++ no_page ++ no_page) (record { pages = 1; len = 4; cut = 32 }) ≡ 32
 zeros_at_stake = refl
 
 pub zeros_aside : set_aside_of 4 (told 1 4 32 0 true false) ≡ 0
 zeros_aside = refl
 
--- of a torn page that page, though nothing is cut
+-- of a torn page all bytes go, though nothing is cut
 pub page_at_stake : at_stake add_sum 4 (abcd_page ++ torn_page) (record { pages = 2; len = 6; cut = 0 }) ≡ 16
 page_at_stake = refl
 
--- of a torn page and a byte after it both do, though only the byte is cut
+-- a torn page and a byte after it both go, though only the byte is cut
 pub torn_at_stake : at_stake add_sum 4 (abcd_page ++ torn_page ++ 255 ∷ []) (record { pages = 2; len = 6; cut = 1 }) ≡ 17
 torn_at_stake = refl
 
--- so that many may go where 17 are allowed
+-- so they may go where 17 bytes are allowed
 pub seventeen_may_go : MayGo add_sum 4 17 (abcd_page ++ torn_page ++ 255 ∷ [])
 seventeen_may_go = (17, (record { pages = 2; len = 6; cut = 1 }, record { len = refl; pages = refl; cut = refl }, refl), lit≤ tt)
 

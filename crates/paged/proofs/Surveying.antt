@@ -1,4 +1,4 @@
--- Counting the pages that have a value, zeros, and what a survey owes.
+-- Counting the pages that have a value, zeros, and what a survey guarantees.
 use Rattle.std.proofs.Common.{◌≡◌, ◌<◌, ◌%◌, ℕ, [], ◌∷◌, inl, inr, refl, subst, ◌+◌, ◌-◌, ◌*◌, ◌/◌, ◌≤◌, List, ◌++◌, length, take, drop, Bool, true, false, sym, ap, ◌∙◌, arith, Result, Ok, Err}
 use Rattle.std.specs.Prelude.{is_some, cond, ◌&&◌, ◌==◌, nat_lt}
 use Rattle.std.proofs.lemmas.List.{drop-drop, length-drop}
@@ -84,7 +84,7 @@ module _ (sum : List ℕ → ℕ) (P : ℕ) where
       (drop-drop ((k - first) * (P + 12)) (first * (P + 12)) readable ∙ ap (λ (n : ℕ). drop n readable) (join first (k - first) (P + 12) ∙ ap (λ (n : ℕ). n * (P + 12)) (let e : first + (k - first) ≡ k = omega arith in e))) in
       omega (arith, so_far, counted, ap (λ (l : List (List ℕ)). values_of sum P l) split, values_append (pages_from P (k - first) first readable) (pieces b (P + 12) rest))
 
-  -- those after the pages that are kept, of all
+  -- the pages with a value after the pages that are kept, among all
   pub beyond_is : (kept whole : ℕ) (bytes : List ℕ) → whole ≡ length bytes / (P + 12) → kept ≤ whole → pages_from P (whole - kept) kept bytes ≡ drop kept (pages P bytes)
   beyond_is kept whole bytes all le =
       sym (drop-pieces kept (whole - kept) (P + 12) bytes)
@@ -92,7 +92,7 @@ module _ (sum : List ℕ → ℕ) (P : ℕ) where
 
 -- ---- zeros
 
--- those of a batch more
+-- the zeros of a batch more
 pub zeros_more : (P first k b : ℕ) (readable bytes : List ℕ) → first ≤ k → bytes ≡ take (b * (P + 12)) (drop (k * (P + 12)) readable)
     → are_zeros (take ((k + b - first) * (P + 12)) (drop (first * (P + 12)) readable)) ≡ (are_zeros (take ((k - first) * (P + 12)) (drop (first * (P + 12)) readable)) && are_zeros bytes)
 zeros_more P first k b readable bytes le read =
@@ -112,32 +112,32 @@ first_holds : (a b : Bool) → (a && b) ≡ true → a ≡ true
 first_holds true b both = refl
 first_holds false b both = absurd (cc both)
 
--- a torn one isn't full
+-- a torn page isn't full
 torn_partial : (sum : List ℕ → ℕ) (P : ℕ) (bytes : List ℕ) (outlook : Outlook) → has_torn_page sum P bytes outlook ≡ true → 0 < outlook.len % P
 torn_partial sum P bytes outlook torn =
     let less = first_holds (nat_lt 0 (outlook.len % P)) (is_some (bad_slot sum P (last_page P outlook bytes))) torn in
     grind (arith, nat_tests, less)
 
--- of a page that is full nothing is torn
+-- a page that is full isn't torn
 pub not_torn : (sum : List ℕ → ℕ) (P : ℕ) (bytes : List ℕ) (outlook : Outlook) → outlook.len % P ≡ 0 → false ≡ has_torn_page sum P bytes outlook
 not_torn sum P bytes outlook full = ap (λ (n : ℕ). nat_lt 0 n && is_some (bad_slot sum P (last_page P outlook bytes))) (sym full)
 
--- a text that doesn't end with a full page has one
+-- a text that doesn't end with a full page has a last page
 pub kept_some : (sum : List ℕ → ℕ) (P : ℕ) (bytes : List ℕ) (outlook : Outlook) → IsOutlook sum P bytes outlook → 0 < outlook.len % P → 0 < outlook.pages
 kept_some sum P bytes outlook is partial = omega (arith, is.pages, partial)
 
--- its last page is there
+-- the text's last page is there
 pub last_end : (sum : List ℕ → ℕ) (P : ℕ) (bytes : List ℕ) (outlook : Outlook) → IsOutlook sum P bytes outlook → 0 < outlook.pages → (outlook.pages - 1) * (P + 12) + (P + 12) ≤ length bytes
 last_end sum P bytes outlook is some = omega (arith, is.cut, page_end outlook.pages P some)
 
--- what its slots say
+-- whether the last page is torn, by its slots
 pub torn_is : (sum : List ℕ → ℕ) (P : ℕ) (bytes page : List ℕ) (outlook : Outlook) (bad : Bool) → 0 < outlook.len % P → page ≡ last_page P outlook bytes → bad ≡ is_some (bad_slot sum P page) → bad ≡ has_torn_page sum P bytes outlook
 torn_is sum P bytes page outlook bad partial is told =
     told
     ∙ ap (λ (l : List ℕ). is_some (bad_slot sum P l)) is
     ∙ ap (λ (b : Bool). b && is_some (bad_slot sum P (last_page P outlook bytes))) (let e : true ≡ nat_lt 0 (outlook.len % P) = grind (arith, nat_tests) in e)
 
--- it and what is cut are within the blob
+-- the last page and what is cut are within the blob
 pub stake_there : (sum : List ℕ → ℕ) (P : ℕ) (bytes : List ℕ) (outlook : Outlook) → IsOutlook sum P bytes outlook → has_torn_page sum P bytes outlook ≡ true → outlook.cut + (P + 12) ≤ length bytes
 stake_there sum P bytes outlook is torn =
     let some = kept_some sum P bytes outlook is (torn_partial sum P bytes outlook torn) in
@@ -145,11 +145,11 @@ stake_there sum P bytes outlook is torn =
 
 -- ---- what is cut
 
--- as many bytes as are cut
+-- the bytes after the kept pages are as many as are cut
 cut_bytes : (sum : List ℕ → ℕ) (P : ℕ) (bytes : List ℕ) (survey : Survey) → IsSurvey sum P bytes survey → length (drop (survey.outlook.pages * (P + 12)) bytes) ≡ survey.outlook.cut
 cut_bytes sum P bytes survey is = omega (arith, is.outlook.cut, length-drop (survey.outlook.pages * (P + 12)) bytes)
 
--- whole pages are all of them
+-- where whole pages are cut, those are all bytes that are cut
 all_beyond : (sum : List ℕ → ℕ) (P : ℕ) (bytes : List ℕ) (survey : Survey) → IsSurvey sum P bytes survey → survey.outlook.cut % (P + 12) ≡ 0 → beyond_bytes P survey.outlook.pages bytes ≡ drop (survey.outlook.pages * (P + 12)) bytes
 all_beyond sum P bytes survey is even =
     let size = P + 12 in
@@ -162,11 +162,11 @@ all_beyond sum P bytes survey is even =
     let much : (length bytes / size - pages) * size ≡ cut = ap (λ (n : ℕ). (n - pages) * size) count ∙ ap (λ (n : ℕ). n * size) (let e : pages + k - pages ≡ k = omega arith in e) ∙ sym whole in
     take_all ((length bytes / size - pages) * size) (drop (pages * size) bytes) (omega (arith, much, cut_bytes sum P bytes survey is))
 
--- where all of them are zero
+-- where whole pages are cut and all are zero, each byte that is cut is zero
 pub zeros_cut : (sum : List ℕ → ℕ) (P : ℕ) (bytes : List ℕ) (survey : Survey) → IsSurvey sum P bytes survey → survey.blank ≡ true → survey.outlook.cut % (P + 12) ≡ 0 → are_zeros (drop (survey.outlook.pages * (P + 12)) bytes) ≡ true
 zeros_cut sum P bytes survey is blank even = ap are_zeros (sym (all_beyond sum P bytes survey is even)) ∙ sym is.blank ∙ blank
 
--- ---- what a survey owes
+-- ---- what a survey guarantees
 
 pub leaves_as_is : (old new : Life) → Looked old new → LeavesAsIs old new
 leaves_as_is old new looked = record {
@@ -191,7 +191,7 @@ survey_fault sum P old new BlobInsufficientLength looks = looks
 survey_fault sum P old new OffsetOverflow looks = looks
 survey_fault sum P old new IdsExhausted looks = looks
 
--- a look after it that failed
+-- the look at the pages after the text failed
 pub look_fault_later : {A : Type 0} (sum : List ℕ → ℕ) (P reach : ℕ) (a : A) (old mid new : Life) (e : Error) → reach ≤ length mid.present.readable → Looked old mid → LooksThrough reach a mid new (Err e) → LookGoes sum P old new (Err e)
 look_fault_later sum P reach a old mid new ReadFailed there looked looks = failed_later ReadFailed old.present mid.present new.present looked.log looks.0
 look_fault_later sum P reach a old mid new OutOfMemory there looked looks = tt
@@ -206,7 +206,7 @@ look_fault_later sum P reach a old mid new IdsExhausted there looked looks = loo
 pub later_fault : {A : Type 0} (sum : List ℕ → ℕ) (P reach : ℕ) (a : A) (old mid new : Life) (e : Error) → reach ≤ length mid.present.readable → Looked old mid → LooksThrough reach a mid new (Err e) → SurveyGoes sum P old new (Err e)
 later_fault sum P reach a old mid new e there looked looks = survey_fault sum P old new e (look_fault_later sum P reach a old mid new e there looked looks)
 
--- it only looked, also where it failed
+-- a call only looked, even where it failed
 pub only_looks : {A : Type 0} (reach : ℕ) (a : A) (old new : Life) (result : Result A Error) → LooksThrough reach a old new result → Looked old new
 only_looks reach a old new (Ok found) looks = looks.1
 only_looks reach a old new (Err ReadFailed) looks = looks.1
@@ -237,7 +237,7 @@ second_reading P most to outlook old mid new torn few le last reads = elim last 
       (at, last_and_then most at (P + 12) to old mid new was.2 few (omega (arith, ends, le)) was.3 (subst (λ (n : ℕ). ReadsForward most n to mid new) (sym ends) reads))
 ]
 
--- with nothing read after it
+-- a second reading of the last page, with nothing read after it
 pub last_reading : (P most to : ℕ) (outlook : Outlook) (old new : Life) (torn : Bool) → P + 12 ≤ most → outlook.pages * (P + 12) ≤ to → ReadsLast P outlook old new (Ok torn) → (from : ℕ) × ReadsForward most from to old new
 last_reading P most to outlook old new torn few le last =
     let at = outlook.pages * (P + 12) in

@@ -16,7 +16,7 @@ pub consistent_has_pages : (sum : List ℕ → ℕ) (w : WriterState) (life : Li
 unfolding IsConsistent
 consistent_has_pages sum w life holds = (tip_reach sum w.page_size w.full_pages w.tip life.present.readable w.flushed holds.stands.tip_page).0
 
--- after a recovery
+-- the pages are there after a recovery
 pub recovered_sound : (sum : List ℕ → ℕ) (cache : CacheState) (capacity : ℕ) (old new : Life) (result : Result WriterState Error) → Recovers sum cache capacity old new result → IfOk result (λ w. IsSound sum w new.present)
 recovered_sound sum cache capacity old new (Ok w) is = is.sound
 recovered_sound sum cache capacity old new (Err e) refused = tt

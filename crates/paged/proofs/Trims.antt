@@ -1,4 +1,4 @@
--- What each moment of opening and recovering a blob owes to the first.
+-- What each moment of opening and recovering a blob guarantees, by the first.
 use Rattle.std.proofs.Common.{◌≡◌, inl, inr, ℕ, ◌+◌, ◌*◌, ◌<◌, ◌≤◌, List, length, take, refl, sym, ◌∙◌, ap, subst, arith, Bool, Result, Ok, Err}
 use Rattle.std.specs.Prelude.{Option, Some, None}
 use Rattle.std.proofs.lemmas.List.{take_all}
@@ -39,7 +39,7 @@ Mendable sum P page bad bytes = (t : Slot) → bad ≡ Some t → Mending sum P 
 abbrev pub AreBytesOf : (P page : ℕ) → Option Slot → List ℕ → Type 0
 AreBytesOf P page bad bytes = (t : Slot) → bad ≡ Some t → AreBytes (page_at P page bytes)
 
--- all is durable, and says this content
+-- all is durable, and its text is this content
 pub record AtRest (sum : List ℕ → ℕ) (P : ℕ) (content : List ℕ) (bytes : List ℕ) (d : Disk) : Type 0 where
   pub durable : IsDurable d
   pub readable : d.readable ≡ bytes
@@ -66,7 +66,7 @@ module _ (sum : List ℕ → ℕ) (P : ℕ) (content bytes : List ℕ) (some : 0
   none_stays : (old new : Life) → AtRest sum P content bytes old.present → new ≡ old → StaysThrough sum P content old new
   none_stays old new rest same = subst (λ (l : Life). StaysThrough sum P content old l) (sym same) (rest_through_start sum P content old rest.durable.since rest.durable.base (here old.present rest))
 
-  -- a cut where there is more
+  -- a cut where there is more leaves the text
   back_stays : (k : ℕ) (old new : Life) (answer : Result SyncState Error) → AtRest sum P content bytes old.present → k * (P + 12) ≤ length bytes → text sum P (take (k * (P + 12)) bytes) ≡ content
       → CutsBack (k * (P + 12)) old new answer → StaysThrough sum P content old new
   back_stays k old new (Ok Dirty) rest within leaves cuts = none_stays old new rest cuts.1
@@ -74,7 +74,7 @@ module _ (sum : List ℕ → ℕ) (P : ℕ) (content bytes : List ℕ) (some : 0
   back_stays k old new (Ok (Pending name)) rest within leaves cuts = absurd cuts
   back_stays k old new (Err e) rest within leaves cuts = cuts_stay k old new (Err e) rest within leaves cuts
 
-  -- once it is done, what is kept is at rest
+  -- once that cut is done, what is kept is at rest
   back_rests : (k : ℕ) (old new : Life) (s : SyncState) → AtRest sum P content bytes old.present → k * (P + 12) ≤ length bytes → text sum P (take (k * (P + 12)) bytes) ≡ content
       → CutsBack (k * (P + 12)) old new (Ok s) → AtRest sum P content (take (k * (P + 12)) bytes) new.present
   back_rests k old new Dirty rest within leaves cuts = record {
@@ -96,7 +96,7 @@ module _ (sum : List ℕ → ℕ) (P : ℕ) (content bytes : List ℕ) (some : 0
   pub looked_stays : (old new : Life) → AtRest sum P content bytes old.present → Looked old new → StaysThrough sum P content old new
   looked_stays old new rest looked = rest_looked_stays sum P content old new rest.durable.since rest.durable.base (here old.present rest) looked
 
--- a slot is emptied, if there is one
+-- emptying a slot, if there is one, leaves the text
 mends_stay : (sum : List ℕ → ℕ) (P page : ℕ) (content kept : List ℕ) (some : 0 < P) (bad : Option Slot) (unsynced : Bool) (old new : Life) (answer : Result (Unit {0}) Error) → AtRest sum P content kept old.present → Mendable sum P page bad kept
     → AreBytesOf P page bad kept → Mends P page bad unsynced old new answer → StaysThrough sum P content old new
 mends_stay sum P page content kept some None unsynced old new answer rest mendable are mends = none_stays sum P content kept some old new rest mends.1
@@ -107,7 +107,7 @@ mends_stay sum P page content kept some (Some t) unsynced old new answer rest me
 
 module _ (sum : List ℕ → ℕ) (P : ℕ) (content bytes : List ℕ) (some : 0 < P) (k page : ℕ) (bad : Option Slot) (within : k * (P + 12) ≤ length bytes) (leaves : text sum P (take (k * (P + 12)) bytes) ≡ content)
     (mendable : Mendable sum P page bad (take (k * (P + 12)) bytes)) (are : AreBytesOf P page bad (take (k * (P + 12)) bytes)) where
-  -- a cut where there is more, and then that
+  -- a cut where there is more, and then emptying a slot, leave the text
   pages_stay : (old new : Life) (answer : Result SyncState Error) → AtRest sum P content bytes old.present → CutsAndMends P (k * (P + 12)) page bad old new answer → StaysThrough sum P content old new
   pages_stay old new (Ok s) rest (state, last, cuts, mends, is) =
       stays_through_joins sum P content old last new (back_stays sum P content bytes some k old last (Ok state) rest within leaves cuts)
@@ -117,7 +117,7 @@ module _ (sum : List ℕ → ℕ) (P : ℕ) (content bytes : List ℕ) (some : 0
       stays_through_joins sum P content old last new (back_stays sum P content bytes some k old last (Ok state) rest within leaves cuts)
       (mends_stay sum P page content (take (k * (P + 12)) bytes) some bad (is_unsynced state) last new (Err e) (back_rests sum P content bytes some k old last state rest within leaves cuts) mendable are mends)
 
-  -- a look before it
+  -- a look before them leaves the text
   trims_stay : (old new : Life) → AtRest sum P content bytes old.present → TrimsTo P (k * (P + 12)) page bad old new → StaysThrough sum P content old new
   trims_stay old new rest (mid, looked, once) = stays_through_joins sum P content old mid new (looked_stays sum P content bytes some old mid rest looked) (elim once [
     | inl none ↦ none_stays sum P content bytes some mid new (looked_rests sum P content bytes some old mid rest looked) none
@@ -131,7 +131,7 @@ content_few : (sum : List ℕ → ℕ) (P k : ℕ) (content bytes : List ℕ) �
 content_few sum P k content bytes within leaves = omega (arith, cut_few sum P k bytes within, ap length leaves)
 
 module _ (sum : List ℕ → ℕ) (P k : ℕ) (content : List ℕ) (few : length content ≤ k * P) where
-  -- a cut
+  -- a cut keeps each floor
   cuts_floors : (old new : Life) (answer : Result (Unit {0}) Error) → ReadsImage old → k * (P + 12) ≤ length old.present.readable → Cuts (k * (P + 12)) old new answer → KeepsFloors sum P content old new
   cuts_floors old new (Ok u) image within cuts = floors_cut sum P content k old cuts.0 new (Ok u) (Ok u) image within few cuts.1 cuts.2
   cuts_floors old new (Err e) image within cuts = elim cuts [
@@ -139,7 +139,7 @@ module _ (sum : List ℕ → ℕ) (P k : ℕ) (content : List ℕ) (few : length
     | inr second ↦ floors_cut sum P content k old second.0 new (Ok tt) (Err e) image within few second.1 second.2
   ]
 
-  -- a cut where there is more
+  -- a cut where there is more keeps each floor
   back_floors : (old new : Life) (answer : Result SyncState Error) → ReadsImage old → k * (P + 12) ≤ length old.present.readable → CutsBack (k * (P + 12)) old new answer → KeepsFloors sum P content old new
   back_floors old new (Ok Dirty) image within cuts = floors_none sum P content old new cuts.1
   back_floors old new (Ok Clean) image within cuts = cuts_floors old new (Ok tt) image within cuts.1
@@ -152,14 +152,14 @@ back_image kept old new Dirty image cuts = subst ReadsImage (sym cuts.1) image
 back_image kept old new Clean image cuts = let c = cuts.1 in sync_image c.0 new (Ok tt) c.2 (resize_image kept old c.0 (Ok tt) c.1 image)
 back_image kept old new (Pending name) image cuts = absurd cuts
 
--- and the kept bytes
+-- the kept bytes are readable then
 back_readable : (kept : ℕ) (old new : Life) (s : SyncState) → kept ≤ length old.present.readable → CutsBack kept old new (Ok s) → new.present.readable ≡ take kept old.present.readable
 back_readable kept old new Dirty within cuts = ap (λ (l : Life). l.present.readable) cuts.1 ∙ sym (take_all kept old.present.readable (omega (arith, cuts.0)))
 back_readable kept old new Clean within cuts = (cut_done kept old new within cuts.1).0
 back_readable kept old new (Pending name) within cuts = absurd cuts
 
 module _ (sum : List ℕ → ℕ) (P k page : ℕ) (bad : Option Slot) (content : List ℕ) (few : length content ≤ k * P) where
-  -- a slot is emptied, if there is one
+  -- emptying a slot, if there is one, keeps each floor
   mends_floors : (old last new : Life) (s : SyncState) (b : Option Slot) (unsynced : Bool) (answer : Result (Unit {0}) Error) → ReadsImage old → k * (P + 12) ≤ length old.present.readable → Mendable sum P page b (take (k * (P + 12)) old.present.readable)
       → CutsBack (k * (P + 12)) old last (Ok s) → Mends P page b unsynced last new answer → KeepsFloors sum P content last new
   mends_floors old last new s None unsynced answer image within mendable cuts mends = floors_none sum P content last new mends.1
@@ -168,7 +168,7 @@ module _ (sum : List ℕ → ℕ) (P k page : ℕ) (bad : Option Slot) (content 
       let mending : Mending sum P page t last.present.readable = subst (λ (l : List ℕ). Mending sum P page t l) (sym (back_readable kept old last s within cuts)) (mendable t refl) in
       empties_floors sum P page t last mending content (back_image kept old last s image cuts) unsynced new answer mends
 
-  -- a cut where there is more, and then that
+  -- a cut where there is more, and then emptying a slot, keep each floor
   pages_floors : (old new : Life) (answer : Result SyncState Error) → ReadsImage old → k * (P + 12) ≤ length old.present.readable → Mendable sum P page bad (take (k * (P + 12)) old.present.readable)
       → CutsAndMends P (k * (P + 12)) page bad old new answer → KeepsFloors sum P content old new
   pages_floors old new (Ok s) image within mendable (state, last, cuts, mends, is) =
@@ -177,7 +177,7 @@ module _ (sum : List ℕ → ℕ) (P k page : ℕ) (bad : Option Slot) (content 
   pages_floors old new (Err e) image within mendable (inr (state, last, cuts, mends)) =
       floors_joins sum P content old last new (back_floors sum P k content few old last (Ok state) image within cuts) (mends_floors old last new state bad (is_unsynced state) (Err e) image within mendable cuts mends)
 
-  -- a look before it
+  -- a look before them keeps each floor
   trims_floors : (old new : Life) → ReadsImage old → k * (P + 12) ≤ length old.present.readable → Mendable sum P page bad (take (k * (P + 12)) old.present.readable)
       → TrimsTo P (k * (P + 12)) page bad old new → KeepsFloors sum P content old new
   trims_floors old new image within mendable (mid, looked, once) =
@@ -187,7 +187,7 @@ module _ (sum : List ℕ → ℕ) (P k page : ℕ) (bad : Option Slot) (content 
         | inr keeps ↦ pages_floors mid new keeps.0 (looked_image old mid looked image) (omega (arith, within, ap length same)) (subst (λ (l : List ℕ). Mendable sum P page bad (take (k * (P + 12)) l)) (sym same) mendable) keeps.1
       ])
 
--- ---- what a call owes at each moment, at every answer
+-- ---- what a call guarantees at each moment, at every answer
 
 pub record Owes (sum : List ℕ → ℕ) (P : ℕ) (old new : Life) : Type 0 where
   pub floors : KeepsAllFloors sum P old new
@@ -207,7 +207,7 @@ module _ (sum : List ℕ → ℕ) (P : ℕ) (old new : Life) where
   pub leaves_text : (IsDurable old.present → StaysThrough sum P (text sum P old.present.readable) old new) → LeavesText sum P old new
   leaves_text stays = λ durable. only_through sum P (text sum P old.present.readable) (text sum P old.present.readable) old new (stays durable)
 
-  -- a look
+  -- a look guarantees that
   pub looked_owe : 0 < P → ReadsImage old → Looked old new → Owes sum P old new
   looked_owe some image looked =
       let bytes = old.present.readable in
@@ -218,7 +218,7 @@ module _ (sum : List ℕ → ℕ) (P : ℕ) (old new : Life) where
         only = leaves_text (λ durable. looked_stays sum P (text sum P bytes) bytes some old new (start sum P old durable) looked);
       }
 
-  -- opening
+  -- opening guarantees that
   pub opens_owe : 0 < P → ReadsImage old → HasBytes P (opened_prefix sum P old.present.readable).full_pages old.present.readable (opened_prefix sum P old.present.readable).partial
       → TrimsTo P (opened_size sum P old.present.readable) (opened_prefix sum P old.present.readable).full_pages (bad_in sum P old.present.readable (opened_prefix sum P old.present.readable)) old new → Owes sum P old new
   opens_owe some image has trims =
@@ -250,11 +250,11 @@ module _ (sum : List ℕ → ℕ) (P : ℕ) (old mid : Life) (some : 0 < P) (s :
   left_says : text sum P mid.present.readable ≡ text sum P old.present.readable
   left_says = ap (λ (l : List ℕ). text sum P l) (kept_readable old mid (opened_bytes sum P old.present.readable) s kept) ∙ opened_says sum P old.present.readable some
 
-  -- and is at rest, where the blob was
+  -- and that is at rest, where the blob was
   opened_rests : IsDurable old.present → AtRest sum P (text sum P old.present.readable) mid.present.readable mid.present
   opened_rests durable = record { durable = opened_stays_durable old mid (opened_bytes sum P old.present.readable) s kept durable; readable = refl; says = left_says }
 
-  -- what a later part of the call owes
+  -- what a later part of the call guarantees
   joins_owe : (new : Life) → KeepsFloors sum P (text sum P old.present.readable) mid new → (IsDurable old.present → LeavesOnly sum P (text sum P old.present.readable) (text sum P old.present.readable) mid new) → Owes sum P old new
   joins_owe new floors leaves =
       let content = text sum P old.present.readable in
@@ -265,14 +265,14 @@ module _ (sum : List ℕ → ℕ) (P : ℕ) (old mid : Life) (some : 0 < P) (s :
         only = λ durable. through_joins (AllOnly sum P content content) old mid new (owes.only durable) (leaves durable);
       }
 
-  -- a scan of what opening left
+  -- a scan of what opening left guarantees that
   pub scanned_owe : (scanned : Life) → Looked mid scanned → Owes sum P old scanned
   scanned_owe scanned looked =
       let content = text sum P old.present.readable in
       joins_owe scanned (floors_looked sum P content mid scanned looked)
       (λ durable. only_through sum P content content mid scanned (looked_stays sum P content mid.present.readable some mid scanned (opened_rests durable) looked))
 
-  -- and a cut of it to the text
+  -- and a cut of it to the text guarantees that
   pub recovers_owe : (scanned new : Life) (n Q : ℕ) → Looked mid scanned → Q ≡ P → n ≡ length (text sum P scanned.present.readable) → KeepsFloorsWithin n sum Q scanned new → LeavesText sum Q scanned new → Owes sum P old new
   recovers_owe scanned new n Q looked same is floors leaves =
       let content = text sum P old.present.readable in

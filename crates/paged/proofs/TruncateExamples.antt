@@ -35,7 +35,7 @@ two_pages = record { page_size = 4; id = 0; capacity = 8; full_pages = 2; tip = 
 abbrev slot_of_ef : ActiveChecksum
 slot_of_ef = record { slot = Second; len = 2; crc = 203 }
 
--- it stands after the first then, with a tip of "ef"
+-- once it is cut the writer stands after the first page, with a tip of "ef"
 pub a_writer_of_it : shortened_writer add_sum two_pages 6 (abcd_page ++ efgh_page)
     ≡ record { page_size = 4; id = 0; capacity = 8; full_pages = 1; tip = 101 ∷ 102 ∷ []; flushed = Some slot_of_ef; durable = Some slot_of_ef; sync = Clean }
 a_writer_of_it = refl
@@ -47,7 +47,8 @@ nothing_to_cut = refl
 pub a_writer_that_stays : cut_writer add_sum two_pages 9 (abcd_page ++ efgh_page) ≡ record two_pages { sync = Clean }
 a_writer_that_stays = refl
 
--- a read and three writes; with a resize and a sync where a page goes; and those alone after a page
+-- a cut inside a page takes a read and three writes, with a resize and a sync where a page goes,
+-- and these alone at the end of a page
 pub calls_inside : shorten_calls 4 8 6 ≡ 4
 calls_inside = refl
 
@@ -57,7 +58,7 @@ calls_before = refl
 pub calls_after : shorten_calls 4 8 4 ≡ 2
 calls_after = refl
 
--- and a sync before them
+-- a truncate takes a sync before them
 pub calls_of_a_truncate : truncate_calls two_pages 2 ≡ 7
 calls_of_a_truncate = refl
 

@@ -1,4 +1,5 @@
--- How a truncate ends: the blob and the writer that a cut leaves, and what the cut keeps after a sync.
+-- How a truncate ends: the blob and the writer that a cut leaves, and what the cut keeps after a
+-- sync.
 use Rattle.std.proofs.Common.{◌≡◌, inl, inr, ℕ, ◌+◌, ◌-◌, ◌*◌, ◌/◌, ◌%◌, ◌<◌, ◌≤◌, ◌^◌, List, [], ◌++◌, length, take, drop, Some, None, Ok, refl, sym, ap, ◌∙◌, subst, arith, append_assoc, append-nil, length-append, length-drop, length-take-le, lit<, mul-le-mul_right, ◌⊎◌}
 use Rattle.std.specs.Prelude.{Option}
 use Rattle.std.proofs.lemmas.List.{drop_at, take-take, take_all, take-append-le}
@@ -46,12 +47,12 @@ use Rattle.page.proofs.Values.{verified_len-le_said}
 
 -- ---- the page that was rewritten
 
--- the value's length, from one slot that tells it and one that tells nothing
+-- the value's length, where one slot covers it and the other covers nothing
 value_of_slots : (sum : List ℕ → ℕ) (P len : ℕ) (s : Slot) (page : List ℕ) → verified_len sum P (other s) page ≡ len → verified_len sum P s page ≤ 0 → value_len sum P page ≡ len
 value_of_slots sum P len First page told none = omega (arith, told, none)
 value_of_slots sum P len Second page told none = omega (arith, told, none)
 
--- these bytes, with a footer whose one slot is empty and whose other tells the first of them
+-- these bytes, with a footer whose one slot is empty and whose other covers the first of them
 module _ (sum : List ℕ → ℕ) (small_sum : IsSmall sum) (P len : ℕ) (s : Slot) (payload : List ℕ) (size : length payload ≡ P) (small : P < 2 ^ 16) (some : 0 < len) (fits : len ≤ P) where
   abbrev crc : ℕ
   crc = sum (take len payload)
@@ -87,7 +88,7 @@ module _ (sum : List ℕ → ℕ) (small_sum : IsSmall sum) (P len : ℕ) (s : S
       let none : verified_len sum P s rewritten_page ≤ 0 = omega (arith, verified_len-le_said sum P s rewritten_page, ap slot_len emptied_slot, slot_len_of 0 0 (lit< tt)) in
       value_of_slots sum P len s rewritten_page told none
 
-  -- neither slot of it is bad
+  -- neither slot of that page is bad
   rewritten_at : (t : Slot) → (t ≡ s) ⊎ (t ≡ other s) → IsGood sum P t rewritten_page
   rewritten_at t (inl kept) = void_good sum P t rewritten_page (ap (λ (u : Slot). slot_len (slot_of P u rewritten_page)) kept ∙ ap slot_len emptied_slot ∙ slot_len_of 0 0 (lit< tt))
   rewritten_at t (inr new) =
@@ -101,7 +102,7 @@ module _ (sum : List ℕ → ℕ) (small_sum : IsSmall sum) (P len : ℕ) (s : S
 -- ---- a writer all of which is durable
 
 module _ (sum : List ℕ → ℕ) (w : WriterState) (d : Disk) (holds : IsConsistent sum w d) (settled : IsSettled w) where
-  -- it is as opened
+  -- that writer is as opened
   pub settled_as_opened : IsAsOpened sum w d
   unfolding IsConsistent
   settled_as_opened = record {
@@ -114,46 +115,46 @@ module _ (sum : List ℕ → ℕ) (w : WriterState) (d : Disk) (holds : IsConsis
     durable = λ clean. let fits = subst (λ (s : SyncState). StateFits d s) clean holds.stands.state in record { since = fits.0; base = fits.1 };
   }
 
--- ---- a sound one
+-- ---- a sound writer all of which is durable
 
 module _ (sum : List ℕ → ℕ) (w : WriterState) (d : Disk) (sound : IsSound sum w d) (settled : IsSettled w) where
-  -- it is as opened
+  -- that writer is as opened
   pub settled_opened : IsAsOpened sum w d
   settled_opened = settled_as_opened sum w d (sound_holds_together sum w d sound) settled
 
-  -- its pages are full
+  -- that writer's pages are full
   pub settled_full : AreFull sum w.page_size (take w.full_pages (pages w.page_size d.readable))
   unfolding IsSound
   settled_full = sound.full
 
-  -- and those before a cut
+  -- that writer's pages before a cut are full
   pub settled_full_before : (k : ℕ) → k ≤ w.full_pages → AreFull sum w.page_size (take k (pages w.page_size d.readable))
   settled_full_before k few = AreFull_fewer sum w.page_size k w.full_pages (pages w.page_size d.readable) few settled_full
 
-  -- and its blob's text is its content
+  -- and the text of that writer's blob is its content
   pub settled_text : text sum w.page_size d.readable ≡ content w d.readable
   settled_text = sound_text sum w d sound settled.flushed
 
 -- ---- what a cut of a blob of which all is durable keeps
 
 module _ (sum : List ℕ → ℕ) (n : ℕ) (w : WriterState) (old new : Life) (durable : IsDurable old.present) (cuts : CutsTo sum n w old new) where
-  -- each floor within the first n bytes of any content
+  -- a cut keeps each floor within the first n bytes of any content
   pub cut_floors : KeepsFloorsWithin n sum w.page_size old new
   cut_floors content = shorten_floors sum w.page_size n old new durable.since durable.base cuts.holds content
 
-  -- chance aside, nothing but the text
+  -- absent a checksum collision, a cut leaves nothing except the text
   pub cut_only : (after : List ℕ) → LeavesOnly sum w.page_size (text sum w.page_size old.present.readable) after old new
   cut_only after = shorten_leaves sum w.page_size n old new durable.since durable.base cuts.holds after
 
-  -- what started syncs cover of those bytes, where each is settled
+  -- a cut keeps what started syncs cover of those bytes, where each is settled
   pub cut_covers : AllSettled old.present → (content : List ℕ) → CoversThrough sum w.page_size (take n content) old new
   cut_covers all content = covers_through_shorten sum w.page_size (take n content) old new all cuts.started (cut_floors content)
 
-  -- and each stands
+  -- and each started sync can be waited for
   pub cut_starts : AllSettled old.present → StartsCanBeAwaited new.present
   cut_starts all = shorten_stands sum w.page_size [] old new all cuts.started
 
--- the same after a sync of a sound writer
+-- the cut after a sync of a sound writer
 module _ (sum : List ℕ → ℕ) (n : ℕ) (w v : WriterState) (old mid new : Life) (sound : IsSound sum w old.present) (syncs : Syncs sum w old mid (Ok v)) (cuts : CutsTo sum n v mid new) where
   synced_durable : IsDurable mid.present
   synced_durable = (settled_opened sum v mid.present syncs.0.sound syncs.1).durable syncs.1.clean
@@ -214,7 +215,7 @@ module _ (sum : List ℕ → ℕ) (n : ℕ) (w : WriterState) (old : Life) (some
   rest_less : n % P < P
   rest_less = mod_below n P some
 
-  -- the page in which it ends is there
+  -- the page in which what is left ends is there
   page_below : n / P < held
   page_below = elim (cases_lt (n / P) held) [
     | inl below ↦ below
@@ -244,7 +245,7 @@ module _ (sum : List ℕ → ℕ) (n : ℕ) (w : WriterState) (old : Life) (some
       ap (λ (j : ℕ). take j (drop (w.full_pages * (P + 12)) R)) none ∙ ap (λ (j : ℕ). take j w.tip) (sym none)
   tip_begins (Some f) page written k few = take_same k f.len (drop (w.full_pages * (P + 12)) R) w.tip (omega (arith, few, written)) page.begins
 
-  -- the bytes of the page in which it ends, as far as it goes
+  -- the bytes of the page in which what is left ends, as far as it goes
   rest_is : take (n % P) (drop (n / P * P) (content w R)) ≡ take (n % P) (drop (n / P * (P + 12)) R)
   rest_is =
       let zero_on : n / P * P + 0 ≡ n / P * P = omega arith in
@@ -261,7 +262,7 @@ module _ (sum : List ℕ → ℕ) (n : ℕ) (w : WriterState) (old : Life) (some
             ∙ sym (tip_begins w.flushed opened.page opened.written.flushed (n % P) few) ∙ ap (λ (k : ℕ). take (n % P) (drop (k * (P + 12)) R)) (sym same)
       ]
 
-  -- the pages before it
+  -- the pages before that page
   before_is : take (n / P * P) (content w R) ≡ stored P (n / P) R
   before_is =
       let few : n / P * P ≤ w.full_pages * P = mul-le-mul_right P pages_few in
@@ -270,7 +271,7 @@ module _ (sum : List ℕ → ℕ) (n : ℕ) (w : WriterState) (old : Life) (some
   first_bytes : take n (content w R) ≡ stored P (n / P) R ++ take (n % P) (drop (n / P * (P + 12)) R)
   first_bytes = ap (λ (k : ℕ). take k (content w R)) (sym parts) ∙ take-add (n / P * P) (n % P) (content w R) ∙ (λ i. before_is i ++ rest_is i)
 
-  -- the pages before it stay
+  -- the pages before that page stay
   pub shortened_begins : take (n / P * (P + 12)) (shortened sum P n R) ≡ take (n / P * (P + 12)) R
   shortened_begins =
       let offset = n / P * (P + 12) in
@@ -290,7 +291,7 @@ module _ (sum : List ℕ → ℕ) (n : ℕ) (w : WriterState) (old : Life) (some
   length-tip_left : length (take (n % P) (drop (n / P * (P + 12)) R)) ≡ n % P
   length-tip_left = length-take-le (n % P) (drop (n / P * (P + 12)) R) (omega (arith, rest_less, page_fits, length-drop (n / P * (P + 12)) R))
 
-  -- the bytes of the slot that tells the page
+  -- the slot of the last page that is left
   abbrev last_slot : ActiveChecksum
   last_slot = record {
     slot = other (value_slot sum w.page_size (page_at w.page_size (n / w.page_size) old.present.readable));
@@ -310,7 +311,7 @@ module _ (sum : List ℕ → ℕ) (n : ℕ) (w : WriterState) (old : Life) (some
     | inr past ↦ let whole : n % P ≡ 0 = omega (arith, past) in ap kept_len (slot_after whole) ∙ sym whole
   ]
 
-  -- the page in which it ends, where it ends inside one
+  -- the page in which what is left ends, where it ends inside a page
   module _ (small_sum : IsSmall sum) (small : w.page_size < 2 ^ 16) (part : 0 < n % w.page_size) where
     abbrev payload : List ℕ
     payload = take w.page_size (drop (n / w.page_size * (w.page_size + 12)) old.present.readable)
@@ -373,7 +374,7 @@ module _ (sum : List ℕ → ℕ) (n : ℕ) (w : WriterState) (old : Life) (some
         let same : page ≡ last_page = page_is P (n / P) (shortened sum P n R) page there ∙ page_left in
         subst (λ (l : List ℕ). IsGood sum P t l) (sym same) (rewritten_good sum small_sum P (n % P) (value_slot sum P (page_at P (n / P) R)) payload length_payload small part (omega (arith, rest_less)) t)
 
-    -- the slot beside the one that tells it is empty
+    -- the slot beside that page's is empty
     last_page_beside : slot_of P (value_slot sum P (page_at P (n / P) R)) (page_at P (n / P) (shortened sum P n R)) ≡ slot_bytes 0 0
     last_page_beside =
         let s = value_slot sum P (page_at P (n / P) R) in

@@ -1,4 +1,5 @@
--- A truncate: a sync of all that was appended, and where there is more than is to be kept a cut after it.
+-- A truncate: a sync of all that was appended, and where there is more than is to be kept a cut
+-- after it.
 use Rattle.std.proofs.Common.{◌≡◌, ◌⊎◌, inl, inr, ℕ, suc, ◌+◌, ◌*◌, ◌/◌, ◌%◌, ◌<◌, ◌≤◌, ◌^◌, min, List, [], length, take, Some, None, Result, Ok, Err, Bool, true, false, refl, sym, ap, ◌∙◌, subst, arith, append-nil}
 use Rattle.std.specs.Prelude.{OnOk, IfOk, Option, nat_lt}
 use Rattle.std.proofs.Math.Nat.{mod-eq_of_lt, mul-le-mul_right}
@@ -60,7 +61,7 @@ written_idle w written =
     let same : length w.tip % w.page_size ≡ length w.tip = mod-eq_of_lt short in
     grind (arith, nat_tests, short, same, written.flushed)
 
--- what it asks reads nothing
+-- the sync reads nothing
 pub settled_reads : (most : ℕ) (s : SyncState) (old new : Life) (answer : Result (Unit {0}) Error) → SettlesBy s old new answer → ReadsWithin most old new
 settled_reads most Clean old new answer settled_disk = gained_none (AreReadsWithin most) old new settled_disk.1 tt
 settled_reads most Dirty old new (Ok u) is = gained_once (AreReadsWithin most) SyncAll false old new (ap (λ (l : Life). l.present.log) is) tt
@@ -77,19 +78,19 @@ settled_reads most (Pending name) old new (Err e) goes = absurd goes
 reads_grow : (most : ℕ) (old new : Life) → ReadsWithin most old new → LogGrows old.present new.present
 reads_grow most old new reads = (reads.0, reads.1)
 
--- where no sync is pending: each floor is kept
+-- where no sync is pending, the sync keeps each floor
 pub settled_floors : (sum : List ℕ → ℕ) (P : ℕ) (content : List ℕ) (s : SyncState) (old new : Life) (answer : Result (Unit {0}) Error) → ReadsImage old → WaitsForNone s → SettlesBy s old new answer → KeepsFloors sum P content old new
 settled_floors sum P content Clean old new answer image none settled_disk = floors_none sum P content old new settled_disk.1
 settled_floors sum P content Dirty old new answer image none settled_disk = floors_sync sum P content old new answer image settled_disk
 settled_floors sum P content (Pending name) old new answer image none settled_disk = absurd none
 
--- why it isn't done
+-- why the sync isn't done
 pub settled_cause : (s : SyncState) (old new : Life) (e : Error) → WaitsForNone s → SettlesBy s old new (Err e) → CallCause s old new e
 settled_cause Clean old new e none settled_disk = absurd (cc (settled_disk.0))
 settled_cause Dirty old new e none settled_disk = sync_cause Dirty old new e settled_disk
 settled_cause (Pending name) old new e none settled_disk = absurd none
 
--- once it is done all is durable
+-- once the sync is done all is durable
 pub settled_durable : (s : SyncState) (old new : Life) → WaitsForNone s → (s ≡ Clean → IsDurable old.present) → SettlesBy s old new (Ok tt) → IsDurable new.present
 settled_durable Clean old new none durable settled_disk = subst (λ (l : Life). IsDurable l.present) (sym settled_disk.1) (durable refl)
 settled_durable Dirty old new none durable settled_disk = subst (λ (l : Life). IsDurable l.present) (sym settled_disk) (record { since = refl; base = refl })
@@ -104,7 +105,7 @@ rest_only sum P after bytes d since base = record {
   vouched = vouched_at_rest sum P d since;
 }
 
--- where all was durable there is nothing else at any moment
+-- where all was durable there is no other text at any moment
 pub settled_only : (sum : List ℕ → ℕ) (P : ℕ) (after : List ℕ) (s : SyncState) (old new : Life) (answer : Result (Unit {0}) Error) → IsDurable old.present → WaitsForNone s → SettlesBy s old new answer
     → LeavesOnly sum P (text sum P old.present.readable) after old new
 settled_only sum P after Clean old new answer durable none settled_disk =
@@ -122,7 +123,7 @@ settled_only sum P after Dirty old new answer durable none settled_disk =
     ]
 settled_only sum P after (Pending name) old new answer durable none settled_disk = absurd none
 
--- ---- a page that a sound writer's blob has tells enough
+-- ---- a page of a sound writer's blob has a value of enough bytes
 
 sound_tells : (sum : List ℕ → ℕ) (w : WriterState) (n : ℕ) (d : Disk) → IsSound sum w d → IsSettled w → n < size_of w → value_len sum w.page_size (page_at w.page_size (n / w.page_size) d.readable) < n % w.page_size → ⊥
 unfolding IsSound
@@ -151,7 +152,7 @@ sound_tells sum w n d sound settled less told =
 
 -- ---- the sync of all that was appended
 
--- what it owes to the writer, sound or as it was opened
+-- what the sync guarantees for the writer, sound or as it was opened
 pub record SyncsWritten (sum : List ℕ → ℕ) (w v : WriterState) (old new : Life) (answer : Result (Unit {0}) Error) : Type 0 where
   pub syncs : IsSound sum w old.present → Syncs sum w old new (with_value v answer)
   pub written : has_work w true ≡ false → SettlesBy w.sync old new answer
@@ -170,16 +171,16 @@ pub record Truncating (sum : List ℕ → ℕ) (w : WriterState) (old : Life) : 
   pub small : w.page_size < 2 ^ 16
   pub room : w.page_size ≤ w.capacity
 
--- how it ends
+-- how a truncate ends
 pub data Ends (sum : List ℕ → ℕ) (n : ℕ) (w : WriterState) (old new : Life) : Result WriterState Error → Type 0 where
   -- the sync isn't done
   refused : (v : WriterState) (e : Error) → SyncsWritten sum w v old new (Err e) → Ends sum n w old new (Err e)
   -- there is no more than is to be kept
   kept : (v : WriterState) → SyncsWritten sum w v old new (Ok tt) → size_of v ≤ n → Ends sum n w old new (Ok v)
-  -- there is, and it is cut, or that isn't done
+  -- there is more, and it is cut, or the cut isn't done
   cut : (v : WriterState) (mid : Life) (answer : Result WriterState Error) → SyncsWritten sum w v old mid (Ok tt) → n < size_of v → Shortens sum n v mid new answer → CutsTo sum n v mid new → Ends sum n w old new answer
 
--- what a truncate owes, whatever it answers
+-- what a truncate guarantees, whatever it answers
 pub record TruncateOwes (sum : List ℕ → ℕ) (n : ℕ) (w : WriterState) (old new : Life) (result : Result WriterState Error) : Type 0 where
   pub truncates : Truncates sum n w old new result
   pub there : IfOk result (λ v. HasWriterPages v new)
@@ -213,7 +214,8 @@ pub record After (sum : List ℕ → ℕ) (w v : WriterState) (old mid : Life) :
   pub full_pages : w.full_pages ≤ v.full_pages
   pub log : LogGrows old.present mid.present
 
--- a tip that is all of the tip's page is as sound whatever slot is the durable one, where nothing is unsynced
+-- a tip that is all of the tip's page is as sound whatever slot is the durable one, where nothing
+-- is unsynced
 slot_sound : (sum : List ℕ → ℕ) (w : WriterState) (d : Disk) → Soundness sum (record w { durable = w.flushed; sync = Clean }) d → kept_len w.durable ≤ length w.tip → DurableTells sum w.tip w.durable → length w.tip < w.page_size → Soundness sum (record w { sync = Clean }) d
 slot_sound sum w d sound few tells short = record {
   stands = record {
@@ -255,7 +257,7 @@ module _ (sum : List ℕ → ℕ) (n : ℕ) (w : WriterState) (old : Life) (t : 
   size_is : length (content w old.present.readable) ≡ size_of w
   size_is = length-content w old.present.readable reach
 
-  -- after it the writer is as opened
+  -- after the sync the writer is as opened
   pub after : (v : WriterState) (mid : Life) → SyncsWritten sum w v old mid (Ok tt) → After sum w v old mid
   after v mid written = elim t.stands [
     | inl sound ↦
@@ -301,7 +303,7 @@ module _ (sum : List ℕ → ℕ) (n : ℕ) (w : WriterState) (old : Life) (t : 
         }
   ]
 
-  -- the floors that it keeps, whatever it answers
+  -- the floors that the sync keeps, whatever it answers
   first_floors : (v : WriterState) (mid : Life) (answer : Result (Unit {0}) Error) → SyncsWritten sum w v old mid answer → (held : List ℕ) → KeepsFloors sum w.page_size held old mid
   first_floors v mid answer written held = elim t.stands [
     | inl sound ↦ sync_keeps sum w old mid (with_value v answer) sound (written.syncs sound) held
@@ -420,7 +422,7 @@ module _ (sum : List ℕ → ℕ) (n : ℕ) (w : WriterState) (old : Life) (t : 
     kept_durable : IsSound sum w old.present → KeepsAll sum w.page_size (take n (content w old.present.readable)) new
     kept_durable sound = subst (λ (l : List ℕ). KeepsAll sum w.page_size l new) (sym all_kept) (sync_keeps_all sum w old new (Ok v) (written.syncs sound))
 
-    -- as opened
+    -- the writer as it was opened
     opened_sound : IsAsOpened sum w old.present → AreFull sum w.page_size (take w.full_pages (pages w.page_size old.present.readable)) → Soundness sum (synced w) new.present
     opened_sound opened full =
         let settles = written.written (opened_idle opened) in
@@ -527,7 +529,7 @@ module _ (sum : List ℕ → ℕ) (n : ℕ) (w : WriterState) (old : Life) (t : 
         pages_join w.page_size (min w.full_pages (n / w.page_size)) (n / w.page_size) old mid new (omega arith) (first_pages mid written.pages)
         (subst (λ (k : ℕ). PagesStay k (n / k) mid new) before.page_size cuts.pages)
 
-    -- whatever that answers
+    -- what a cut covers, whatever it answers
     cut_covers_all : IsSound sum w old.present → CoversThrough sum w.page_size (take n (content w old.present.readable)) old new
     cut_covers_all sound = sync_cut_covers sum n w v old mid new sound (written.syncs sound) cuts (written.covers sound)
 
@@ -537,7 +539,7 @@ module _ (sum : List ℕ → ℕ) (n : ℕ) (w : WriterState) (old : Life) (t : 
     cut_only_all : IsSound sum w old.present → LeavesOnly sum w.page_size (content w old.present.readable) (take n (content w old.present.readable)) old new
     cut_only_all sound = sync_cut_only sum n w v old mid new sound (written.syncs sound) cuts (take n (content w old.present.readable))
 
-    -- it isn't done
+    -- the cut isn't done
     invalid : value_len sum v.page_size (page_at v.page_size (n / v.page_size) mid.present.readable) < n % v.page_size → TruncateCause sum n w old new InvalidChecksum
     invalid told =
         let never : IsSound sum w old.present → ⊥ = λ sound. sound_tells sum v n mid.present (written.syncs sound).0.sound before.settled less told in
@@ -583,7 +585,7 @@ module _ (sum : List ℕ → ℕ) (n : ℕ) (w : WriterState) (old : Life) (t : 
       starts = cut_starts_all;
     }
 
-    -- it is
+    -- the cut is done
     module _ (now : WriterState) (is : IsShortened sum n v mid new now) (covered : AreCovered new.present) where
       positive : 0 < v.page_size
       positive = omega (arith, t.some, before.page_size)
@@ -620,7 +622,7 @@ module _ (sum : List ℕ → ℕ) (n : ℕ) (w : WriterState) (old : Life) (t : 
             readable = is.readable ∙ (λ i. shortened sum (before.page_size i) n (readable i)) ∙ sym (cond-true (nat_lt n (size_of w)) (shortened sum w.page_size n old.present.readable) old.present.readable more);
           }
 
-      -- where the pages below are full
+      -- the cut where the pages below are full
       cut_sound : AreFull sum v.page_size (take (n / v.page_size) (pages v.page_size mid.present.readable)) → IsSound sum now new.present × KeepsAll sum w.page_size (take n (content w old.present.readable)) new
       cut_sound full = (
         left_sound sum n v mid positive before.opened less new now is t.small_sum small covered full,
@@ -667,7 +669,7 @@ module _ (sum : List ℕ → ℕ) (n : ℕ) (w : WriterState) (old : Life) (t : 
         starts = cut_starts_all;
       }
 
-  -- in each way in which it ends
+  -- a truncate guarantees that, in each way in which it ends
   pub truncate_owes : (new : Life) (result : Result WriterState Error) → AreCovered new.present → Ends sum n w old new result → TruncateOwes sum n w old new result
   truncate_owes new result covered (refused v e written) = refused_owes v new e written
   truncate_owes new result covered (kept v written above) = kept_owes v new written above covered

@@ -35,7 +35,7 @@ wait_readable name old new (Err SyncFailed) (failed, why, is) = ap (λ (l : Life
 wait_readable name old new (Err OutOfMemory) is = ap (λ (l : Life). l.present.readable) is
 wait_readable name old new (Err e) goes = absurd goes
 
--- it takes one moment, or none
+-- a wait takes one moment, or none
 moment_is : (old new : Life) (d : Disk) → new ≡ next old d → new ≡ next old new.present
 moment_is old new d is = is ∙ ap (λ (x : Disk). next old x) (sym (ap (λ (l : Life). l.present) is))
 
@@ -45,7 +45,7 @@ wait_moment name old new (Err SyncFailed) (failed, why, is) = inr (moment_is old
 wait_moment name old new (Err OutOfMemory) is = inl is
 wait_moment name old new (Err e) goes = absurd goes
 
--- so it takes nothing from what started syncs cover
+-- so a wait leaves what started syncs cover
 wait_covers_by : (sum : List ℕ → ℕ) (w : WriterState) (name : ℕ) (old new : Life) (result : Result (Unit {0}) Error) → Consistency sum w old.present → WaitGoes name old new result → CoversThrough sum w.page_size (content w old.present.readable) old new
 wait_covers_by sum w name old new result sound goes = elim (wait_moment name old new result goes) [
   | inl none ↦ covers_none sum w.page_size (content w old.present.readable) old new none
@@ -77,7 +77,7 @@ pub wait_names : (name : ℕ) (old new : Life) (result : Result (Unit {0}) Error
 wait_names name old new (Ok u) (s, named, well, is) = ap (λ (l : Life). l.present.started) is ∙ (settles_same (s.covers, s.bytes) old.present).2
 wait_names name old new (Err e) goes = tt
 
--- so does what comes after it
+-- what a wait and the call after it leave, both together leave, at `Ok`
 pub on_ok_after : {A : Type 0} (a b c : A) (result : Result (Unit {0}) Error) → b ≡ a → OnOk result (c ≡ b) → OnOk result (c ≡ a)
 on_ok_after a b c (Ok u) first second = second ∙ first
 on_ok_after a b c (Err e) first second = tt
@@ -164,7 +164,7 @@ wait_leaves_writers sum Done old new (Ok u) small is w sound =
     (covers_none sum w.page_size (content w old.present.readable) old new is)
 wait_leaves_writers sum Done old new (Err e) small goes w sound = absurd goes
 
--- what it covers is kept from then on
+-- what a started sync covers is kept from the wait on
 pub wait_covers_all : (sum : List ℕ → ℕ) (started : StartedSync) (old new : Life) (result : Result (Unit {0}) Error) → WaitStartedGoes started old new result → OnOk result ((P : ℕ) → Covers sum P started old new)
 wait_covers_all sum (Named name) old new (Ok u) goes = λ P held cover would. waited_keeps sum P held name cover old new tt would goes
 wait_covers_all sum (Named name) old new (Err e) goes = tt
@@ -214,7 +214,7 @@ sync_asks_after w m old mid new is first second =
 
 -- ---- what is written is made durable
 
--- it leaves the pages
+-- making it durable leaves the pages
 pub settled_pages : (P k : ℕ) (s : SyncState) (old new : Life) (result : Result (Unit {0}) Error) → SettlesBy s old new result → PagesStay P k old new
 settled_pages P k Clean old new result (ok, same) = pages_none P k old new same
 settled_pages P k Dirty old new result goes = sync_pages_stay P k old new result goes
@@ -223,19 +223,19 @@ settled_pages P k (Pending name) old new result goes = elim (wait_moment name ol
   | inr one ↦ pages_one P k old new new.present one (ap (λ (l : List ℕ). take (k * (P + 12)) l) (wait_readable name old new result goes))
 ]
 
--- and what is readable
+-- and leaves what is readable
 pub settled_readable : (s : SyncState) (old new : Life) (result : Result (Unit {0}) Error) → SettlesBy s old new result → new.present.readable ≡ old.present.readable
 settled_readable Clean old new result (ok, same) = ap (λ (l : Life). l.present.readable) same
 settled_readable Dirty old new result goes = sync_readable old new result goes
 settled_readable (Pending name) old new result goes = wait_readable name old new result goes
 
--- by at most one call
+-- and takes at most one device call
 pub settled_asks : (s : SyncState) (old new : Life) (result : Result (Unit {0}) Error) → SettlesBy s old new result → AsksAtMost (settle_calls s) old new
 settled_asks Clean old new result (ok, same) = omega (arith, ap (λ (l : Life). length l.present.log) same)
 settled_asks Dirty old new result goes = sync_asks old new result goes
 settled_asks (Pending name) old new result goes = wait_asks name old new result goes
 
--- what that owes to a sound writer
+-- what that guarantees for a sound writer
 pub record SettledOwes (sum : List ℕ → ℕ) (w now : WriterState) (old new : Life) (result : Result (Unit {0}) Error) : Type 0 where
   pub settles : Settles sum w old new (with_value now result)
   pub covers : CoversThrough sum w.page_size (content w old.present.readable) old new

@@ -1,4 +1,5 @@
--- What each public call of a writer does, by cases on its answer.
+-- What each public call of a writer does, by cases on its answer. An image is a possible state of
+-- the blob after a crash, and a floor is a durable prefix of a content: one that every image keeps.
 use Rattle.std.specs.Prelude.{◌≡◌, ◌≢◌, ◌⊎◌, ◌<◌, ◌≤◌, ◌+◌, ◌*◌, ◌^◌, ◌++◌, ℕ, Bool, List, []}
 use Rattle.std.specs.Prelude.{length, nat_lt, true, if◌then◌else◌, Option, Some, None, Result, Ok}
 use Rattle.std.specs.Prelude.{Err}
@@ -34,7 +35,7 @@ CallCause s old new SyncFailed =
 CallCause s old new OutOfMemory = Unit {0}
 CallCause s old new _ = ⊥
 
--- at most so many device calls were made
+-- at most n device calls were made
 abbrev pub AsksAtMost : ℕ → Life → Life → Type 0
 AsksAtMost n old new = length new.present.log ≤ length old.present.log + n
 
@@ -77,8 +78,9 @@ pub record IsSameWriter (old new : WriterState) : Type 0 where
   pub capacity : new.capacity ≡ old.capacity
   pub full_pages : old.full_pages ≤ new.full_pages
 
--- a writer goes on over its blob: it is sound, and stands for the content before and these bytes;
--- and what each moment of the call owes to the one at which it began
+-- a writer goes on over its blob: it is sound (its invariant holds), its content is the content
+-- before and these bytes, and each moment of the call keeps what the moment at which the call began
+-- kept
 pub record Succeeds (sum : List ℕ → ℕ) (w : WriterState) (old : Life) (more : List ℕ)
     (now : WriterState) (new : Life) : Type 0 where
   pub sound : IsSound sum now new.present
@@ -89,17 +91,18 @@ pub record Succeeds (sum : List ℕ → ℕ) (w : WriterState) (old : Life) (mor
   pub content : content now new.present.readable ≡ content w old.present.readable ++ more
   pub same : IsSameWriter w now
   pub log : LogGrows old.present new.present
-  -- where the sync that it is left waiting for has failed, this call is why, or it was so before
+  -- if the sync that the writer is left waiting for has failed, it failed in this call or before it
   pub waits : PendingSyncFailed now.sync new.present → CallCause w.sync old new SyncFailed
 
--- a call is refused: why, and what each of its moments owes
+-- a call fails: why, and what each of its moments keeps
 pub record Fails (sum : List ℕ → ℕ) (w : WriterState) (content : List ℕ) (old new : Life)
     (e : Error) : Type 0 where
   pub cause : CallCause w.sync old new e
   pub stays : StaysThrough sum w.page_size content old new
   pub log : LogGrows old.present new.present
 
--- the same of a writer whose blob may be damaged: it stays consistent, and where it was sound it is
+-- `Succeeds` for a writer whose blob may be damaged: the writer stays consistent with its blob, and
+-- pages that were all full stay so
 pub record CarriesOn (sum : List ℕ → ℕ) (w : WriterState) (old : Life) (more : List ℕ)
     (now : WriterState) (new : Life) : Type 0 where
   pub holds : IsConsistent sum now new.present
@@ -113,33 +116,33 @@ pub record CarriesOn (sum : List ℕ → ℕ) (w : WriterState) (old : Life) (mo
   pub log : LogGrows old.present new.present
   pub waits : PendingSyncFailed now.sync new.present → CallCause w.sync old new SyncFailed
 
--- a flush
+-- a flush, over a blob that may be damaged
 abbrev pub Flushes : (List ℕ → ℕ) → WriterState → Life → Life → Result WriterState Error → Type 0
 Flushes sum w old new (Ok now) = CarriesOn sum w old [] now new
 Flushes sum w old new (Err e) = Fails sum w (content w old.present.readable) old new e
 
--- what is written is made durable, and the writer stays
+-- what is written is made durable, over a blob that may be damaged, and the writer stays
 abbrev pub Settles : (List ℕ → ℕ) → WriterState → Life → Life → Result WriterState Error → Type 0
 Settles sum w old new (Ok now) = CarriesOn sum w old [] now new × (now ≡ synced w)
 Settles sum w old new (Err e) = Fails sum w (content w old.present.readable) old new e
 
--- all that the writer stands for is written
+-- all of the writer's content is written
 pub record IsWritten (w : WriterState) : Type 0 where
   pub short : length w.tip < w.page_size
   pub flushed : kept_len w.flushed ≡ length w.tip
 
--- all that the writer stands for is written and durable
+-- all of the writer's content is written and durable
 pub record IsSettled (w : WriterState) : Type 0 where
   pub clean : w.sync ≡ Clean
   pub short : length w.tip < w.page_size
   pub flushed : kept_len w.flushed ≡ length w.tip
 
--- a sync
+-- a sync: afterwards all of the content is written and durable
 abbrev pub Syncs : (List ℕ → ℕ) → WriterState → Life → Life → Result WriterState Error → Type 0
 Syncs sum w old new (Ok now) = Succeeds sum w old [] now new × IsSettled now
 Syncs sum w old new (Err e) = Fails sum w (content w old.present.readable) old new e
 
--- the same over a blob that may be damaged
+-- `Syncs` over a blob that may be damaged
 abbrev pub SyncsOver : (List ℕ → ℕ) → WriterState → Life → Life → Result WriterState Error → Type 0
 SyncsOver sum w old new (Ok now) = CarriesOn sum w old [] now new × IsSettled now
 SyncsOver sum w old new (Err e) = Fails sum w (content w old.present.readable) old new e
@@ -171,13 +174,13 @@ abbrev pub WaitsForSync : (List ℕ → ℕ) → WriterState → Life → Life �
 WaitsForSync sum w old new (Ok now) = Succeeds sum w old [] now new × (now ≡ waited_writer w)
 WaitsForSync sum w old new (Err e) = Fails sum w (content w old.present.readable) old new e
 
--- the same over a blob that may be damaged
+-- `WaitsForSync` over a blob that may be damaged
 abbrev pub WaitsOver : (List ℕ → ℕ) → WriterState → Life → Life → Result WriterState Error
     → Type 0
 WaitsOver sum w old new (Ok now) = CarriesOn sum w old [] now new × (now ≡ waited_writer w)
 WaitsOver sum w old new (Err e) = Fails sum w (content w old.present.readable) old new e
 
--- what the sync that a writer in this state waits for covers, every image keeps from then on
+-- from then on every image keeps what the pending sync of a writer in this state covers
 abbrev pub Completes : (List ℕ → ℕ) → (P : ℕ) → SyncState → Life → Life → Type 0
 Completes sum P Clean old new = Unit {0}
 Completes sum P Dirty old new = Unit {0}
@@ -191,8 +194,8 @@ started_already Clean = Done
 started_already Dirty = Done
 started_already (Pending name) = Named name
 
--- where a writer waits no more for the sync that it waited for, whichever call waited, every image
--- keeps what that covers of this content
+-- after any call that leaves a writer's pending sync no longer pending, every image keeps what that
+-- sync covers of this content
 abbrev pub Completed : (List ℕ → ℕ) → (P : ℕ) → (held : List ℕ) → (before after : SyncState)
     → Life → Life → Type 0
 Completed sum P held Clean after old new = Unit {0}
@@ -201,12 +204,13 @@ Completed sum P held (Pending name) after old new =
     (after ≢ Pending name) → (cover : ℕ) → cover ≤ length held
     → WouldKeep sum P held name cover old.present → AllKeep sum P held cover new.present
 
--- what a started sync covers, every image keeps from then on
+-- from then on every image keeps what a started sync covers
 abbrev pub Covers : (List ℕ → ℕ) → (P : ℕ) → StartedSync → Life → Life → Type 0
 Covers sum P Done old new = Unit {0}
 Covers sum P (Named name) old new = Completes sum P (Pending name) old new
 
--- what a started sync stands for: all of this content is durable already, or is once it completed
+-- what a started sync promises: all of this content is durable already, or is once the sync
+-- completed
 abbrev pub StartedSyncKeeps : (List ℕ → ℕ) → (P : ℕ) → List ℕ → Life → StartedSync → Type 0
 StartedSyncKeeps sum P content life Done = KeepsAll sum P content life
 StartedSyncKeeps sum P content life (Named name) =
@@ -220,7 +224,7 @@ StartsSync sum w old new (Ok r) =
     × StartedSyncKeeps sum w.page_size (content w old.present.readable) new r.1
 StartsSync sum w old new (Err e) = Fails sum w (content w old.present.readable) old new e
 
--- the same over a blob that may be damaged, where nothing is promised of a damaged one
+-- `StartsSync` over a blob that may be damaged, where the sync promises nothing for a damaged one
 abbrev pub StartsOver : (List ℕ → ℕ) → WriterState → Life → Life
     → Result (WriterState × StartedSync) Error → Type 0
 StartsOver sum w old new (Ok r) =
@@ -229,7 +233,7 @@ StartsOver sum w old new (Ok r) =
     → StartedSyncKeeps sum w.page_size (content w old.present.readable) new r.1)
 StartsOver sum w old new (Err e) = Fails sum w (content w old.present.readable) old new e
 
--- an append: it answers the size until now
+-- an append: it answers the size before
 abbrev pub Appends : (List ℕ → ℕ) → WriterState → List ℕ → Life → Life
     → Result (WriterState × ℕ) Error → Type 0
 Appends sum w bytes old new (Ok r) =
@@ -240,7 +244,7 @@ Appends sum w bytes old new (Err OffsetOverflow) =
 Appends sum w bytes old new (Err e) =
     Fails sum w (content w old.present.readable ++ bytes) old new e
 
--- the same over a blob that may be damaged
+-- `Appends` over a blob that may be damaged
 abbrev pub AppendsOver : (List ℕ → ℕ) → WriterState → List ℕ → Life → Life
     → Result (WriterState × ℕ) Error → Type 0
 AppendsOver sum w bytes old new (Ok r) =
@@ -251,8 +255,7 @@ AppendsOver sum w bytes old new (Err OffsetOverflow) =
 AppendsOver sum w bytes old new (Err e) =
     Fails sum w (content w old.present.readable ++ bytes) old new e
 
--- an append of bytes that fit what is buffered: they are buffered, and nothing is asked of the
--- device
+-- an append of bytes that fit the buffer: they are buffered, and nothing is asked of the device
 abbrev pub BuffersAll : WriterState → List ℕ → Life → Life → Result (WriterState × ℕ) Error → Type 0
 BuffersAll w bytes old new (Ok r) = (r.0 ≡ record w { tip = w.tip ++ bytes }) × (new ≡ old)
 BuffersAll w bytes old new (Err OffsetOverflow) = new ≡ old
@@ -273,7 +276,7 @@ Buffers w bytes now (Err OutOfMemory) =
 Buffers w bytes now (Err _) = ⊥
 
 -- an append within the capacity, for which nothing is asked of the device: it answers the size
--- until now, or that the bytes don't fit what is buffered
+-- before, or that the bytes don't fit the buffer
 abbrev pub TryAppendGoes : WriterState → List ℕ → WriterState → Result (Option ℕ) Error → Type 0
 TryAppendGoes w bytes now (Ok (Some at)) =
     FitsBlob w.page_size w.full_pages (length w.tip + length bytes)
@@ -300,7 +303,7 @@ BuffersOver sum w bytes now _ = Unit {0}
 abbrev pub KeepsSound : (List ℕ → ℕ) → WriterState → WriterState → Type 0
 KeepsSound sum w now = (d : Disk) → IsSound sum w d → IsSound sum now d
 
--- and one that was consistent with a blob still is
+-- a writer that was consistent with a blob still is
 abbrev pub KeepsConsistent : (List ℕ → ℕ) → WriterState → WriterState → Type 0
 KeepsConsistent sum w now = (d : Disk) → IsConsistent sum w d → IsConsistent sum now d
 

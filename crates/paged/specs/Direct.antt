@@ -28,7 +28,7 @@ pub record IsDirect (w : WriterState) (whole rest : List ℕ) : Type 0 where
   pub short : length rest < w.page_size
   pub fits : FitsBlob w.page_size w.full_pages (length whole + length rest)
 
--- at most one device call was made beside the wait that is no longer due
+-- at most one device call was made, and a second if a sync was pending before and none is after
 abbrev pub AsksWithWait : SyncState → SyncState → Life → Life → Type 0
 AsksWithWait before after old new =
     length new.present.log + wait_calls after ≤ length old.present.log + (wait_calls before + 1)

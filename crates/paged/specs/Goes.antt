@@ -21,29 +21,30 @@ use Rattle.paged.specs.Recovery.{IsAsOpened}
 use Rattle.paged.specs.Caches.{tail_of}
 use Rattle.paged.specs.Snapshots.{answer_of_seal}
 
--- a call ended well: the writer is the same, and holds these bytes after what it held
+-- a call ended well: the writer is the same, and its content is the content before and these bytes
 pub record Holds (sum : List ℕ → ℕ) (w : WriterState) (old : Life) (more : List ℕ)
     (now : WriterState) (new : Life) : Type 0 where
   pub same : IsSameWriter w now
-  -- its size is that of the content, and absent a checksum collision a crash leaves only that
+  -- the writer's size is that of its content, and absent a checksum collision a crash leaves a
+  -- prefix of the content
   pub size : size_of now ≡ length (content now new.present.readable)
   pub only : LeavesItsContent sum now new.present
   pub log : LogGrows old.present new.present
-  -- the sync that it no longer waits for has completed; the one that it is left waiting for failed
-  -- in this call, if it did
+  -- if the writer no longer waits for a sync, that sync has completed. If the sync that it is left
+  -- waiting for has failed, it failed in this call or before it
   pub completed : Completed sum w.page_size (content w old.present.readable) w.sync now.sync old new
   pub waits : PendingSyncFailed now.sync new.present → CallCause w.sync old new SyncFailed
   -- (last, since a field hides a definition of its name from those after it)
   pub content : content now new.present.readable ≡ content w old.present.readable ++ more
 
--- a call of a writer was refused: the cause of the error, and the log
+-- a call of a writer failed: the cause of the error, and the log, which only grew
 pub record IsRefused (w : WriterState) (old new : Life) (e : Error) : Type 0 where
   pub cause : CallCause w.sync old new e
   pub log : LogGrows old.present new.present
 
 -- ---- an append
 
--- an append ended well: it answers the size until then, and the writer holds the bytes
+-- an append ended well: it answers the size before, and the writer's content ends with the bytes
 pub record HasAppended (sum : List ℕ → ℕ) (w : WriterState) (bytes : List ℕ) (old new : Life)
     (now : WriterState) (at : ℕ) : Type 0 where
   pub at_end : at ≡ length (content w old.present.readable)
@@ -72,7 +73,7 @@ pub record HasSynced (sum : List ℕ → ℕ) (w : WriterState) (old new : Life)
   pub holds : Holds sum w old [] now new
   pub within : HoldsWithin now
   pub settled : IsSettled now
-  -- so a recovery can be cut, damaged or not
+  -- so if the writer is a recovery it can be cut, whether a page is damaged or not
   pub as_opened : IsAsOpened sum now new.present
   -- where no page was damaged
   pub durable : IsSound sum w old.present
@@ -93,7 +94,7 @@ pub record IsUnderWay (sum : List ℕ → ℕ) (w : WriterState) (old new : Life
   pub starts : IsSound sum w old.present
       → StartedSyncKeeps sum w.page_size (content w old.present.readable) new started
 
--- where the device was asked, the sync has the name that comes next
+-- a sync was started. Where the device was asked, the sync has the name that comes next
 pub record HasStarted (sum : List ℕ → ℕ) (w : WriterState) (old new : Life) (now : WriterState)
     (started : StartedSync) : Type 0 where
   pub goes : IsUnderWay sum w old new now started
@@ -120,7 +121,7 @@ WaitForSyncGoes sum w old new (Err e) = IsRefused w old new e
 
 -- ---- snapshots and replays
 
--- a snapshot tells the content, and can be read; its writer buffers less than a page
+-- a snapshot gives the content, and can be read; its writer buffers less than a page
 pub record HasSnapshot (sum : List ℕ → ℕ) (w : WriterState) (after : CacheState) (old new : Life)
     (now : WriterState) (t : Tail) : Type 0 where
   pub holds : Holds sum w old [] now new
@@ -137,8 +138,8 @@ abbrev pub SnapshotGoes : (List ℕ → ℕ) → WriterState → (after : CacheS
 SnapshotGoes sum w after old new (Ok r) = HasSnapshot sum w after old new r.0 r.1
 SnapshotGoes sum w after old new (Err e) = IsRefused w old new e
 
--- a replay gives the content, from its first byte on; all of it is written, and what the replay is
--- of can be read
+-- a replay gives the content, from its first byte on. All of the content is written, and the tail
+-- that the replay reads can be read
 pub record HasReplay (sum : List ℕ → ℕ) (w : WriterState) (buffer_size : ℕ) (after : CacheState)
     (old new : Life) (now : WriterState) (r : ReplayState) : Type 0 where
   pub holds : Holds sum w old [] now new
@@ -162,8 +163,8 @@ ReplayGoes sum w buffer_size after old new (Err e) = IsRefused w old new e
 
 -- ---- the end of a writer
 
--- a snapshot of it is left, and a sync of all, which was started: the writer that would go on has
--- all of it written
+-- a snapshot of the writer is left, and a started sync of all that was appended. `now` is the
+-- writer that would go on: all of its content is written
 pub record HasSealed (sum : List ℕ → ℕ) (w : WriterState) (after : CacheState) (old new : Life)
     (t : Tail) (started : StartedSync) : Type 0 where
   pub now : WriterState

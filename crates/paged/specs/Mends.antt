@@ -29,12 +29,12 @@ is_unsynced Clean = false
 is_unsynced Dirty = true
 is_unsynced (Pending name) = true
 
--- the state once the slot was emptied
+-- the writer's sync state once the slot was emptied, if there is one
 abbrev pub mended_state : Option Slot → SyncState → SyncState
 mended_state None s = s
 mended_state (Some slot) s = Clean
 
--- a blob is cut where it has more than so many bytes, and then a slot of a page is emptied, if
+-- a blob is cut if it has more than `kept` bytes, and then the slot `bad` of a page is emptied, if
 -- there is one
 abbrev pub CutsAndMends : (P kept page : ℕ) → Option Slot → Life → Life → Result SyncState Error
     → Type 0

@@ -1,4 +1,4 @@
--- What a look at a blob tells of a recovery of it.
+-- What a look at a blob foretells of a recovery of it.
 use Rattle.std.specs.Prelude.{◌≡◌, ◌⊎◌, ◌<◌, ◌==◌, ◌&&◌, ◌||◌, ◌+◌, ◌-◌, ◌*◌, ◌/◌, ◌%◌, ◌^◌}
 use Rattle.std.specs.Prelude.{ℕ, List, length, take, drop, count_by, min, Bool, not}
 use Rattle.std.specs.Prelude.{Result, Ok, Err, IfOk, if◌then◌else◌, nat_lt, is_some}
@@ -23,22 +23,22 @@ use Rattle.paged.specs.Reads.{size_of}
 use Rattle.paged.specs.Recovers.{Recovers}
 use Rattle.paged.specs.Recovery.{KeepsText, LeavesText}
 
--- of these bytes the pages of the text are kept, which are as many as so long a text has, and what
--- follows is cut
+-- a recovery of these bytes keeps the pages of their text, as many as a text of that length needs,
+-- and cuts what follows
 pub record IsOutlook (sum : List ℕ → ℕ) (P : ℕ) (bytes : List ℕ) (outlook : Outlook) : Type 0 where
   pub len : outlook.len ≡ length (text sum P bytes)
   pub pages : outlook.pages ≡ div_ceil outlook.len P
   pub cut : outlook.pages * (P + 12) + outlook.cut ≡ length bytes
 
--- a look: it tells that, or a read failed in the call, or memory was refused
+-- a look: it answers an outlook, or a read failed in the call, or memory was refused
 abbrev pub LookGoes : (List ℕ → ℕ) → (P : ℕ) → Life → Life → Result Outlook Error → Type 0
 LookGoes sum P old new (Ok outlook) = IsOutlook sum P old.present.readable outlook
 LookGoes sum P old new (Err ReadFailed) = HasFailed ReadFailed old.present new.present
 LookGoes sum P old new (Err OutOfMemory) = Unit {0}
 LookGoes sum P old new (Err _) = ⊥
 
--- a recovery of these bytes, where it is done, gives a writer of so many logical bytes, and leaves
--- so many pages of the blob, and nothing after them
+-- a recovery of these bytes that succeeds gives a writer of `len` logical bytes, and leaves `pages`
+-- pages of the blob, and nothing after them
 abbrev pub Foretells : (List ℕ → ℕ) → (P : ℕ) → List ℕ → Outlook → Type 0
 Foretells sum P bytes outlook =
     (cache : CacheState) (capacity : ℕ) (old new : Life) (result : Result WriterState Error)
@@ -55,7 +55,7 @@ values_of sum P some = count_by (λ page. is_some (active sum P page)) some
 abbrev pub are_zeros : List ℕ → Bool
 are_zeros bytes = list_all (λ byte. byte == 0) bytes
 
--- the bytes of the whole pages that would be cut; a rest below a page isn't among them
+-- the bytes of the whole pages that would be cut; a rest of less than a page isn't among them
 abbrev pub beyond_bytes : (P kept : ℕ) → List ℕ → List ℕ
 beyond_bytes P kept bytes =
     take ((length bytes / (P + 12) - kept) * (P + 12)) (drop (kept * (P + 12)) bytes)
@@ -71,13 +71,13 @@ beyond_of sum P first pages bytes = (
 abbrev pub last_page : (P : ℕ) → Outlook → List ℕ → List ℕ
 last_page P outlook bytes = take (P + 12) (drop ((outlook.pages - 1) * (P + 12)) bytes)
 
--- the last page is partial, and its other slot is neither zero nor verifies: that may tell of more
--- bytes of the page than its value has, and a recovery empties it
+-- the last page is partial, and its other slot is neither zero nor verifies: it may have covered
+-- more bytes of the page than its value has, and a recovery empties it
 abbrev pub has_torn_page : (List ℕ → ℕ) → (P : ℕ) → List ℕ → Outlook → Bool
 has_torn_page sum P bytes outlook =
     nat_lt 0 (outlook.len % P) && is_some (bad_slot sum P (last_page P outlook bytes))
 
--- a look that goes on to the last page: it tells that too
+-- a look that goes on to the last page: it also answers whether that page is torn
 abbrev pub LooksToLast : (List ℕ → ℕ) → (P : ℕ) → Life → Life → Result (Outlook × Bool) Error
     → Type 0
 LooksToLast sum P old new (Ok found) =
@@ -93,7 +93,7 @@ pub record IsSurvey (sum : List ℕ → ℕ) (P : ℕ) (bytes : List ℕ) (surve
   pub blank : survey.blank ≡ are_zeros (beyond_bytes P survey.outlook.pages bytes)
   pub torn : survey.torn ≡ has_torn_page sum P bytes survey.outlook
 
--- a survey: it tells that, or a read failed in the call, or memory was refused
+-- a survey: it answers all this, or a read failed in the call, or memory was refused
 abbrev pub SurveyGoes : (List ℕ → ℕ) → (P : ℕ) → Life → Life → Result Survey Error → Type 0
 SurveyGoes sum P old new (Ok survey) = IsSurvey sum P old.present.readable survey
 SurveyGoes sum P old new (Err ReadFailed) = HasFailed ReadFailed old.present new.present
@@ -109,8 +109,8 @@ ReadsLast P outlook old new (Ok torn) =
 ReadsLast P outlook old new (Err e) =
     (0 < outlook.pages) × DeviceReadGoes ((outlook.pages - 1) * (P + 12)) (P + 12) old new (Err e)
 
--- two readings, each forward, up to this offset: one from the first byte on, the other from
--- whichever
+-- two readings, each forward, up to this offset: one from the first byte on, the other from any
+-- offset on
 abbrev pub ReadsTwice : (most to : ℕ) → Life → Life → Type 0
 ReadsTwice most to old new =
     (mid : Life) × (from : ℕ) × ReadsForward most 0 to old mid × ReadsForward most from to mid new
@@ -121,8 +121,8 @@ ReadsToLast P most to old new (Ok found) =
     (mid : Life) × ReadsForward most 0 to old mid × ReadsLast P found.0 mid new (Ok found.1)
 ReadsToLast P most to old new (Err e) = ReadsTwice most to old new
 
--- what a blob's writer stands on, its snapshots and its replays, through any cache, and what a
--- crash at any moment keeps and leaves: all is as it was
+-- each writer, snapshot, replay and read that was valid before the call still is, with any cache,
+-- and what a crash at any moment keeps and leaves is as it was
 pub record LeavesAsIs (old new : Life) : Type 0 where
   pub writers : (sum : List ℕ → ℕ) → LeavesAllWriters sum old new
   pub tails : (sum : List ℕ → ℕ) (cache : CacheState) → LeavesAllTails sum cache cache old new
@@ -132,9 +132,9 @@ pub record LeavesAsIs (old new : Life) : Type 0 where
   pub kept : (sum : List ℕ → ℕ) (P : ℕ) → KeepsText sum P old new
   pub only : (sum : List ℕ → ℕ) (P : ℕ) → LeavesText sum P old new
 
--- what a look asks of the device: reads forward, from the first page on, the last of which has the
--- first page that isn't full; and of no more than a page or what fits the buffer; of less than a
--- page nothing
+-- what a look asks of the device: reads forward, from the first page on, of which none begins after
+-- the first page that isn't full. No read is of more than `most` bytes. For a blob of less than a
+-- page nothing is asked
 pub record LookCosts (sum : List ℕ → ℕ) (P most size : ℕ) (old new : Life)
     (result : Result Outlook Error) : Type 0 where
   pub forward : ReadsForward most 0 (size / (P + 12) * (P + 12)) old new
@@ -144,22 +144,23 @@ pub record LookCosts (sum : List ℕ → ℕ) (P most size : ℕ) (old new : Lif
   pub idle : size < P + 12
       → (result ≡ Ok (record { pages = 0; len = 0; cut = size })) × (new ≡ old)
 
--- what a survey asks of it: each page twice at most
+-- what a survey asks of the device: each page is read twice at most
 pub record SurveyCosts (P most size : ℕ) (old new : Life) : Type 0 where
   pub twice : ReadsTwice most (size / (P + 12) * (P + 12)) old new
   pub within : ReadsWithin most old new
 
--- how many bytes at the end may hold synced bytes that a recovery gives up: those of a torn last
--- page and of all after it; else all that would be cut, unless these are whole pages of zeros. At
--- most 2 ^ 64 - 1
+-- how many bytes at the end may hold synced bytes that a recovery gives up. If the last page is
+-- torn they are those of that page and of all after it, at most 2 ^ 64 - 1. Else they are all that
+-- would be cut, unless that is whole pages of zeros
 abbrev pub set_aside_of : (P : ℕ) → Survey → ℕ
 set_aside_of P survey =
     let cut = survey.outlook.cut in
     if survey.torn then min (cut + (P + 12)) (2 ^ 64 - 1)
     else (if survey.blank && (cut % (P + 12) == 0) then 0 else cut)
 
--- what to do: nothing is given up; nothing would be kept, or too much is cut with a value among it;
--- some of it may have been synced; it is zeros
+-- what to do. `Whole`: nothing is given up. `Refuse`: bytes would be cut and nothing kept, or more
+-- than `limit` bytes would be cut, with a page among them that has a value. `Keep`: some of what
+-- would go may have been synced. `Cut`: what would go is zeros
 abbrev pub verdict_of : (P limit : ℕ) → Survey → Verdict
 verdict_of P limit survey =
     let cut = survey.outlook.cut in

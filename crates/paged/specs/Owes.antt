@@ -1,5 +1,6 @@
--- What each call that takes a writer owes, whatever it answers: at each of its moments, and at its
--- end.
+-- What each call that takes a writer guarantees, whatever it answers: at each of its moments, and
+-- at its end. An image is a possible state of the blob after a crash, and a floor is a durable
+-- prefix of a content: one that every image keeps.
 use Rattle.std.specs.Prelude.{◌≡◌, ◌≤◌, ℕ, List, length}
 use Rattle.disk.specs.Disk.{Disk, Life}
 use Rattle.cache.specs.CacheState.{CacheState}
@@ -14,26 +15,27 @@ use Rattle.writer_state.specs.Sound.{content}
 use Rattle.paged_read.specs.Replay.{LeavesReplays}
 use Rattle.paged_read.specs.Snapshots.{LeavesOthers, LeavesTails}
 
--- what a moment e owes to the moment d at which the call began
+-- what a call guarantees at its moment e, where d is the moment at which it began
 pub record Owed (sum : List ℕ → ℕ) (P full_pages : ℕ) (before after : List ℕ) (d e : Disk)
     : Type 0 where
-  -- each floor of any content that every image kept, every image keeps
+  -- every image keeps each floor, of any content, that every image kept
   pub kept : (content : List ℕ) (floor : ℕ) → floor ≤ length content
       → AllKeep sum P content floor d → AllKeep sum P content floor e
   -- absent a checksum collision an image has a prefix of the content before, or of that after
   pub only : AllOnly sum P before after e
-  -- the pages below the tip are what they were
+  -- the pages below the tip are as they were
   pub pages : SamePages P full_pages d e
-  -- what a started sync would keep it would still keep
+  -- started syncs still cover what they covered
   pub covers : CoversStay sum P before d e
 
--- each moment since the call began owes that to the moment at which it began
+-- a call guarantees that at each moment since it began
 abbrev pub OwedThrough : (List ℕ → ℕ) → (P full_pages : ℕ) → (before after : List ℕ) → Life → Life
     → Type 0
 OwedThrough sum P full_pages before after old new =
     Through (Owed sum P full_pages before after old.present) old new
 
--- a call over a writer, after which its content is this, where it answers Ok
+-- what a call guarantees that takes a writer, and after which its content is `all`, if it answers
+-- `Ok`
 pub record Owes (sum : List ℕ → ℕ) (w : WriterState) (all : List ℕ) (cache after : CacheState)
     (old new : Life) : Type 0 where
   pub through : let held = content w old.present.readable in
@@ -43,12 +45,13 @@ pub record Owes (sum : List ℕ → ℕ) (w : WriterState) (all : List ℕ) (cac
   -- only pages of the content were put in the cache, under the blob's id
   pub cached : CachesOnly w.id w.full_pages all cache after
   pub fresh : IsFresh after
-  -- each snapshot, replay, and read of another blob that was valid is so
+  -- each snapshot, replay, and read of another blob that was valid before the call still is
   pub tails : LeavesTails sum w.full_pages cache after old new
   pub replays : LeavesReplays w.page_size w.full_pages old new
   pub others : LeavesOthers w.id cache after
 
--- a wait, which has no cache: the same of each that has pages of this size
+-- what a wait guarantees. It uses no cache, so snapshots stay valid with each cache of this page
+-- size
 pub record OwesWaiting (sum : List ℕ → ℕ) (w : WriterState) (old new : Life) : Type 0 where
   pub through : let held = content w old.present.readable in
       OwedThrough sum w.page_size w.full_pages held held old new
@@ -57,7 +60,7 @@ pub record OwesWaiting (sum : List ℕ → ℕ) (w : WriterState) (old new : Lif
       → LeavesTails sum w.full_pages cache cache old new
   pub replays : LeavesReplays w.page_size w.full_pages old new
 
--- ---- the parts of what is owed, each through all moments
+-- ---- the parts of what a call guarantees, each through all moments
 
 module _ (sum : List ℕ → ℕ) (P full_pages : ℕ) (before after : List ℕ) (old new : Life)
     (through : OwedThrough sum P full_pages before after old new) where
@@ -67,13 +70,13 @@ module _ (sum : List ℕ → ℕ) (P full_pages : ℕ) (before after : List ℕ)
       through_then (Owed sum P full_pages before after old.present) (AllKeep sum P content floor)
       old new (λ d owed. owed.kept content floor enough keeps) through
 
-  -- absent a collision there is nothing else
+  -- absent a checksum collision each image has a prefix of the content before, or of that after
   pub owed_only : LeavesOnly sum P before after old new
   owed_only =
       through_then (Owed sum P full_pages before after old.present) (AllOnly sum P before after)
       old new (λ d owed. owed.only) through
 
-  -- the pages below the tip stay
+  -- the pages below the tip stay as they were
   pub owed_pages : PagesStay P full_pages old new
   owed_pages =
       through_then (Owed sum P full_pages before after old.present)

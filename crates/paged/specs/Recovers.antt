@@ -14,7 +14,8 @@ use Rattle.paged.specs.Recovery.{IsDurable, RecoveryCause, opened_writer, opened
 use Rattle.paged.specs.Truncate.{cut_writer, cut_bytes}
 
 -- the writer that stands where the text of some bytes ends, with nothing unsynced: the one that
--- opening gives, or, where the text ends before those pages do, what a cut to the text makes of it
+-- opening gives, or, where the text ends before those pages do, what a cut to the text makes of
+-- that writer
 abbrev pub recovered_writer : (List ℕ → ℕ) → CacheState → ℕ → List ℕ → WriterState
 recovered_writer sum cache capacity bytes =
     let P = cache.page_size in
@@ -28,8 +29,8 @@ recovered_bytes sum cache capacity bytes =
     let opened = opened_writer sum cache capacity bytes Clean in
     cut_bytes sum opened (length (text sum P bytes)) (opened_bytes sum P bytes)
 
--- how a recovery ends, where it does: the writer stands where the text ends, nothing else is left
--- in the blob, and all of it is durable
+-- how a recovery ends at `Ok`: the writer stands where the text ends, nothing else is left in the
+-- blob, and all that is left is durable
 pub record IsRecovered (sum : List ℕ → ℕ) (cache : CacheState) (capacity : ℕ) (old new : Life)
     (w : WriterState) : Type 0 where
   pub state : w ≡ recovered_writer sum cache capacity old.present.readable
@@ -51,7 +52,7 @@ Recovers sum cache capacity old new (Err OffsetOverflow) =
 Recovers sum cache capacity old new (Err IdsExhausted) = 2 ^ 64 ≤ cache.ids_given
 Recovers sum cache capacity old new (Err e) = RecoveryCause old new e
 
--- the cache after a recovery: where that didn't end, an id may have been given or not
+-- the cache after a recovery: at an error an id may have been given or not
 abbrev pub GivesId : Result WriterState Error → CacheState → CacheState → Type 0
 GivesId (Ok w) old new = new ≡ cache_after (Ok w) old
 GivesId (Err e) old new = (new ≡ old) ⊎ (new ≡ record old { ids_given = old.ids_given + 1 })

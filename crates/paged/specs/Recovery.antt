@@ -66,13 +66,13 @@ pub data IsCutBack (old new : Life) (bytes : List ℕ) : SyncState → Type 0 wh
   cut : bytes ≢ old.present.readable → new.present.readable ≡ bytes → IsDurable new.present
       → IsCutBack old new bytes Clean
 
--- the slot that tells a partial page, where there is one
+-- the slot of a partial page's value, where there is one
 abbrev pub slot_of_tip : Option (List ℕ × ActiveChecksum) → Option ActiveChecksum
 slot_of_tip None = None
 slot_of_tip (Some p) = Some p.1
 
--- a writer whose blob ends with this prefix: its partial page is the tip, under the slot that tells
--- it
+-- a writer whose blob ends with this prefix: the value of its partial page is the tip, under that
+-- value's slot
 abbrev pub at_prefix : (P id capacity : ℕ) → Prefix → SyncState → WriterState
 at_prefix P id capacity p sync = record {
   page_size = P;
@@ -85,7 +85,7 @@ at_prefix P id capacity p sync = record {
   sync = sync;
 }
 
--- a writer that stands after these pages gets an id
+-- a writer that stands after these pages gets a new id
 abbrev pub GivesWriter : CacheState → ℕ → Prefix → SyncState → Result WriterState Error → Type 0
 GivesWriter cache capacity p sync (Ok w) =
     w ≡ at_prefix cache.page_size cache.ids_given capacity p sync
@@ -97,13 +97,13 @@ GivesWriter cache capacity p sync (Err _) = ⊥
 abbrev pub opened_prefix : (List ℕ → ℕ) → ℕ → List ℕ → Prefix
 opened_prefix sum P bytes = last_prefix sum P (length bytes / (P + 12)) bytes
 
--- the writer that stands there
+-- the writer that stands after the pages up to the last that has a value
 abbrev pub opened_writer : (List ℕ → ℕ) → CacheState → ℕ → List ℕ → SyncState → WriterState
 opened_writer sum cache capacity bytes sync =
     let P = cache.page_size in
     at_prefix P cache.ids_given (adjusted capacity P) (opened_prefix sum P bytes) sync
 
--- the bytes of those pages
+-- how many bytes the pages up to the last that has a value have
 abbrev pub opened_size : (List ℕ → ℕ) → ℕ → List ℕ → ℕ
 opened_size sum P bytes = prefix_pages (opened_prefix sum P bytes) * (P + 12)
 
@@ -112,28 +112,29 @@ abbrev pub emptied : (P page : ℕ) → Option Slot → List ℕ → List ℕ
 emptied P page None bytes = bytes
 emptied P page (Some s) bytes = applied (slot_write P page s (slot_bytes 0 0)) bytes
 
--- what opening leaves of some bytes: those pages, and of the last, where its value is partial, the
--- bad slot emptied
+-- what opening leaves of some bytes: the pages up to the last that has a value. In that one the bad
+-- slot is emptied, if its value is partial: the slot beside the value's that neither verifies nor
+-- is all zero
 abbrev pub opened_bytes : (List ℕ → ℕ) → ℕ → List ℕ → List ℕ
 opened_bytes sum P bytes =
     let p = opened_prefix sum P bytes in
     emptied P p.full_pages (bad_in sum P bytes p) (take (opened_size sum P bytes) bytes)
 
--- the pages that a blob has of the tip's page, by its flushed slot
+-- how many pages a blob has for a writer's tip: one if its page was flushed, and so has a slot
 abbrev pub slot_pages : Option ActiveChecksum → ℕ
 slot_pages None = 0
 slot_pages (Some slot) = 1
 
--- where all was durable and the pages below the tip are full, a writer is sound, and its content
--- the text
+-- if all was durable and the pages below the tip are full, the writer is sound (its invariant
+-- holds), and its content is the text
 abbrev pub SoundWhereFull : (List ℕ → ℕ) → ℕ → Life → Life → WriterState → Type 0
 SoundWhereFull sum P old new w =
     IsDurable old.present → AreFull sum P (take w.full_pages (pages P old.present.readable))
     → IsSound sum w new.present × (content w new.present.readable ≡ text sum P old.present.readable)
 
 -- a writer as it is opened, whatever its blob: the blob ends with the tip's page, of which all is
--- written; what a flush repeats of that page is of the tip; and where the writer is clean all of
--- the blob is durable
+-- written. The slot of that page that a flush repeats covers the first bytes of the tip. If the
+-- writer is clean all of the blob is durable
 pub record IsAsOpened (sum : List ℕ → ℕ) (w : WriterState) (d : Disk) : Type 0 where
   pub page : TipPage sum w.page_size w.full_pages w.tip d.readable w.flushed
   pub written : IsWritten w
@@ -144,7 +145,7 @@ pub record IsAsOpened (sum : List ℕ → ℕ) (w : WriterState) (d : Disk) : Ty
   pub waits : WaitsForNone w.sync
   pub durable : w.sync ≡ Clean → IsDurable d
 
--- how opening ends, where it does: the writer stands at the pages up to the last that has a value
+-- how opening ends at `Ok`: the writer stands after the pages up to the last that has a value
 pub record IsOpened (sum : List ℕ → ℕ) (cache : CacheState) (capacity : ℕ) (old new : Life)
     (w : WriterState) : Type 0 where
   pub sync : SyncState
@@ -153,7 +154,7 @@ pub record IsOpened (sum : List ℕ → ℕ) (cache : CacheState) (capacity : �
   pub bytes : HasBytes cache.page_size w.full_pages old.present.readable
       (opened_prefix sum cache.page_size old.present.readable).partial
   pub sound : SoundWhereFull sum cache.page_size old new w
-  -- whatever its pages
+  -- whether its pages are full or damaged
   pub consistent : IsDurable old.present → IsConsistent sum w new.present
   pub log : LogGrows old.present new.present
 
@@ -166,25 +167,26 @@ Opens sum cache capacity old new (Err IdsExhausted) =
     × IsCutBack old new (opened_bytes sum cache.page_size old.present.readable) sync
 Opens sum cache capacity old new (Err e) = RecoveryCause old new e
 
--- the cache once it was asked for an id, where the call came so far
+-- the cache after a call that asks for an id: at `Ok` it gave one, and at an error it is as it was
 abbrev pub cache_after : Result WriterState Error → CacheState → CacheState
 cache_after (Ok w) cache = record cache { ids_given = cache.ids_given + 1 }
 cache_after (Err e) cache = cache
 
--- where all was durable as the call began, every image at each moment since keeps the whole text
+-- if all was durable as the call began, every image (possible state after a crash) at each moment
+-- since keeps the whole text
 abbrev pub KeepsText : (List ℕ → ℕ) → ℕ → Life → Life → Type 0
 KeepsText sum P old new =
     let held = text sum P old.present.readable in
     IsDurable old.present → Through (AllKeep sum P held (length held)) old new
 
--- if all was durable as the call began, every chance-free image at each moment since has as its
--- text a prefix of the whole text
+-- if all was durable as the call began, every image at each moment since, unless a checksum
+-- collides, has as its text a prefix of the whole text
 abbrev pub LeavesText : (List ℕ → ℕ) → ℕ → Life → Life → Type 0
 LeavesText sum P old new =
     let held = text sum P old.present.readable in
     IsDurable old.present → LeavesOnly sum P held held old new
 
--- in these bytes the slot beside the one that tells the tip's page verifies, or is six zeros
+-- in these bytes the slot beside that of the tip's page verifies, or is six zeros
 abbrev pub BesideIsMended : (List ℕ → ℕ) → (P full : ℕ) → List ℕ → Option ActiveChecksum → Type 0
 BesideIsMended sum P full bytes None = Unit {0}
 BesideIsMended sum P full bytes (Some f) =

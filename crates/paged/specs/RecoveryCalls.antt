@@ -1,4 +1,6 @@
--- What each call that begins a writer, or cuts its blob, answers, owes and asks for.
+-- What each call that begins a writer, or cuts its blob, answers, guarantees and costs. An image is
+-- a possible state of the blob after a crash, and a floor is a durable prefix of a content: one
+-- that every image keeps.
 use Rattle.std.specs.Prelude.{◌≡◌, ◌<◌, ◌≤◌, ◌/◌, ◌+◌, ◌^◌, ℕ, List, min, take, true, false}
 use Rattle.std.specs.Prelude.{Option, Result, Ok, Err, IfOk, OnOk}
 use Rattle.disk.specs.Disk.{Life}
@@ -30,16 +32,17 @@ use Rattle.paged.specs.Within.{GivesIdWithin, RecoversWithin}
 use Rattle.paged.specs.declared.within.Refusal.{Refusal}
 use Rattle.paged.specs.declared.within.Refusal.TheVariants.{Failed}
 
--- ---- what a recovery owes, in pages of P bytes: at each of its moments, and at every answer
+-- ---- what a recovery guarantees, in pages of P bytes: at each of its moments, and at every answer
 
 pub record OwesRecovering (sum : List ℕ → ℕ) (P : ℕ) (cache after : CacheState) (old new : Life)
     : Type 0 where
-  -- each floor of any content that every image kept, every image keeps
+  -- every image keeps each floor, of any content, that every image kept
   pub floors : KeepsAllFloors sum P old new
-  -- where all was durable, every image keeps the whole text, and chance aside has no other
+  -- if all was durable, every image keeps the whole text, and has no other, absent a checksum
+  -- collision
   pub kept : KeepsText sum P old new
   pub only : LeavesText sum P old new
-  -- what reads of other blobs stand on, with the same cache
+  -- other blobs can still be read, with the same cache
   pub others : LeavesReads cache after
   pub fresh : IsFresh cache → IsFresh after
 
@@ -52,17 +55,18 @@ pub record OpenGoes (sum : List ℕ → ℕ) (cache after : CacheState) (capacit
   pub ids : after ≡ cache_after result cache
   pub there : IfOk result (λ w. HasWriterPages w new)
   pub within : IfOk result (λ w. HoldsWithin w)
-  -- what a truncate asks for
+  -- the condition under which it can be truncated
   pub as_opened : IfOk result (λ w. IsAsOpened sum w new.present)
   -- no slot of the tip's page is bad, durably
   pub mended : IsDurable old.present → IfOk result (λ w. TailIsMended sum w new.present.base)
-  -- where all was durable the other calls of a writer can follow, whatever its pages
+  -- if all was durable the other calls of a writer can follow, whether its pages are full or
+  -- damaged
   pub usable : IsDurable old.present → IsFresh cache
       → IfOk result (λ w. IsUsable sum w after new)
 
 -- ---- a recovery
 
--- what holds of its writer, whatever the bound
+-- what holds of the writer that a recovery gives, with a bound on what may go or without
 pub record IsNewWriter (sum : List ℕ → ℕ) (cache : CacheState) (new : Life) (w : WriterState)
     : Type 0 where
   pub there : HasWriterPages w new
@@ -71,7 +75,7 @@ pub record IsNewWriter (sum : List ℕ → ℕ) (cache : CacheState) (new : Life
   -- no slot of the tip's page is bad, durably
   pub mended : TailIsMended sum w new.present.base
 
--- from its answer on every image keeps the whole text
+-- from the answer on every image keeps the whole text
 abbrev pub KeepsWholeText : (List ℕ → ℕ) → (P : ℕ) → Life → Life → Type 0
 KeepsWholeText sum P old new = KeepsAll sum P (text sum P old.present.readable) new
 
@@ -83,7 +87,7 @@ pub record RecoverGoes (sum : List ℕ → ℕ) (cache after : CacheState) (capa
   pub writer : IfOk result (λ w. IsNewWriter sum cache new w)
   pub durable : OnOk result (KeepsWholeText sum cache.page_size old new)
 
--- one that keeps the content, of which no page is read again
+-- a recovery that keeps the content, for which no page is read again
 pub record RecoverKeepingGoes (sum : List ℕ → ℕ) (cache after : CacheState) (capacity : ℕ)
     (old new : Life) (hand hand_after : Option HandState) (result : Result WriterState Error)
     : Type 0 where
@@ -91,7 +95,7 @@ pub record RecoverKeepingGoes (sum : List ℕ → ℕ) (cache after : CacheState
   pub kept : let all = text sum cache.page_size old.present.readable in
       OnOk result (hand_after ≡ kept_with all hand)
 
--- one of which at most so many bytes may go
+-- a recovery in which at most `allowed` bytes may go
 pub record RecoverWithinGoes (sum : List ℕ → ℕ) (cache after : CacheState) (capacity allowed : ℕ)
     (old new : Life) (result : Result WriterState Refusal) : Type 0 where
   pub answers : RecoversWithin sum cache capacity allowed old new result
@@ -108,18 +112,18 @@ pub record TruncateGoes (sum : List ℕ → ℕ) (n : ℕ) (w : WriterState) (ca
   pub there : IfOk result (λ v. HasWriterPages v new)
   pub within : IfOk result (λ v. HoldsWithin v)
   pub reads : IfOk result (λ v. ReadsOn w v cache after old new)
-  -- of a sound writer: at or above the size it is a sync
+  -- for a sound writer: if n is at or above the size the truncate is a sync
   pub synced : IsSound sum w old.present → size_of w ≤ n → Syncs sum w old new result
   pub sound : IsSound sum w old.present → IfOk result (λ v. IsSound sum v new.present)
   pub left : IsSound sum w old.present → IfOk result (λ v. LeavesItsContent sum v new.present)
   pub durable : let kept = take n (content w old.present.readable) in
       IsSound sum w old.present → OnOk result (KeepsAll sum w.page_size kept new)
-  -- where nothing is buffered that isn't written, it is exact, and what is left is sound if it was
-  -- full
+  -- if nothing is buffered that isn't written, the blob's bytes and the writer are exactly as
+  -- `IsCut` has them, and the writer is sound if the pages that are left were full
   pub exact : has_work w true ≡ false → IfOk result (IsCut sum n w old new)
   pub full : has_work w true ≡ false → IfOk result (SoundAndKept sum n w old new)
 
--- at each of its moments, and at every answer
+-- what a truncate to n bytes guarantees at each of its moments, and at every answer
 pub record OwesCutting (sum : List ℕ → ℕ) (n : ℕ) (w : WriterState) (cache after : CacheState)
     (old new : Life) : Type 0 where
   -- floors within n bytes are kept, of any content
@@ -127,7 +131,7 @@ pub record OwesCutting (sum : List ℕ → ℕ) (n : ℕ) (w : WriterState) (cac
   pub pages : PagesStay w.page_size (min w.full_pages (n / w.page_size)) old new
   pub others : LeavesOthers w.id cache after
   pub fresh : w.id < cache.ids_given → IsFresh cache → IsFresh after
-  -- of a sound writer
+  -- for a sound writer
   pub only : let held = content w old.present.readable in
       IsSound sum w old.present → LeavesOnly sum w.page_size held (take n held) old new
   pub covers : let held = content w old.present.readable in
@@ -135,7 +139,7 @@ pub record OwesCutting (sum : List ℕ → ℕ) (n : ℕ) (w : WriterState) (cac
   pub starts : IsSound sum w old.present → StartsCanBeAwaited new.present
   pub cached : IsSound sum w old.present
       → CachesOnly w.id w.full_pages (content w old.present.readable) cache after
-  -- where nothing is buffered that isn't written
+  -- if nothing is buffered that isn't written
   pub text : has_work w true ≡ false → LeavesText sum w.page_size old new
 
 pub record TruncateCosts (n : ℕ) (w : WriterState) (cache after : CacheState) (old new : Life)

@@ -1,4 +1,4 @@
--- What the call of a writer does that begins a replay of its blob.
+-- What the call of a writer that begins a replay of its blob does.
 use Rattle.std.specs.Prelude.{◌≡◌, ◌+◌, ℕ, List, [], if◌then◌else◌, true, Result, Ok, Err}
 use Rattle.disk.specs.Disk.{Life}
 use Rattle.disk.specs.declared.error.Error.{Error}
@@ -10,8 +10,8 @@ use Rattle.paged.specs.Caches.{tail_of}
 use Rattle.paged.specs.Calls.{CarriesOn, Fails, IsWritten, Succeeds, wait_calls}
 use Rattle.paged.specs.Flush.{has_work}
 
--- a replay begins after all that was appended: the writer goes on with all of its bytes written,
--- and the replay, with a buffer of this size, is of what its reads stand on
+-- a replay begins once all that was appended is written: the writer goes on, and the replay, with a
+-- buffer of this size, is of the writer's content
 abbrev pub BeginsReplay : (List ℕ → ℕ) → WriterState → (buffer_size : ℕ) → Life → Life
     → Result (WriterState × ReplayState) Error → Type 0
 BeginsReplay sum w buffer_size old new (Ok r) =
@@ -19,7 +19,7 @@ BeginsReplay sum w buffer_size old new (Ok r) =
 BeginsReplay sum w buffer_size old new (Err e) =
     Fails sum w (content w old.present.readable) old new e
 
--- the same over a blob that may be damaged
+-- `BeginsReplay` over a blob that may be damaged
 abbrev pub ReplaysOver : (List ℕ → ℕ) → WriterState → (buffer_size : ℕ) → Life → Life
     → Result (WriterState × ReplayState) Error → Type 0
 ReplaysOver sum w buffer_size old new (Ok r) =
@@ -27,7 +27,8 @@ ReplaysOver sum w buffer_size old new (Ok r) =
 ReplaysOver sum w buffer_size old new (Err e) =
     Fails sum w (content w old.present.readable) old new e
 
--- the device calls that it takes: where something isn't written, a wait and a write
+-- the device calls that the beginning of a replay takes: if something isn't written, a wait and a
+-- write
 abbrev pub replay_calls : WriterState → ℕ
 replay_calls w = if has_work w true then wait_calls w.sync + 1 else 0
 

@@ -10,34 +10,35 @@ use Rattle.paged_read.specs.Scans.{scan_to, ScanAnswers, text_of_first}
 use Rattle.paged_read.specs.Searches.{scan_bytes}
 use Rattle.paged.specs.Recovery.{IsAsOpened, slot_pages}
 
--- the pages that a writer has flushed: the full ones, and the one in which its tip begins, where
--- that was
+-- how many pages a writer has flushed: the full ones, and the one in which its tip begins, if that
+-- was flushed
 abbrev pub flushed_pages : WriterState → ℕ
 flushed_pages w = w.full_pages + slot_pages w.flushed
 
--- a scan that begins where it ends: it counts the pages in front, and asks no device
+-- a scan that begins where it ends: it counts the pages in front as full, and asks no device
 abbrev pub IdlesAt : (P end : ℕ) → Life → Life → Result ℕ Error → Type 0
 IdlesAt P end old new result =
     (end * (P + 12) < 2 ^ 64 → result ≡ Ok (end * P)) × (new ≡ old)
 
--- what a scan of all flushed pages answers, where so many bytes count as told
+-- what a scan of all flushed pages answers, where the first `proven` bytes count as there
 pub record ScanGoes (sum : List ℕ → ℕ) (w : WriterState) (proven : ℕ) (old new : Life)
     (result : Result ℕ Error) : Type 0 where
   pub answers : let P = w.page_size in let end = flushed_pages w in
       let len = scan_to sum P w.full_pages end proven old.present.readable in
       ScanAnswers (end * (P + 12)) len old new result
-  -- where the proven bytes are told, so are all that it counts
+  -- if the proven bytes are there, the answer is the length of the flushed pages' text
   pub told : IsProven sum w.page_size w.full_pages proven old.present.readable
       → let all = text_of_first sum w.page_size (flushed_pages w) old.present.readable in
       IfOk result (λ len. len ≡ length all)
-  -- of a sound writer it is the length of the blob's text, whatever is proven
+  -- for a sound writer the answer is the length of the blob's text, whatever is proven
   pub text : IsSound sum w old.present
       → let all = text_of sum w.page_size old.present.readable in
       IfOk result (λ len. len ≡ length all)
-  -- of such a writer, or one that was opened over any blob, it is refused for no offset
+  -- for such a writer, or one that was opened over any blob, the answer is neither `OffsetOverflow`
+  -- nor `BlobInsufficientLength`
   pub never : IsSound sum w old.present ⊎ IsAsOpened sum w old.present → IsWithinBlob result
 
--- what it asks of the device
+-- what a scan asks of the device
 pub record ScanCosts (sum : List ℕ → ℕ) (w : WriterState) (proven buffer_size : ℕ) (old new : Life)
     (result : Result ℕ Error) : Type 0 where
   pub reads : let P = w.page_size in let end = flushed_pages w in
@@ -47,7 +48,7 @@ pub record ScanCosts (sum : List ℕ → ℕ) (w : WriterState) (proven buffer_s
       scan_start w.page_size w.full_pages end proven ≡ end
       → IdlesAt w.page_size end old new result
 
--- one of the pages that meet the first bytes, so many
+-- what a scan of the pages that meet the first `max_size` bytes answers
 pub record ScanFirstGoes (sum : List ℕ → ℕ) (w : WriterState) (proven max_size : ℕ)
     (old new : Life) (result : Result ℕ Error) : Type 0 where
   pub answers : let P = w.page_size in let end = scan_end P (flushed_pages w) max_size in
@@ -62,7 +63,7 @@ pub record ScanFirstGoes (sum : List ℕ → ℕ) (w : WriterState) (proven max_
   pub never : IsSound sum w old.present ⊎ IsAsOpened sum w old.present → IsWithinBlob result
   pub none : max_size ≡ 0 → (result ≡ Ok 0) × (new ≡ old)
 
--- what it asks of the device: of no bytes nothing, as its answer has it
+-- what such a scan asks of the device. For `max_size` 0 it asks nothing (`none` of `ScanFirstGoes`)
 pub record ScanFirstCosts (sum : List ℕ → ℕ) (w : WriterState) (proven max_size buffer_size : ℕ)
     (old new : Life) : Type 0 where
   pub reads : let P = w.page_size in let end = scan_end P (flushed_pages w) max_size in

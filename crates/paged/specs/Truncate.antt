@@ -28,7 +28,8 @@ use Rattle.paged.specs.Recovery.{IsDurable}
 use Rattle.paged.specs.Calls.{AsksAtMost, IsSettled, PendingSyncFailed, sync_calls}
 use Rattle.paged_read.specs.Searches.{ReadsWithin}
 
--- the slot that tells the last page of a blob that is cut inside it: the one that isn't its value's
+-- the new slot of the last page of a blob that is cut inside that page: the one that wasn't its
+-- value's
 abbrev pub shortened_slot : (List ℕ → ℕ) → (P n : ℕ) → List ℕ → Option ActiveChecksum
 shortened_slot sum P n bytes =
     if n % P == 0 then None else Some (record {
@@ -37,8 +38,8 @@ shortened_slot sum P n bytes =
       crc = sum (take (n % P) (drop (n / P * (P + 12)) bytes));
     })
 
--- the pages of the first n logical bytes; where they end inside a page, that page with its bytes,
--- told by the slot that wasn't its value's, and six zeros in the other
+-- the pages of the first n logical bytes; if they end inside a page, that page with its payload,
+-- the first bytes of which the slot covers that wasn't its value's, and six zeros in the other slot
 abbrev pub shortened : (List ℕ → ℕ) → (P n : ℕ) → List ℕ → List ℕ
 shortened sum P n bytes =
     let offset = n / P * (P + 12) in
@@ -46,7 +47,7 @@ shortened sum P n bytes =
     else (take (offset + P) bytes ++ footer (value_slot sum P (page_at P (n / P) bytes))
     (slot_bytes 0 0) (slot_bytes (n % P) (sum (take (n % P) (drop offset bytes)))))
 
--- the writer that stands after them
+-- the writer that stands after the first n logical bytes
 abbrev pub shortened_writer : (List ℕ → ℕ) → WriterState → (n : ℕ) → List ℕ → WriterState
 shortened_writer sum w n bytes =
     let P = w.page_size in
@@ -59,8 +60,8 @@ shortened_writer sum w n bytes =
       sync = Clean;
     }
 
--- what a truncate to n bytes leaves of a blob of which all is written, and of its writer: a cut
--- where there is more, and else a sync alone
+-- what a truncate to n bytes leaves of a blob of which all is written, and of its writer: a cut if
+-- there is more than n bytes, and else a sync alone
 abbrev pub cut_bytes : (List ℕ → ℕ) → WriterState → (n : ℕ) → List ℕ → List ℕ
 cut_bytes sum w n bytes = if nat_lt n (size_of w) then shortened sum w.page_size n bytes else bytes
 
@@ -90,8 +91,8 @@ pub record IsOfSameBlob (w now : WriterState) : Type 0 where
   pub id : now.id ≡ w.id
   pub capacity : now.capacity ≡ w.capacity
 
--- how a truncate ends, where it does: the first n bytes of the content are left, or all of it, and
--- all of that is written and durable
+-- how a truncate ends at `Ok`: the first n bytes of the content are left, or all of it if it has
+-- fewer, and all that is left is written and durable
 pub record IsTruncated (sum : List ℕ → ℕ) (n : ℕ) (w : WriterState) (old new : Life)
     (now : WriterState) : Type 0 where
   pub same : IsOfSameBlob w now
@@ -102,8 +103,8 @@ pub record IsTruncated (sum : List ℕ → ℕ) (n : ℕ) (w : WriterState) (old
   pub log : LogGrows old.present new.present
 
 -- why a truncate may answer this error: a device call failed in it, or the started sync that it
--- waited for had failed; the page in which it was to cut doesn't tell as many bytes, which never is
--- so of a sound writer; or memory was refused
+-- waited for had failed, or memory was refused. Or the value of the page in which it was to cut has
+-- fewer bytes than the page is to keep, which is never so for a sound writer
 abbrev pub TruncateCause : (List ℕ → ℕ) → (n : ℕ) → WriterState → Life → Life → Error → Type 0
 TruncateCause sum n w old new ReadFailed = HasFailed ReadFailed old.present new.present
 TruncateCause sum n w old new WriteFailed = HasFailed WriteFailed old.present new.present
@@ -124,22 +125,22 @@ Truncates sum n w old new (Ok now) = IsTruncated sum n w old new now
 Truncates sum n w old new (Err e) =
     TruncateCause sum n w old new e × LogGrows old.present new.present
 
--- where the pages below the new tip were full, the writer is sound, and every image keeps all that
--- is left
+-- if the pages below the new tip were full, the writer is sound (its invariant holds), and every
+-- image (possible state after a crash) keeps all that is left
 abbrev pub SoundAndKept : (List ℕ → ℕ) → (n : ℕ) → WriterState → Life → Life → WriterState → Type 0
 SoundAndKept sum n w old new now =
     AreFull sum w.page_size (take now.full_pages (pages w.page_size old.present.readable))
     → IsSound sum now new.present
     × KeepsAll sum w.page_size (take n (content w old.present.readable)) new
 
--- any floor of any content that lies within the first n bytes is kept
+-- each floor (durable prefix) of any content that lies within the first n bytes is kept
 abbrev pub KeepsFloorsWithin : (n : ℕ) → (List ℕ → ℕ) → ℕ → Life → Life → Type 0
 KeepsFloorsWithin n sum P old new =
     (content : List ℕ) → KeepsFloors sum P (take n content) old new
 
 -- ---- the steps of a cut
 
--- one call, and where it is done another
+-- one call, and if it succeeds another
 abbrev pub Then : (first second : Life → Life → Result (Unit {0}) Error → Type 0) → Life → Life
     → Result (Unit {0}) Error → Type 0
 Then first second old new (Ok done) = (mid : Life) × first old mid (Ok tt) × second mid new (Ok tt)
@@ -152,8 +153,8 @@ abbrev pub WritesSlot : (P page : ℕ) → Slot → List ℕ → Bool → Life �
 WritesSlot P page s bytes sync old new answer =
     WriteGoes (page * (P + 12) + P + slot_offset s) bytes sync old new answer
 
--- the checksum goes into the slot that isn't this one, with no length: durably at once, or where
--- something else is unsynced by a sync after it
+-- the checksum goes into the slot beside s, with no length: durably at once, or, if something else
+-- is unsynced, by a sync after the write
 abbrev pub Stages : (P page : ℕ) → Slot → (crc : ℕ) → (unsynced : Bool) → Life → Life
     → Result (Unit {0}) Error → Type 0
 Stages P page s crc false old new answer =
@@ -161,8 +162,8 @@ Stages P page s crc false old new answer =
 Stages P page s crc true old new answer =
     Then (WritesSlot P page (other s) (slot_bytes 0 crc) false) SyncGoes old new answer
 
--- the rewrite of a page's value as a shorter one: the checksum into the other slot, then its
--- length, and then this slot is emptied
+-- the rewrite of a page's value, whose slot is s, as a shorter one: the checksum goes into the
+-- other slot, then the length, and then the slot s is emptied
 abbrev pub Rewrites : (P page : ℕ) → Slot → (len crc : ℕ) → (unsynced : Bool) → Life → Life
     → Result (Unit {0}) Error → Type 0
 Rewrites P page s len crc unsynced old new answer =
@@ -170,13 +171,13 @@ Rewrites P page s len crc unsynced old new answer =
     (Then (WritesSlot P page (other s) (to_be_bytes w16 len) true)
     (WritesSlot P page s (slot_bytes 0 0) true)) old new answer
 
--- what this slot of a page holds, it holds at each moment since
+-- what this slot of a page covers it covers at each moment since
 abbrev pub SparesSlot : (List ℕ → ℕ) → (P page : ℕ) → ActiveChecksum → Life → Life → Type 0
 SparesSlot sum P page slot old new =
     (content : List ℕ) → HeldBy sum P content page slot old.present
     → StaysHeld sum P content page slot old new
 
--- the writer after so many pages, and these bytes of the next, which this slot tells
+-- the writer after so many pages, and these bytes of the next, which this slot covers
 abbrev pub writer_at : WriterState → (pages : ℕ) → List ℕ → Option ActiveChecksum → WriterState
 writer_at w pages bytes slot = record w {
   full_pages = pages;
@@ -185,7 +186,7 @@ writer_at w pages bytes slot = record w {
   durable = slot;
 }
 
--- the blob has so many pages, and is cut to fewer: whether there were more
+-- a blob of `held` pages is cut to `kept`, if it has more: whether it had
 abbrev pub ResizesTo : (P kept held : ℕ) → Life → Life → Result Bool Error → Type 0
 ResizesTo P kept held old new (Ok false) = (kept ≡ held) × (new ≡ old)
 ResizesTo P kept held old new (Ok true) =
@@ -193,13 +194,13 @@ ResizesTo P kept held old new (Ok true) =
 ResizesTo P kept held old new (Err e) =
     (kept ≢ held) × ResizeGoes (kept * (P + 12)) old new (Err e)
 
--- a page was read, or nothing was
+-- a page was read once, or nothing was read
 abbrev pub ReadsOnce : (P page : ℕ) → Life → Life → Type 0
 ReadsOnce P page old new =
     (new ≡ old)
     ⊎ ((failed : Bool) × AskedOnce (ReadAt (page * (P + 12)) (P + 12)) failed old new)
 
--- the first bytes of a page, of which its value has so many, and the slot that tells that
+-- the first `len` bytes of a page, and its value's slot; the value has at least as many bytes
 abbrev pub ReadsValue : (List ℕ → ℕ) → (P page len : ℕ) → Life → Life
     → Result (List ℕ × ActiveChecksum) Error → Type 0
 ReadsValue sum P page len old new (Ok r) =
@@ -235,12 +236,13 @@ abbrev pub Shortens : (List ℕ → ℕ) → (n : ℕ) → WriterState → Life 
 Shortens sum n w old new (Ok now) = IsShortened sum n w old new now
 Shortens sum n w old new (Err e) = ShortenCause sum w.page_size n old new e
 
--- no sync was started since, and what was durable is
+-- no sync was started since, and each operation that was durable still is
 abbrev pub KeepsStartedSyncs : Disk → Disk → Type 0
 KeepsStartedSyncs d e = (e.started ≡ d.started) × (d.settled ≤ e.settled)
 
--- what a cut owes whatever it answers: at each moment the text is kept up to the floor, and nothing
--- else is there; the first k pages stay
+-- what a cut guarantees whatever it answers: at each moment the text is kept up to the floor (a
+-- durable prefix of it), and absent a checksum collision an image has as its text a prefix of it.
+-- The first k pages stay as they were
 pub record Cutting (sum : List ℕ → ℕ) (P : ℕ) (told : List ℕ) (floor k calls : ℕ) (old new : Life)
     : Type 0 where
   pub asks : AsksAtMost calls old new
@@ -249,7 +251,7 @@ pub record Cutting (sum : List ℕ → ℕ) (P : ℕ) (told : List ℕ) (floor k
   pub started : Through (KeepsStartedSyncs old.present) old new
   pub holds : Through (HoldsText sum P told floor) old new
 
--- what each moment of a cut to n bytes owes, for a blob of which all is durable
+-- what a cut to n bytes guarantees at each moment, for a blob of which all is durable
 abbrev pub CutsTo : (List ℕ → ℕ) → (n : ℕ) → WriterState → Life → Life → Type 0
 CutsTo sum n w old new =
     let told = text sum w.page_size old.present.readable in

@@ -1,4 +1,4 @@
--- What a recovery does of which at most so many bytes may go, by cases on the answer.
+-- What a recovery in which at most so many bytes may go does, by cases on the answer.
 use Rattle.std.specs.Prelude.{◌≡◌, ◌⊎◌, ◌≤◌, ◌<◌, ◌+◌, ℕ, List, Result, Ok, Err, if◌then◌else◌}
 use Rattle.disk.specs.Disk.{Life}
 use Rattle.cache.specs.CacheState.{CacheState}
@@ -16,18 +16,18 @@ abbrev pub at_stake : (List ℕ → ℕ) → (P : ℕ) → List ℕ → Outlook 
 at_stake sum P bytes outlook =
     outlook.cut + (if has_torn_page sum P bytes outlook then P + 12 else 0)
 
--- in a recovery of these bytes so many go
+-- in a recovery of these bytes `cut` bytes go
 abbrev pub PutsAtStake : (List ℕ → ℕ) → (P : ℕ) → (bytes : List ℕ) → (cut : ℕ) → Type 0
 PutsAtStake sum P bytes cut =
     (outlook : Outlook) × IsOutlook sum P bytes outlook × (at_stake sum P bytes outlook ≡ cut)
 
--- no more than is allowed
+-- in a recovery of these bytes no more go than are allowed
 abbrev pub MayGo : (List ℕ → ℕ) → (P allowed : ℕ) → (bytes : List ℕ) → Type 0
 MayGo sum P allowed bytes = (cut : ℕ) × PutsAtStake sum P bytes cut × (cut ≤ allowed)
 
 -- a recovery within a limit, by its answer: at `Ok` no more was to go than is allowed. If more
--- would go, the answer is that number, and the blob was only looked at. After an error too, unless
--- no more was to go
+-- would go, the answer is that number, and the blob was only looked at. After another error it was
+-- only looked at too, unless no more was to go than is allowed
 abbrev pub RecoversWithin : (List ℕ → ℕ) → CacheState → (capacity allowed : ℕ) → Life → Life
     → Result WriterState Refusal → Type 0
 RecoversWithin sum cache capacity allowed old new (Ok w) =
@@ -39,7 +39,7 @@ RecoversWithin sum cache capacity allowed old new (Err (Failed e)) =
     (Looked old new ⊎ MayGo sum cache.page_size allowed old.present.readable)
     × Recovers sum cache capacity old new (Err e)
 
--- the cache after it: where more would go than is allowed, it gave no id
+-- the cache after such a recovery: if more would go than is allowed, it gave no id
 abbrev pub GivesIdWithin : Result WriterState Refusal → CacheState → CacheState → Type 0
 GivesIdWithin (Ok w) old new = GivesId (Ok w) old new
 GivesIdWithin (Err (WouldCut cut)) old new = new ≡ old

@@ -23,7 +23,7 @@ use cache::CacheRef;
 use disk::{Blob, Error, IoBuf};
 use page::{CHECKSUM_SIZE, EncodeSize, Sum, Write};
 
-/// The most bytes for which a blob has room.
+/// The most logical bytes for which a blob with pages of `page_size` logical bytes has room.
 fn greatest_size(page_size: u64) -> u64
     requires { page_size < 2 ^ 16 }
     ensures { result ≡ (2 ^ 64 - 1) / (page_size + 12) * page_size }
@@ -32,7 +32,7 @@ fn greatest_size(page_size: u64) -> u64
 }
 
 impl<B, H, Phase> Writer<B, H, Phase> {
-    /// Whether the blob has room for so many bytes more.
+    /// Whether the blob has room for `more` logical bytes more.
     pub(crate) fn fits(&self, more: usize) -> bool
         ensures { IsTrue result
             ↔ FitsBlob self.now.page_size self.now.full_pages (length self.now.tip + more) }
@@ -41,7 +41,7 @@ impl<B, H, Phase> Writer<B, H, Phase> {
         let Some(size) = self.size().checked_add(more as u64) else {
             return false;
         };
-        // With pages of one byte, the smallest, there are offsets for more.
+        // Even with pages of one byte, the smallest, there are offsets for more bytes than that.
         size < 1 << 60 || size <= greatest_size(page_size)
     }
 
@@ -58,18 +58,19 @@ impl<B, H, Phase> Writer<B, H, Phase> {
 }
 
 impl<B: Blob, H: Sum, Phase> Writer<B, H, Phase> {
-    /// Appends bytes, and answers the logical offset of the first: the size until now. They are
-    /// buffered; where the buffer then holds more than its capacity, its full pages are written,
-    /// without a sync, once a sync that was started has been waited for. Where a whole page is left
-    /// of them once the buffer is filled to a page boundary, the buffer is written first, and then
-    /// their whole pages, which don't go through it.
+    /// Appends bytes, and answers the logical offset of the first: the size until now. The bytes
+    /// are buffered. If the buffer would then hold more than its capacity, the call waits for a
+    /// sync that was started, and writes full pages, without a sync. These are the buffer's. But if
+    /// a whole page of `bytes` is left once the buffer is filled to a page boundary, the call
+    /// writes the buffer first, and then the whole pages of `bytes`, which don't go through it.
     ///
-    /// It makes no device call where the bytes fit what is buffered, and at most three else: a wait
-    /// for a sync that was started, and two writes.
+    /// It makes no device call if the bytes fit the buffer, and at most three else: a wait for a
+    /// sync that was started, and two writes.
     ///
     /// `OffsetOverflow`, before anything else, where the new size or the physical size that it
-    /// needs passes the greatest `u64`; `WriteFailed` and `SyncFailed` where the device failed, and
-    /// `SyncFailed` where the started sync had failed; `OutOfMemory`. The writer is gone then.
+    /// needs passes the greatest `u64`. `WriteFailed` and `SyncFailed` where the device failed, and
+    /// `SyncFailed` where the started sync had failed. `OutOfMemory` where memory was refused. The
+    /// writer is gone after each of these.
     pub fn append(
         mut self,
         blob: &mut B,
@@ -139,7 +140,7 @@ impl<B: Blob, H: Sum, Phase> Writer<B, H, Phase> {
         self.append_direct(blob, cache, fill, &bytes)
     }
 
-    /// Adds bytes to the tip, and writes its full pages out where it then holds more than its
+    /// Adds bytes to the tip, and writes the tip's full pages if it then holds more than its
     /// capacity. After an error the writer is of no use.
     pub(crate) fn append_buffered(
         &mut self,
@@ -185,13 +186,13 @@ impl<B: Blob, H: Sum, Phase> Writer<B, H, Phase> {
         }
     }
 
-    /// Appends bytes where they fit what is buffered, and answers the logical offset of the first:
-    /// the size until now. `None` exactly where what is buffered would then hold more than its
-    /// capacity. No device is asked.
+    /// Appends bytes if they fit the buffer, and answers the logical offset of the first: the size
+    /// until now. `None` exactly if the buffer would then hold more than its capacity. No device is
+    /// asked.
     ///
     /// `OffsetOverflow`, before anything else, where the new size or the physical size that it
-    /// needs passes the greatest `u64`; `OutOfMemory`. After `None` or an error the writer is as it
-    /// was.
+    /// needs passes the greatest `u64`. `OutOfMemory` where memory was refused. After `None` or an
+    /// error the writer is as it was.
     pub fn try_append(&mut self, bytes: &[u8]) -> Result<Option<u64>, Error>
         ensures goes { TryAppendGoes self.old bytes.now self.new result }
         ensures appends { BuffersOver H.sum_of self.old bytes.now self.new result }
@@ -206,11 +207,12 @@ impl<B: Blob, H: Sum, Phase> Writer<B, H, Phase> {
         self.tip.try_append(bytes)
     }
 
-    /// Appends a value's encoded bytes in the same way. A value that doesn't fit isn't encoded.
+    /// Appends a value's encoded bytes as [`try_append`](Self::try_append) appends bytes. A value
+    /// that doesn't fit isn't encoded.
     ///
     /// `OffsetOverflow`, before anything else, where the new size or the physical size that it
-    /// needs passes the greatest `u64`; `OutOfMemory`. After `None` or an error the writer is as it
-    /// was.
+    /// needs passes the greatest `u64`. `OutOfMemory` where memory was refused. After `None` or an
+    /// error the writer is as it was.
     pub fn try_append_value<T: EncodeSize + Write>(
         &mut self,
         value: &T,

@@ -1,4 +1,6 @@
-// The bytes of a flush: physical pages, of which the first repeats the durable slot.
+// The bytes of a flush: physical pages, of which the first repeats the durable slot. A known slot,
+// where there is one, holds the length and the checksum of the first bytes of a page, which needn't
+// be summed again.
 ghost use Rattle.std.specs.Prelude.{◌≡◌, ◌<◌, ◌≤◌, ◌^◌, ◌*◌, ◌++◌, ◌+◌, length, replicate, All};
 ghost use Rattle.std.specs.Prelude.{IfOk, OnOk, IsOkUnless};
 ghost use Rattle.std.specs.List.{concat};
@@ -16,7 +18,7 @@ use std::alloc::Global;
 /// The bytes of a footer.
 const FOOTER: usize = CHECKSUM_SIZE as usize;
 
-/// The checksum of these bytes, of which the known slot, where there is one, tells the first.
+/// The checksum of these bytes. The known slot, where there is one, covers the first of them.
 fn sum_after<H: Sum>(known: Option<ActiveChecksum>, chunk: &[u8]) -> u32
     requires { TellsFirst H.sum_of known chunk.now }
     ensures { result ≡ H.sum_of chunk.now }
@@ -27,8 +29,8 @@ fn sum_after<H: Sum>(known: Option<ActiveChecksum>, chunk: &[u8]) -> u32
     }
 }
 
-/// The slot that a page with these bytes gets: the one that isn't kept. The known slot, where
-/// there is one, tells the first of them.
+/// The slot that a page with these bytes gets: the one beside the durable slot, which is kept. The
+/// known slot, where there is one, covers the first of the bytes.
 fn new_slot<H: Sum>(
     durable: Option<ActiveChecksum>,
     known: Option<ActiveChecksum>,
@@ -84,7 +86,7 @@ fn push_zeros(out: &mut Vec<u8>, count: usize) -> Result<(), Error>
 }
 
 /// Adds one physical page: the chunk, zeros up to the page size, and the footer. It answers the
-/// slot that tells the chunk; the known one, where there is one, tells the first of it.
+/// chunk's slot. The known slot, where there is one, covers the first bytes of the chunk.
 /// `OutOfMemory` alone.
 pub(crate) fn push_page<H: Sum>(
     out: &mut Vec<u8>,
@@ -113,8 +115,8 @@ pub(crate) fn push_page<H: Sum>(
     Ok(new)
 }
 
-/// The footers of full pages, joined; the first repeats the durable slot, and the known one, where
-/// there is one, tells the first of its page. `OutOfMemory` alone.
+/// The footers of full pages, joined. The first footer repeats the durable slot. The known slot,
+/// where there is one, covers the first bytes of the first page. `OutOfMemory` alone.
 fn footers_of<H: Sum>(
     alloc: Global,
     mut durable: Option<ActiveChecksum>,
@@ -159,8 +161,7 @@ fn with_footers(alloc: Global, pages: Vec<IoBuf>, footers: &IoBuf) -> Result<IoB
 const MOST_COPIED: usize = 128;
 
 /// The physical pages of full pages, as [`physical_pages`] gives them, copied to one buffer, which
-/// is made for pages of so many bytes; in a list with room for one buffer more. `OutOfMemory`
-/// alone.
+/// is made for pages of `size` bytes. The list has room for one buffer more. `OutOfMemory` alone.
 fn copied_pages<H: Sum>(
     alloc: Global,
     mut durable: Option<ActiveChecksum>,
@@ -187,9 +188,9 @@ fn copied_pages<H: Sum>(
     Ok(bufs)
 }
 
-/// The physical pages of full pages, of which the first repeats the durable slot, and begins with
-/// what the known one tells, where there is one. The pages aren't copied, unless they are small,
-/// and their footers are parts of one buffer. `OutOfMemory` alone.
+/// The physical pages of full pages. The first repeats the durable slot, and begins with the bytes
+/// that the known slot covers, where there is one. The pages aren't copied, unless they have at
+/// most [`MOST_COPIED`] bytes, and their footers are parts of one buffer. `OutOfMemory` alone.
 pub(crate) fn physical_pages<H: Sum>(
     alloc: Global,
     durable: Option<ActiveChecksum>,

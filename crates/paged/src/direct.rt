@@ -52,9 +52,9 @@ fn cut_pages<H: Sum>(
 }
 
 impl<B, H, Phase> Writer<B, H, Phase> {
-    /// Where so many bytes more are too big for the buffer, how many of them fill the tip to a page
-    /// boundary. They are where they pass its capacity, and a whole page is left after the
-    /// boundary.
+    /// How many of `more` bytes fill the tip to a page boundary, if they are too big for the
+    /// buffer. They are too big if the buffer would hold more than its capacity with them, and a
+    /// whole page of them is left after the boundary.
     pub(crate) fn too_big_for_buffer(&self, more: usize) -> Option<usize>
         ensures { result ≡ (if goes_direct self.now more then Some (fill_of self.now) else None) }
     {
@@ -71,7 +71,7 @@ impl<B, H, Phase> Writer<B, H, Phase> {
         }
     }
 
-    /// Puts the tip, which is empty, after whole pages, with the rest that stands after them.
+    /// Moves the tip, which is empty, past these whole pages, and puts the rest in it.
     /// `OutOfMemory` alone.
     fn pass(&mut self, whole: &IoBuf, rest: &[u8]) -> Result<(), Error>
         requires direct { IsDirect self.old whole.now rest.now }
@@ -88,9 +88,9 @@ impl<B, H, Phase> Writer<B, H, Phase> {
 }
 
 impl<B, H: Sum, Phase> Writer<B, H, Phase> {
-    /// The physical pages of whole pages that begin where the tip does, which is empty: the writer
-    /// stands then as once they are written, with the rest in its tip. The pages are put in the
-    /// cache. `OutOfMemory` alone.
+    /// The physical pages of whole pages that begin where the tip does, which is empty. The call
+    /// puts the pages in the cache, and leaves the writer as it is once they are written, with the
+    /// rest in its tip. `OutOfMemory` alone.
     fn take_direct(
         &mut self,
         cache: &mut CacheRef,
@@ -119,12 +119,13 @@ impl<B: Blob, H: Sum, Phase> Writer<B, H, Phase> {
     /// through the buffer aren't copied, unless a page has at most 128 bytes. It answers the
     /// logical offset of the first byte: the size until now.
     ///
-    /// It makes no device call where the bytes fit what is buffered, and at most three else: a wait
-    /// for a sync that was started, and two writes.
+    /// It makes no device call if the bytes fit the buffer, and at most three else: a wait for a
+    /// sync that was started, and two writes.
     ///
     /// `OffsetOverflow`, before anything else, where the new size or the physical size that it
-    /// needs passes the greatest `u64`; `WriteFailed` and `SyncFailed` where the device failed, and
-    /// `SyncFailed` where the started sync had failed; `OutOfMemory`. The writer is gone then.
+    /// needs passes the greatest `u64`. `WriteFailed` and `SyncFailed` where the device failed, and
+    /// `SyncFailed` where the started sync had failed. `OutOfMemory` where memory was refused. The
+    /// writer is gone after each of these.
     pub fn append_owned(
         mut self,
         blob: &mut B,
@@ -188,9 +189,9 @@ impl<B: Blob, H: Sum, Phase> Writer<B, H, Phase> {
         self.append_direct(blob, cache, fill, bytes)
     }
 
-    /// Appends what is too big for the buffer: fills the tip to a page boundary, which takes `fill`
-    /// bytes, and writes it out; writes the whole pages that are left past the buffer; and
-    /// buffers the rest. After an error the writer is of no use.
+    /// Appends what is too big for the buffer: it fills the tip to a page boundary, which takes
+    /// `fill` bytes, and writes the tip out. Then it writes the whole pages that are left, which
+    /// don't go through the buffer, and buffers the rest. After an error the writer is of no use.
     pub(crate) fn append_direct(
         &mut self,
         blob: &mut B,
@@ -229,8 +230,8 @@ impl<B: Blob, H: Sum, Phase> Writer<B, H, Phase> {
         self.write_direct(blob, cache, whole, &bytes.as_ref()[end..])
     }
 
-    /// Adds the bytes that fill the tip to a page boundary, and writes it out where it isn't empty.
-    /// After an error the writer is of no use.
+    /// Adds the bytes that fill the tip to a page boundary, and writes the tip out unless it is
+    /// empty. After an error the writer is of no use.
     fn fill_tip(&mut self, blob: &mut B, cache: &mut CacheRef, bytes: &[u8]) -> Result<(), Error>
         requires cached { cache.old.page_size ≡ self.old.page_size }
         requires holds { IsConsistent H.sum_of self.old (B.life blob.old).present }
@@ -258,8 +259,8 @@ impl<B: Blob, H: Sum, Phase> Writer<B, H, Phase> {
         self.flush(blob, cache, false)
     }
 
-    /// Writes whole pages that begin where the tip does, which is empty, and buffers the rest; it
-    /// waits for a pending sync before. After an error the writer is of no use.
+    /// Waits for a pending sync, writes whole pages that begin where the tip does, which is empty,
+    /// and buffers the rest. After an error the writer is of no use.
     fn write_direct(
         &mut self,
         blob: &mut B,

@@ -32,7 +32,7 @@ use disk::{Blob, Error, IoBuf, IoBufs, StartedSync, WriteOptions};
 use page::{ActiveChecksum, CHECKSUM_SIZE, Sum, split_pages};
 use writer_state::SyncState;
 
-/// Puts these whole pages of a blob in the cache, the first under this number.
+/// Puts these whole pages of a blob in the cache, the first under the number `first`.
 fn cache_pages(cache: &mut CacheRef, id: u64, first: u64, pages: &[IoBuf])
     requires size { ArePages cache.old.page_size pages.now }
     requires fits { first + length pages.now < 2 ^ 64 }
@@ -44,7 +44,7 @@ fn cache_pages(cache: &mut CacheRef, id: u64, first: u64, pages: &[IoBuf])
 }
 
 impl<B, H, Phase> Writer<B, H, Phase> {
-    /// The bytes of a physical page.
+    /// How many bytes a physical page has.
     pub(crate) fn physical_page_size(&self) -> u64
         ensures { result ≡ self.now.page_size + 12 }
     {
@@ -75,14 +75,15 @@ impl<B, H, Phase> Writer<B, H, Phase> {
         self.tip.len() % usize::from(self.page_size.get()) != 0
     }
 
-    /// Whether a flush writes the bytes after the full pages: where asked, and there are some.
+    /// Whether a flush writes the bytes after the full pages: `rest` asks for it, and there are
+    /// some.
     fn writes_rest(&self, rest: bool) -> bool
         ensures { result ≡ (rest && not (length self.now.tip % self.now.page_size == 0)) }
     {
         rest && self.has_rest()
     }
 
-    /// Takes the slot that was written last over as the durable one, where nothing is unsynced.
+    /// Makes the slot that was written last the durable one, if nothing is unsynced.
     pub(crate) fn carry(&mut self)
         requires { WaitsForNone self.old.sync }
         ensures is { self.new ≡ carried self.old }
@@ -94,7 +95,7 @@ impl<B, H, Phase> Writer<B, H, Phase> {
         }
     }
 
-    /// Where a flush writes.
+    /// The physical offset at which a flush writes.
     pub(crate) fn physical_offset(&self) -> u64
         ensures offset { result ≡ offset_of self.now }
         ensures fits { FitsBlob self.now.page_size self.now.full_pages (length self.now.tip) }
@@ -123,8 +124,8 @@ impl<B, H, Phase> Writer<B, H, Phase> {
 }
 
 impl<B, H: Sum, Phase> Writer<B, H, Phase> {
-    /// Adds the physical page of the bytes of a tip without full pages, where asked, and answers
-    /// the slot that tells them. `OutOfMemory` alone.
+    /// Adds, if asked, the physical page of the bytes of a tip that has no full page, and answers
+    /// the slot that covers them. `OutOfMemory` alone.
     fn push_rest(&self, bufs: &mut IoBufs, rest: bool) -> Result<Option<ActiveChecksum>, Error>
         requires short { length self.now.tip < self.now.page_size }
         requires known { TellsFirst H.sum_of self.now.flushed self.now.tip }
@@ -145,8 +146,8 @@ impl<B, H: Sum, Phase> Writer<B, H, Phase> {
         Ok(Some(slot))
     }
 
-    /// Takes the tip's full pages out of it, and answers their physical pages: the writer stands
-    /// then as once they are written. They are put in the cache. `OutOfMemory` alone.
+    /// Takes the tip's full pages out of it, puts them in the cache, and answers their physical
+    /// pages. The writer is left as it is once they are written. `OutOfMemory` alone.
     fn take_full(&mut self, cache: &mut CacheRef) -> Result<IoBufs, Error>
         requires cached { cache.old.page_size ≡ self.old.page_size }
         requires known { let page = take self.old.page_size self.old.tip in
@@ -168,9 +169,9 @@ impl<B, H: Sum, Phase> Writer<B, H, Phase> {
         physical_pages::<H>(self.alloc, durable, known, pages)
     }
 
-    /// Takes the tip's full pages out of it, and answers the physical pages of these and of the
-    /// rest where asked: the writer stands then as once they are written. The full pages are put in
-    /// the cache. `OutOfMemory` alone.
+    /// Takes the tip's full pages out of it, puts them in the cache, and answers their physical
+    /// pages, and, if asked, the rest's. The writer is left as it is once these are written.
+    /// `OutOfMemory` alone.
     fn take_pages(&mut self, cache: &mut CacheRef, rest: bool) -> Result<IoBufs, Error>
         requires cached { cache.old.page_size ≡ self.old.page_size }
         requires known { let page = take self.old.page_size self.old.tip in
@@ -189,8 +190,8 @@ impl<B, H: Sum, Phase> Writer<B, H, Phase> {
 }
 
 impl<B: Blob, H: Sum, Phase> Writer<B, H, Phase> {
-    /// Writes the tip's full pages, and the rest where asked, in one write. With `sync` it is
-    /// durable at once, and nothing is unsynced before it. After an error the writer is of no use.
+    /// Writes the tip's full pages, and, if asked, the rest, in one write. With `sync` the write is
+    /// durable at once; nothing may be unsynced before it. After an error the writer is of no use.
     fn write_pages(
         &mut self,
         blob: &mut B,
@@ -241,7 +242,7 @@ impl<B: Blob, H: Sum, Phase> Writer<B, H, Phase> {
         Ok(())
     }
 
-    /// Waits for a pending sync; where there is none it does nothing. After an error the writer is
+    /// Waits for a pending sync. Where there is none it does nothing. After an error the writer is
     /// of no use.
     pub(crate) fn wait(&mut self, blob: &mut B) -> Result<(), Error>
         requires holds { IsConsistent H.sum_of self.old (B.life blob.old).present }
@@ -270,9 +271,9 @@ impl<B: Blob, H: Sum, Phase> Writer<B, H, Phase> {
         }
     }
 
-    /// Writes the tip's full pages out, and with `rest` the bytes after them, without a sync; it
-    /// waits for a pending sync before. It makes no device call where there is nothing to write.
-    /// After an error the writer is of no use.
+    /// Waits for a pending sync, and writes the tip's full pages, and with `rest` the bytes after
+    /// them, without a sync. It makes no device call where there is nothing to write. After an
+    /// error the writer is of no use.
     pub(crate) fn flush(
         &mut self,
         blob: &mut B,
@@ -339,12 +340,16 @@ impl<B: Blob, H: Sum, Phase> Writer<B, H, Phase> {
         self.write_pages(blob, cache, after, false)
     }
 
-    /// Makes all that was appended durable. It makes two device calls at most: a write and a sync
-    /// of the blob, or, where a sync was started, a wait for it and a write that is durable at
-    /// once; one, such a write, where nothing was unsynced; and none where there is nothing to do.
+    /// Makes all that was appended durable. It makes two device calls at most:
+    /// - where nothing was unsynced, a write that is durable at once,
+    /// - where a sync was started, a wait for it, and then such a write,
+    /// - else a write, and a sync of the blob.
+    ///
+    /// The write is left out where all is written, and no call is made where all is durable.
     ///
     /// `WriteFailed` and `SyncFailed` where the device failed, and `SyncFailed` where the started
-    /// sync had failed; `OutOfMemory`. The writer is gone then.
+    /// sync had failed. `OutOfMemory` where memory was refused. The writer is gone after each of
+    /// these.
     pub fn sync(mut self, blob: &mut B, cache: &mut CacheRef) -> Result<Self, Error>
         requires ready { CanGoOn H.sum_of self cache.old (B.life blob.old) }
         ensures goes { SyncAllGoes H.sum_of self (B.life blob.old) (B.life blob.new) result }
@@ -411,7 +416,7 @@ impl<B: Blob, H: Sum, Phase> Writer<B, H, Phase> {
         self.write_durably(blob, cache)
     }
 
-    /// Writes what is buffered durably, where no sync is pending: at once where nothing was
+    /// Writes what is buffered durably, where no sync is pending: by one write if nothing was
     /// unsynced, else by a write and a sync.
     fn write_durably(&mut self, blob: &mut B, cache: &mut CacheRef) -> Result<(), Error>
         requires cached { cache.old.page_size ≡ self.old.page_size }
@@ -463,8 +468,8 @@ impl<B: Blob, H: Sum, Phase> Writer<B, H, Phase> {
         self.settle_blob(blob)
     }
 
-    /// Makes durable what is written, whatever the blob: it is synced, or a pending sync is waited
-    /// for.
+    /// Makes durable what is written, whatever the blob, by a sync of it or a wait for a pending
+    /// one.
     pub(crate) fn settle_blob(&mut self, blob: &mut B) -> Result<(), Error>
         ensures goes { SettlesBy self.old.sync (B.life blob.old) (B.life blob.new) result }
         ensures state { OnOk result (self.new ≡ synced self.old) }

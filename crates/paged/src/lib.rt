@@ -1,5 +1,11 @@
 //! A blob of pages with one writer: appends are buffered and reach the blob in whole pages, a sync
 //! makes them durable, and a recovery takes over what a crash left.
+//!
+//! A page's value is the part of its payload that its checksum slot covers, if a slot of its footer
+//! verifies. A page is full if its value is the whole payload. A blob's text is what a recovery
+//! keeps: the values of its pages from the first on, joined while each is full, and the next page's
+//! value. The tip is the bytes after a writer's full pages, in memory. An image is a possible state
+//! of the blob after a crash. A writer is sound while its invariant holds between it and its blob.
 #![tactic(auto)]
 
 mod append;

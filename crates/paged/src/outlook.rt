@@ -19,20 +19,21 @@ use paged_read::physical_page_size;
 use std::alloc::Global;
 use std::num::{NonZeroU16, NonZeroUsize};
 
-/// What a recovery would make of a blob.
+/// What a recovery would make of a blob. The blob's text is what the recovery would keep: the
+/// values of its pages from the first on, joined while each is full, and the next page's value.
 #[derive(Clone, Copy, Debug, PartialEq, Eq)]
 pub struct Outlook {
-    /// How many physical pages it would keep: those of the text, each of which has a value. The
-    /// last may be partial.
+    /// How many physical pages the recovery would keep: those of the text, each of which has a
+    /// value. The last may be partial.
     pub pages: u64,
-    /// How many logical bytes the text has: the size of the writer that it would give.
+    /// How many logical bytes the text has: the size of the writer that the recovery would give.
     pub len: u64,
-    /// How many physical bytes after those pages it would cut off.
+    /// How many physical bytes after those pages the recovery would cut.
     pub cut: u64,
 }
 
 impl Outlook {
-    /// How many physical bytes at the end go: all that would be cut, and where the last page is
+    /// How many physical bytes at the end would go: all that would be cut, and, if the last page is
     /// torn, that page too.
     pub(crate) fn at_stake(&self, torn: bool, page_size: NonZeroU16) -> u64
         requires fits { torn ≡ true → self.now.cut + (non_zero_u16_get page_size + 12) < 2 ^ 64 }
@@ -48,15 +49,16 @@ impl Outlook {
 }
 
 /// Looks at a blob of `size` physical bytes that nobody opened: what [`crate::recover`] would make
-/// of it, with pages of `page_size` logical bytes and the checksum function `H`. With others than
-/// those that it was written with a blob may well look empty, and a recovery would cut all of it:
-/// so look first where they aren't known for sure.
+/// of it, with pages of `page_size` logical bytes and the checksum function `H`. With another page
+/// size or checksum function than it was written with, a blob may well look empty, and a recovery
+/// would cut all of it. So look first unless both are known for sure.
 ///
 /// Pages are read from the first one on, each once at most. Each read has at most as many pages as
-/// fit `buffer_size` bytes, and at least one; those after the read in which the text ends aren't
-/// read. Of less than a page no device is asked.
+/// fit `buffer_size` bytes, and at least one. Pages after the read in which the text ends aren't
+/// read. For a blob of less than a page no device is asked.
 ///
-/// `ReadFailed` where the device failed, `OutOfMemory`. The blob is only read, also where it fails.
+/// `ReadFailed` where the device failed, `OutOfMemory` where memory was refused. The blob is only
+/// read, even where the call fails.
 pub fn look<B: Blob, H: Sum>(
     alloc: Global,
     blob: &mut B,
@@ -68,12 +70,14 @@ pub fn look<B: Blob, H: Sum>(
     ensures goes { let old = B.life blob.old in let new = B.life blob.new in
         LookGoes H.sum_of (non_zero_u16_get page_size) old new result }
 
-    // So does a recovery that is done, from whatever moment on at which the bytes are these.
+    // A recovery that succeeds makes of the blob what this answer foretells, from whatever moment
+    // on at which the bytes are these.
     ensures foretells { let old = B.life blob.old in let P = non_zero_u16_get page_size in
         IfOk result (λ outlook. Foretells H.sum_of P old.present.readable outlook) }
     ensures looked { Looked (B.life blob.old) (B.life blob.new) }
 
-    // What stood on the blob's bytes still does, whatever they were written with.
+    // The blob's writers, snapshots, replays and reads stay valid, whatever page size and checksum
+    // function the blob was written with.
     ensures leaves { LeavesAsIs (B.life blob.old) (B.life blob.new) }
     ensures costs { let old = B.life blob.old in let new = B.life blob.new in
         let P = non_zero_u16_get page_size in
@@ -98,7 +102,7 @@ fn has_value<H: Sum>(bytes: &[u8], at: usize, size: usize) -> bool
     Checksum::validate_page::<H>(&bytes[at..at + size]).is_some()
 }
 
-/// How many of the physical pages that these bytes are have a value.
+/// How many of the physical pages in these bytes have a value.
 fn values_in<H: Sum>(page_size: NonZeroU16, bytes: &[u8]) -> u64
     ensures { let P = non_zero_u16_get page_size in
         result ≡ values_of H.sum_of P (pages P bytes.now) }
@@ -120,9 +124,9 @@ fn are_zeros(bytes: &[u8]) -> bool
     bytes.iter().all(|byte| *byte == 0)
 }
 
-/// How many of the physical pages from `first` to before `pages` have a value, of a blob that has
-/// them, and whether all bytes of these pages are zero. Each read is of at most as many pages as
-/// fit `buffer_size` bytes, and at least one.
+/// How many of a blob's physical pages from `first` to before `pages`, which must be there, have a
+/// value, and whether all bytes of these pages are zero. Each read has at most as many pages as fit
+/// `buffer_size` bytes, and at least one.
 fn look_beyond<B: Blob, H: Sum>(
     alloc: Global,
     blob: &mut B,
@@ -159,7 +163,7 @@ fn look_beyond<B: Blob, H: Sum>(
 }
 
 /// Whether the last page of the text is partial, and has a slot that neither verifies nor is all
-/// zero. Only where it is partial it is read.
+/// zero. The page is read only if it is partial.
 fn last_is_torn<B: Blob, H: Sum>(
     alloc: Global,
     blob: &mut B,
@@ -212,14 +216,16 @@ pub(crate) fn look_to_last<B: Blob, H: Sum>(
 }
 
 /// Looks at a blob of `size` physical bytes as [`look`] does, and at what would go: at the slots of
-/// the text's last page, and at the pages after those of the text. [`Survey::verdict`] says what to
-/// do, and [`Survey::set_aside_len`] how many bytes to set aside before a recovery.
+/// the text's last page, and at the pages after those of the text. [`Survey::verdict`] answers what
+/// to do, and [`Survey::set_aside_len`] how many bytes to set aside before a recovery.
 ///
-/// The pages of the text are read, from the first one on, up to the read in which it ends, and then
-/// its last page, where that is partial, and the pages after those of the text; so each is read
-/// twice at most. Each read has at most as many pages as fit `buffer_size` bytes, and at least one.
+/// The pages of the text are read, from the first one on, up to the read in which the text ends.
+/// Then its last page is read, if that is partial, and then the pages after those of the text. So
+/// each page is read twice at most. Each read has at most as many pages as fit `buffer_size` bytes,
+/// and at least one.
 ///
-/// `ReadFailed` where the device failed, `OutOfMemory`. The blob is only read, also where it fails.
+/// `ReadFailed` where the device failed, `OutOfMemory` where memory was refused. The blob is only
+/// read, even where the call fails.
 pub fn survey<B: Blob, H: Sum>(
     alloc: Global,
     blob: &mut B,
@@ -231,12 +237,14 @@ pub fn survey<B: Blob, H: Sum>(
     ensures goes { let old = B.life blob.old in let new = B.life blob.new in
         SurveyGoes H.sum_of (non_zero_u16_get page_size) old new result }
 
-    // So does a recovery that is done, from whatever moment on at which the bytes are these.
+    // A recovery that succeeds makes of the blob what this answer foretells, from whatever moment
+    // on at which the bytes are these.
     ensures foretells { let old = B.life blob.old in let P = non_zero_u16_get page_size in
         IfOk result (λ survey. Foretells H.sum_of P old.present.readable survey.outlook) }
     ensures looked { Looked (B.life blob.old) (B.life blob.new) }
 
-    // What stood on the blob's bytes still does, whatever they were written with.
+    // The blob's writers, snapshots, replays and reads stay valid, whatever page size and checksum
+    // function the blob was written with.
     ensures leaves { LeavesAsIs (B.life blob.old) (B.life blob.new) }
     ensures costs { let old = B.life blob.old in let new = B.life blob.new in
         let P = non_zero_u16_get page_size in

@@ -15,16 +15,20 @@ use std::alloc::Global;
 use std::num::NonZeroU16;
 
 impl<B: Blob, H: Sum> Writer<B, H> {
-    /// The `len` bytes from the logical offset `offset` on, of a blob of pages of `page_size`
-    /// logical bytes that nobody opened: of the values of its pages, each read by a read of its
-    /// own, in rising order. Of no bytes no device is asked.
+    /// The `len` bytes from the logical offset `offset` on, of a blob that nobody opened, with
+    /// pages of `page_size` logical bytes. They come from the values of its pages, each read by a
+    /// read of its own, in rising order. For `len` 0 no device is asked.
     ///
-    /// `OffsetOverflow` where the range passes the greatest `u64`, before anything is asked for.
-    /// Then the first page decides that gives nothing: `InvalidChecksum` where it has no value,
-    /// `BlobInsufficientLength` where its value has no byte of the range, or the blob ends before
-    /// the page does, `OffsetOverflow` where its offset passes the greatest; and after the last
-    /// `BlobInsufficientLength` where fewer than `len` bytes were found. `ReadFailed` where the
-    /// device failed, `OutOfMemory`. The blob is only read, also where it fails.
+    /// `OffsetOverflow` where the range's end passes the greatest `u64`, before the device or
+    /// memory is asked. Else the first page that gives nothing decides:
+    /// - `InvalidChecksum` where the page has no value,
+    /// - `BlobInsufficientLength` where its value has no byte of the range, or the blob ends before
+    ///   the page does,
+    /// - `OffsetOverflow` where the page's physical end passes the greatest `u64`.
+    ///
+    /// After the last page, `BlobInsufficientLength` where fewer than `len` bytes were found.
+    /// `ReadFailed` where the device failed, `OutOfMemory` where memory was refused. The blob is
+    /// only read, even where the call fails.
     pub fn read_range(
         alloc: Global,
         blob: &mut B,
@@ -50,12 +54,13 @@ impl<B: Blob, H: Sum> Writer<B, H> {
 
     /// The logical size of a blob of `physical_size` bytes that nobody opened, with pages of
     /// `page_size` logical bytes, and its last `len` bytes. The last page is read first, and what
-    /// lies before it as by [`Writer::read_range`]; of an empty blob no device is asked.
+    /// lies before it as by [`Writer::read_range`]. For an empty blob no device is asked.
     ///
-    /// `BlobInsufficientLength` where `physical_size` isn't whole pages, or they hold fewer than
-    /// `len` bytes by what the last one says; `InvalidChecksum` where that has no value. The other
-    /// errors are those of [`Writer::read_range`], of the bytes before that page. The blob is only
-    /// read, also where it fails.
+    /// `BlobInsufficientLength` where `physical_size` isn't whole physical pages, where the blob is
+    /// shorter, or where it has fewer than `len` bytes by the length of its last page's value.
+    /// `InvalidChecksum` where the last page has no value. The other errors are those of
+    /// [`Writer::read_range`], for the bytes before that page. The blob is only read, even where
+    /// the call fails.
     pub fn read_tail(
         alloc: Global,
         blob: &mut B,

@@ -20,7 +20,8 @@ use paged_read::View;
 use std::num::NonZeroUsize;
 
 impl<B, H, Phase> Writer<B, H, Phase> {
-    /// What reads of the blob stand on: it borrows the writer, and can be copied.
+    /// The view through which the writer's content is read. It borrows the writer, and can be
+    /// copied.
     pub fn view(&self) -> View<'_, B, H>
         ensures view { IsView (non_zero_u16_get result.page_size) result.tip.now }
         ensures tail { tail_at result.page_size result.id result.tip.now ≡ tail_of self.now }
@@ -28,10 +29,9 @@ impl<B, H, Phase> Writer<B, H, Phase> {
         View::new(self.alloc, self.page_size, self.id, &self.tip)
     }
 
-    /// Copies the bytes from `offset` on into `buf`, as many as it has room for, where that needs
-    /// no device: where they are within the size, and the cache holds the pages of those below the
-    /// tip. It answers whether it did; where it didn't, what `buf` holds says nothing. It takes no
-    /// memory.
+    /// Copies the logical bytes from `offset` on into `buf`, as many as `buf` has room for, if that
+    /// needs no device: they lie within the size, and the cache holds the pages of those below the
+    /// tip. Answers whether it did. At `false` `buf` may hold anything. The call takes no memory.
     pub fn try_read_sync_into(&self, cache: &CacheRef, buf: &mut [u8], offset: u64) -> bool
         requires page_size { cache.now.page_size ≡ self.now.page_size }
         ensures goes { TryReadGoes (tail_of self.now) (offset, length buf.old) cache.now buf.new
@@ -41,10 +41,11 @@ impl<B, H, Phase> Writer<B, H, Phase> {
         self.view().try_read_sync_into(cache, buf, offset)
     }
 
-    /// Copies those of these ranges, each an offset and a length, that need no device to their
-    /// offsets in `buf`, one range after the other, and answers the numbers of the others, rising:
-    /// of all where one passes the end. The ranges are in order, don't overlap, and fill `buf`. Its
-    /// only error is `OutOfMemory`.
+    /// Copies those of these ranges, each an offset and a length in logical bytes, that need no
+    /// device to their places in `buf`, one range after the other. Answers the numbers of the other
+    /// ranges, rising, or of all ranges if one passes the end. The places of the ranges that it
+    /// answers may hold anything. The ranges are in order, don't overlap, and fill `buf`. The only
+    /// error is `OutOfMemory`.
     pub fn try_read_ranges_sync_into(
         &self,
         cache: &CacheRef,
@@ -82,15 +83,18 @@ impl<B, H, Phase> Writer<B, H, Phase> {
 }
 
 impl<B: Blob, H: Sum, Phase> Writer<B, H, Phase> {
-    /// Copies the bytes from `offset` on into `buf`, as many as it has room for: those below the
-    /// tip from pages that the cache holds, else from the blob, one read for each page, and the
-    /// others from memory. A read of held pages takes no memory and asks no device. Pages that are
-    /// read are put in the cache, also where the call fails after them.
+    /// Copies the logical bytes from `offset` on into `buf`, as many as `buf` has room for. Those
+    /// below the tip come from pages that the cache holds, else from the blob, by one read for each
+    /// page. The others come from memory. Where the cache holds all pages that are needed the call
+    /// takes no memory and asks no device. Pages that are read are put in the cache, even if the
+    /// call fails afterwards.
     ///
-    /// `OffsetOverflow` where the range passes the greatest `u64`, else `BlobInsufficientLength`
-    /// where it passes the size: both before anything is asked for. `ReadFailed` where the device
-    /// failed, `InvalidChecksum` where a page below the tip isn't full, which it always is in a
-    /// sound blob, `OutOfMemory`; then what `buf` holds says nothing.
+    /// `OffsetOverflow` where the range's end passes the greatest `u64`, else
+    /// `BlobInsufficientLength` where it passes the size, both before the device or memory is
+    /// asked. `ReadFailed` where the device failed, `InvalidChecksum` where a page below the tip
+    /// that is read isn't full, `OutOfMemory` where memory was refused. While the writer is sound
+    /// (keeps its invariant) the answer is never `InvalidChecksum`. After an error `buf` may hold
+    /// anything.
     pub fn read_into(
         &self,
         blob: &mut B,
@@ -113,8 +117,7 @@ impl<B: Blob, H: Sum, Phase> Writer<B, H, Phase> {
         self.view().read_into(blob, cache, buf, offset)
     }
 
-    /// The `len` bytes from `offset` on, read as [`Writer::read_into`] reads them, and refused as
-    /// it refuses them.
+    /// The `len` bytes from `offset` on, read as [`Writer::read_into`] reads them, with its errors.
     pub fn read_at(
         &self,
         blob: &mut B,
@@ -137,11 +140,13 @@ impl<B: Blob, H: Sum, Phase> Writer<B, H, Phase> {
         self.view().read_at(blob, cache, offset, len)
     }
 
-    /// As many bytes from `offset` on as there are, at most `len`, in place of what `bytes` held,
-    /// and how many: at least one, unless none is asked for, which is answered at any offset.
+    /// Reads as many bytes from `offset` on as there are, at most `len`, in place of what `bytes`
+    /// held. Answers them and their number, which is at least 1, unless `len` is 0: that is
+    /// answered at any offset.
     ///
-    /// `BlobInsufficientLength` at or after the end, before anything is asked for; `ReadFailed`,
-    /// `InvalidChecksum`, `OutOfMemory`, as [`Writer::read_into`] answers them.
+    /// `BlobInsufficientLength` where `offset` is at or after the end and `len` isn't 0, before the
+    /// device or memory is asked. `ReadFailed`, `InvalidChecksum` and `OutOfMemory` as
+    /// [`Writer::read_into`] answers them.
     pub fn read_up_to(
         &self,
         blob: &mut B,
@@ -165,16 +170,16 @@ impl<B: Blob, H: Sum, Phase> Writer<B, H, Phase> {
         self.view().read_up_to(blob, cache, offset, len, bytes)
     }
 
-    /// Reads these ranges, each an offset and a length, to their places in `buf`, one after the
-    /// other, and answers how many of them needed no device: empty ones count. The ranges are in
-    /// order, don't overlap, and fill `buf`. The pages that the cache lacks are read in one call of
-    /// the device, each once, and put in the cache as they are delivered. Where it lacks none the
-    /// call takes no memory.
+    /// Reads these ranges, each an offset and a length in logical bytes, to their places in `buf`,
+    /// one after the other. Answers how many of them needed no device: empty ones count. The ranges
+    /// are in order, don't overlap, and fill `buf`. The pages that the cache lacks are read in one
+    /// call of the device, each once, and put in the cache as they are delivered. Where the cache
+    /// lacks none the call takes no memory.
     ///
     /// The first range that can't be read decides, before memory or the device is asked for:
-    /// `OffsetOverflow` where it passes the greatest `u64`, else `BlobInsufficientLength` where it
-    /// passes the size. `ReadFailed`, `InvalidChecksum`, `OutOfMemory`, as [`Writer::read_into`]
-    /// answers them.
+    /// `OffsetOverflow` where its end passes the greatest `u64`, else `BlobInsufficientLength`
+    /// where it passes the size. `ReadFailed`, `InvalidChecksum` and `OutOfMemory` as
+    /// [`Writer::read_into`] answers them.
     pub fn read_ranges_into(
         &self,
         blob: &mut B,

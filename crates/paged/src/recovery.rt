@@ -41,7 +41,7 @@ use std::marker::PhantomData;
 use std::num::{NonZeroU16, NonZeroUsize};
 use writer_state::SyncState;
 
-/// Cuts a blob to so many bytes, durably.
+/// Cuts a blob to `kept` bytes, durably.
 pub(crate) fn cut<B: Blob>(blob: &mut B, kept: u64) -> Result<(), Error>
     ensures cuts { Cuts kept (B.life blob.old) (B.life blob.new) result }
 {
@@ -49,8 +49,9 @@ pub(crate) fn cut<B: Blob>(blob: &mut B, kept: u64) -> Result<(), Error>
     blob.sync()
 }
 
-/// Cuts a blob of `size` bytes to so many, durably, where it has more. It answers the state of the
-/// blob's writer then: a blob that wasn't cut may have something unsynced.
+/// Cuts a blob of `size` bytes to `kept`, durably, if it has more. It answers the sync state that
+/// the blob's writer has then: `Dirty` for a blob that wasn't cut, since it may have something
+/// unsynced.
 fn cut_back<B: Blob>(blob: &mut B, size: u64, kept: u64) -> Result<SyncState, Error>
     requires { size ≡ length (B.life blob.old).present.readable }
     ensures cuts { CutsBack kept (B.life blob.old) (B.life blob.new) result }
@@ -62,7 +63,7 @@ fn cut_back<B: Blob>(blob: &mut B, size: u64, kept: u64) -> Result<SyncState, Er
     Ok(SyncState::Clean)
 }
 
-/// Writes bytes into a slot of a page, durably or not.
+/// Writes bytes into a slot of a page, durably with `sync`.
 pub(crate) fn write_slot<B: Blob>(
     alloc: Global,
     blob: &mut B,
@@ -88,7 +89,8 @@ pub(crate) fn write_slot<B: Blob>(
     blob.write_at(footer + slot.offset() as u64, &bufs, options)
 }
 
-/// Empties a slot of a page, durably: where something else may be unsynced, by a sync after it.
+/// Empties a slot of a page, durably. Where something else may be unsynced, a sync follows the
+/// write.
 fn empty_slot<B: Blob>(
     alloc: Global,
     blob: &mut B,
@@ -111,9 +113,9 @@ fn empty_slot<B: Blob>(
     }
 }
 
-/// Cuts a blob of `size` bytes to so many where it has more, and then empties this slot of a page,
-/// if there is one, both durably. It answers the state of the blob's writer then: `Dirty` where
-/// nothing was done, since the blob may have something unsynced.
+/// Cuts a blob of `size` bytes to `kept` if it has more, and then empties the slot `bad` of a page,
+/// if there is one, both durably. It answers the sync state that the blob's writer has then:
+/// `Dirty` where nothing was done, since the blob may have something unsynced.
 fn keep_pages<B: Blob>(
     alloc: Global,
     blob: &mut B,
@@ -137,7 +139,7 @@ fn keep_pages<B: Blob>(
     Ok(SyncState::Clean)
 }
 
-/// The bytes that a writer buffers whose tip's page has this value, and the slot that tells it.
+/// The bytes that a writer buffers if its tip's page has this value, and the value's slot.
 fn tip_and_slot(partial: &Partial) -> (&[u8], Option<ActiveChecksum>)
     ensures tip { result.0.now ≡ tip_of partial.now }
     ensures slot { result.1 ≡ slot_of_tip partial.now }
@@ -160,8 +162,8 @@ pub(crate) fn size_of(prefix: &Prefix, page_size: NonZeroU16) -> u64
 }
 
 impl<B, H> Recovery<B, H> {
-    /// A writer with an id of its own that stands after these pages of its blob. `OutOfMemory`;
-    /// `IdsExhausted` where the cache has no id left.
+    /// A writer with a new id that stands after these pages of its blob. `OutOfMemory` where memory
+    /// was refused, `IdsExhausted` where the cache has no id left.
     fn at_prefix(
         alloc: Global,
         cache: &mut CacheRef,
@@ -196,18 +198,20 @@ impl<B, H> Recovery<B, H> {
 }
 
 impl<B: Blob, H: Sum> Recovery<B, H> {
-    /// Opens a blob of `size` physical bytes, in which nothing need be sound or synced: keeps its
-    /// pages up to the last that has a value, and cuts what follows, durably. Where the value of
-    /// that page isn't full, its other slot is emptied, durably, unless it verifies or is empty
-    /// already: so no slot that a torn write left bad stands beside what is appended. Each page is
-    /// read once at most, from the last one back, and those before the last that has a value
-    /// aren't. The page size is the cache's, the id its next one; the buffer has `capacity` bytes,
-    /// taken up to a multiple of the page size, and at least two pages.
+    /// Opens a blob of `size` physical bytes, whatever they are, synced or not. It keeps the blob's
+    /// pages up to the last that has a value, and cuts what follows, durably. If that page isn't
+    /// full, its other slot is emptied, durably, unless that slot verifies or is empty already. So
+    /// no slot that a torn write left bad stands beside what is appended.
+    ///
+    /// Each page is read once at most, from the last one back. Pages before the last that has a
+    /// value aren't read. The page size is the cache's, and the id is the cache's next one. The
+    /// buffer has `capacity` bytes, taken up to a multiple of the page size, and at least two
+    /// pages.
     ///
     /// `OffsetOverflow` where that capacity passes `usize`: then no device was called.
     /// `ReadFailed`, `WriteFailed`, `ResizeFailed` and `SyncFailed` where the device failed,
-    /// `OutOfMemory`; `IdsExhausted` where the cache has no id left: the blob is as it is opened
-    /// then. After an error the cache is as it was.
+    /// `OutOfMemory` where memory was refused. `IdsExhausted` where the cache has no id left: then
+    /// the blob is left as a successful call leaves it. After an error the cache is as it was.
     pub fn open(
         alloc: Global,
         blob: &mut B,
@@ -246,15 +250,15 @@ impl<B: Blob, H: Sum> Recovery<B, H> {
         ensures within { IfOk result (λ w. HoldsWithin w) }
         ensures ids { cache.new ≡ cache_after result cache.old }
 
-        // Nothing is held under a new id, so reads may begin.
+        // The cache holds nothing under a new id, so reads may begin.
         ensures can_read { IsFresh cache.old
             → IfOk result (λ w. CanRead (tail_of w) cache.new (B.life blob.new).present) }
         ensures fresh_ids { IsFresh cache.old → IsFresh cache.new }
 
-        // What reads of other blobs stand on.
+        // Other blobs can still be read, with the same cache.
         ensures others { LeavesReads cache.old cache.new }
 
-        // What a cut of it asks for.
+        // The condition under which the writer can be cut.
         ensures as_opened { let new = B.life blob.new in
             IfOk result (λ w. IsAsOpened H.sum_of w new.present) }
 
@@ -313,14 +317,14 @@ impl<B: Blob, H: Sum> Writer<B, H> {
     }
 }
 
-/// Recovers a blob of `size` physical bytes, whatever they are, also where something is unsynced,
-/// as after a call that was refused: the writer's content is the text of the bytes, which are the
-/// values of the pages from the first on joined while each is full, and the next page's value. What
-/// else the blob had is cut, as [`Recovery::truncate`] does, and all of it is durable. Each read
-/// has at most as many pages as fit `buffer_size`, and at least one.
+/// Recovers a blob of `size` physical bytes, whatever they are, even if something is unsynced, as
+/// after a call that failed. The writer's content is the text of the bytes: the values of the pages
+/// from the first on, joined while each is full, and the next page's value. What else the blob had
+/// is cut, as by [`Recovery::truncate`], and all that is left is durable. Each read has at most as
+/// many pages as fit `buffer_size` bytes, and at least one.
 ///
-/// Errors are those of [`Recovery::open`]; what the blob then holds has the same text. After one
-/// the cache may have given an id.
+/// Errors are those of [`Recovery::open`]. After an error what the blob holds has the same text,
+/// and the cache may have given an id.
 pub fn recover<B: Blob, H: Sum>(
     alloc: Global,
     blob: &mut B,
@@ -344,9 +348,9 @@ pub fn recover<B: Blob, H: Sum>(
     recover_all::<B, H>(alloc, blob, size, capacity, cache, buffer_size, &mut None)
 }
 
-/// Recovers a blob as [`recover`] does, and keeps the content as it is read: where `kept` is some,
-/// it holds nothing yet, of pages of the cache's size, and holds the recovered content then, in
-/// what was read, without a copy. After an error what it holds says nothing.
+/// Recovers a blob as [`recover`] does, and keeps the content as it is read. If `kept` is some, it
+/// must be an empty hand, for pages of the cache's size. At `Ok` it holds the recovered content, in
+/// the memory of what was read, without a copy. After an error it may hold anything.
 ///
 /// Errors are those of [`recover`].
 pub fn recover_keeping<B: Blob, H: Sum>(
@@ -396,15 +400,15 @@ fn recover_all<B: Blob, H: Sum>(
     ensures id { IfOk result (λ w. w.id ≡ cache.old.ids_given) }
     ensures ids { GivesId result cache.old cache.new }
 
-    // Nothing is held under a new id, so reads may begin.
+    // The cache holds nothing under a new id, so reads may begin.
     ensures can_read { IsFresh cache.old
         → IfOk result (λ w. CanRead (tail_of w) cache.new (B.life blob.new).present) }
     ensures fresh_ids { IsFresh cache.old → IsFresh cache.new }
 
-    // What reads of other blobs stand on.
+    // Other blobs can still be read, with the same cache.
     ensures others { LeavesReads cache.old cache.new }
 
-    // From then on every image keeps the whole text.
+    // From then on every image (possible state after a crash) keeps the whole text.
     ensures durable { let old = B.life blob.old in let new = B.life blob.new in
         let all = text H.sum_of cache.old.page_size old.present.readable in
         OnOk result (KeepsAll H.sum_of cache.old.page_size all new) }
@@ -425,7 +429,7 @@ fn recover_all<B: Blob, H: Sum>(
     ensures reads { let old = B.life blob.old in let new = B.life blob.new in
         ReadsWithin (scan_bytes cache.old.page_size (non_zero_usize_get buffer_size)) old new }
 
-    // The content, of which no page is read again.
+    // The content is kept, and no page is read again for it.
     ensures kept_text { let old = B.life blob.old in
         let all = text H.sum_of cache.old.page_size old.present.readable in
         OnOk result (kept.new ≡ kept_with all kept.old) }

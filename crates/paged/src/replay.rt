@@ -23,16 +23,18 @@ use std::num::NonZeroUsize;
 
 impl<B: Blob, H: Sum, Phase> Writer<B, H, Phase> {
     /// A replay of all that was appended until now, from the first byte on, and the writer. What
-    /// isn't written is written first, a page that isn't full too, without a sync; the bytes after
-    /// the full pages are copied. So it makes two device calls at most, a wait for the sync that
-    /// was started before and a write; and none where all is written. The replay reads nothing yet.
+    /// isn't written is written first, even a page that isn't full, without a sync. The bytes after
+    /// the full pages are copied. So the call makes two device calls at most, a wait for the sync
+    /// that was started before and a write, and none where all is written. The replay reads nothing
+    /// yet.
     ///
-    /// It reads batches of a quarter of the pages that fit `buffer_size` bytes, and at least one,
-    /// three batches ahead. What it gives isn't durable by it; a crash ends it, as it ends the
-    /// writer, and so does a recovery of the blob, which may cut it.
+    /// A replay's batch has a quarter of the physical pages that fit `buffer_size` bytes, rounded
+    /// up, and at least one. Up to three batches are read ahead. A replay makes nothing durable. A
+    /// crash ends it, as it ends the writer, and a recovery of the blob ends it, since that may cut
+    /// the blob.
     ///
-    /// `WriteFailed` where the device failed, `SyncFailed` where the started sync had failed;
-    /// `OutOfMemory`. The writer is gone then.
+    /// `WriteFailed` where the device failed, `SyncFailed` where the started sync failed or had
+    /// failed. `OutOfMemory` where memory was refused. The writer is gone after each of these.
     pub fn replay(
         mut self,
         blob: &mut B,

@@ -20,8 +20,8 @@ use paged_read::physical_page_size;
 use std::num::NonZeroUsize;
 
 impl<B, H, Phase> Writer<B, H, Phase> {
-    /// How many pages of the blob it has flushed, with the one in which its tip begins where that
-    /// one was.
+    /// How many pages of the blob the writer has flushed: the full ones, and the one in which its
+    /// tip begins if that was flushed.
     pub(crate) fn flushed_pages(&self) -> u64
         ensures { result ≡ flushed_pages self.now }
     {
@@ -33,18 +33,20 @@ impl<B, H, Phase> Writer<B, H, Phase> {
 }
 
 impl<B: Blob, H: Sum, Phase> Writer<B, H, Phase> {
-    /// How many logical bytes the flushed pages of the blob tell, from the first one on to the
-    /// first that isn't full: what a scan forward recovers, where opening went back from the end.
-    /// Pages that were flushed are counted, so bytes that are only buffered aren't.
+    /// How many logical bytes the values of the blob's flushed pages have, from the first page on,
+    /// up to and with the first that isn't full. That is what a scan forward recovers, where
+    /// opening went back from the end. Only flushed pages are counted, so bytes that are only
+    /// buffered aren't.
     ///
-    /// The first `proven` bytes count as told: the scan begins at the page that holds their end,
-    /// and at most after the full pages. Where they aren't told the answer says nothing. Each read
-    /// is of at most as many whole pages as fit `buffer_size` bytes, and at least one.
+    /// The first `proven` logical bytes count as there: the scan begins at the page that holds
+    /// their end, or after the full pages if that is earlier. If the pages before that one aren't
+    /// all full, the answer of a writer that isn't sound means nothing. Each read has at most as
+    /// many whole pages as fit `buffer_size` bytes, and at least one.
     ///
-    /// `ReadFailed` where the device failed, `OutOfMemory`; `BlobInsufficientLength` where the blob
-    /// is shorter than the writer's pages, and `OffsetOverflow` where an offset in them passes the
-    /// greatest, which neither is with the writer's own blob. The blob and the writer stay as they
-    /// were.
+    /// `ReadFailed` where the device failed, `OutOfMemory` where memory was refused.
+    /// `BlobInsufficientLength` where the blob is shorter than the writer's pages, and
+    /// `OffsetOverflow` where the end of these pages passes the greatest `u64`: neither happens
+    /// with the writer's own blob. The blob and the writer stay as they were.
     pub fn recoverable_prefix_len(
         &self,
         blob: &mut B,
@@ -59,17 +61,17 @@ impl<B: Blob, H: Sum, Phase> Writer<B, H, Phase> {
             let most = non_zero_usize_get buffer_size in
             ScanCosts H.sum_of self.now proven most old new result }
 
-        // Of a recovery that was opened over any blob: it can still be cut.
+        // For a recovery that was opened over any blob: it can still be cut.
         ensures opened { let old = B.life blob.old in let new = B.life blob.new in
             IsAsOpened H.sum_of self.now old.present → IsAsOpened H.sum_of self.now new.present }
     {
         self.scan_to(blob, proven, self.flushed_pages(), buffer_size, options)
     }
 
-    /// How many of the first `max_size` bytes the flushed pages hold: only pages that meet them are
-    /// read, and it answers at most `max_size`. Where they are told, that is the lesser of
-    /// `max_size` and what [`Writer::recoverable_prefix_len`] answers. Of no bytes it asks no
-    /// device.
+    /// How many of the first `max_size` logical bytes the flushed pages hold: only pages that meet
+    /// these bytes are read, and the answer is at most `max_size`. If the proven bytes are there,
+    /// it is the lesser of `max_size` and what [`Writer::recoverable_prefix_len`] answers. For
+    /// `max_size` 0 no device is asked. Errors are those of [`Writer::recoverable_prefix_len`].
     pub fn recoverable_prefix_len_at_most(
         &self,
         blob: &mut B,
@@ -111,15 +113,17 @@ impl<B: Blob, H: Sum, Phase> Writer<B, H, Phase> {
             let most = scan_bytes P (non_zero_usize_get buffer_size) in
             ReadsUpToEnd H.sum_of P most start end old new }
         ensures none { max_size ≡ 0 → (result ≡ Ok 0) × (B.life blob.new ≡ B.life blob.old) }
-        // Where the proven bytes are told, so are all that it counts.
+        // If the proven bytes are there, the answer is the length of the flushed pages' text, at
+        // most `max_size`.
         ensures told { let old = B.life blob.old in
             let w = self.now in let P = w.page_size in
             let told = text_of_first H.sum_of P (flushed_pages w) old.present.readable in
             IsProven H.sum_of P w.full_pages proven old.present.readable
             → IfOk result (λ len. len ≡ min max_size (length told)) }
 
-        // Of a sound writer: it answers the length of the blob's text, whatever is proven. It is
-        // refused for no offset, nor is one that was opened over any blob.
+        // For a sound writer: the answer is the length of the blob's text, at most `max_size`,
+        // whatever is proven. For it, and for a writer that was opened over any blob, the answer is
+        // neither `OffsetOverflow` nor `BlobInsufficientLength`.
         ensures text { let old = B.life blob.old in
             IsSound H.sum_of self.now old.present
             → IfOk result (λ len. len
@@ -134,7 +138,8 @@ impl<B: Blob, H: Sum, Phase> Writer<B, H, Phase> {
         Ok(max_size.min(len))
     }
 
-    /// Scans the blob up to the page `end`, which was flushed or is one after those that were.
+    /// Scans the blob up to before the page `end`, which was flushed or is the one after those that
+    /// were.
     fn scan_to(
         &self,
         blob: &mut B,

@@ -41,7 +41,7 @@ impl<B, H, Phase> Writer<B, H, Phase> {
 impl<B, H> Writer<B, H> {
     /// A snapshot of all that was appended until now, for which nothing is written: `None` exactly
     /// while a full page is buffered. It copies the bytes after the full pages, less than a page,
-    /// and makes no device call. `OutOfMemory` alone; the writer stays as it is.
+    /// and makes no device call. The only error is `OutOfMemory`. The writer stays as it is.
     pub fn try_snapshot(&self) -> Result<Option<Sealed<B, H>>, Error>
         ensures { TriesSnapshot self.now result }
     {
@@ -51,7 +51,7 @@ impl<B, H> Writer<B, H> {
         Ok(Some(self.copy_tail()?))
     }
 
-    /// What the writer leaves where it ends, and no full page is buffered.
+    /// The snapshot that a writer leaves when it ends with no full page buffered.
     fn into_sealed(self) -> Sealed<B, H>
         requires short { length self.tip < self.page_size }
         ensures is { result ≡ tail_of self }
@@ -69,14 +69,14 @@ impl<B, H> Writer<B, H> {
 
 impl<B: Blob, H: Sum> Writer<B, H> {
     /// A snapshot of all that was appended until now, and the writer. Full pages that are buffered
-    /// are written first, without a sync; the bytes after them, less than a page, are copied. So
-    /// it makes two device calls at most, a wait for the sync that was started before and a write;
-    /// and none where no full page is buffered.
+    /// are written first, without a sync. The bytes after them, less than a page, are copied. So
+    /// the call makes two device calls at most, a wait for the sync that was started before and a
+    /// write, and none where no full page is buffered.
     ///
-    /// What the snapshot tells isn't durable by it: a crash ends it, as it ends the writer.
+    /// A snapshot makes nothing durable: a crash ends it, as it ends the writer.
     ///
-    /// `WriteFailed` where the device failed, `SyncFailed` where the started sync had failed;
-    /// `OutOfMemory`. The writer is gone then.
+    /// `WriteFailed` where the device failed, `SyncFailed` where the started sync failed or had
+    /// failed. `OutOfMemory` where memory was refused. The writer is gone after each of these.
     pub fn snapshot(
         mut self,
         blob: &mut B,
@@ -124,16 +124,18 @@ impl<B: Blob, H: Sum> Writer<B, H> {
         self.copy_tail()
     }
 
-    /// Ends the writer: it writes all that was appended, starts a sync of it, and answers a
-    /// snapshot that reads on, and the name to wait for, by [`wait_sync`](crate::wait_sync); or
-    /// that all is durable already. Before that wait answers `Ok` the sync promises nothing.
+    /// Ends the writer: it writes all that was appended, and starts a sync. It answers a snapshot
+    /// of the content, which can be read on, and the started sync's name, or `Done` where all is
+    /// durable already. [`wait_sync`](crate::wait_sync) waits for the name. Before that wait
+    /// answers `Ok` the sync promises nothing.
     ///
-    /// It waits for the sync that was started before, whether or not there is something to write.
-    /// So it makes three device calls at most: the wait, a write, and the start. A start that
-    /// fails shows at the wait.
+    /// The call waits for the sync that was started before, whether or not there is something to
+    /// write. So it makes three device calls at most: the wait, a write, and the start. A start
+    /// that fails is reported by [`wait_sync`](crate::wait_sync).
     ///
     /// `WriteFailed` and `SyncFailed` where the device failed, and `SyncFailed` where the sync that
-    /// was started before had failed; `OutOfMemory`. The writer is gone at every answer.
+    /// was started before had failed. `OutOfMemory` where memory was refused. The writer is gone at
+    /// every answer.
     pub fn seal(
         mut self,
         blob: &mut B,

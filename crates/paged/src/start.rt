@@ -40,18 +40,20 @@ impl<B, H, Phase> Writer<B, H, Phase> {
 }
 
 impl<B: Blob, H: Sum, Phase> Writer<B, H, Phase> {
-    /// Writes all that was appended, and starts to make it durable. It answers the name to wait
-    /// for, or `Done` where all is durable already; where a sync was started and nothing was
-    /// appended since, that one's name. A wait for it that answers `Ok`, by
-    /// [`wait_for_sync`](Writer::wait_for_sync), by any later call that has to wait, or at any time
-    /// by [`wait_sync`], makes all that was appended until now durable; before that the started
-    /// sync promises nothing.
+    /// Writes all that was appended, and starts to make it durable. It answers the started sync's
+    /// name, or `Done` where all is durable already. Where a sync was started before and nothing
+    /// was appended since, it answers that sync's name.
+    ///
+    /// Once a wait for this sync answers `Ok`, all that was appended until now is durable. That
+    /// wait is [`wait_for_sync`](Writer::wait_for_sync), any later call that has to wait, or, at
+    /// any time, [`wait_sync`]. Before that the started sync promises nothing.
     ///
     /// It makes at most three device calls: a wait for the sync that was started before, a write,
-    /// and the start. A start that fails shows at the wait.
+    /// and the start. A start that fails is reported by the wait.
     ///
     /// `WriteFailed` and `SyncFailed` where the device failed, and `SyncFailed` where the sync that
-    /// was started before had failed; `OutOfMemory`. The writer is gone then.
+    /// was started before had failed. `OutOfMemory` where memory was refused. The writer is gone
+    /// after each of these.
     pub fn start_sync(
         mut self,
         blob: &mut B,
@@ -139,11 +141,11 @@ impl<B: Blob, H: Sum, Phase> Writer<B, H, Phase> {
         Ok(started)
     }
 
-    /// Waits until what the sync that was started last covers is durable; where none is pending it
+    /// Waits until all that the last started sync covers is durable. Where no sync is pending it
     /// does nothing. It makes one device call at most.
     ///
-    /// `SyncFailed` where the device failed, now or as the sync was started or waited for before;
-    /// `OutOfMemory`. The writer is gone then.
+    /// `SyncFailed` where the device failed, now or as the sync was started or waited for before.
+    /// `OutOfMemory` where memory was refused. The writer is gone after each of these.
     pub fn wait_for_sync(mut self, blob: &mut B) -> Result<Self, Error>
         requires sound { let old = (B.life blob.old).present in
             IsSound H.sum_of self old ⊎ IsConsistent H.sum_of self old }
@@ -158,12 +160,13 @@ impl<B: Blob, H: Sum, Phase> Writer<B, H, Phase> {
     }
 }
 
-/// Waits until what a started sync covers is durable, behind the back of the blob's writer, or
-/// where that is gone. The writer, if there is one, stays as it is: where it has to wait itself, it
-/// asks the device again.
+/// Waits until all that a started sync covers is durable, without the blob's writer, which may be
+/// gone. The writer, if there is one, stays as it is: if it has to wait itself, it asks the device
+/// again.
 ///
 /// `SyncFailed` where the device failed, now or as the sync was started or waited for before, and
-/// where it started no such sync; `OutOfMemory`. What was durable stays so.
+/// where the device started no such sync. `OutOfMemory` where memory was refused. What was durable
+/// stays durable.
 pub fn wait_sync<B: Blob, H: Sum>(blob: &mut B, started: StartedSync) -> Result<(), Error>
     ensures waits { WaitStartedGoes started (B.life blob.old) (B.life blob.new) result }
     ensures writers { LeavesAllWriters H.sum_of (B.life blob.old) (B.life blob.new) }
@@ -173,7 +176,7 @@ pub fn wait_sync<B: Blob, H: Sum>(blob: &mut B, started: StartedSync) -> Result<
         → LeavesAllTails H.sum_of cache cache (B.life blob.old) (B.life blob.new) }
     ensures all_replays { LeavesAllReplays (B.life blob.old) (B.life blob.new) }
 
-    // From then on every image keeps what the sync covers.
+    // From then on every image (possible state after a crash) keeps what the sync covers.
     ensures durable { OnOk result ((page_size : ℕ) →
         Covers H.sum_of page_size started (B.life blob.old) (B.life blob.new)) }
 {

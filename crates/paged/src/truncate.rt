@@ -32,7 +32,7 @@ use cache::CacheRef;
 use disk::{Blob, Error, IoBuf, ReadOptions};
 use page::{ActiveChecksum, Checksum, Slot, Sum};
 
-/// The slot that tells a page's value, where that has so many bytes.
+/// The slot of a page's value, if the value has at least `len` bytes.
 fn value_of<H: Sum>(page: &[u8], len: u16) -> Option<ActiveChecksum>
     requires some { 0 < len }
     requires footer { 12 ≤ length page.now }
@@ -45,18 +45,20 @@ fn value_of<H: Sum>(page: &[u8], len: u16) -> Option<ActiveChecksum>
 }
 
 impl<B: Blob, H: Sum> Recovery<B, H> {
-    /// Cuts the blob to its first `size` logical bytes, durably; where it has no more, it is synced
-    /// alone. A crash at any moment leaves each byte of these that it would have left before.
+    /// Cuts the blob to its first `size` logical bytes, durably. If it has no more, the call only
+    /// syncs it. A crash at any moment leaves each of the first `size` bytes that it would have
+    /// left before.
     ///
     /// All that was appended is made durable first. Then what stands after the page of the last
     /// byte is cut. Where that page is to keep a part, it is read, and rewritten in three steps,
     /// each durable before the next: the slot that isn't its value's gets the new checksum with no
     /// length, then the length, and then the other slot is emptied.
     ///
-    /// `InvalidChecksum` where that page doesn't tell as many bytes as it is to keep, which it
-    /// always does in a sound blob. `ReadFailed`, `WriteFailed`, `ResizeFailed` and `SyncFailed`
-    /// where the device failed, and `SyncFailed` where a started sync had failed; `OutOfMemory`.
-    /// The writer is gone then.
+    /// `InvalidChecksum` where the value of that page has fewer bytes than the page is to keep:
+    /// that never happens if the writer is sound (keeps its invariant). `ReadFailed`,
+    /// `WriteFailed`, `ResizeFailed` and `SyncFailed` where the device failed, and `SyncFailed`
+    /// where a started sync had failed. `OutOfMemory` where memory was refused. The writer is gone
+    /// after each of these.
     pub fn truncate(self, blob: &mut B, cache: &mut CacheRef, size: u64) -> Result<Self, Error>
         requires cached { cache.old.page_size ≡ self.page_size }
         requires sound { let old = B.life blob.old in
@@ -103,7 +105,7 @@ impl<B: Blob, H: Sum> Recovery<B, H> {
         ensures reads { has_work self true ≡ false
             → ReadsWithin (self.page_size + 12) (B.life blob.old) (B.life blob.new) }
 
-        // Of a sound writer, and of one as it was opened where the pages are full.
+        // For a sound writer, and for one as it was opened if its pages are full.
         ensures sound { let old = B.life blob.old in let new = B.life blob.new in
             IsSound H.sum_of self old.present → IfOk result (λ w. IsSound H.sum_of w new.present) }
         ensures left { let old = B.life blob.old in let new = B.life blob.new in
@@ -116,7 +118,8 @@ impl<B: Blob, H: Sum> Recovery<B, H> {
         ensures full { let old = B.life blob.old in let new = B.life blob.new in
             has_work self true ≡ false → IfOk result (SoundAndKept H.sum_of size self old new) }
 
-        // The full pages that are written are put in the cache, which stays true: reads go on.
+        // The full pages that are written are put in the cache, which stays right: the writer that
+        // is left can be read.
         ensures puts { (to : ℕ) × PutsUpTo self.id self.full_pages self.page_size self.tip to
             cache.old cache.new }
         ensures can_read { let old = B.life blob.old in let new = B.life blob.new in
@@ -128,7 +131,7 @@ impl<B: Blob, H: Sum> Recovery<B, H> {
         ensures fresh_ids { self.id < cache.old.ids_given → IsFresh cache.old → IsFresh cache.new }
         ensures idle_cache { has_work self true ≡ false → cache.new ≡ cache.old }
 
-        // What reads of other blobs stand on.
+        // Other blobs can still be read, with the same cache.
         ensures others { LeavesOthers self.id cache.old cache.new }
 
         // At each moment since the call began, and at every answer.
@@ -242,7 +245,7 @@ impl<B: Blob, H: Sum> Recovery<B, H> {
         self.stand_at(page, bytes.as_ref(), Some(new))
     }
 
-    /// Cuts the blob to so many pages, where it has more: whether it did.
+    /// Cuts the blob to `pages` pages if it has more, and answers whether it did.
     fn resize_to(&self, blob: &mut B, pages: u64) -> Result<bool, Error>
         requires fits { pages * (self.now.page_size + 12) < 2 ^ 64 }
         ensures { let held = self.now.full_pages + slot_pages self.now.flushed in
@@ -255,8 +258,8 @@ impl<B: Blob, H: Sum> Recovery<B, H> {
         Ok(true)
     }
 
-    /// The first `len` bytes of a page, and the slot that tells its value. `InvalidChecksum` where
-    /// that has fewer bytes.
+    /// The first `len` bytes of a page, and the slot of its value. `InvalidChecksum` where the
+    /// value has fewer bytes.
     fn read_value(
         &self,
         blob: &mut B,
@@ -281,8 +284,9 @@ impl<B: Blob, H: Sum> Recovery<B, H> {
         Ok((kept, value))
     }
 
-    /// Rewrites the footer of a page so that `new` tells it, in the slot that isn't its value's.
-    /// Where something else is unsynced, it is durable with the first of the three writes.
+    /// Rewrites the footer of a page, in three writes, so that `new`, which takes the slot beside
+    /// the value's, is the slot of its value. If something else is unsynced, it becomes durable
+    /// with the first of these writes.
     fn rewrite(
         &self,
         blob: &mut B,
@@ -303,7 +307,7 @@ impl<B: Blob, H: Sum> Recovery<B, H> {
         self.clear(blob, page, new)
     }
 
-    /// The first of the three writes, made durable.
+    /// The first of the three writes of a rewrite, made durable.
     fn stage_durably(
         &self,
         blob: &mut B,
@@ -325,8 +329,8 @@ impl<B: Blob, H: Sum> Recovery<B, H> {
         }
     }
 
-    /// Writes the new checksum into the slot that isn't the value's, with no length, so that it
-    /// tells nothing yet: the value's slot holds meanwhile.
+    /// Writes the new checksum into the slot that isn't the value's, with no length, so that this
+    /// slot covers nothing yet. The value's slot stays valid meanwhile.
     fn stage(
         &self,
         blob: &mut B,
@@ -347,8 +351,9 @@ impl<B: Blob, H: Sum> Recovery<B, H> {
         self.write_slot(blob, page, value.slot.other(), &bytes, sync)
     }
 
-    /// Writes its length there, and from here on it tells the page: the value's slot, which tells
-    /// as many bytes or more, holds meanwhile.
+    /// Writes the length beside the new checksum, and from here on the new slot covers the bytes
+    /// that the page is to keep. The value's slot, which covers as many bytes or more, stays valid
+    /// meanwhile.
     fn publish(&self, blob: &mut B, page: u64, value: ActiveChecksum, len: u16) -> Result<(), Error>
         requires fits { (page + 1) * (self.now.page_size + 12) < 2 ^ 64 }
         requires settled { (B.life blob.old).present.since ≡ [] }
@@ -362,7 +367,7 @@ impl<B: Blob, H: Sum> Recovery<B, H> {
         self.write_slot(blob, page, value.slot.other(), &bytes, true)
     }
 
-    /// Empties the slot that isn't this one, which holds meanwhile.
+    /// Empties the slot that isn't the new one. The new slot stays valid meanwhile.
     fn clear(&self, blob: &mut B, page: u64, new: ActiveChecksum) -> Result<(), Error>
         requires fits { (page + 1) * (self.now.page_size + 12) < 2 ^ 64 }
         requires settled { (B.life blob.old).present.since ≡ [] }
@@ -381,7 +386,7 @@ impl<B: Blob, H: Sum> Recovery<B, H> {
         )
     }
 
-    /// Writes bytes into a slot of a page, durably or not.
+    /// Writes bytes into a slot of a page, durably with `sync`.
     fn write_slot(
         &self,
         blob: &mut B,
@@ -399,7 +404,7 @@ impl<B: Blob, H: Sum> Recovery<B, H> {
         write_slot(self.alloc, blob, self.page_size, page, slot, bytes, sync)
     }
 
-    /// The writer stands after so many pages, and these bytes of the next, which this slot tells.
+    /// Puts the writer after `pages` pages, and these bytes of the next one, which `slot` covers.
     /// `OutOfMemory` alone.
     fn stand_at(
         &mut self,

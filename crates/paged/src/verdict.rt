@@ -10,18 +10,19 @@ use crate::Outlook;
 use paged_read::physical_page_size;
 use std::num::NonZeroU16;
 
-/// What a recovery would make of a blob, and what would go with it.
+/// What a recovery would make of a blob, and what the blob would lose by it. The blob's text is
+/// what the recovery would keep (see [`Outlook`]).
 #[derive(Clone, Copy, Debug, PartialEq, Eq)]
 pub struct Survey {
-    /// What a recovery would make of it.
+    /// What a recovery would make of the blob.
     pub outlook: Outlook,
-    /// How many of the whole physical pages that it would cut have a value.
+    /// How many of the whole physical pages that the recovery would cut have a value.
     pub beyond: u64,
     /// Whether all bytes of these pages are zero, as in pages that nobody has written.
     pub blank: bool,
-    /// Whether the last page of the text is partial, and its other slot says something and doesn't
+    /// Whether the last page of the text is partial, and its other slot isn't all zero and doesn't
     /// verify. A crash in a write of that page leaves it so. But the slot may also have been synced
-    /// and damaged since; then the page had more bytes than its value has now.
+    /// and damaged since: then the page may have had more bytes than its value has now.
     pub torn: bool,
 }
 
@@ -39,9 +40,9 @@ pub enum Verdict {
 }
 
 impl Survey {
-    /// How many physical bytes at the end go in a recovery: all that it cuts, and where the last
-    /// page of the text is torn, those of that page, whose other slot it empties. So many are to be
-    /// allowed in [`crate::recover_within`].
+    /// How many physical bytes at the end go in a recovery: all that it cuts, and, if the last page
+    /// of the text is torn, those of that page, whose other slot it empties. This is the least
+    /// `allowed` with which [`crate::recover_within`] recovers the blob.
     pub fn at_stake(&self, page_size: NonZeroU16) -> u64
         ensures stake { (sum : List ℕ → ℕ) (bytes : List ℕ) →
             let P = non_zero_u16_get page_size in
@@ -60,15 +61,15 @@ impl Survey {
     /// How many physical bytes at the end of the blob may hold synced bytes that a recovery gives
     /// up: those that are to be set aside before it.
     ///
-    /// Nothing tells a page that a crash tore from one that was synced and damaged since. So it is
-    /// all that would be cut, and where the last page of the text is torn, that page too, whose
-    /// other slot a recovery empties. Whole pages of zeros aren't among them: they have no byte
-    /// that is worth keeping.
+    /// A page that a crash tore looks like one that was synced and damaged since. So these are all
+    /// bytes that would be cut, and, if the last page of the text is torn, those of that page too,
+    /// whose other slot a recovery empties. If only whole pages of zeros would be cut, and no page
+    /// is torn, the answer is 0: zeros aren't worth keeping.
     pub fn set_aside_len(&self, page_size: NonZeroU16) -> u64
         ensures cases { result ≡ set_aside_of (non_zero_u16_get page_size) self.now }
 
-        // Of a blob's survey: so many bytes are there. Where it is none, each byte that would be cut
-        // is zero.
+        // For the survey of a blob: the blob has as many bytes. If the answer is 0, each byte that
+        // would be cut is zero.
         ensures there { (sum : List ℕ → ℕ) (bytes : List ℕ) →
             IsSurvey sum (non_zero_u16_get page_size) bytes self.now → result ≤ length bytes }
         ensures zeros { (sum : List ℕ → ℕ) (bytes : List ℕ) →
@@ -89,8 +90,9 @@ impl Survey {
 
     /// What to do with the surveyed blob, with pages of `page_size` logical bytes. A crash leaves
     /// few pages after the text; rot, another page size and a file that is no blob may leave many.
-    /// So it is refused where nothing would be kept, and where a page after the text has a value
-    /// and more than `limit` bytes would be cut. A torn last page doesn't count towards `limit`.
+    /// So the verdict is `Refuse` where bytes would be cut and nothing kept, and where a page after
+    /// the text has a value and more than `limit` physical bytes would be cut. A torn last page
+    /// doesn't count towards `limit`.
     pub fn verdict(&self, page_size: NonZeroU16, limit: u64) -> Verdict
         ensures cases { result ≡ verdict_of (non_zero_u16_get page_size) limit self.now }
         ensures whole { (result ≡ Verdict.Whole)
@@ -100,13 +102,15 @@ impl Survey {
             ↔ (((0 < cut) × (self.now.outlook.pages ≡ 0))
             ⊎ ((0 < self.now.beyond) × (limit < cut))) }
 
-        // Of a blob's survey: it is refused where nothing of it would be kept, and it has a byte.
+        // For the survey of a blob: the verdict is `Refuse` if the blob has a byte and nothing of
+        // it would be kept.
         ensures nothing { (sum : List ℕ → ℕ) (bytes : List ℕ) →
             let P = non_zero_u16_get page_size in
             IsSurvey sum P bytes self.now → text sum P bytes ≡ [] → 0 < length bytes
             → result ≡ Verdict.Refuse }
 
-        // It is cut with nothing set aside where no byte but zeros goes.
+        // The verdict is `Cut`, with nothing set aside, only if each byte that would be cut is
+        // zero.
         ensures zeros { (sum : List ℕ → ℕ) (bytes : List ℕ) →
             let P = non_zero_u16_get page_size in
             IsSurvey sum P bytes self.now → result ≡ Verdict.Cut

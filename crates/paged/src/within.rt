@@ -1,4 +1,4 @@
-// A recovery of which at most so many bytes may go.
+// A recovery in which at most so many bytes may go.
 ghost use Rattle.std.specs.Prelude.{◌≡◌, ◌≤◌, ◌<◌, ◌^◌, ◌+◌, length, Err, IfOk, OnOk};
 ghost use Rattle.std.specs.Int.NonZero.{non_zero_usize_get};
 ghost use Rattle.page.specs.Geometry.{adjusted};
@@ -29,8 +29,8 @@ use std::num::NonZeroUsize;
 /// Why a blob isn't recovered.
 #[derive(Clone, Copy, Debug, PartialEq, Eq)]
 pub enum Refusal {
-    /// So many physical bytes at the end would go, more than `allowed`: those that would be cut,
-    /// and those of a torn last page. The blob was only looked at.
+    /// How many physical bytes at the end would go, which is more than `allowed`: those that would
+    /// be cut, and those of a torn last page. The blob was only looked at.
     WouldCut(u64),
     /// The recovery failed.
     Failed(Error),
@@ -87,17 +87,17 @@ fn recover_text<B: Blob, H: Sum>(
 }
 
 /// Recovers a blob as [`crate::recover`] does, unless more than `allowed` physical bytes at its end
-/// would go: those that it cuts, zeros too, and where the last page of the text is torn
+/// would go: those that would be cut, even zeros, and, if the last page of the text is torn
 /// ([`crate::Survey::torn`]), those of that page. [`crate::Survey::at_stake`] is that number. So
 /// with `allowed` 0 nothing goes, and a file whose page size or checksum function isn't known for
 /// sure isn't cut in error.
 ///
-/// The blob is looked at first, as by [`crate::look`], and its text is summed once. What is read
-/// then is its last page, if that is partial, and by the recovery the last page that has a value,
-/// those after it, and the page that is to keep a part.
+/// The blob is looked at first, as by [`crate::look`], and its text is summed once. Then the last
+/// page of the text is read, if that is partial. The recovery reads the last page that has a value,
+/// the pages after it, and the page that is to keep a part.
 ///
-/// `WouldCut` where more would go, with the number: then the blob was only looked at. Else the
-/// errors are those of [`crate::recover`]. With `OffsetOverflow` no device was called.
+/// `WouldCut` where more would go, with that number of bytes: then the blob was only looked at.
+/// Else `Failed` with an error of [`crate::recover`]. With `OffsetOverflow` no device was called.
 pub fn recover_within<B: Blob, H: Sum>(
     alloc: Global,
     blob: &mut B,
@@ -144,15 +144,15 @@ fn recover_looked<B: Blob, H: Sum>(
     ensures id { IfOk result (λ w. w.id ≡ cache.old.ids_given) }
     ensures ids { GivesIdWithin result cache.old cache.new }
 
-    // Nothing is held under a new id, so reads may begin.
+    // The cache holds nothing under a new id, so reads may begin.
     ensures can_read { IsFresh cache.old
         → IfOk result (λ w. CanRead (tail_of w) cache.new (B.life blob.new).present) }
     ensures fresh_ids { IsFresh cache.old → IsFresh cache.new }
 
-    // What reads of other blobs stand on.
+    // Other blobs can still be read, with the same cache.
     ensures others { LeavesReads cache.old cache.new }
 
-    // From then on every image keeps the whole text.
+    // From then on every image (possible state after a crash) keeps the whole text.
     ensures durable { let old = B.life blob.old in let new = B.life blob.new in
         let all = text H.sum_of cache.old.page_size old.present.readable in
         OnOk result (KeepsAll H.sum_of cache.old.page_size all new) }

@@ -16,21 +16,22 @@ pub struct Recovering;
 
 /// The one writer of a blob of the type `B`, with pages under the checksum function `H`.
 ///
-/// Appended bytes are buffered after the full pages that the blob has. The blob and the cache are
-/// lent to each call: always the ones with which the writer was opened, and nobody else writes that
-/// blob meanwhile. A call that takes the writer gives it back only on success; after an error the
-/// writer is gone, and what the blob holds is to be recovered.
-// The small fields stand together, at the end: so it has 144 bytes. One of more than 128 is moved
-// by a call of `memmove`: so within it goes by reference.
+/// Appended bytes are buffered after the full pages that the blob has. The caller lends the blob
+/// and the cache to each call, always the ones with which the writer was opened, and nobody else
+/// may write that blob meanwhile. A call that takes the writer gives it back only on success. After
+/// an error the writer is gone, and the blob must be recovered.
+// The small fields stand together, at the end, so that a writer has 144 bytes. A value of more than
+// 128 bytes is moved by a call of `memmove`, so within the crate a writer goes by reference.
 #[derive(Drop)]
 pub struct Writer<B, H, Phase = Append> {
     pub(crate) alloc: Global,
     pub(crate) id: u64,
     /// The bytes after the full pages.
     pub(crate) tip: Buffer,
-    /// Of the page in which the tip begins: the slot that was written last.
+    /// The slot that was written last in the page in which the tip begins.
     pub(crate) flushed: Option<ActiveChecksum>,
-    /// Of the same page: the slot that was durable when it was last written. A rewrite repeats it.
+    /// The slot of the tip's page that was durable when that page was last written. A rewrite of
+    /// the page repeats it.
     pub(crate) durable: Option<ActiveChecksum>,
     pub(crate) page_size: NonZeroU16,
     pub(crate) sync_state: SyncState,
@@ -97,7 +98,7 @@ impl<B, H, Phase> Writer<B, H, Phase> {
         }
     }
 
-    /// The logical bytes of the blob with what is buffered.
+    /// The size in logical bytes, with what is buffered.
     pub fn size(&self) -> u64
         ensures { result ≡ self.now.full_pages * self.now.page_size + length self.now.tip }
     {

@@ -1,4 +1,4 @@
--- What a replay asks of the device, told by the log.
+-- What a replay asks of the device, by its log.
 use Rattle.std.proofs.Common.{◌≡◌, ◌⊎◌, inl, inr, ℕ, zero, suc, ◌+◌, ◌*◌, ◌<◌, ◌≤◌, List, [], ◌∷◌, ◌++◌, length, refl, ap, ◌∙◌, subst, arith, Bool, Result, Ok, Err, Option, Some, slice_get, slice_index_or, All}
 use Rattle.std.specs.Prelude.{OnOk, OnErr}
 use Rattle.std.specs.Result.{result_ok}
@@ -39,18 +39,18 @@ module _ (P batch full : ℕ) where
   of_later first later (StartReadMany ranges ∷ xs) le are = ((are.0.0, omega (arith, le, are.0.1), are.0.2, are.0.3), of_later first later xs le are.1)
   of_later first later (_ ∷ xs) le are = absurd are
 
-  -- none
+  -- where the device isn't asked, no batch is read
   pub batches_none : (first : ℕ) (old new : Life) → new ≡ old → ReadsBatches P batch full first old new
   batches_none first old new same = gained_none (AreOfBatches P batch full first) old new same (tt {0})
 
-  -- one
+  -- one start of a read is a read of one batch
   pub batches_start : (first page : ℕ) (old new : Life) (result : Result (List (List ℕ)) Error) → first ≤ page → page < full → StartReadGoes (batch_range P batch full page ∷ []) old new result → ReadsBatches P batch full first old new
   batches_start first page old new result above below goes = elim (start_asks (batch_range P batch full page ∷ []) old new result goes) [
     | inl none ↦ batches_none first old new none
     | inr asked ↦ gained_once (AreOfBatches P batch full first) (StartReadMany (batch_range P batch full page ∷ [])) asked.0 old new (ap (λ (l : Life). l.present.log) asked.1) ((page, above, below, refl), tt {0})
   ]
 
-  -- some, and then some at or after them
+  -- reads of some batches, and then of some at or after them
   pub batches_join : (first later : ℕ) (old mid new : Life) → first ≤ later → ReadsBatches P batch full first old mid → ReadsBatches P batch full later mid new → ReadsBatches P batch full first old new
   batches_join first later old mid new le one other =
       gained_joins (AreOfBatches P batch full first) (AreOfBatches P batch full later) (AreOfBatches P batch full first) old mid new
@@ -61,7 +61,7 @@ pub page_after_le : (batch full page : ℕ) (queue : List Ahead) → page ≤ pa
 page_after_le batch full page [] = omega arith
 page_after_le batch full page (a ∷ rest) = omega (arith, page_after_le batch full (after_batch batch full page) rest)
 
--- as many as are next, or fewer
+-- a queue of the next n batches has at most n
 pub next_few : (n batch full page : ℕ) (queue : List Ahead) → AreNext n batch full page queue → length queue ≤ n
 next_few zero batch full page queue next = omega (arith, ap (λ (l : List Ahead). length l) next)
 next_few (suc n) batch full page [] next = omega arith
@@ -93,7 +93,7 @@ serves_first P batch full page d (a ∷ rest) next has are =
     let is : has.0 ≡ batch_bytes P batch full a.page d.readable = are 0 a (omega arith) has.0 has.1 in
     record { a = a; bytes = _; first = refl; here = next.0; read = subst (λ (l : List (List ℕ)). a.read ≡ Ok l) is has.1 }
 
--- it was taken out
+-- the first of a queue, once it was taken out
 pub taken_first : (queue : List Ahead) (a first removed : Ahead) (bytes : List ℕ) (result : Result (List ℕ) Error) (answer : Option (List ℕ)) → Some a ≡ slice_get queue 0 → removed ≡ slice_index_or queue 0 removed → a.read ≡ Ok (bytes ∷ [])
     → ((b : List ℕ) → removed.read ≡ Ok (b ∷ []) → result ≡ Ok b) → answer ≡ result_ok result → answer ≡ Some bytes
 taken_first [] a first removed bytes result answer is same read ok gives = absurd (cc is)

@@ -1,4 +1,4 @@
--- Searches from a blob's end back: what they read, told by the log.
+-- Searches from a blob's end back: what they read, by the device's log.
 use Rattle.std.proofs.Common.{◌≡◌, inl, inr, ℕ, ◌+◌, ◌-◌, ◌*◌, ◌<◌, ◌≤◌, List, [], ◌∷◌, ◌++◌, length, Result, refl, sym, ap, subst, arith}
 use Rattle.disk.specs.Disk.{Request, Life, ReadAt, ReadMany, StartReadMany, DeviceReadGoes}
 use Rattle.disk.specs.declared.error.Error.{Error}
@@ -6,7 +6,7 @@ use Rattle.paged_read.specs.Searches.{AreReadsWithin, ReadsWithin}
 use Rattle.paged_read.specs.Backward.{FallFrom, FallTo, ReadsBack, ReadsDownTo}
 use Rattle.paged_read.proofs.Searching.{within_joins, gained_none, gained_once, gained_joins, gained_then, read_asks}
 
--- each is of one page
+-- reads that fall are each of one page
 fall_within : (size top most : ℕ) (xs : List Request) → size ≤ most → FallFrom size top xs → AreReadsWithin most xs
 fall_within size top most [] enough fall = tt
 fall_within size top most (ReadAt offset len ∷ xs) enough fall = (omega (arith, fall.0), fall_within size offset most xs enough fall.2)
@@ -14,7 +14,7 @@ fall_within size top most (ReadMany ranges ∷ xs) enough fall = absurd fall
 fall_within size top most (StartReadMany ranges ∷ xs) enough fall = absurd fall
 fall_within size top most (_ ∷ xs) enough fall = fall_within size top most xs enough fall
 
--- however low they end
+-- reads that fall, however low they end
 fall_forget : (size top bottom : ℕ) (xs : List Request) → FallTo size top bottom xs → FallFrom size top xs
 fall_forget size top bottom [] fall = tt
 fall_forget size top bottom (ReadAt offset len ∷ xs) fall = (fall.0, fall.1, fall_forget size offset bottom xs fall.2)
@@ -22,7 +22,7 @@ fall_forget size top bottom (ReadMany ranges ∷ xs) fall = absurd fall
 fall_forget size top bottom (StartReadMany ranges ∷ xs) fall = absurd fall
 fall_forget size top bottom (_ ∷ xs) fall = fall_forget size top bottom xs fall
 
--- one lower
+-- one read more, lower than the others
 fall_read : (size top bottom offset : ℕ) (xs : List Request) → FallTo size top bottom xs → offset + size ≤ bottom → FallTo size top offset (xs ++ ReadAt offset size ∷ [])
 fall_read size top bottom offset [] fall below = (refl, omega arith, omega arith)
 fall_read size top bottom offset (ReadAt at len ∷ xs) fall below = (fall.0, fall.1, fall_read size at bottom offset xs fall.2 below)
@@ -37,11 +37,11 @@ fall_lower size top bottom offset (ReadMany ranges ∷ xs) fall below = absurd f
 fall_lower size top bottom offset (StartReadMany ranges ∷ xs) fall below = absurd fall
 fall_lower size top bottom offset (_ ∷ xs) fall below = fall_lower size top bottom offset xs fall below
 
--- none yet
+-- no read yet
 pub down_start : (size bottom : ℕ) (life : Life) → bottom ≤ length life.present.readable → ReadsDownTo size bottom life life
 down_start size bottom life below = gained_none (FallTo size (length life.present.readable) bottom) life life refl below
 
--- one lower
+-- one read more, lower than those before
 pub down_read : (size bottom offset : ℕ) (start old new : Life) (answer : Result (List ℕ) Error) → offset + size ≤ bottom → ReadsDownTo size bottom start old → DeviceReadGoes offset size old new answer → ReadsDownTo size offset start new
 down_read size bottom offset start old new answer below so_far goes =
     let top = length start.present.readable in
@@ -52,7 +52,7 @@ down_read size bottom offset start old new answer below so_far goes =
           (gained_once (λ ys. ys ≡ ReadAt offset size ∷ []) (ReadAt offset size) asked.0 old new (ap (λ (l : Life). l.present.log) asked.1) refl)
     ]
 
--- the page before the last that is left
+-- a read of the page before the last that is left
 pub down_page : (P size n : ℕ) (start old new : Life) (answer : Result (List ℕ) Error) → size ≡ P + 12 → 0 < n → ReadsDownTo (P + 12) (n * (P + 12)) start old → DeviceReadGoes ((n - 1) * size) size old new answer
     → ReadsDownTo (P + 12) ((n - 1) * (P + 12)) start new
 down_page P size n start old new answer is some so_far goes =
@@ -60,17 +60,17 @@ down_page P size n start old new answer is some so_far goes =
     let below : (n - 1) * (P + 12) + (P + 12) ≤ n * (P + 12) = rw last at (let all : (n - 1) * (P + 12) + (P + 12) ≤ (n - 1 + 1) * (P + 12) = omega arith in all) in
     down_read (P + 12) (n * (P + 12)) ((n - 1) * (P + 12)) start old new answer below so_far (subst (λ (k : ℕ). DeviceReadGoes ((n - 1) * k) k old new answer) is goes)
 
--- no lower than an offset further down
+-- reads go no lower than an offset further down
 pub down_lower : (size bottom offset : ℕ) (old new : Life) → offset ≤ bottom → ReadsDownTo size bottom old new → ReadsDownTo size offset old new
 down_lower size bottom offset old new below reads =
     let top = length old.present.readable in
     gained_then (FallTo size top bottom) (FallTo size top offset) old new (λ xs fall. fall_lower size top bottom offset xs fall below) reads
 
--- so it goes back
+-- reads down to an offset go back
 pub down_back : (size bottom : ℕ) (old new : Life) → ReadsDownTo size bottom old new → ReadsBack size old new
 down_back size bottom old new down = gained_then (FallTo size (length old.present.readable) bottom) (FallFrom size (length old.present.readable)) old new (λ xs fall. fall_forget size (length old.present.readable) bottom xs fall) down
 
--- its reads are within any that have a page
+-- reads that go back are within any bound that has room for a page
 pub back_within : (size most : ℕ) (old new : Life) → size ≤ most → ReadsBack size old new → ReadsWithin most old new
 back_within size most old new enough back = gained_then (FallFrom size (length old.present.readable)) (AreReadsWithin most) old new (λ xs fall. fall_within size (length old.present.readable) most xs enough fall) back
 

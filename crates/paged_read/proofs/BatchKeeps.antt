@@ -77,7 +77,7 @@ pub delivered_bytes : (P : ℕ) (pages readable : List ℕ) (out : List (ℕ × 
 delivered_bytes P pages readable out k d page delivers there is =
     same_Some (get_or out k d).1 (page_at P page readable) (sym (delivered_at P pages readable out k d delivers there) ∙ slice_get-map (λ (p : ℕ). page_at P p readable) pages (get_or out k d).0 ∙ ap (λ (o : Option ℕ). option_map (λ (p : ℕ). page_at P p readable) o) is)
 
--- it's whole
+-- a delivered page is whole
 pub delivered_whole : (t : Tail) (pages readable : List ℕ) (out : List (ℕ × List ℕ)) → t.full_pages * (t.page_size + 12) ≤ length readable → All (λ page. page < t.full_pages) pages → Delivers (page_ranges t.page_size pages) readable out
     → All (IsDelivered t.page_size (length pages)) out
 delivered_whole t pages readable out reach below delivers = λ k d there.
@@ -86,7 +86,7 @@ delivered_whole t pages readable out reach below delivers = λ k d there.
     let bytes = delivered_bytes t.page_size pages readable out k d page delivers there (slice_get-get_or pages (get_or out k d).0 0 number) in
     (number, ap length bytes ∙ length-page_at t page readable reach (below (get_or out k d).0 0 number))
 
--- one more is put
+-- one delivered page more is put
 pub puts_more : (t : Tail) (cache between after : CacheState) (readable pages : List ℕ) (out : List (ℕ × List ℕ)) (k : ℕ) (bytes : List ℕ) (page : ℕ) → t.full_pages * (t.page_size + 12) ≤ length readable → between.page_size ≡ t.page_size
     → All (λ page. page < t.full_pages) pages → Delivers (page_ranges t.page_size pages) readable out → k < length out → ((d : ℕ × List ℕ) → (get_or out k d).1 ≡ bytes)
     → ((d : ℕ × List ℕ) → page ≡ get_or pages (get_or out k d).0 0) → Puts (t.id, page) (take t.page_size bytes) between after
@@ -119,7 +119,7 @@ kept_full sum P pages readable out k delivers full = λ page (j, within, is).
     let bytes = delivered_bytes P pages readable out j d page delivers there (slice_get-get_or pages (get_or out j d).0 0 number ∙ ap (λ (p : ℕ). Some p) same) in
     sym (ap (λ (l : List ℕ). value_len sum P l) bytes) ∙ full j d less
 
--- where one is refused, those before it were put
+-- where a page is refused, those before it were put
 pub puts_refused : (sum : List ℕ → ℕ) (t : Tail) (cache between after : CacheState) (pages readable : List ℕ) (out : List (ℕ × List ℕ)) (k : ℕ) → Delivers (page_ranges t.page_size pages) readable out
     → ((j : ℕ) (d : ℕ × List ℕ) → j < k → value_len sum t.page_size (get_or out j d).1 ≡ t.page_size) → PutsPages t.id (logical_bytes t readable) (delivered_pages pages (take k out)) cache between → after ≡ between → PutsFirst sum t (delivered_pages pages out) readable cache after
 puts_refused sum t cache between after pages readable out k delivers full puts same = record {
@@ -200,14 +200,14 @@ lacks_ready t pages readable at out room lacks reach below delivers marked long 
       fits = h.fits;
     }
 
--- there is none where no page is read
+-- nothing is lacking where no page is read
 pub no_lacks : (P room : ℕ) (pages : List ℕ) (lacks : List Lack) → pages ≡ [] → All (IsLack P pages room) lacks → lacks ≡ []
 no_lacks P room pages [] none each = refl
 no_lacks P room pages (lack ∷ lacks) none each =
     let there = slice_get_within pages lack.number lack.piece.page (each 0 lack (omega arith)).page in
     absurd (omega (arith, there, ap length none))
 
--- and has the content's bytes
+-- each piece that is lacking gets the content's bytes
 pub lacks_told : (t : Tail) (pages readable at : List ℕ) (out : List (ℕ × List ℕ)) (room : ℕ) (lacks : List Lack) → t.full_pages * (t.page_size + 12) ≤ length readable → All (λ page. page < t.full_pages) pages → Delivers (page_ranges t.page_size pages) readable out
     → AreMarked at out (length out) → All (IsLack t.page_size pages room) lacks → All (IsTold t.page_size (logical_bytes t readable) at out) lacks
 lacks_told t pages readable at out room lacks reach below delivers marked each = λ k d less.
@@ -229,7 +229,7 @@ pages_full sum P pages readable at out delivers marked full = λ page (number, t
     let h = found_number P pages readable at out number d delivers marked there in
     sym (ap (λ (l : List ℕ). value_len sum P l) (found_bytes P pages readable at out number page delivers marked here)) ∙ full (get_or at number 0) d h.0
 
--- why one isn't
+-- why a delivered page isn't kept
 pub keeps_fault : (sum : List ℕ → ℕ) (P : ℕ) (pages : List ℕ) (out : List (ℕ × List ℕ)) (old new : Life) (e : Error) → Delivers (page_ranges P pages) old.present.readable out → NoneFailed old.present new.present → KeepsFault sum P out e → PagesFault sum P pages old new e
 keeps_fault sum P pages out old new ReadFailed delivers none fault = absurd fault
 keeps_fault sum P pages out old new WriteFailed delivers none fault = fault

@@ -56,7 +56,7 @@ page_ranges_within P (page ∷ pages) readable there =
     All-cons (λ (r : ℕ × ℕ). r.0 + r.1 ≤ length readable) (page * (P + 12), P + 12) (page_ranges P pages) (omega (arith, there 0 page (omega arith), suc-mul page (P + 12)))
     (page_ranges_within P pages readable (λ k d less. there (suc k) d (omega arith)))
 
--- why it answers an error
+-- why a read of many ranges answers an error
 pub many_fault : (P : ℕ) (pages : List ℕ) (old new : Life) (out : List (ℕ × List ℕ)) (e : Error) → All (λ page. (page + 1) * (P + 12) ≤ length old.present.readable) pages → DeviceReadManyGoes (page_ranges P pages) old new out (Err e) → DeliversPages P pages old new (Err e)
 many_fault P pages old new out ReadFailed there goes = failed_once (ReadMany (page_ranges P pages)) old.present new.present (ap (λ l. l.present.log) goes)
 many_fault P pages old new out WriteFailed there goes = goes
@@ -84,7 +84,7 @@ delivers_none P [] readable out none no_out =
     subst (λ (l : List (ℕ × List ℕ)). Delivers [] readable l) (sym no_out) nothing
 delivers_none P (page ∷ pages) readable out none no_out = absurd (omega arith)
 
--- all of them
+-- the ranges of all pages
 pub page_ranges_all : (P size : ℕ) (pages : List ℕ) (n : ℕ) (ranges : List (ℕ × ℕ)) → size ≡ P + 12 → length pages ≤ n → ranges ≡ map (λ (page : ℕ). (page * size, size)) (take n pages) → ranges ≡ page_ranges P pages
 page_ranges_all P size pages n ranges is enough made =
     made ∙ ap (λ (l : List ℕ). map (λ (page : ℕ). (page * size, size)) l) (take_all n pages enough)

@@ -85,7 +85,7 @@ slices_split content ranges o d n =
     ∙ ap (λ (l : List ℕ). l ++ slice content (o + d, n)) (sym (push_slices content ranges (o, d)))
     ∙ sym (push_slices content (ranges ++ (o, d) ∷ []) (o + d, n))
 
--- nothing
+-- nothing is gathered yet
 pub gathered_start : (cache : CacheState) (t : Tail) (pages : List ℕ) (lacks : List Lack) (buf : List ℕ) → pages ≡ [] → lacks ≡ [] → Gathered cache t [] 0 pages lacks buf
 gathered_start cache t pages lacks buf no_pages no_lacks = record {
   wanted = no_pages ∙ sym (missing_nil cache t);
@@ -93,7 +93,7 @@ gathered_start cache t pages lacks buf no_pages no_lacks = record {
   bytes = λ d can. ap (λ (l : List Lack). with_told t.page_size (logical_bytes t d.readable) (pieces_in l) []) no_lacks;
 }
 
--- an empty range
+-- an empty range is gathered
 pub gathered_none : (cache : CacheState) (t : Tail) (ranges : List (ℕ × ℕ)) (o buf_offset : ℕ) (pages : List ℕ) (lacks : List Lack) (buf : List ℕ) → Gathered cache t ranges buf_offset pages lacks buf
     → Gathered cache t (ranges ++ (o, 0) ∷ []) buf_offset pages lacks buf
 gathered_none cache t ranges o buf_offset pages lacks buf g = record {
@@ -102,7 +102,7 @@ gathered_none cache t ranges o buf_offset pages lacks buf g = record {
   bytes = λ d can. g.bytes d can ∙ sym (push_slices (logical_bytes t d.readable) ranges (o, 0) ∙ append-nil (flat_map (slice (logical_bytes t d.readable)) ranges));
 }
 
--- a range of two parts
+-- a range of two parts is gathered where its parts are
 pub gathered_split : (cache : CacheState) (t : Tail) (ranges : List (ℕ × ℕ)) (o d n buf_offset : ℕ) (pages : List ℕ) (lacks : List Lack) (buf : List ℕ) → 0 < t.page_size
     → Gathered cache t ((ranges ++ (o, d) ∷ []) ++ (o + d, n) ∷ []) buf_offset pages lacks buf → Gathered cache t (ranges ++ (o, d + n) ∷ []) buf_offset pages lacks buf
 gathered_split cache t ranges o d n buf_offset pages lacks buf wide g = record {
@@ -116,7 +116,7 @@ wider P pages room more lacks le each = λ k d less.
     let h = each k d less in
     record { page = h.page; within = h.within; fits = omega (arith, h.fits, le) }
 
--- a part that was copied
+-- a part that was copied is gathered
 pub gathered_served : (cache : CacheState) (t : Tail) (ranges : List (ℕ × ℕ)) (o n buf_offset : ℕ) (pages : List ℕ) (lacks : List Lack) (buf part after : List ℕ) → buf_offset ≤ length buf
     → is_served cache t (o, n) ≡ true → take (buf_offset + n) after ≡ take buf_offset buf ++ part → ((d : Disk) → CanRead t cache d → part ≡ slice (logical_bytes t d.readable) (o, n))
     → Gathered cache t ranges buf_offset pages lacks buf → Gathered cache t (ranges ++ (o, n) ∷ []) (buf_offset + n) pages lacks after
@@ -169,7 +169,7 @@ piece_is P o n content within =
     ∙ ap (λ (l : List ℕ). take n l) (drop-drop (o % P) (o / P * P) content)
     ∙ ap (λ (k : ℕ). take n (drop k content)) (div-add-mod' o P)
 
--- a part that was added to the batch
+-- a part that was added to the batch is gathered
 pub gathered_lacked : (cache : CacheState) (t : Tail) (ranges : List (ℕ × ℕ)) (o n buf_offset : ℕ) (pages more : List ℕ) (lacks added : List Lack) (piece : Piece) (buf part after : List ℕ) → 0 < t.page_size → 0 < n
     → buf_offset ≤ length buf → length part ≡ n → o + n ≤ tail_size t → EndWithin o ranges → (o < t.full_pages * t.page_size → o % t.page_size + n ≤ t.page_size) → is_served cache t (o, n) ≡ false
     → take (buf_offset + n) after ≡ take buf_offset buf ++ part → piece ≡ record { page = o / t.page_size; skip = o % t.page_size; buf_offset = buf_offset; len = n } → more ≡ with_page piece.page pages
@@ -234,7 +234,7 @@ tried_part t o n buf_offset cache buf bytes answer fits tries = subst (λ (m : �
 
 -- ---- a range, part by part
 
--- none of it
+-- of a range none is served yet
 pub served_start : (cache : CacheState) (t : Tail) (o n : ℕ) → n ≡ 0 → true ≡ is_served cache t (o, n)
 served_start cache t o n none = sym (ap (λ (m : ℕ). is_served cache t (o, m)) none ∙ served_none cache t o)
 
@@ -245,7 +245,7 @@ gathered_empty cache t ranges o n buf_offset pages lacks buf none g =
     let first : Gathered cache t (ranges ++ (o, n) ∷ []) buf_offset pages lacks buf = subst (λ (m : ℕ). Gathered cache t (ranges ++ (o, m) ∷ []) buf_offset pages lacks buf) (sym none) (gathered_none cache t ranges o buf_offset pages lacks buf g) in
     subst (λ (m : ℕ). Gathered cache t (ranges ++ (o, n) ∷ []) m pages lacks buf) here first
 
--- a part more
+-- one part more of a range
 pub served_more : (cache : CacheState) (t : Tail) (o at n : ℕ) (before here : Bool) → 0 < t.page_size → o ≤ at → before ≡ is_served cache t (o, at - o) → here ≡ is_served cache t (at, n)
     → (before && here) ≡ is_served cache t (o, at + n - o)
 served_more cache t o at n before here wide ahead first second =

@@ -1,4 +1,4 @@
--- Reads of the bytes below a tail.
+-- Reads of the bytes below a tail: those of its full pages.
 use Rattle.std.proofs.Common.{◌≡◌, inl, inr, ℕ, ◌+◌, ◌*◌, ◌-◌, ◌/◌, ◌<◌, ◌≤◌, List, [], ◌∷◌, ◌++◌, length, take, drop, refl, sym, ap, ◌∙◌, subst, arith, Ok, Err, Result, length-drop, append-nil, ◌≢◌, ◌^◌, true, false}
 use Rattle.std.specs.Prelude.{All, nat_eq, Option, None, cond, is_some, not}
 use Rattle.std.proofs.Math.Nat.{mul-le-mul_left}
@@ -27,11 +27,11 @@ module _ (t : Tail) (cache : CacheState) (offset len : ℕ) (some : 0 < t.page_s
   pub pieces_are : (room : ℕ) → cache.page_size ≡ t.page_size → len ≤ room → All (IsPiece cache.page_size room) (pieces_of t.page_size (offset, len) 0)
   pieces_are room size fits = subst (λ P. All (IsPiece P room) (pieces_of t.page_size (offset, len) 0)) (sym size) (λ k d under. (pieces_below t.page_size offset len some t room refl below fits k d under).part)
 
-  -- those that it leaves are of pages below
+  -- the pieces that the cache leaves are of pages below the tail
   pub left_are : (room : ℕ) → len ≤ room → All (IsPieceOf t room) (pieces_left cache t.id (pieces_of t.page_size (offset, len) 0))
   left_are room fits = left_below t room cache t.id (pieces_of t.page_size (offset, len) 0) (pieces_below t.page_size offset len some t room refl below fits)
 
-  -- as many as pages are missing
+  -- as many pieces are left as pages are missing
   pub left_many : length (pieces_left cache t.id (pieces_of t.page_size (offset, len) 0)) ≡ length (missing cache t ((offset, len) ∷ []))
   left_many = sym (ap length (missing_pages cache t offset len 0 some below) ∙ length-map (pieces_left cache t.id (pieces_of t.page_size (offset, len) 0)) (λ (p : Piece). p.page))
 
@@ -53,11 +53,11 @@ module _ (t : Tail) (cache : CacheState) (offset len : ℕ) (some : 0 < t.page_s
       is ∙ told_agrees P content (pieces_left cache t.id pieces) (with_pieces cache t.id pieces buf) wanted copied.size (left_fit P content wanted cache t.id pieces fit)
       (λ i under. elim (copied.agrees i under) [ inl right ↦ inl right | inr (inl left) ↦ inr left | inr (inr none) ↦ absurd none ])
 
-  -- whose pages are the missing ones
+  -- the pages of the pieces that are left are the missing ones
   pub left_pages : (pieces left : List Piece) → pieces ≡ pieces_of t.page_size (offset, len) 0 → left ≡ pieces_left cache t.id pieces → piece_pages left ≡ missing cache t ((offset, len) ∷ [])
   left_pages pieces left all is = ap piece_pages (is ∙ ap (λ (l : List Piece). pieces_left cache t.id l) all) ∙ sym (missing_pages cache t offset len 0 some below)
 
-  -- so the range is read
+  -- where the pieces that are left are read, the range is
   pub missing_read : (sum : List ℕ → ℕ) (old new : Life) (left pieces : List Piece) (buf mid after : List ℕ) (result : Result (Unit {0}) Error) → CanRead t cache old.present → length buf ≡ len
       → pieces ≡ pieces_of t.page_size (offset, len) 0 → left ≡ pieces_left cache t.id pieces → mid ≡ with_pieces cache t.id pieces buf
       → FetchesPieces sum t left mid after old new result → ReadsBelow sum t cache (offset, len) after old new result
@@ -93,7 +93,7 @@ module _ (t : Tail) (cache : CacheState) (offset len : ℕ) (some : 0 < t.page_s
   pub only_page : (piece : Piece) → cached_page cache (t.id, piece.page) ≡ None → pieces_of t.page_size (offset, len) 0 ≡ piece ∷ [] → piece.page ∷ [] ≡ missing cache t ((offset, len) ∷ [])
   only_page piece lacks is = left_pages (piece ∷ []) (piece ∷ []) (sym is) (sym (only_left piece lacks))
 
-  -- and where it is read, the range is
+  -- where that page is read, the range is
   pub only_read : (sum : List ℕ → ℕ) (old new : Life) (piece : Piece) (buf after : List ℕ) (result : Result (Unit {0}) Error) → CanRead t cache old.present → length buf ≡ len
       → cached_page cache (t.id, piece.page) ≡ None → pieces_of t.page_size (offset, len) 0 ≡ piece ∷ []
       → FetchesPieces sum t (piece ∷ []) buf after old new result → ReadsBelow sum t cache (offset, len) after old new result
@@ -140,7 +140,7 @@ module _ (t : Tail) (cache : CacheState) (offset : ℕ) (buf mid : List ℕ) (co
   below_joins sum old new rest all (Err e) can below is reads =
       faults_same sum cache t ((offset + count, length buf - count) ∷ []) ((offset, length buf) ∷ []) old new e (missing_rest cache t.id offset buf mid count cached t refl can.page_size some) reads
 
-  -- and it asks for no more
+  -- the whole read asks for no more than the read of the rest
   pub asks_joins : (old new : Life) → cache.page_size ≡ t.page_size → offset + length buf ≤ t.full_pages * t.page_size → t.full_pages * (t.page_size + 12) < 2 ^ 64 → count ≢ length buf
       → length new.present.log ≤ length old.present.log + length (missing cache t ((offset + count, length buf - count) ∷ [])) → AsksForMissing cache t (offset, length buf) old new
   asks_joins old new size below fits short asks =
@@ -164,13 +164,13 @@ module _ (t : Tail) (cache : CacheState) (offset : ℕ) (buf mid : List ℕ) (co
         sym (take_all 0 mid (omega (arith, zero_len, cached.size))) ∙ ap (λ n. slice (logical_bytes t d.readable) (offset, n)) (sym zero_len)
   ]
 
-  -- and nothing is asked for
+  -- where the cache had all, nothing is asked for
   pub cached_reads : (sum : List ℕ → ℕ) (life : Life) → CanRead t cache life.present → (0 < length buf → offset + length buf ≤ t.full_pages * t.page_size) → count ≡ length buf → ReadsBelow sum t cache (offset, length buf) mid life life (Ok tt)
   cached_reads sum life can below all =
       let none : missing cache t ((offset, length buf) ∷ []) ≡ [] = cached_all cache t.id offset buf mid count cached t refl can.page_size some all in
       (cached_whole life.present can below all, full_missing sum cache t ((offset, length buf) ∷ []) [] life.present.readable none (λ page has. absurd (omega (arith, has.1))), none_failed_start life.present)
 
-  -- whether it had all says whether the range is served
+  -- the cache had all bytes exactly if the range is served
   pub cached_tries : cache.page_size ≡ t.page_size → t.full_pages * (t.page_size + 12) < 2 ^ 64 → (0 < length buf → offset + length buf ≤ t.full_pages * t.page_size) → TriesBelow t (offset, length buf) cache mid (nat_eq count (length mid))
   cached_tries size fits below =
       let within = cached_within cache t.id offset buf mid count cached in (

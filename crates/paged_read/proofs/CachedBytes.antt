@@ -57,13 +57,13 @@ module _ (cache : CacheState) (id offset : ℕ) (old new : List ℕ) (count : �
       holds_page cache id (offset + i) byte.0 (reads.copied i byte.0 below byte.1)
 
   module _ (t : Tail) (mine : t.id ≡ id) (size : cache.page_size ≡ t.page_size) (some : 0 < t.page_size) where
-    -- so a page with such a byte is
+    -- a page with a byte that was copied is held
     page_held : (page i : ℕ) → i < count → page * t.page_size ≤ offset + i → offset + i < (page + 1) * t.page_size → is_some (cached_page cache (t.id, page)) ≡ true
     page_held page i below above under =
         let here : (offset + i) / cache.page_size ≡ page = ap (λ P. (offset + i) / P) size ∙ page_is t.page_size (offset + i) page some above under in
         ap (λ n. is_some (cached_page cache (n, page))) mine ∙ ap (λ n. is_some (cached_page cache (id, n))) (sym here) ∙ byte_held i below
 
-    -- what they leave finds missing what the whole does
+    -- the range after the bytes that were copied finds missing what the whole range does
     pub missing_rest : missing cache t ((offset, length old) ∷ []) ≡ missing cache t ((offset + count, length old - count) ∷ [])
     missing_rest = missing_same cache t (offset, length old) (offset + count, length old - count) (λ page below. by_offset page)
       where
@@ -92,7 +92,7 @@ module _ (cache : CacheState) (id offset : ℕ) (old new : List ℕ) (count : �
     pub cached_all : count ≡ length old → missing cache t ((offset, length old) ∷ []) ≡ []
     cached_all all = missing_rest ∙ missing_none cache t (offset + count) (length old - count) (omega (arith, all))
 
-    -- where not all were, one is
+    -- where not all were copied, a page is missing
     pub cached_some : offset + length old ≤ t.full_pages * t.page_size → offset + length old < 2 ^ 64 → count < length old → 0 < length (missing cache t ((offset, length old) ∷ []))
     cached_some below fits short = elim reads.ends [
       | inl all ↦ absurd (omega (arith, all, short))
@@ -109,7 +109,7 @@ module _ (cache : CacheState) (id offset : ℕ) (old new : List ℕ) (count : �
           filter_some (needs cache t (offset, length old)) 0 t.full_pages page (omega arith) (omega (arith, div_below here P t.full_pages some (omega (arith, below, short)))) wanted
     ]
 
-    -- those that were copied are the content's
+    -- the bytes that were copied are the content's
     pub cached_bytes : (d : Disk) → CanRead t cache d → offset + length old ≤ t.full_pages * t.page_size → take count new ≡ slice (logical_bytes t d.readable) (offset, count)
     cached_bytes d can below =
         let content = logical_bytes t d.readable in

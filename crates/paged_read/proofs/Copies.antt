@@ -16,12 +16,12 @@ use Rattle.disk.proofs.Lists.{slice_get-drop}
 abbrev pub Covers : Piece → ℕ → Type 0
 Covers piece i = (piece.buf_offset ≤ i) × (i < piece.buf_offset + piece.len)
 
--- or in one of these
+-- an offset of the buffer lies in one of these pieces
 abbrev pub SomeCovers : List Piece → ℕ → Type 0
 SomeCovers [] i = ⊥
 SomeCovers (piece ∷ pieces) i = Covers piece i ⊎ SomeCovers pieces i
 
--- each byte is the wanted one, or this is said of its offset
+-- each byte of a buffer is the wanted one, or this property holds of its offset
 abbrev pub AgreesOr : (ℕ → Type 0) → (buf wanted : List ℕ) → Type 0
 AgreesOr Else buf wanted = (i : ℕ) → i < length wanted → (slice_get buf i ≡ slice_get wanted i) ⊎ Else i
 
@@ -29,12 +29,12 @@ AgreesOr Else buf wanted = (i : ℕ) → i < length wanted → (slice_get buf i 
 abbrev pub told_of : (P : ℕ) → List ℕ → Piece → List ℕ
 told_of P content piece = take piece.len (drop piece.skip (page_of_content P content piece.page))
 
--- those are the wanted ones at the piece's offset
+-- a piece's bytes are the wanted ones at the piece's offset
 pub record Fits (P : ℕ) (content wanted : List ℕ) (piece : Piece) : Type 0 where
   pub within : piece.buf_offset + piece.len ≤ length wanted
   pub bytes : told_of P content piece ≡ take piece.len (drop piece.buf_offset wanted)
 
--- each piece does
+-- each of these pieces has the wanted bytes
 abbrev pub AllFit : (P : ℕ) → (content wanted : List ℕ) → List Piece → Type 0
 AllFit P content wanted [] = Unit {0}
 AllFit P content wanted (piece ∷ pieces) = Fits P content wanted piece × AllFit P content wanted pieces
@@ -47,7 +47,7 @@ length_of buf_offset n bytes wanted is within = ap length is ∙ length-take-le 
 put_parts : (buf_offset : ℕ) (bytes buf : List ℕ) → put_at buf_offset bytes buf ≡ take buf_offset buf ++ (bytes ++ drop (buf_offset + length bytes) buf)
 put_parts buf_offset bytes buf = append_assoc (take buf_offset buf) bytes (drop (buf_offset + length bytes) buf)
 
--- before them it is as it was
+-- before the bytes that were put a buffer is as it was
 put_before : (buf_offset : ℕ) (bytes buf : List ℕ) (i : ℕ) → buf_offset + length bytes ≤ length buf → i < buf_offset → slice_get (put_at buf_offset bytes buf) i ≡ slice_get buf i
 put_before buf_offset bytes buf i fits before =
     let size : length (take buf_offset buf) ≡ buf_offset = length-take-le buf_offset buf (omega (arith, fits)) in
@@ -55,7 +55,7 @@ put_before buf_offset bytes buf i fits before =
     ∙ slice_get-append_left (take buf_offset buf) (bytes ++ drop (buf_offset + length bytes) buf) i (omega (arith, size, before))
     ∙ slice_get-take buf_offset buf i before
 
--- after them too
+-- after the bytes that were put a buffer is as it was
 put_after : (buf_offset : ℕ) (bytes buf : List ℕ) (i : ℕ) → buf_offset + length bytes ≤ length buf → buf_offset + length bytes ≤ i → slice_get (put_at buf_offset bytes buf) i ≡ slice_get buf i
 put_after buf_offset bytes buf i fits after =
     let size : length (take buf_offset buf) ≡ buf_offset = length-take-le buf_offset buf (omega (arith, fits)) in
@@ -66,7 +66,7 @@ put_after buf_offset bytes buf i fits after =
     ∙ slice_get-drop (buf_offset + length bytes) buf (i - length (take buf_offset buf) - length bytes)
     ∙ ap (λ k. slice_get buf k) (let e : buf_offset + length bytes + (i - length (take buf_offset buf) - length bytes) ≡ i = omega (arith, size, after) in e)
 
--- and at their offsets they stand
+-- at their offsets stand the bytes that were put
 put_here : (buf_offset n : ℕ) (bytes buf wanted : List ℕ) (i : ℕ) → bytes ≡ take n (drop buf_offset wanted) → buf_offset + n ≤ length wanted → length buf ≡ length wanted → buf_offset ≤ i → i < buf_offset + n
     → slice_get (put_at buf_offset bytes buf) i ≡ slice_get wanted i
 put_here buf_offset n bytes buf wanted i is within size above below =
@@ -119,12 +119,12 @@ told_agrees P content (piece ∷ pieces) buf wanted size fit agrees =
     told_agrees P content pieces (put_at piece.buf_offset (told_of P content piece) buf) wanted (put_size P content piece buf wanted size fit.0) fit.1
     (put_agrees (SomeCovers pieces) P content piece buf wanted size fit.0 agrees)
 
--- those of a cache's pages that are the content's
+-- the pieces of pages that the cache holds have the content's bytes
 abbrev pub AreTrue : CacheState → (id P : ℕ) → List ℕ → List Piece → Type 0
 AreTrue cache id P content [] = Unit {0}
 AreTrue cache id P content (piece ∷ pieces) = ((bytes : List ℕ) → cached_page cache (id, piece.page) ≡ Some bytes → bytes ≡ page_of_content P content piece.page) × AreTrue cache id P content pieces
 
--- what a cache's copying leaves is right but for the pieces that are left, and its length
+-- what a cache's copying leaves is right except for the pieces left, and has the wanted length
 pub record LeavesPieces (Else : ℕ → Type 0) (wanted : List ℕ) (left : List Piece) (buf : List ℕ) : Type 0 where
   pub size : length buf ≡ length wanted
   pub agrees : AgreesOr (λ i. SomeCovers left i ⊎ Else i) buf wanted

@@ -13,7 +13,7 @@ none_failed_once request a b is = (record { request = request; failed = false } 
 pub none_failed_asked : (request : Request) (old new : Life) → AskedOnce request false old new → NoneFailed old.present new.present
 none_failed_asked request old new is = none_failed_once request old.present new.present (ap (λ (l : Life). l.present.log) is)
 
--- none
+-- where no device call was made, none failed
 pub none_failed_same : (old new : Life) → new ≡ old → NoneFailed old.present new.present
 none_failed_same old new is = subst (λ (l : Life). NoneFailed old.present l.present) (sym is) (none_failed_start old.present)
 

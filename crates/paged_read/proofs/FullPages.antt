@@ -19,6 +19,6 @@ value_says sum P page a size some =
     let at : length page - 12 ≡ P = omega arith in
     (active_is sum P page a (sym (some ∙ ap (λ n. active sum n page) at))).len
 
--- one that is answered is one call more
+-- a read that is answered is one device call more
 pub read_longer : (offset len : ℕ) (old new : Life) (bytes : List ℕ) → DeviceReadGoes offset len old new (Ok bytes) → length new.present.log ≡ length old.present.log + 1
 read_longer offset len old new bytes goes = omega (arith, ap (λ (l : Life). length l.present.log) goes.2, length-append old.present.log (record { request = ReadAt offset len; failed = false } ∷ []))

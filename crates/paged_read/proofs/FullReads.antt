@@ -48,7 +48,8 @@ EachFull sum t d =
     (page : ℕ) → page < t.full_pages
     → value_len sum t.page_size (page_at t.page_size page d.readable) ≡ t.page_size
 
--- where its pages are full, and where the blob has a sound writer with as many
+-- each page below a tail is full where the tail's pages are, and where the blob has a sound writer
+-- with as many
 pub full_of_tail : (sum : List ℕ → ℕ) (t : Tail) (d : Disk) → HasPages t d → HasFullPages sum t d
     → EachFull sum t d
 full_of_tail sum t d there full page below =
@@ -65,7 +66,7 @@ full_of_sound sum t w d sound size fewer page below =
 
 module _ (sum : List ℕ → ℕ) (t : Tail) (cache : CacheState) (old new : Life)
     (full : EachFull sum t old.present) where
-  -- so no missing page is refused
+  -- so the read doesn't answer `InvalidChecksum` for a missing page
   pub no_fault : (ranges : List (ℕ × ℕ)) → ReadFault sum cache t ranges old new InvalidChecksum → ⊥
   no_fault ranges (page, among, part, none) =
       let below : page < t.full_pages =

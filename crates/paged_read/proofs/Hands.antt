@@ -24,7 +24,7 @@ payloads_short P bytes short =
     ∙ append-nil (take P (take (P + 12) bytes))
     ∙ take-take P (P + 12) bytes (omega arith)
 
--- nothing has none
+-- no bytes have no payloads
 pub payloads_none : (P : ℕ) → payloads P [] ≡ []
 payloads_none P = payloads_short P [] (omega arith) ∙ take_all P [] (omega arith)
 
@@ -47,7 +47,7 @@ payloads_first P bytes = elim (cases_lt (length bytes) (P + 12)) [
       ∙ ap (λ (l : List ℕ). l ++ payloads P back) (take-take P (P + 12) bytes (omega arith))
 ]
 
--- the same by how much there is of it
+-- the payload of the first page, by how many bytes there are of it, and then the others
 pub payloads_begin : (P : ℕ) (bytes : List ℕ) → payloads P bytes ≡ take (min (length bytes) P) bytes ++ payloads P (drop (min (length bytes) P + 12) bytes)
 payloads_begin P bytes = elim (cases_lt (length bytes) P) [
   | inl short ↦
@@ -62,7 +62,7 @@ payloads_begin P bytes = elim (cases_lt (length bytes) P) [
 
 -- ---- cursors
 
--- and then the other pages
+-- after a cursor's page come the payloads of the other pages
 pub cursor_others : (P : ℕ) (first : List ℕ) (runs : List (List ℕ)) (start left : ℕ) → start + left ≤ length first
     → drop left (payloads_from P (first ∷ runs) start left) ≡ payloads P (drop (start + left + 12) first) ++ flat_map (payloads P) runs
 cursor_others P first runs start left within =
@@ -90,7 +90,7 @@ after_page P first runs start left rest whole =
     ∙ append_assoc (take (min rest P) back) (payloads P (drop (min rest P + 12) back)) (flat_map (payloads P) runs)
     ∙ ap (λ (l : List ℕ). take (min rest P) back ++ (payloads P l ++ flat_map (payloads P) runs)) (drop-drop (min rest P + 12) at first ∙ ap (λ (k : ℕ). drop k first) (let e : at + (min rest P + 12) ≡ at + min rest P + 12 = omega arith in e))
 
--- or the next run
+-- after the last page of a run comes the next run
 pub after_run : (P : ℕ) (first : List ℕ) (runs : List (List ℕ)) (start left : ℕ) → start + left ≤ length first → length first ≤ start + left + 12
     → drop left (payloads_from P (first ∷ runs) start left) ≡ flat_map (payloads P) runs
 after_run P first runs start left within ends =
@@ -136,7 +136,7 @@ after_next P run start left next_start next_left runs first below is within ends
 
 -- ---- so many bytes after a cursor
 
--- in its page
+-- so many bytes after a cursor, in its page
 pub passed : (P : ℕ) (runs : List (List ℕ)) (start left count : ℕ) → IsCursor runs start left → (left ≡ 0) ⊎ (count < left)
     → count ≤ length (payloads_from P runs start left) → drop count (payloads_from P runs start left) ≡ payloads_from P runs (start + count) (left - count)
 passed P [] start left count cursor few there = drop_all count [] (omega arith)
@@ -149,12 +149,12 @@ passed P (first ∷ runs) start left count cursor few there =
     ∙ ap (λ (l : List ℕ). l ++ others) (drop-take_less (drop start first) count left (omega (arith, less)) ∙ ap (λ (l : List ℕ). take (left - count) l) (drop-drop count start first))
     ∙ ap (λ (k : ℕ). take (left - count) (drop (start + count) first) ++ (payloads P (drop k first) ++ flat_map (payloads P) runs)) (let e : start + left + 12 ≡ start + count + (left - count) + 12 = omega (arith, less) in e)
 
--- a cursor with no byte left is after all
+-- a cursor with no byte left is after all pages
 pub none_left : (P : ℕ) (runs : List (List ℕ)) (start : ℕ) → IsCursor runs start 0 → payloads_from P runs start 0 ≡ []
 none_left P [] start cursor = refl
 none_left P (first ∷ runs) start cursor = absurd (omega (arith, cursor.0))
 
--- one with some is in a run
+-- a cursor with a byte left is in a run
 pub some_left : (runs : List (List ℕ)) (run start left : ℕ) → run ≤ length runs → IsCursor (drop run runs) start left → 0 < left → run < length runs
 some_left runs run start left within cursor some = elim (cases_lt run (length runs)) [
   | inl below ↦ below
@@ -184,9 +184,9 @@ few_left P runs start left more cursor there few = elim few [
   | inr less ↦ (omega (arith, less), inr less)
 ]
 
--- ---- what the fields say of one another
+-- ---- how the fields fit together
 
--- after so many bytes
+-- the fields fit together after so many bytes were passed over
 pub hand_passed : (P : ℕ) (all now : List (List ℕ)) (start left remaining run next_start next_left count : ℕ) → IsHand P all start left remaining
     → now ≡ drop run all → IsCursor (drop run all) next_start next_left → next_start + next_left < 2 ^ 64
     → payloads_from P (drop run all) next_start next_left ≡ drop count (payloads_from P all start left)
@@ -234,7 +234,7 @@ payload_size P run = (sized P (length run / (P + 12)) (length run % (P + 12)) ru
 pub payloads_fewer : (P : ℕ) (run : List ℕ) → length (payloads P run) ≤ length run
 payloads_fewer P run = (sized P (length run / (P + 12)) (length run % (P + 12)) run (omega (arith, div-add-mod' (length run) (P + 12))) (mod_below (length run) (P + 12) (omega arith))).1
 
--- at least those of the first page
+-- a run has at least the payload bytes of its first page
 pub payloads_more : (P : ℕ) (run : List ℕ) → min (length run) P ≤ length (payloads P run)
 payloads_more P run =
     let n = min (length run) P in
@@ -300,7 +300,7 @@ pushed P (first ∷ rest) start left remaining run skip next_start next_left h l
     nil_cons : (first : List ℕ) (rest : List (List ℕ)) → first ∷ rest ≡ [] → ⊥
     nil_cons first rest e = let size = ap (λ (l : List (List ℕ)). length l) e in omega (arith, size)
 
--- and the fields agree
+-- the fields fit together once a run was added
 pub pushed_is : (P : ℕ) (all now : List (List ℕ)) (start left remaining : ℕ) (run : List ℕ) (skip next_start next_left more : ℕ) → IsHand P all start left remaining
     → Pushed P all start left run skip next_start next_left → now ≡ all ++ run ∷ [] → 0 < length run → more ≡ length (payloads P run) - skip
     → IsHand P now next_start next_left (remaining + more)

@@ -17,12 +17,12 @@ use Rattle.paged_read.proofs.Scanning.{part_size}
 
 -- ---- what is kept
 
--- nothing more
+-- nothing more is kept
 pub kept_start : (k : Option HandState) → k ≡ kept_with [] k
 kept_start None = refl
 kept_start (Some hand) = ap (λ (l : List ℕ). Some (record hand { bytes = l })) (sym (append-nil hand.bytes))
 
--- one part after another
+-- what is kept of one part and then of another
 pub kept_joins : (a b : List ℕ) (k : Option HandState) → kept_with b (kept_with a k) ≡ kept_with (a ++ b) k
 kept_joins a b None = refl
 kept_joins a b (Some hand) = ap (λ (l : List ℕ). Some (record hand { bytes = l })) (append_assoc hand.bytes a b)
@@ -37,7 +37,7 @@ kept_room P more told (Some hand) empty fits =
 module _ (sum : List ℕ → ℕ) (P : ℕ) where
   -- ---- the values of some pages
 
-  -- where they end
+  -- where the values of some pages end, in the pages' bytes
   abbrev pub value_end : Prefix → ℕ
   value_end p = p.full_pages * (P + 12) + length (tip_of p.partial)
 
@@ -93,7 +93,7 @@ module _ (sum : List ℕ → ℕ) (P : ℕ) where
       let end = value_end (prefix_of sum P (pieces n (P + 12) bytes)) in
       omega (arith, v.within, ap (λ (l : List ℕ). length l) v.are, payloads_fewer P (take end bytes), length-take end bytes)
 
-  -- those of whole bytes, of which this is the prefix
+  -- the values in the bytes of pages, of which this is the prefix
   module _ (bytes : List ℕ) (p : Prefix) (is : p ≡ prefix_of sum P (pages P bytes)) where
     abbrev count : ℕ
     count = length bytes / (P + 12)
@@ -104,7 +104,7 @@ module _ (sum : List ℕ → ℕ) (P : ℕ) where
     pub end_within : value_end p ≤ length bytes
     end_within = omega (arith, there, ap (λ (x : Prefix). value_end x) is, (values count bytes there).within)
 
-    -- they are added to what is kept
+    -- the values are added to what is kept
     pub values_added : (hand next : HandState) (run : List ℕ) (full more : ℕ) → hand.page_size ≡ P → full + more ≡ value_end p → run ≡ slice_range bytes 0 (full + more) → next.page_size ≡ hand.page_size
         → next.bytes ≡ hand.bytes ++ drop 0 (payloads hand.page_size run) → Some next ≡ kept_with (text sum P bytes) (Some hand)
     values_added hand next run full more size end run_is same added =
@@ -114,7 +114,7 @@ module _ (sum : List ℕ → ℕ) (P : ℕ) where
 
   -- ---- the text of pages after pages
 
-  -- it ends among the first
+  -- the text ends among the first pages
   pub text_short : (first more : List (List ℕ)) → (prefix_of sum P first).full_pages < length first → text_of_pages sum P (first ++ more) ≡ text_of_pages sum P first
   text_short [] more short = absurd (omega arith)
   text_short (page ∷ first) more short = elim (cases_eq (value_len sum P page) P) [
@@ -126,7 +126,7 @@ module _ (sum : List ℕ → ℕ) (P : ℕ) where
         text_part sum P page (first ++ more) less ∙ sym (text_part sum P page first less)
   ]
 
-  -- or they are full
+  -- or the first pages are all full
   pub text_long : (first more : List (List ℕ)) → length first ≤ (prefix_of sum P first).full_pages → text_of_pages sum P (first ++ more) ≡ text_of_pages sum P first ++ text_of_pages sum P more
   text_long [] more long = refl
   text_long (page ∷ first) more long = elim (cases_eq (value_len sum P page) P) [

@@ -1,4 +1,4 @@
--- What a read leaves: the disk but for its log, and the cache but for pages of the content.
+-- What a read leaves: the disk except for its log, and the cache except for pages of the content.
 use Rattle.std.proofs.Common.{◌≡◌, ℕ, ◌+◌, ◌*◌, ◌-◌, ◌<◌, ◌≤◌, List, ◌++◌, length, take, drop, sym, ap, ◌∙◌, subst, arith, length-append, length-drop, append_assoc, [], ◌∷◌}
 use Rattle.std.proofs.Math.Nat.{mul-le-mul_right, suc-mul}
 use Rattle.std.proofs.lemmas.List.{take-take, length-take-le}
@@ -17,14 +17,14 @@ use Rattle.paged_read.specs.Tail.{Tail, logical_bytes, tail_size, CanRead}
 use Rattle.paged_read.specs.Ranges.{LeavesAll, page_at}
 use Rattle.paged_read.specs.Parts.{IsPieceOf, with_told}
 
--- ---- the bytes that a tail tells
+-- ---- the bytes of a tail
 
 module _ (t : Tail) (readable : List ℕ) (reach : t.full_pages * (t.page_size + 12) ≤ length readable) where
-  -- as many as its size
+  -- a tail has as many bytes as its size
   pub length-told : length (logical_bytes t readable) ≡ tail_size t
   length-told = omega (arith, length-append (stored t.page_size t.full_pages readable) t.bytes, length-stored t.page_size t.full_pages readable reach)
 
-  -- what stands in a full page
+  -- bytes within a full page
   pub told_in_page : (p i n : ℕ) → p < t.full_pages → i + n ≤ t.page_size → take n (drop (p * t.page_size + i) (logical_bytes t readable)) ≡ take n (drop (p * (t.page_size + 12) + i) readable)
   told_in_page p i n below fits =
       let P = t.page_size in
@@ -32,7 +32,7 @@ module _ (t : Tail) (readable : List ℕ) (reach : t.full_pages * (t.page_size +
       within_append n (p * P + i) (stored P t.full_pages readable) t.bytes (omega (arith, length-stored P t.full_pages readable reach, more, suc-mul p P, fits))
       ∙ stored_within P t.full_pages p i n readable reach below fits
 
-  -- what stands after them
+  -- the bytes after the full pages
   pub told_in_tip : (i : ℕ) → drop (t.full_pages * t.page_size + i) (logical_bytes t readable) ≡ drop i t.bytes
   told_in_tip i =
       let joined = stored t.page_size t.full_pages readable in
@@ -69,15 +69,15 @@ leaves_of t cache after old new can looked caches = record {
   fresh = fresh_stays t.id 0 (logical_bytes t old.present.readable) cache after can.given caches;
 }
 
--- one that put none
+-- a call that put no page
 pub leaves_cache : (t : Tail) (cache : CacheState) (old new : Life) → CanRead t cache old.present → Looked old new → LeavesAll t cache cache old new
 leaves_cache t cache old new can looked = leaves_of t cache cache old new can looked (caches_none t.id 0 (logical_bytes t old.present.readable) cache)
 
--- none
+-- where no call was made all is left
 pub leaves_none : (t : Tail) (cache : CacheState) (life : Life) → CanRead t cache life.present → LeavesAll t cache cache life life
 leaves_none t cache life can = leaves_cache t cache life life can (looked_start life)
 
--- one that put a page that it had read
+-- a call that put a page that it had read
 pub leaves_put : (t : Tail) (cache after : CacheState) (old new : Life) (page : ℕ) (bytes : List ℕ) → CanRead t cache old.present → Looked old new → page < t.full_pages
     → bytes ≡ take t.page_size (page_at t.page_size page old.present.readable) → Puts (t.id, page) bytes cache after → LeavesAll t cache after old new
 leaves_put t cache after old new page bytes can looked below is puts =

@@ -17,7 +17,7 @@ use Rattle.paged_read.proofs.Failing.{none_failed_read}
 pub looked_on : (offset len : ℕ) (start old new : Life) (bytes : List ℕ) → Looked start old → DeviceReadGoes offset len old new (Ok bytes) → Looked start new
 looked_on offset len start old new bytes so_far goes = looked_joins start old new so_far (looked_asked (ReadAt offset len) false old new goes.2)
 
--- and in which no device call failed
+-- no device call failed in a look that goes on with a read
 pub none_failed_on : (offset len : ℕ) (start old new : Life) (bytes : List ℕ) → NoneFailed start.present old.present → DeviceReadGoes offset len old new (Ok bytes) → NoneFailed start.present new.present
 none_failed_on offset len start old new bytes so_far goes = none_failed_joins start.present old.present new.present so_far (none_failed_read offset len old new bytes goes)
 
@@ -44,7 +44,7 @@ look_fault offset len reach a start old new OffsetOverflow so_far none le goes =
 look_fault offset len reach a start old new OutOfMemory so_far none le goes = (subst (λ (l : Life). Looked start l) (sym goes.0) so_far, subst (λ (l : Life). NoneFailed start.present l.present) (sym goes.0) none)
 look_fault offset len reach a start old new IdsExhausted so_far none le goes = goes
 
--- one that no memory ends
+-- a look that ends since memory is refused
 pub look_memory : {A : Type 0} (reach : ℕ) (a : A) (start new : Life) (e : Error) → Looked start new → NoneFailed start.present new.present → e ≡ OutOfMemory → LooksThrough reach a start new (Err e)
 look_memory reach a start new e so_far none is = subst (λ (x : Error). LooksThrough reach a start new (Err x)) (sym is) (so_far, none)
 
@@ -61,7 +61,7 @@ look_finds reach p q old new (Err OffsetOverflow) there is looks = looks
 look_finds reach p q old new (Err OutOfMemory) there is looks = looks
 look_finds reach p q old new (Err IdsExhausted) there is looks = looks
 
--- a look that goes on with a read that isn't answered
+-- a search that goes on with a read that isn't answered
 pub finds_fault : (offset len : ℕ) (p : Prefix) (start old new : Life) (e : Error) → Looked start old → NoneFailed start.present old.present → offset + len ≤ length start.present.readable → DeviceReadGoes offset len old new (Err e) → Finds p start new (Err e)
 finds_fault offset len p start old new ReadFailed so_far none there goes = (
   failed_later ReadFailed start.present old.present new.present so_far.log (failed_once (ReadAt offset len) old.present new.present (ap (λ (l : Life). l.present.log) goes)),
@@ -76,6 +76,6 @@ finds_fault offset len p start old new OffsetOverflow so_far none there goes = g
 finds_fault offset len p start old new OutOfMemory so_far none there goes = (subst (λ (l : Life). Looked start l) (sym goes.0) so_far, subst (λ (l : Life). NoneFailed start.present l.present) (sym goes.0) none)
 finds_fault offset len p start old new IdsExhausted so_far none there goes = goes
 
--- a look that no memory ends
+-- a search that ends since memory is refused
 pub finds_memory : (p : Prefix) (start new : Life) (e : Error) → Looked start new → NoneFailed start.present new.present → e ≡ OutOfMemory → Finds p start new (Err e)
 finds_memory p start new e so_far none is = subst (λ (x : Error). Finds p start new (Err x)) (sym is) (so_far, none)

@@ -1,4 +1,4 @@
--- What a snapshot stands on outlives the calls of its blob, and those of other blobs.
+-- A snapshot outlives the calls of its blob, and those of other blobs.
 use Rattle.std.proofs.Common.{◌≡◌, ◌⊎◌, inl, inr, ℕ, ◌+◌, ◌*◌, ◌<◌, ◌≤◌, List, ◌++◌, length, take, sym, ap, ◌∙◌, subst, arith}
 use Rattle.std.proofs.lemmas.Bool.{cases_lt}
 use Rattle.std.proofs.lemmas.Option.{same_Some}
@@ -39,7 +39,7 @@ module _ (t : Tail) (k : ℕ) (d e : Disk) (below : t.full_pages ≤ k)
       ap (λ (s : List ℕ). s ++ t.bytes)
       (stored_still (λ _. 0) t.page_size t.full_pages d e there fewer)
 
-  -- what a tail told it tells
+  -- a tail gives the content that it gave
   pub tail_stays : (sum : List ℕ → ℕ) (content : List ℕ) → IsTailOf sum t content d
       → IsTailOf sum t content e
   tail_stays sum content tail = record {
@@ -48,7 +48,7 @@ module _ (t : Tail) (k : ℕ) (d e : Disk) (below : t.full_pages ≤ k)
     is = still_told tail.there ∙ tail.is;
   }
 
-  -- and can be read, where only pages after it were put
+  -- a tail can be read, where only pages after its own were put
   pub reads_stay : (id : ℕ) (content : List ℕ) (cache after : CacheState)
       → CachesOnly id k content cache after → CanRead t cache d → CanRead t after e
   reads_stay id content cache after caches can = record {
@@ -61,7 +61,7 @@ module _ (t : Tail) (k : ℕ) (d e : Disk) (below : t.full_pages ≤ k)
         (inr below) can.cached);
   }
 
--- so each snapshot stands on
+-- so each snapshot stays valid
 pub tails_stay : (sum : List ℕ → ℕ) (P id k : ℕ) (content : List ℕ) (cache after : CacheState)
     (old new : Life) → cache.page_size ≡ P → PagesStay P k old new
     → CachesOnly id k content cache after → LeavesTails sum k cache after old new
@@ -75,7 +75,7 @@ tails_stay sum P id k content cache after old new size stay caches t held below 
           stands.can;
     }
 
--- another blob's call leaves what reads stand on, whatever it puts
+-- another blob's call leaves each tail readable, whatever it puts
 pub others_stay : (id from : ℕ) (content : List ℕ) (cache after : CacheState)
     → CachesOnly id from content cache after → LeavesOthers id cache after
 others_stay id from content cache after caches t d apart can = record {
@@ -258,7 +258,7 @@ look_leaves_reads cache old new looked t can =
           can.cached;
     }
 
--- one that takes an id
+-- a call that takes an id
 pub given_reads : (cache after : CacheState)
     → (after ≡ cache) ⊎ (after ≡ record cache { ids_given = cache.ids_given + 1 })
     → LeavesReads cache after

@@ -34,7 +34,7 @@ batch_still P batch full page d e same = ap (λ (l : List ℕ). l ∷ []) (elim 
       ∙ sym (ap (λ k. take k (drop (page * (P + 12)) d.readable)) size)
 ])
 
--- so does what is queued
+-- what is queued stays
 pub queue_stays : (P batch full : ℕ) (d e : Disk) (queue : List Ahead) → SamePages P full d e
     → All (IsBatch P batch full d) queue → All (IsBatch P batch full e) queue
 queue_stays P batch full d e queue same are k a below bytes given =
@@ -62,7 +62,7 @@ replays_stay P k old new stay sum content r size below is =
       hand = is.hand;
     }
 
--- one that changes no byte
+-- a call that changes no byte
 pub alike_replays : (old new : Life) → new.present.readable ≡ old.present.readable
     → LeavesAllReplays old new
 alike_replays old new same sum content r is =

@@ -26,7 +26,7 @@ has_first page pages = (0, omega arith, refl)
 pub has_later : (page p : ℕ) (pages : List ℕ) → Contains pages p → Contains (page ∷ pages) p
 has_later page p pages (k, within, is) = (suc k, omega (arith, within), is)
 
--- it is the first, or a later one
+-- a page among some is the first, or among the others
 pub first_or_later : (page p : ℕ) (pages : List ℕ) → Contains (page ∷ pages) p → (p ≡ page) ⊎ Contains pages p
 first_or_later page p pages (zero, within, is) = inl (sym is)
 first_or_later page p pages (suc k, within, is) = inr (k, omega (arith, within), is)
@@ -61,7 +61,7 @@ faults_missing sum cache t ranges pages old new OffsetOverflow is cause = cause
 faults_missing sum cache t ranges pages old new OutOfMemory is cause = cause
 faults_missing sum cache t ranges pages old new IdsExhausted is cause = cause
 
--- and of one range is one of another that finds the same missing
+-- a fault of one range is one of another range that finds the same pages missing
 pub faults_same : (sum : List ℕ → ℕ) (cache : CacheState) (t : Tail) (one other : List (ℕ × ℕ)) (old new : Life) (e : Error) → missing cache t other ≡ missing cache t one → ReadFault sum cache t one old new e → ReadFault sum cache t other old new e
 faults_same sum cache t one other old new ReadFailed is cause = cause
 faults_same sum cache t one other old new WriteFailed is cause = cause
@@ -73,7 +73,7 @@ faults_same sum cache t one other old new OffsetOverflow is cause = cause
 faults_same sum cache t one other old new OutOfMemory is cause = cause
 faults_same sum cache t one other old new IdsExhausted is cause = cause
 
--- so with pages that are full
+-- where the missing pages are these, and these are full, each missing page is full
 pub full_missing : (sum : List ℕ → ℕ) (cache : CacheState) (t : Tail) (ranges : List (ℕ × ℕ)) (pages readable : List ℕ) → missing cache t ranges ≡ pages → ArePagesFull sum t.page_size pages readable → AreMissingFull sum cache t ranges readable
 full_missing sum cache t ranges pages readable is full = λ page has. full page (subst (λ (l : List ℕ). Contains l page) is has)
 
@@ -102,7 +102,7 @@ told_step P content pieces k d buf next first below is before =
     ∙ sym (ap (λ (l : List Piece). with_told P content l buf) (drop-cons pieces k d below))
     ∙ before
 
--- and its page is full
+-- the page of one piece more is full
 pub full_step : (sum : List ℕ → ℕ) (P : ℕ) (pieces : List Piece) (k : ℕ) (d : Piece) (readable : List ℕ) → k < length pieces → ArePagesFull sum P (piece_pages (take k pieces)) readable
     → ArePagesFull sum P ((get_or pieces k d).page ∷ []) readable → ArePagesFull sum P (piece_pages (take (k + 1) pieces)) readable
 full_step sum P pieces k d readable below before here = λ page has.

@@ -32,7 +32,7 @@ last_fits P size (suc k) m reach is some le fits =
     let more : (P + 12) * suc k ≤ (P + 12) * m = mul-le-mul_left (P + 12) le in
     omega arith
 
--- so do some pages after others
+-- a batch of pages after others fits too, with the numbers that a program has
 pub batch_fits : (P size k b n reach : ℕ) → size ≡ P + 12 → k + b ≤ n → n * (P + 12) ≤ reach → k * size + b * size ≤ reach
 batch_fits P size k b n reach is le fits =
     let front : k * size ≡ k * (P + 12) = ap (λ (j : ℕ). k * j) is in
@@ -59,14 +59,14 @@ value_of_page None n bytes fits = refl
 value_of_page (Some s) n bytes fits = ap (λ (l : List ℕ). Some (l, s)) (take-take s.len n bytes fits)
 
 module _ (sum : List ℕ → ℕ) (P : ℕ) where
-  -- what tells a page's value says its length
+  -- the slot of a page's value has the value's length
   pub told_len : (page : List ℕ) → kept_len (active sum P page) ≡ value_len sum P page
   told_len page = elim (cases_eq (value_len sum P page) 0) [
     | inl none ↦ ap kept_len (cond-true (value_len sum P page == 0) None (Some (record { slot = value_slot sum P page; len = value_len sum P page; crc = slot_crc (slot_of P (value_slot sum P page) page) })) (eq-eqb _ _ none)) ∙ sym none
     | inr some ↦ ap kept_len (cond-false (value_len sum P page == 0) None (Some (record { slot = value_slot sum P page; len = value_len sum P page; crc = slot_crc (slot_of P (value_slot sum P page) page) })) (ne_eqb _ _ some))
   ]
 
-  -- what is told of a page whose value isn't there
+  -- a page without a value has no slot that verifies
   none_told : (page : List ℕ) (slot : Option ActiveChecksum) → active sum P page ≡ slot → is_some (value_and_slot slot page) ≡ false → value_len sum P page ≡ 0
   none_told page None told none = active_none sum P page told
   none_told page (Some s) told none = absurd (false≢true (sym none))
@@ -124,7 +124,7 @@ module _ (sum : List ℕ → ℕ) (P : ℕ) where
       ∙ ap (λ (q : Prefix). after_pages k q) (prefix_part (page_at P k bytes) (pieces (n - (k + 1)) (P + 12) (drop ((k + 1) * (P + 12)) bytes)) part)
       ∙ ap (λ (m : ℕ). record { full_pages = m; partial = value_and_slot (active sum P (page_at P k bytes)) (page_at P k bytes) }) (let e : k + 0 ≡ k = omega arith in e)
 
-  -- what was told of a page, with the numbers that a program has
+  -- the slot of a page, with the numbers that a program has
   pub told_at : (size k : ℕ) (seen bytes : List ℕ) (slot : Option ActiveChecksum) → size ≡ P + 12 → seen ≡ bytes → slot ≡ active sum (size - 12) (take size (drop (k * size) seen)) → slot ≡ active sum P (page_at P k bytes)
   told_at size k seen bytes slot is same told =
       told
@@ -132,15 +132,15 @@ module _ (sum : List ℕ → ℕ) (P : ℕ) where
       ∙ ap (λ (n : ℕ). active sum n (take size (drop (k * size) bytes))) (let e : size - 12 ≡ P = omega (arith, is) in e)
       ∙ ap (λ (n : ℕ). active sum P (take n (drop (k * n) bytes))) is
 
-  -- a slot tells a full page
+  -- a slot covers a full page
   pub told_full : (page : List ℕ) (slot : Option ActiveChecksum) (full : Bool) → slot ≡ active sum P page → full ≡ (kept_len slot == P) → full ≡ true → value_len sum P page ≡ P
   told_full page slot full told is holds = sym (ap kept_len told ∙ told_len page) ∙ eqb-true (kept_len slot) P (sym is ∙ holds)
 
-  -- a slot doesn't
+  -- a slot doesn't cover a full page
   pub told_part : (page : List ℕ) (slot : Option ActiveChecksum) (full : Bool) → slot ≡ active sum P page → full ≡ (kept_len slot == P) → full ≡ false → value_len sum P page ≢ P
   told_part page slot full told is fails = λ same. false≢true (sym fails ∙ is ∙ eq-eqb (kept_len slot) P (ap kept_len told ∙ told_len page ∙ same))
 
-  -- the value that a slot tells, with the numbers that a program has
+  -- the value that a slot covers, with the numbers that a program has
   pub value_told : (size k : ℕ) (bytes : List ℕ) (slot : Option ActiveChecksum) (found : Option (List ℕ × ActiveChecksum)) → size ≡ P + 12 → slot ≡ active sum P (page_at P k bytes)
       → found ≡ value_and_slot slot (drop (k * size) bytes) → found ≡ value_and_slot (active sum P (page_at P k bytes)) (page_at P k bytes)
   value_told size k bytes slot found is told value =
@@ -150,14 +150,14 @@ module _ (sum : List ℕ → ℕ) (P : ℕ) where
       ∙ sym (value_of_page slot (P + 12) (drop (k * (P + 12)) bytes) within)
       ∙ ap (λ (s : Option ActiveChecksum). value_and_slot s (page_at P k bytes)) told
 
-  -- a page that was read alone, with the numbers that a program has
+  -- the slot of a page that was read alone, with the numbers that a program has
   pub told_read : (size k : ℕ) (seen bytes readable : List ℕ) (slot : Option ActiveChecksum) → size ≡ P + 12 → seen ≡ bytes → bytes ≡ take size (drop (k * size) readable) → slot ≡ active sum (size - 12) (take size seen)
       → slot ≡ active sum P (page_at P k readable)
   told_read size k seen bytes readable slot is same read told =
       told_at size k readable readable slot is refl
       (told ∙ ap (λ (l : List ℕ). active sum (size - 12) (take size l)) (same ∙ read) ∙ ap (λ (l : List ℕ). active sum (size - 12) l) (take-take size size (drop (k * size) readable) (omega arith)))
 
-  -- its bad slot
+  -- the bad slot of a page that was read alone
   pub bad_read : (size k : ℕ) (seen bytes readable : List ℕ) (bad : Option Slot) → size ≡ P + 12 → seen ≡ bytes → bytes ≡ take size (drop (k * size) readable) → k * size + size ≤ length readable → bad ≡ bad_slot sum (length seen - 12) seen
       → bad ≡ bad_slot sum P (page_at P k readable)
   bad_read size k seen bytes readable bad is same read there told =
@@ -166,12 +166,12 @@ module _ (sum : List ℕ → ℕ) (P : ℕ) where
       let len : length (page_at P k readable) ≡ P + 12 = length-take-le (P + 12) (drop (k * (P + 12)) readable) (omega (arith, reach, length-drop (k * (P + 12)) readable)) in
       told ∙ ap (λ (l : List ℕ). bad_slot sum (length l - 12) l) page ∙ ap (λ (n : ℕ). bad_slot sum n (page_at P k readable)) (let e : length (page_at P k readable) - 12 ≡ P = omega (arith, len) in e)
 
-  -- and where the page has a part, that of a prefix that ends there
+  -- where that page has a partial value, the bad slot is that of a prefix that ends there
   pub bad_part : (k : ℕ) (readable : List ℕ) (found : Option (List ℕ × ActiveChecksum)) → is_some found ≡ true → bad_slot sum P (page_at P k readable) ≡ bad_in sum P readable (record { full_pages = k; partial = found })
   bad_part k readable None some = absurd (cc some)
   bad_part k readable (Some v) some = refl
 
-  -- its value
+  -- the value of a page that was read alone
   pub value_read : (size k : ℕ) (bytes readable : List ℕ) (slot : Option ActiveChecksum) (found : Option (List ℕ × ActiveChecksum)) → size ≡ P + 12 → bytes ≡ take size (drop (k * size) readable) → slot ≡ active sum P (page_at P k readable)
       → found ≡ value_and_slot slot bytes → found ≡ value_and_slot (active sum P (page_at P k readable)) (page_at P k readable)
   value_read size k bytes readable slot found is read told value =
@@ -181,7 +181,7 @@ module _ (sum : List ℕ → ℕ) (P : ℕ) where
   pub found_some : (page : List ℕ) (found : Option (List ℕ × ActiveChecksum)) → found ≡ value_and_slot (active sum P page) page → is_some found ≡ true → value_len sum P page ≢ 0
   found_some page found is some = λ none. false≢true (ap (λ (s : Option ActiveChecksum). is_some (value_and_slot s page)) (sym (active-none sum P page none)) ∙ ap (λ (f : Option (List ℕ × ActiveChecksum)). is_some f) (sym is) ∙ some)
 
-  -- a page has none
+  -- a page has no value
   pub found_none : (page : List ℕ) (found : Option (List ℕ × ActiveChecksum)) → found ≡ value_and_slot (active sum P page) page → is_some found ≡ false → value_len sum P page ≡ 0
   found_none page found is none = none_told page (active sum P page) refl (ap (λ (f : Option (List ℕ × ActiveChecksum)). is_some f) (sym is) ∙ none)
 
@@ -198,7 +198,8 @@ module _ (sum : List ℕ → ℕ) (P : ℕ) where
       → last_prefix sum P (suc n) bytes ≡ record { full_pages = n; partial = value_and_slot (active sum P (page_at P n bytes)) (page_at P n bytes) }
   last_part_suc n bytes some part = cond-false (value_len sum P (page_at P n bytes) == 0) _ _ (ne_eqb _ _ some) ∙ cond-false (value_len sum P (page_at P n bytes) == P) _ _ (ne_eqb _ _ part)
 
-  -- the same in a search that began with m pages and came to n, with the numbers that a program has
+  -- the last page, in a search that began with m pages and came to n, with the numbers that a
+  -- program has
   pub last_none : (n m : ℕ) (bytes : List ℕ) → last_prefix sum P n bytes ≡ last_prefix sum P m bytes → 0 < n → value_len sum P (page_at P (n - 1) bytes) ≡ 0 → last_prefix sum P (n - 1) bytes ≡ last_prefix sum P m bytes
   last_none zero m bytes same some none = absurd (omega arith)
   last_none (suc n) m bytes same some none =
@@ -289,7 +290,7 @@ module _ (sum : List ℕ → ℕ) (P : ℕ) where
     pub read : bytes ≡ take (b * (P + 12)) (drop (k * (P + 12)) readable)
     pub prefix : q ≡ prefix_of sum P (pages P bytes)
 
-  -- the same with the numbers that a program has
+  -- pages that were read at once, with the numbers that a program has
   pub batch_read : (size k b : ℕ) (readable bytes : List ℕ) (q : Prefix) → size ≡ P + 12 → k * size + b * size ≤ length readable → bytes ≡ take (b * size) (drop (k * size) readable)
       → q ≡ prefix_of sum P (pages P bytes) → IsBatch k b readable bytes q
   batch_read size k b readable bytes q is there read prefix = record {
@@ -323,13 +324,13 @@ module _ (sum : List ℕ → ℕ) (P : ℕ) where
         ∙ pieces-add b (n - (k + b)) (P + 12) rest
         ∙ ap (λ (l : List ℕ). front ++ pieces (n - (k + b)) (P + 12) l) (drop-drop (b * (P + 12)) (k * (P + 12)) readable ∙ ap (λ (m : ℕ). drop m readable) (let e : k * (P + 12) + b * (P + 12) ≡ (k + b) * (P + 12) = omega arith in e))
 
-    -- the prefix ends among them
+    -- the prefix ends among the pages that were read at once
     pub stands_ended : (p : Prefix) → StandsAt p n k readable → q.full_pages < b → p ≡ record { full_pages = k + q.full_pages; partial = q.partial }
     stands_ended p is short =
         let shorter : (prefix_of sum P front).full_pages < length front = omega (arith, short, ap (λ (x : Prefix). x.full_pages) front_is, length-pieces b (P + 12) rest) in
         is ∙ ap (λ (l : List (List ℕ)). after_pages k (prefix_of sum P l)) split ∙ ap (λ (x : Prefix). after_pages k x) (prefix_short front back shorter ∙ sym front_is)
 
-    -- they are full
+    -- the pages that were read at once are full
     pub stands_on : (p : Prefix) → StandsAt p n k readable → b ≤ q.full_pages → StandsAt p n (k + b) readable
     stands_on p is long =
         let longer : length front ≤ (prefix_of sum P front).full_pages = omega (arith, long, ap (λ (x : Prefix). x.full_pages) front_is, length-pieces b (P + 12) rest) in
@@ -337,7 +338,7 @@ module _ (sum : List ℕ → ℕ) (P : ℕ) where
         ∙ after-after k (length front) (prefix_of sum P back)
         ∙ ap (λ (m : ℕ). after_pages (k + m) (prefix_of sum P back)) (length-pieces b (P + 12) rest)
 
-    -- a page of theirs
+    -- a page of those that were read at once
     pub page_of_batch : (f : ℕ) → f < b → page_at P f bytes ≡ page_at P (k + f) readable
     page_of_batch f lt =
         let more : (P + 12) * (f + 1) ≤ (P + 12) * b = mul-le-mul_left (P + 12) (let less : f + 1 ≤ b = omega arith in less) in
@@ -346,7 +347,7 @@ module _ (sum : List ℕ → ℕ) (P : ℕ) where
         ∙ within_drop (P + 12) (f * (P + 12)) (k * (P + 12)) readable
         ∙ ap (λ (m : ℕ). take (P + 12) (drop m readable)) (let e : k * (P + 12) + f * (P + 12) ≡ (k + f) * (P + 12) = omega arith in e)
 
-  -- a partial page of theirs holds bytes
+  -- a partial page of those that were read at once holds bytes
   pub has_bytes_batch : (n k b : ℕ) (readable bytes : List ℕ) (q : Prefix) (found : Option (List ℕ × ActiveChecksum)) → k + b ≤ n → IsBatch k b readable bytes q → q.full_pages < b → HasBytes P q.full_pages bytes found → HasBytes P (k + q.full_pages) readable found
   has_bytes_batch n k b readable bytes q None le batch short has = tt
   has_bytes_batch n k b readable bytes q (Some v) le batch short has = subst (λ (l : List ℕ). AreBytes l) (page_of_batch n k b readable bytes q le batch q.full_pages short) has
@@ -356,7 +357,7 @@ pub has_bytes : (P size k : ℕ) (seen bytes : List ℕ) (found : Option (List �
 has_bytes P size k seen bytes None is same are = tt
 has_bytes P size k seen bytes (Some v) is same are = subst (λ (n : ℕ). AreBytes (take n (drop (k * n) bytes))) is (subst (λ (l : List ℕ). AreBytes (take size (drop (k * size) l))) same are)
 
--- so does one that was read alone
+-- a page that was read alone holds bytes
 pub has_bytes_read : (P size k : ℕ) (seen bytes readable : List ℕ) (found : Option (List ℕ × ActiveChecksum)) → size ≡ P + 12 → seen ≡ bytes → bytes ≡ take size (drop (k * size) readable) → AreBytes (take size seen) → HasBytes P k readable found
 has_bytes_read P size k seen bytes readable found is same read are =
     has_bytes P size k readable readable found is refl (subst (λ (l : List ℕ). AreBytes l) (ap (λ (l : List ℕ). take size l) (same ∙ read) ∙ take-take size size (drop (k * size) readable) (omega arith)) are)

@@ -25,15 +25,15 @@ pub puts_joins : (id : ℕ) (content first more : List ℕ) (old mid new : Cache
 puts_joins id content [] more old mid new one two = subst (λ (c : CacheState). PutsPages id content more c new) one two
 puts_joins id content (page ∷ first) more old mid new (between, put, rest) two = (between, put, puts_joins id content first more between mid new rest two)
 
--- a page whose bytes were read
+-- a page whose bytes were read is put
 pub puts_one : (id page : ℕ) (content bytes : List ℕ) (old new : CacheState) → bytes ≡ page_of_content old.page_size content page → Puts (id, page) bytes old new → PutsPages id content (page ∷ []) old new
 puts_one id page content bytes old new is put = (new, subst (λ (b : List ℕ). Puts (id, page) b old new) is put, refl)
 
--- none
+-- no page is put
 pub puts_none : (sum : List ℕ → ℕ) (t : Tail) (pages readable : List ℕ) (cache : CacheState) → PutsFirst sum t pages readable cache cache
 puts_none sum t pages readable cache = record { count = 0; full = λ page has. absurd (omega (arith, has.1)); puts = refl }
 
--- where none of them are asked for
+-- no page is put where none are asked for
 pub puts_empty : {A : Type 0} (sum : List ℕ → ℕ) (t : Tail) (pages readable : List ℕ) (cache : CacheState) (result : Result A Error) → pages ≡ [] → PutsInOrder sum t pages readable cache cache result
 puts_empty sum t pages readable cache (Ok a) none = subst (λ (l : List ℕ). PutsPages t.id (logical_bytes t readable) l cache cache) (sym none) refl
 puts_empty sum t pages readable cache (Err e) none = puts_none sum t pages readable cache
@@ -42,12 +42,12 @@ puts_empty sum t pages readable cache (Err e) none = puts_none sum t pages reada
 pub asked_none : (sum : List ℕ → ℕ) (t : Tail) (pages : List ℕ) (life : Life) (cache : CacheState) (e : Error) → PutsAsked {A = Unit {0}} sum t pages life life cache cache (Err e)
 asked_none sum t pages life cache e = (record { count = 0; full = λ page has. absurd (omega (arith, has.1)); puts = refl }, omega arith, omega arith)
 
--- or where none are missing
+-- a read that finds no page missing
 pub asked_empty : {A : Type 0} (sum : List ℕ → ℕ) (t : Tail) (pages : List ℕ) (life : Life) (cache : CacheState) (a : A) → pages ≡ [] → PutsAsked {A = A} sum t pages life life cache cache (Ok a)
 asked_empty sum t pages life cache a none =
     (subst (λ (l : List ℕ). PutsPages t.id (logical_bytes t life.present.readable) l cache cache) (sym none) refl, omega (arith, ap (λ (l : List ℕ). length l) none))
 
--- the log goes on
+-- a look leaves the log no shorter
 pub looked_longer : (old new : Life) → Looked old new → length old.present.log ≤ length new.present.log
 looked_longer old new looked = omega (arith, ap (λ (l : List Entry). length l) looked.log.1, length-append old.present.log looked.log.0)
 
@@ -89,7 +89,7 @@ module _ (t : Tail) (pieces : List Piece) (k : ℕ) where
         omega (arith, asks, more),
       )
 
-  -- all of them
+  -- the pages of all pieces are put
   pub puts_all_pieces : (content : List ℕ) (old new : CacheState) → length pieces ≤ k → PutsPages t.id content (piece_pages (take k pieces)) old new → PutsPages t.id content (piece_pages pieces) old new
   puts_all_pieces content old new over puts = subst (λ (l : List Piece). PutsPages t.id content (piece_pages l) old new) (take_all k pieces over) puts
 
@@ -107,7 +107,7 @@ module _ (id : ℕ) (content : List ℕ) (full : ℕ) where
       (caches_put id 0 page content (page_of_content old.page_size content page) old mid (omega arith) (omega (arith, more, fits)) refl weakly)
       (puts_caches pages mid new (omega (arith, size, fits)) (λ p has. below p (has_later page p pages has)) rest)
 
--- and of another content with the same pages
+-- what is put is of another content, too, if that has the same pages
 pub puts_alike : (id P : ℕ) (one other pages : List ℕ) (old new : CacheState) → old.page_size ≡ P → ((page : ℕ) → Contains pages page → page_of_content P one page ≡ page_of_content P other page) → PutsPages id one pages old new → PutsPages id other pages old new
 puts_alike id P one other [] old new size same puts = puts
 puts_alike id P one other (page ∷ pages) old new size same (mid, put, rest) =
@@ -148,7 +148,7 @@ numbered_is : (pages : List ℕ) (out : List (ℕ × List ℕ)) → map (λ (n :
 numbered_is pages [] = refl
 numbered_is pages (r ∷ out) = ap (λ (l : List ℕ). get_or pages r.0 0 ∷ l) (numbered_is pages out)
 
--- they are the pages that were asked for
+-- the delivered pages are those that were asked for
 pub numbered_each : (P : ℕ) (pages readable : List ℕ) (out : List (ℕ × List ℕ)) → Delivers (page_ranges P pages) readable out → IsPermutation pages (delivered_pages pages out)
 numbered_each P pages readable out delivers =
     let numbers = map (λ (r : ℕ × List ℕ). r.0) out in
@@ -160,12 +160,12 @@ numbered_each P pages readable out delivers =
     subst (λ (l : List ℕ). IsPermutation l (delivered_pages pages out)) start
     (subst (λ (l : List ℕ). IsPermutation (map at (range_with_len 0 (length pages))) l) (numbered_is pages out) (IsPermutation-map at (range_with_len 0 (length pages)) numbers those))
 
--- one more
+-- one delivered page more
 pub numbered_more : (pages : List ℕ) (out : List (ℕ × List ℕ)) (k : ℕ) (d : ℕ × List ℕ) → k < length out → delivered_pages pages (take (k + 1) out) ≡ delivered_pages pages (take k out) ++ get_or pages (get_or out k d).0 0 ∷ []
 numbered_more pages out k d there =
     let f : ℕ × List ℕ → ℕ = λ r. get_or pages r.0 0 in
     ap (λ (l : List (ℕ × List ℕ)). map f l) (take_more out k d there) ∙ map-append f (take k out) (get_or out k d ∷ [])
 
--- the first so many
+-- the first k delivered pages
 pub numbered_first : (pages : List ℕ) (out : List (ℕ × List ℕ)) (k : ℕ) → take k (delivered_pages pages out) ≡ delivered_pages pages (take k out)
 numbered_first pages out k = take-map (λ (r : ℕ × List ℕ). get_or pages r.0 0) k out

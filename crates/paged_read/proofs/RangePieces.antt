@@ -95,12 +95,12 @@ module _ (P offset len : ℕ) (some : 0 < P) where
     | inr nothing ↦ subst (λ n. Q (map (piece_of P (offset, len) 0) (range_with_len (offset / P) n))) (sym (page_count_none P offset len (omega (arith, nothing)))) none
   ]
 
-  -- they fit
+  -- the pieces fit their places
   pub pieces_fit : (content : List ℕ) → offset + len ≤ length content → AllFit P content (slice content (offset, len)) (pieces_of P (offset, len) 0)
   pieces_fit content there = spans_each (AllFit P content (slice content (offset, len))) tt (λ first n spans more.
       fit_each P content (slice content (offset, len)) (piece_of P (offset, len) 0) first n (λ p above below. part_fits P offset len p content (spans_begin P offset len first n p spans below) (spans_end P offset len first n p spans above) there))
 
-  -- each byte of the range is in one
+  -- each byte of the range is in a piece
   pub pieces_cover : (i : ℕ) → i < len → SomeCovers (pieces_of P (offset, len) 0) i
   pieces_cover i within =
       let first = offset / P in
@@ -113,13 +113,13 @@ module _ (P offset len : ℕ) (some : 0 < P) where
       (covers_one (piece_of P (offset, len) 0) first n q i (spans_from P offset len first n q spans (omega (arith, whole, short, suc-mul q P))) (spans_to P offset len first n q spans (omega (arith, whole, within)))
       (omega (arith, whole), omega (arith, whole, short, suc-mul q P, within)))
 
-  -- those of pages that are held are the content's
+  -- the pieces of cached pages have the content's bytes
   pub pieces_true : (cache : CacheState) (id full : ℕ) (content : List ℕ) → cache.page_size ≡ P → offset + len ≤ full * P → IsTrueFor id content full cache → AreTrue cache id P content (pieces_of P (offset, len) 0)
   pieces_true cache id full content size below true_pages = spans_each (AreTrue cache id P content) tt (λ first n spans more.
       true_each cache id P content (piece_of P (offset, len) 0) first n (λ p above under bytes there.
       true_pages p bytes (omega (arith, under, spans_within P offset len first n full spans below)) there ∙ ap (λ s. page_of_content s content p) size))
 
-  -- and each is of a page below, within it
+  -- each piece is of a page below the tail, and within it
   pub pieces_below : (t : Tail) (room : ℕ) → t.page_size ≡ P → offset + len ≤ t.full_pages * P → len ≤ room → All (IsPieceOf t room) (pieces_of P (offset, len) 0)
   pieces_below t room size below fits = spans_each (All (IsPieceOf t room)) (λ k d none. absurd (omega (arith, none))) (λ first n spans more.
       all_each (IsPieceOf t room) (piece_of P (offset, len) 0) first n (λ p above under.
@@ -129,6 +129,6 @@ module _ (P offset len : ℕ) (some : 0 < P) where
         part = record { within = omega (arith, part, size); fits = omega (arith, part, fits) };
       }))
 
--- so are those that a cache leaves
+-- each piece that a cache leaves is of a page below the tail, and within it
 pub left_below : (t : Tail) (room : ℕ) (cache : CacheState) (id : ℕ) (pieces : List Piece) → All (IsPieceOf t room) pieces → All (IsPieceOf t room) (pieces_left cache id pieces)
 left_below t room cache id pieces all = All-filter _ (IsPieceOf t room) pieces all

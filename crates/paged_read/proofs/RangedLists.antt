@@ -27,7 +27,7 @@ begins_after offset (range ∷ ranges) (suc i) d order there =
     let h = begins_after (range.0 + range.1) ranges i d order.1 (omega arith) in
     omega (arith, h, order.0)
 
--- and where those before it end
+-- where a range begins, those before it have ended
 pub ends_before : (offset : ℕ) (ranges : List (ℕ × ℕ)) (i : ℕ) (d : ℕ × ℕ) → AreInOrderFrom offset ranges → i < length ranges → EndWithin (get_or ranges i d).0 (take i ranges)
 ends_before offset [] i d order there = absurd (omega arith)
 ends_before offset (range ∷ ranges) zero d order there = All-nil (λ (r : ℕ × ℕ). r.0 + r.1 ≤ range.0)
@@ -51,7 +51,7 @@ served_count cache t ranges i d count here there before is =
     one true r = refl
     one false r = refl
 
--- and gathered
+-- one range more is gathered
 pub gathered_next : (cache : CacheState) (t : Tail) (ranges : List (ℕ × ℕ)) (i : ℕ) (d : ℕ × ℕ) (buf_offset : ℕ) (pages more pages_after : List ℕ) (lacks added lacks_after : List Lack) (buf after : List ℕ) → AreInOrderFrom 0 ranges → i < length ranges
     → Gathered cache t (take i ranges) buf_offset pages lacks buf
     → ((others : List (ℕ × ℕ)) → EndWithin (get_or ranges i d).0 others → Gathered cache t others buf_offset pages lacks buf → Gathered cache t (others ++ get_or ranges i d ∷ []) (buf_offset + (get_or ranges i d).1) more added after)
@@ -68,7 +68,7 @@ pub one_at_most : (here : Bool) → cond here 1 0 ≤ 1
 one_at_most true = omega arith
 one_at_most false = omega arith
 
--- ---- the numbers of those that aren't served
+-- ---- the numbers of the ranges that aren't served
 
 pub missed_push : (n : ℕ) (cache : CacheState) (t : Tail) (ranges : List (ℕ × ℕ)) (range : ℕ × ℕ) (at : ℕ) → at ≡ n + length ranges → missed_from n cache t (ranges ++ range ∷ []) ≡ missed_from n cache t ranges ++ cond (is_served cache t range) [] (at ∷ [])
 missed_push n cache t [] range at is =
@@ -91,7 +91,7 @@ missed_more cache t ranges i d missed after here there is added before =
     ∙ sym (missed_push 0 cache t (take i ranges) (get_or ranges i d) i (omega (arith, length-take-le i ranges (omega arith))))
     ∙ ap (λ (rs : List (ℕ × ℕ)). missed_from 0 cache t rs) (sym (take_more ranges i d there))
 
--- ---- the bytes of those that are
+-- ---- the bytes of the ranges that are served
 
 served_push : (cache : CacheState) (t : Tail) (ranges : List (ℕ × ℕ)) (range : ℕ × ℕ) (content buf part : List ℕ) → length buf ≡ sum_by (λ (r : ℕ × ℕ). r.1) ranges → length part ≡ range.1 → (is_served cache t range ≡ true → part ≡ slice content range)
     → HasServed cache t ranges content buf → HasServed cache t (ranges ++ range ∷ []) content (buf ++ part)
@@ -161,7 +161,7 @@ pub length-ranges_of : (len : ℕ) (offsets : List ℕ) → length (ranges_of le
 length-ranges_of len [] = refl
 length-ranges_of len (offset ∷ offsets) = ap suc (length-ranges_of len offsets)
 
--- the first of them that can't be read decides
+-- the first of these ranges that can't be read decides
 pub offsets_refused : (size len : ℕ) (offsets : List ℕ) (i d : ℕ) (e : Error) → i < length offsets → EndWithin size (ranges_of len (take i offsets)) → RangesGo size ((get_or offsets i d, len) ∷ []) (Err e) → RangesGo size (ranges_of len offsets) (Err e)
 offsets_refused size len offsets i d e there before (front, after, (range, is, first, goes)) =
     RangesGo-refused size (ranges_of len offsets) i (0, 0) e (omega (arith, there, length-ranges_of len offsets))
@@ -177,7 +177,7 @@ pub offsets_more : (size len : ℕ) (offsets : List ℕ) (i d : ℕ) → i < len
 offsets_more size len offsets i d there before here =
     subst (λ (rs : List (ℕ × ℕ)). EndWithin size rs) (ranges_push len offsets i d there) (All-push (λ (r : ℕ × ℕ). r.0 + r.1 ≤ size) (ranges_of len (take i offsets)) (get_or offsets i d, len) before (here 0 (0, 0) (omega arith)))
 
--- they fill this many bytes
+-- ranges of one length fill this many bytes
 pub sum_ranges_of : (len : ℕ) (offsets : List ℕ) → sum_by (λ (r : ℕ × ℕ). r.1) (ranges_of len offsets) ≡ length offsets * len
 sum_ranges_of len [] = omega arith
 sum_ranges_of len (offset ∷ offsets) = sum_by-cons (λ (r : ℕ × ℕ). r.1) (offset, len) (ranges_of len offsets) ∙ ap (λ (n : ℕ). len + n) (sum_ranges_of len offsets) ∙ omega (arith, suc-mul (length offsets) len)
@@ -189,12 +189,12 @@ offsets_all size len offsets n enough ends = subst (λ (l : List ℕ). EndWithin
 pub range_push : (n : ℕ) → range_with_len 0 n ++ n ∷ [] ≡ range_with_len 0 (n + 1)
 range_push n = sym (range_split 0 n 1 (n + 1) n refl (omega arith))
 
--- where a range can't be read, all are answered
+-- where a range can't be read, the numbers of all are answered
 pub misses_all : (t : Tail) (ranges : List (ℕ × ℕ)) (cache : CacheState) (result : Result (Vec ℕ Global) Error) → (EndWithin (tail_size t) ranges → ⊥) → IfOk result (λ all. all.items ≡ range_with_len 0 (length ranges)) → IfOk result (λ missed. Misses t ranges cache missed.items)
 misses_all t ranges cache (Ok all) refused is = inr (refused, is)
 misses_all t ranges cache (Err e) refused is = is
 
--- where none is, those that aren't served are
+-- where each range can be read, the numbers of those that aren't served are answered
 pub misses_within : (t : Tail) (ranges : List (ℕ × ℕ)) (cache : CacheState) (result : Result (Vec ℕ Global) Error) → EndWithin (tail_size t) ranges → IfOk result (λ missed. missed.items ≡ missed_from 0 cache t ranges) → IfOk result (λ missed. Misses t ranges cache missed.items)
 misses_within t ranges cache (Ok missed) within is = inl (within, is)
 misses_within t ranges cache (Err e) within is = is

@@ -55,7 +55,7 @@ not_last : (q : ℕ) (o : Option ℕ) → ((x : ℕ) → o ≡ Some x → x < q)
 not_last q None less = refl
 not_last q (Some x) less = ne_eqb x q (λ same. omega (arith, same, less x refl))
 
--- a page that is after all is added
+-- a page that is after all others is added
 pub with_page_new : (q : ℕ) (xs : List ℕ) → ((k x : ℕ) → slice_get xs k ≡ Some x → x < q) → with_page q xs ≡ xs ++ q ∷ []
 with_page_new q xs less = ap (λ (b : Bool). cond b xs (xs ++ q ∷ [])) (not_last q (slice_get xs (length xs - 1)) (less (length xs - 1)))
 
@@ -185,7 +185,7 @@ missing_split cache t ranges o d n wide = missing_same cache t (ranges ++ (o, d 
     or_joins true b c = refl
     or_joins false b c = refl
 
--- an empty range lacks none
+-- an empty range lacks no page
 pub missing_none : (cache : CacheState) (t : Tail) (ranges : List (ℕ × ℕ)) (o : ℕ) → missing cache t (ranges ++ (o, 0) ∷ []) ≡ missing cache t ranges
 missing_none cache t ranges o = missing_same cache t (ranges ++ (o, 0) ∷ []) ranges (λ p below.
     let P = t.page_size in
@@ -206,14 +206,14 @@ none_kept f a (suc n) p none lo hi = by_test (f a) refl none (λ more apart. non
       | inr apart ↦ rest none apart
     ]
 
--- whether a range is served is whether it lacks none
+-- a range is served exactly if it lacks no page
 pub served_lacks : (cache : CacheState) (t : Tail) (range : ℕ × ℕ) → is_served cache t range ≡ true → (p : ℕ) → p < t.full_pages → is_lacked cache t (range ∷ []) p ≡ false
 served_lacks cache t range served p below = none_kept (is_lacked cache t (range ∷ [])) 0 t.full_pages p (eqb-true _ _ served) (omega arith) (omega arith)
 
 pub lacks_served : (cache : CacheState) (t : Tail) (range : ℕ × ℕ) → ((p : ℕ) → p < t.full_pages → is_lacked cache t (range ∷ []) p ≡ false) → is_served cache t range ≡ true
 lacks_served cache t range none = eq-eqb _ _ (ap length (filter_none (is_lacked cache t (range ∷ [])) 0 t.full_pages (λ p lo hi. none p (omega arith))))
 
--- where many lack none each is served
+-- where many ranges lack no page each is served
 pub each_served : (cache : CacheState) (t : Tail) (ranges : List (ℕ × ℕ)) (i : ℕ) (d : ℕ × ℕ) → i < length ranges → missing cache t ranges ≡ [] → is_served cache t (get_or ranges i d) ≡ true
 each_served cache t ranges i d there none =
     let range = get_or ranges i d in
@@ -258,7 +258,7 @@ served_split cache t o d n wide = same_tests (is_served cache t (o, d + n)) (is_
         let h = and_parts (is_served cache t (o, d)) (is_served cache t (o + d, n)) both in
         lacks_served cache t (o, d + n) (λ p below. split p ∙ whole (not (is_some (cached_page cache (t.id, p)))) (touches t.page_size (o, d) p) (touches t.page_size (o + d, n) p) (sym (one o d p) ∙ served_lacks cache t (o, d) h.0 p below) (sym (one (o + d) n p) ∙ served_lacks cache t (o + d, n) h.1 p below))
 
--- so it isn't where one of them isn't
+-- a range isn't served where a part of it isn't
 pub part_unserved : (cache : CacheState) (t : Tail) (o n at part : ℕ) → 0 < t.page_size → o ≤ at → at + part ≤ o + n → is_served cache t (at, part) ≡ false → is_served cache t (o, n) ≡ false
 part_unserved cache t o n at part wide after ends none =
     let d = at - o in
@@ -274,7 +274,7 @@ part_unserved cache t o n at part wide after ends none =
     no_right true = refl
     no_right false = refl
 
--- no ranges lack none
+-- where there is no range no page is lacking
 pub missing_nil : (cache : CacheState) (t : Tail) → missing cache t [] ≡ []
 missing_nil cache t = filter_none (is_lacked cache t []) 0 t.full_pages (λ p lo hi. and_right (not (is_some (cached_page cache (t.id, p)))) false refl)
 

@@ -1,4 +1,4 @@
--- Which pages raw reads read, told by the log.
+-- Which pages raw reads read, by the device's log.
 use Rattle.std.proofs.Common.{◌≡◌, ◌≢◌, inl, inr, ℕ, zero, suc, ◌+◌, ◌-◌, ◌*◌, ◌/◌, ◌<◌, ◌≤◌, List, [], ◌∷◌, ◌++◌, map, Bool, Result, Ok, Err, refl, sym, ap, ◌∙◌, subst, arith}
 use Rattle.std.specs.List.{range_with_len}
 use Rattle.std.proofs.lemmas.List.{map-append}
@@ -16,7 +16,7 @@ range_append a (suc k) n =
     ap (λ (m : ℕ). range_with_len a m) (let e : suc k + n ≡ suc (k + n) = omega arith in e)
     ∙ ap (λ (l : List ℕ). a ∷ l) (range_append (a + 1) k n ∙ ap (λ (m : ℕ). range_with_len (a + 1) k ++ range_with_len m n) (let e : a + 1 + k ≡ a + suc k = omega arith in e))
 
--- no page
+-- no page is read
 pub pages_none : (P page : ℕ) (life : Life) → ReadsEachPage P page 0 life life
 pages_none P page life = gained_none (λ (xs : List Request). xs ≡ []) life life refl refl
 
@@ -36,7 +36,7 @@ pages_join P page k n old mid new first second =
 pub rising_joins : (P page k n : ℕ) (old mid new : Life) → ReadsEachPage P page k old mid → ReadsRising P (page + k) n mid new → ReadsRising P page (k + n) old new
 rising_joins P page k n old mid new first (few, less, second) = (k + few, omega (arith, less), pages_join P page k few old mid new first second)
 
--- not all
+-- fewer pages are read than were to be
 pub rising_fewer : (P page k n : ℕ) (old new : Life) → k ≤ n → ReadsRising P page k old new → ReadsRising P page n old new
 rising_fewer P page k n old new less (few, fewer, pages) = (few, omega (arith, less, fewer), pages)
 

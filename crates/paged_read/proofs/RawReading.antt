@@ -1,4 +1,4 @@
--- What the pages of a blob that nobody opened tell.
+-- What the pages of a blob that nobody opened hold.
 use Rattle.std.proofs.Common.{◌≡◌, ◌≢◌, inl, inr, ℕ, suc, ◌+◌, ◌-◌, ◌*◌, ◌/◌, ◌%◌, ◌<◌, ◌≤◌, ◌^◌, min, List, [], ◌++◌, length, take, drop, refl, sym, ◌∙◌, ap, subst, arith, append-nil, append_assoc, Result, Ok, Err}
 use Rattle.std.specs.Prelude.{Option, Some, None, ◌==◌, nat_le, nat_lt, if◌then◌else◌, slice_range, IfOk, IsOkUnless}
 use Rattle.std.specs.List.{concat}
@@ -28,24 +28,24 @@ module _ (sum : List ℕ → ℕ) (P page : ℕ) (readable : List ℕ) where
   abbrev here : List ℕ
   here = page_at P page readable
 
-  -- its offset passes the greatest
+  -- the page's end passes the greatest `u64`
   pub value_passes : 2 ^ 64 ≤ end → value_told sum P page readable ≡ Err OffsetOverflow
   value_passes over = cond-true (nat_le (2 ^ 64) end) _ _ (le-leb (2 ^ 64) end over)
 
-  -- the blob ends before it does
+  -- the blob ends before the page does
   pub value_lacks : end < 2 ^ 64 → length readable < end → value_told sum P page readable ≡ Err BlobInsufficientLength
   value_lacks fits short =
       cond-false (nat_le (2 ^ 64) end) _ _ (lt-leb (2 ^ 64) end fits)
       ∙ cond-true (nat_lt (length readable) end) _ _ (lt-ltb (length readable) end short)
 
-  -- it has no value
+  -- the page has no value
   pub value_missing : end < 2 ^ 64 → end ≤ length readable → value_len sum P here ≡ 0 → value_told sum P page readable ≡ Err InvalidChecksum
   value_missing fits there none =
       cond-false (nat_le (2 ^ 64) end) _ _ (lt-leb (2 ^ 64) end fits)
       ∙ cond-false (nat_lt (length readable) end) _ _ (le-ltb (length readable) end there)
       ∙ cond-true (value_len sum P here == 0) _ _ (eq-eqb (value_len sum P here) 0 none)
 
-  -- it has one
+  -- the page has a value
   pub value_there : end < 2 ^ 64 → end ≤ length readable → value_len sum P here ≢ 0 → value_told sum P page readable ≡ Ok (value sum P here)
   value_there fits there some =
       cond-false (nat_le (2 ^ 64) end) _ _ (lt-leb (2 ^ 64) end fits)
@@ -75,7 +75,7 @@ page_read P page size page_start old new bytes size_is page_start_is goes =
 pub page_there : (P page size page_start : ℕ) (old new : Life) (bytes : List ℕ) → size ≡ P + 12 → page_start ≡ page * (P + 12) → DeviceReadGoes page_start size old new (Ok bytes) → (page + 1) * (P + 12) ≤ length old.present.readable
 page_there P page size page_start old new bytes size_is page_start_is goes = omega (arith, goes.0, size_is, page_start_is)
 
--- it has no value
+-- the page that was read has no value
 pub read_missing_value : {A : Type 0} (sum : List ℕ → ℕ) (of : A → List ℕ) (P page size page_start : ℕ) (old new : Life) (bytes : List ℕ) → size ≡ P + 12 → page_start ≡ page * (P + 12) → (page + 1) * (P + 12) < 2 ^ 64
     → DeviceReadGoes page_start size old new (Ok bytes) → active sum P bytes ≡ None → ReadsTold of (value_told sum P page old.present.readable) old new (Err InvalidChecksum)
 read_missing_value sum of P page size page_start old new bytes size_is page_start_is fits goes none =
@@ -83,7 +83,7 @@ read_missing_value sum of P page size page_start old new bytes size_is page_star
     let is = page_read P page size page_start old new bytes size_is page_start_is goes in
     (value_missing sum P page old.present.readable fits there (ap (λ (l : List ℕ). value_len sum P l) (sym is) ∙ active_none sum P bytes none), looked_read page_start size old new (Ok bytes) goes, none_failed_read page_start size old new bytes goes)
 
--- it has one, of so many bytes
+-- the page that was read has a value, of so many bytes
 pub read_value_is : (sum : List ℕ → ℕ) (P page size page_start : ℕ) (old new : Life) (bytes : List ℕ) (slot : ActiveChecksum) → size ≡ P + 12 → page_start ≡ page * (P + 12) → (page + 1) * (P + 12) < 2 ^ 64
     → DeviceReadGoes page_start size old new (Ok bytes) → active sum P bytes ≡ Some slot → value_told sum P page old.present.readable ≡ Ok (take slot.len bytes)
 read_value_is sum P page size page_start old new bytes slot size_is page_start_is fits goes some =
@@ -96,7 +96,7 @@ read_value_is sum P page size page_start old new bytes slot size_is page_start_i
     ∙ ap (λ (n : ℕ). Ok (take n (page_at P page readable))) (sym len)
     ∙ ap (λ (l : List ℕ). Ok (take slot.len l)) (sym is)
 
--- ---- a part of its value
+-- ---- a part of a page's value
 
 -- some bytes
 pub some_bytes : (bytes : List ℕ) → length bytes ≢ 0 → some_of bytes ≡ Ok bytes
@@ -122,16 +122,16 @@ module _ (P from to page len : ℕ) (bytes : List ℕ) where
   part_is : skip ≤ stop → part ≡ slice_range bytes skip stop
   part_is le = ap (λ (l : List ℕ). drop skip l) (take_less (to - page * P) len bytes) ∙ drop-take_less bytes skip stop le
 
-  -- it has bytes of the range
+  -- the page's value has bytes of the range
   pub part_some : skip < stop → stop ≤ length bytes → part_of P from to page (Ok (take len bytes)) ≡ Ok (slice_range bytes skip stop)
   part_some less fits =
       let is = part_is (omega (arith, less)) in
       let many : length part ≡ stop - skip = ap (λ (l : List ℕ). length l) is ∙ length-take-le (stop - skip) (drop skip bytes) (omega (arith, length-drop skip bytes, fits)) in
       some_bytes part (λ none. omega (arith, many, none, less)) ∙ ap (λ (l : List ℕ). Ok l) is
 
--- ---- reads that are told
+-- ---- reads by what a blob holds
 
--- one that only looked
+-- a read that only looked
 pub told_looks : {A B : Type 0} (of : A → B) (told : Result B Error) (old new : Life) (result : Result A Error) → ReadsTold of told old new result → Looked old new
 told_looks of told old new (Ok a) reads = reads.1
 told_looks of told old new (Err ReadFailed) reads = reads.1
@@ -144,7 +144,7 @@ told_looks of told old new (Err OffsetOverflow) reads = reads.1
 told_looks of told old new (Err OutOfMemory) reads = reads.0
 told_looks of told old new (Err IdsExhausted) reads = reads.1
 
--- one that is refused after a look, as a part of another
+-- a read that fails after a look, as a part of another
 pub told_fault : {A B C D : Type 0} (of : A → B) (to : C → D) (told : Result B Error) (whole : Result D Error) (start old new : Life) (e : Error) → Looked start old → NoneFailed start.present old.present
     → ((f : Error) → told ≡ Err f → whole ≡ Err f) → ReadsTold of told old new (Err e) → ReadsTold to whole start new (Err e)
 told_fault of to told whole start old new ReadFailed so_far none meant reads = (failed_later ReadFailed start.present old.present new.present so_far.log reads.0, looked_joins start old new so_far reads.1)
@@ -157,13 +157,13 @@ told_fault of to told whole start old new OffsetOverflow so_far none meant reads
 told_fault of to told whole start old new OutOfMemory so_far none meant reads = (looked_joins start old new so_far reads.0, none_failed_joins start.present old.present new.present none reads.1)
 told_fault of to told whole start old new IdsExhausted so_far none meant reads = (meant IdsExhausted reads.0, looked_joins start old new so_far reads.1, none_failed_joins start.present old.present new.present none reads.2)
 
--- one that no memory ends
+-- a read that ends since memory is refused
 pub told_memory : {A B : Type 0} (of : A → B) (told : Result B Error) (start new : Life) (e : Error) → Looked start new → NoneFailed start.present new.present → e ≡ OutOfMemory → ReadsTold of told start new (Err e)
 told_memory of told start new e so_far none is = subst (λ (x : Error). ReadsTold of told start new (Err x)) (sym is) (so_far, none)
 
 -- ---- a range
 
--- nothing in front
+-- nothing in front of a result
 pub joined_none : (back : Result (List ℕ) Error) → joined_results (Ok []) back ≡ back
 joined_none (Ok back) = refl
 joined_none (Err e) = refl
@@ -182,7 +182,7 @@ module _ (sum : List ℕ → ℕ) (P from to first end : ℕ) (readable : List �
   abbrev rest : ℕ → Result (List ℕ) Error
   rest page = parts_told sum P from to (end - page) page readable
 
-  -- so much was found before this page
+  -- these bytes were found before this page
   abbrev pub IsFound : ℕ → List ℕ → Type 0
   IsFound page found = all ≡ joined_results (Ok found) (rest page)
 
@@ -194,18 +194,18 @@ module _ (sum : List ℕ → ℕ) (P from to first end : ℕ) (readable : List �
       let e : end - page ≡ suc (end - (page + 1)) = omega (arith, less) in
       ap (λ (n : ℕ). parts_told sum P from to n page readable) e
 
-  -- one page more
+  -- one page more was found
   pub found_next : (page : ℕ) (found part : List ℕ) → page < end → IsFound page found → part_of P from to page (value_told sum P page readable) ≡ Ok part → IsFound (page + 1) (found ++ part)
   found_next page found part less is told =
       is ∙ ap (λ (r : Result (List ℕ) Error). joined_results (Ok found) r) (rest_is page less ∙ ap (λ (r : Result (List ℕ) Error). joined_results r (rest (page + 1))) told)
       ∙ joined_more found part (rest (page + 1))
 
-  -- one that is refused
+  -- a page that can't be read
   pub found_fault : (page : ℕ) (found : List ℕ) (e : Error) → page < end → IsFound page found → part_of P from to page (value_told sum P page readable) ≡ Err e → all ≡ Err e
   found_fault page found e less is told =
       is ∙ ap (λ (r : Result (List ℕ) Error). joined_results (Ok found) r) (rest_is page less ∙ ap (λ (r : Result (List ℕ) Error). joined_results r (rest (page + 1))) told)
 
-  -- all of them
+  -- all pages were found
   pub found_all : (page : ℕ) (found : List ℕ) → end ≤ page → IsFound page found → all ≡ Ok found
   found_all page found le is =
       is ∙ ap (λ (n : ℕ). joined_results (Ok found) (parts_told sum P from to n page readable)) (let e : end - page ≡ 0 = omega (arith, le) in e) ∙ joined_last found
@@ -214,11 +214,11 @@ module _ (sum : List ℕ → ℕ) (P offset len : ℕ) (readable : List ℕ) whe
   abbrev pages : Result (List ℕ) Error
   pages = parts_told sum P offset (offset + len) (range_end P offset len - offset / P) (offset / P) readable
 
-  -- the end passes the greatest offset
+  -- the range's end passes the greatest `u64`
   pub range_passes : 2 ^ 64 ≤ offset + len → range_told sum P offset len readable ≡ Err OffsetOverflow
   range_passes over = cond-true (nat_le (2 ^ 64) (offset + len)) _ _ (le-leb (2 ^ 64) (offset + len) over)
 
-  -- nothing is asked for
+  -- the range is empty
   pub range_empty : offset + len < 2 ^ 64 → len ≡ 0 → range_told sum P offset len readable ≡ Ok []
   range_empty fits none =
       cond-false (nat_le (2 ^ 64) (offset + len)) _ _ (lt-leb (2 ^ 64) (offset + len) fits) ∙ cond-true (len == 0) _ _ (eq-eqb len 0 none)
@@ -227,7 +227,7 @@ module _ (sum : List ℕ → ℕ) (P offset len : ℕ) (readable : List ℕ) whe
   range_is fits some =
       cond-false (nat_le (2 ^ 64) (offset + len)) _ _ (lt-leb (2 ^ 64) (offset + len) fits) ∙ cond-false (len == 0) _ _ (ne_eqb len 0 some)
 
-  -- its pages decide
+  -- the range's pages decide
   pub range_fault : (e : Error) → offset + len < 2 ^ 64 → len ≢ 0 → pages ≡ Err e → range_told sum P offset len readable ≡ Err e
   range_fault e fits some told = range_is fits some ∙ ap (λ (r : Result (List ℕ) Error). all_of len r) told
 
@@ -243,7 +243,7 @@ module _ (sum : List ℕ → ℕ) (P size len : ℕ) (readable : List ℕ) where
   abbrev last : ℕ
   last = size / (P + 12) - 1
 
-  -- its pages aren't whole
+  -- the size isn't whole pages
   pub tail_torn : size % (P + 12) ≢ 0 → tail_told sum P size len readable ≡ Err BlobInsufficientLength
   tail_torn torn = cond-false (size % (P + 12) == 0) _ _ (ne_eqb (size % (P + 12)) 0 torn)
 
@@ -251,14 +251,14 @@ module _ (sum : List ℕ → ℕ) (P size len : ℕ) (readable : List ℕ) where
       ≡ (if size == 0 then (if len == 0 then Ok (0, []) else Err BlobInsufficientLength) else after_told sum P last len readable (value_told sum P last readable))
   whole is = cond-true (size % (P + 12) == 0) _ _ (eq-eqb (size % (P + 12)) 0 is)
 
-  -- there is none
+  -- there is no page
   pub tail_empty : size % (P + 12) ≡ 0 → size ≡ 0 → len ≡ 0 → tail_told sum P size len readable ≡ Ok (0, [])
   tail_empty is none few = whole is ∙ cond-true (size == 0) _ _ (eq-eqb size 0 none) ∙ cond-true (len == 0) _ _ (eq-eqb len 0 few)
 
   pub tail_lacks : size % (P + 12) ≡ 0 → size ≡ 0 → len ≢ 0 → tail_told sum P size len readable ≡ Err BlobInsufficientLength
   tail_lacks is none some = whole is ∙ cond-true (size == 0) _ _ (eq-eqb size 0 none) ∙ cond-false (len == 0) _ _ (ne_eqb len 0 some)
 
-  -- the last one decides
+  -- the last page decides
   pub tail_after : size % (P + 12) ≡ 0 → size ≢ 0 → tail_told sum P size len readable ≡ after_told sum P last len readable (value_told sum P last readable)
   tail_after is some = whole is ∙ cond-false (size == 0) _ _ (ne_eqb size 0 some)
 
@@ -272,7 +272,7 @@ module _ (sum : List ℕ → ℕ) (P page len : ℕ) (readable bytes : List ℕ)
   after_is : len ≤ after_end → after_told sum P page len readable (Ok bytes) ≡ ending_at after_end (joined_results front (Ok (drop (after_end - len - page * P) bytes)))
   after_is le = cond-false (nat_lt after_end len) _ _ (le-ltb after_end len le)
 
-  -- those before the last page decide
+  -- the pages before the last one decide
   pub after_fault : (e : Error) → len ≤ after_end → front ≡ Err e → after_told sum P page len readable (Ok bytes) ≡ Err e
   after_fault e le told =
       after_is le ∙ ap (λ (r : Result (List ℕ) Error). ending_at after_end (joined_results r (Ok (drop (after_end - len - page * P) bytes)))) told
@@ -288,7 +288,7 @@ pub read_len : (page_start size : ℕ) (old new : Life) (bytes : List ℕ) → D
 read_len page_start size old new bytes goes =
     ap (λ (l : List ℕ). length l) goes.1 ∙ length-take-le size (drop page_start old.present.readable) (omega (arith, goes.0, length-drop page_start old.present.readable))
 
--- what tells the value of a page that was read
+-- the slot of the value of a page that was read
 pub seen_active : (sum : List ℕ → ℕ) (P size : ℕ) (bytes seen : List ℕ) (slot : Option ActiveChecksum) → size ≡ P + 12 → length bytes ≡ size → seen ≡ bytes → slot ≡ active sum (length seen - 12) seen → active sum P bytes ≡ slot
 seen_active sum P size bytes seen slot size_is many same told =
     sym (told ∙ ap (λ (l : List ℕ). active sum (length l - 12) l) same ∙ ap (λ (n : ℕ). active sum n bytes) (let e : length bytes - 12 ≡ P = omega (arith, many, size_is) in e))
@@ -316,7 +316,7 @@ same_pages sum P offset len size end readable size_is end_is =
     sym (ap (λ (n : ℕ). parts_told sum P offset end ((end - 1) / n + 1 - offset / n) (offset / n) readable) size_is
     ∙ ap (λ (e : ℕ). parts_told sum P offset e ((e - 1) / P + 1 - offset / P) (offset / P) readable) end_is)
 
--- what is told of a blob that was looked at
+-- what pages hold stays, as a blob is looked at
 pub told_before : (sum : List ℕ → ℕ) (P from to page : ℕ) (start old new : Life) (result : Result (List ℕ) Error) → Looked start old
     → ReadsTold (λ (b : List ℕ). b) (part_of P from to page (value_told sum P page old.present.readable)) old new result
     → ReadsTold (λ (b : List ℕ). b) (part_of P from to page (value_told sum P page start.present.readable)) old new result
@@ -358,7 +358,7 @@ module _ (sum : List ℕ → ℕ) (P page len start end offset before tail_len :
       ∙ ap (λ (n : ℕ). Ok (n, found ++ drop (page * P + length told_value - len - page * P) told_value)) ends_there
       ∙ ap (λ (l : List ℕ). Ok (end, found ++ l)) (ap (λ (n : ℕ). drop n told_value) same ∙ drop-take_less tail skip tail_len few)
 
--- how a range is told of a blob that was looked at
+-- what a range holds stays, as a blob is looked at
 pub range_before : (sum : List ℕ → ℕ) (P offset len : ℕ) (start old new : Life) (result : Result (List (List ℕ)) Error) → Looked start old
     → ReadsTold concat (range_told sum P offset len old.present.readable) old new result → ReadsTold concat (range_told sum P offset len start.present.readable) old new result
 range_before sum P offset len start old new result looked reads =

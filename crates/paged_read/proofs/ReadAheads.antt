@@ -26,7 +26,7 @@ slice_is_page P size page bytes is =
     ap (λ n. take n (drop (page * size) bytes)) (let e : page * size + size - page * size ≡ size = omega arith in e)
     ∙ ap (λ n. take n (drop (page * n) bytes)) is
 
--- one page more
+-- one full page more
 pub full_more : (sum : List ℕ → ℕ) (P end : ℕ) (bytes : List ℕ) → AreFullPages sum P 0 end bytes → value_len sum P (page_at P end bytes) ≡ P → AreFullPages sum P 0 (end + 1) bytes
 full_more sum P end bytes so_far one = λ page above below. elim (cases_lt page end) [
   | inl less ↦ so_far page above less
@@ -38,7 +38,7 @@ full_more sum P end bytes so_far one = λ page above below. elim (cases_lt page 
 pub after_within : (batch full page : ℕ) → page ≤ full → after_batch batch full page ≤ full
 after_within batch full page within = omega (arith, within)
 
--- one more at the end
+-- one batch more at the end
 pub follow_more : (batch full page : ℕ) (queue : List Ahead) (a : Ahead) → BatchesFollow batch full page queue → a.page ≡ page_after batch full page queue → page_after batch full page queue < full
     → BatchesFollow batch full page (queue ++ a ∷ [])
 follow_more batch full page [] a follow is below = (is, below, after_within batch full page (omega (arith, below)))
@@ -56,7 +56,7 @@ are_next (suc n) batch full page [] follow few whole = elim whole [ inl same ↦
 are_next (suc n) batch full page (a ∷ rest) follow few whole =
     (follow.0, follow.1, are_next n batch full (after_batch batch full page) rest follow.2 (omega (arith, few)) (elim whole [ inl same ↦ inl (omega (arith, same)) | inr ends ↦ inr ends ]))
 
--- the page after them is that after the last one
+-- the page after a queue is the one after its last batch
 pub after_last : (batch full page : ℕ) (queue : List Ahead) (last : Ahead) → BatchesFollow batch full page queue → Some last ≡ slice_get queue (length queue - 1)
     → (page_after batch full page queue ≡ after_batch batch full last.page) × (last.page < full)
 after_last batch full page [] last follow is = absurd (cc)
@@ -81,7 +81,7 @@ start_gives : (ranges : List (ℕ × ℕ)) (old new : Life) (result : Result (Li
 start_gives ranges old new (Ok given) bytes goes is = let same : given ≡ bytes = cc in sym same ∙ goes.1
 start_gives ranges old new (Err e) bytes goes is = absurd (cc)
 
--- batches that were read stay what they are
+-- batches that were read still hold the blob's bytes
 pub batch_stays : (P batch full : ℕ) (d e : Disk) (a : Ahead) → e.readable ≡ d.readable → IsBatch P batch full d a → IsBatch P batch full e a
 batch_stays P batch full d e a same is = λ bytes given. is bytes given ∙ ap (λ l. batch_bytes P batch full a.page l) (sym same)
 
@@ -93,7 +93,7 @@ batch_started P batch full old new a goes = λ bytes given.
     start_gives (batch_range P batch full a.page ∷ []) old new a.read bytes goes given
     ∙ ap (λ l. batch_bytes P batch full a.page l) (sym (looked_readable old new (looked_start_read (batch_range P batch full a.page ∷ []) old new a.read goes)))
 
--- and one more
+-- one batch more holds the blob's bytes
 pub batches_more : (P batch full : ℕ) (old new : Life) (queue : List Ahead) (a : Ahead) → StartReadGoes (batch_range P batch full a.page ∷ []) old new a.read → All (IsBatch P batch full old.present) queue
     → All (IsBatch P batch full new.present) (queue ++ a ∷ [])
 batches_more P batch full old new queue a goes are =
@@ -107,7 +107,7 @@ batches_more P batch full old new queue a goes are =
 
 -- ---- what a wait gives
 
--- the bytes of a batch that didn't fail
+-- the bytes of a batch whose read didn't fail
 pub waited_is : (read : Result (List (List ℕ)) Error) (result : Result (List ℕ) Error) (want : List ℕ) → ((all : List (List ℕ)) → read ≡ Ok all → all ≡ want ∷ [])
     → ((bytes : List ℕ) → read ≡ Ok (bytes ∷ []) → result ≡ Ok bytes) → ((error : Error) → read ≡ Err error → result ≡ Err error)
     → (bytes : List ℕ) → result ≡ Ok bytes → bytes ≡ want
@@ -119,7 +119,7 @@ waited_is read result want is ok err bytes given = by read refl
         cc (answers, given)
     by (Err error) e = let answers : result ≡ Err error = err error e in absurd (cc (answers, given))
 
--- the first of the queue, taken out
+-- the first batch of the queue, taken out
 pub taken_is : (P batch full page : ℕ) (d : Disk) (queue : List Ahead) (first a : Ahead) (result : Result (List ℕ) Error) (answer : Option (List ℕ)) → All (IsBatch P batch full d) queue
     → Some first ≡ slice_get queue 0 → a ≡ slice_index_or queue 0 a → first.page ≡ page
     → ((bytes : List ℕ) → a.read ≡ Ok (bytes ∷ []) → result ≡ Ok bytes) → ((error : Error) → a.read ≡ Err error → result ≡ Err error) → answer ≡ result_ok result
@@ -177,7 +177,7 @@ fetched P batch full page old new read result below reach goes ok err = by read 
     by (Err OutOfMemory) is gone = failed OutOfMemory is (tt {0})
     by (Err _) is gone = absurd gone
 
--- and it tells what failed
+-- no device call failed in a read on demand that doesn't answer `ReadFailed`
 pub fetched_tells : (ranges : List (ℕ × ℕ)) (old new : Life) (want : List ℕ) (read : Result (List (List ℕ)) Error) (result : Result (List ℕ) Error) → bytes_of ranges old.present.readable ≡ want ∷ [] → StartReadGoes ranges old new read
     → ((bytes : List ℕ) → read ≡ Ok (bytes ∷ []) → result ≡ Ok bytes) → ((error : Error) → read ≡ Err error → result ≡ Err error)
     → TellsFailure old new result
@@ -200,7 +200,7 @@ fetched_tells ranges old new want read result one goes ok err = by read refl goe
 pub one_run : (x y : List ℕ) → x ∷ [] ≡ y ∷ [] → x ≡ y
 one_run x y same = cc same
 
--- as many bytes as its range has
+-- a batch has as many bytes as its range
 pub run_length : (P batch full page : ℕ) (readable run : List ℕ) → page < full → full * (P + 12) ≤ length readable → run ∷ [] ≡ batch_bytes P batch full page readable → length run ≡ min batch (full - page) * (P + 12)
 run_length P batch full page readable run below reach is =
     let k = min batch (full - page) in

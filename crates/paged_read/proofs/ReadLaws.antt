@@ -89,7 +89,7 @@ module _ (sum : List ℕ → ℕ) (t : Tail) (cache : CacheState) (old new : Lif
       let goes = read_many_goes ranges buf after result answers size in
       record { answers = answers; served = served; never = goes.never; never_if_sound = goes.never_if_sound; size = size }
 
--- a read of ranges, which took memory for them
+-- a read of ranges of one length, which took memory for the ranges
 pub ranges_goes : (sum : List ℕ → ℕ) (t : Tail) (cache : CacheState) (ranges : List (ℕ × ℕ)) (buf after : List ℕ) (old new : Life) (result : Result ℕ Error) → ReadRangesGoes sum t cache ranges buf after old new result → ReadManyGoes sum t cache ranges buf after old new result
 ranges_goes sum t cache ranges buf after old new result goes = record { answers = goes.answers; never = goes.never; never_if_sound = goes.never_if_sound; size = goes.size }
 
@@ -160,7 +160,7 @@ module _ (sum : List ℕ → ℕ) (t : Tail) (cache after : CacheState) (old new
   read_leaves_in_order pages (Ok a) below puts = read_leaves_puts pages below puts
   read_leaves_in_order pages (Err e) below puts = read_leaves_puts (take puts.count pages) (λ page has. below page (first_has puts.count pages page has)) puts.puts
 
-  -- a read of one range, and of many
+  -- what a read of one range leaves, and a read of many
   pub read_leaves : {A : Type 0} (range : ℕ × ℕ) (result : Result A Error) → PutsAsked sum t (missing cache t (range ∷ [])) old new cache after result → ReadLeaves sum t cache after old new
   read_leaves range result puts =
       let pages = missing cache t (range ∷ []) in
@@ -171,11 +171,11 @@ module _ (sum : List ℕ → ℕ) (t : Tail) (cache after : CacheState) (old new
       let pages = missing cache t ranges in
       read_leaves_in_order puts.order result (λ page has. missing_under cache t ranges page (Contains-permutation puts.order pages page (IsPermutation-sym pages puts.order puts.each) has)) puts.puts
 
--- one that puts nothing and asks nothing
+-- a read that puts nothing and asks nothing
 pub leaves_nothing : (sum : List ℕ → ℕ) (t : Tail) (cache : CacheState) (life : Life) → 0 < t.page_size → CanRead t cache life.present → ReadLeaves sum t cache cache life life
 leaves_nothing sum t cache life some can = read_leaves_puts sum t cache cache life life some can (looked_start life) [] (λ page has. absurd (omega (arith, has.1))) refl
 
--- ---- what it costs
+-- ---- what a read costs
 
 pub costs_nothing : {A : Type 0} (sum : List ℕ → ℕ) (t : Tail) (range : ℕ × ℕ) (cache : CacheState) (life : Life) (e : Error) → ReadCosts {A = A} sum t range cache cache life life (Err e)
 costs_nothing sum t range cache life e = record {
@@ -191,7 +191,7 @@ many_costs_nothing sum t ranges cache life e =
       puts = record { order = pages; each = IsPermutation-refl pages; puts = puts_none sum t pages life.present.readable cache };
     }
 
--- what the part below the tail costs the whole costs
+-- what the part below the tail costs, the whole read costs
 pub costs_part : {B : Type 0} (sum : List ℕ → ℕ) (t : Tail) (one other : ℕ × ℕ) (cache after : CacheState) (old new : Life) (b : B) → missing cache t (other ∷ []) ≡ missing cache t (one ∷ []) → AsksForMissing cache t one old new
     → PutsAsked {A = B} sum t (missing cache t (one ∷ [])) old new cache after (Ok b) → ReadCosts {A = B} sum t other cache after old new (Ok b)
 costs_part {B = B} sum t one other cache after old new b same asks puts = record {
@@ -206,21 +206,21 @@ costs_part_refused {B = B} sum t one other cache after old new f same asks puts 
   puts = subst (λ (l : List ℕ). PutsAsked {A = B} sum t l old new cache after (Err f)) (sym same) puts;
 }
 
--- the same under another answer
+-- the costs of a read, under another answer
 pub costs_again : {A B : Type 0} (sum : List ℕ → ℕ) (t : Tail) (range : ℕ × ℕ) (cache after : CacheState) (old new : Life) (a : A) (b : B) → ReadCosts {A = A} sum t range cache after old new (Ok a) → ReadCosts {A = B} sum t range cache after old new (Ok b)
 costs_again sum t range cache after old new a b costs = record { asks = costs.asks; puts = costs.puts }
 
 pub costs_refused_again : {A B : Type 0} (sum : List ℕ → ℕ) (t : Tail) (range : ℕ × ℕ) (cache after : CacheState) (old new : Life) (e f : Error) → ReadCosts {A = A} sum t range cache after old new (Err e) → ReadCosts {A = B} sum t range cache after old new (Err f)
 costs_refused_again sum t range cache after old new e f costs = record { asks = costs.asks; puts = costs.puts }
 
--- of a range that finds nothing missing
+-- the costs of a read of a range that finds nothing missing
 pub costs_empty : {A : Type 0} (sum : List ℕ → ℕ) (t : Tail) (range : ℕ × ℕ) (cache : CacheState) (life : Life) (a : A) → missing cache t (range ∷ []) ≡ [] → ReadCosts {A = A} sum t range cache cache life life (Ok a)
 costs_empty sum t range cache life a none = record {
   asks = (omega arith, λ served. refl);
   puts = asked_empty sum t (missing cache t (range ∷ [])) life cache a none;
 }
 
--- of many ranges, whose missing pages these are
+-- the costs of a read of many ranges, whose missing pages these are
 pub many_costs : {A B : Type 0} (sum : List ℕ → ℕ) (t : Tail) (ranges : List (ℕ × ℕ)) (pages : List ℕ) (cache after : CacheState) (old new : Life) (a : A) (b : B) → pages ≡ missing cache t ranges → AsksTogether (page_ranges t.page_size pages) old new
     → PutsSome {A = A} sum t pages old.present.readable cache after (Ok a) → ReadManyCosts {A = B} sum t ranges cache after old new (Ok b)
 many_costs sum t ranges pages cache after old new a b wanted asks puts = record {
@@ -286,7 +286,7 @@ many_refused sum t cache ranges pages bytes old new OffsetOverflow is within fau
 many_refused sum t cache ranges pages bytes old new OutOfMemory is within fault = (within, fault)
 many_refused sum t cache ranges pages bytes old new IdsExhausted is within fault = (within, fault)
 
--- where it fails after all pages were put
+-- the costs of a read that fails after all pages were put
 pub costs_refused : {A B : Type 0} (sum : List ℕ → ℕ) (t : Tail) (range : ℕ × ℕ) (cache after : CacheState) (old new : Life) (a : A) (e : Error) → AreMissingFull sum cache t (range ∷ []) old.present.readable → ReadCosts {A = A} sum t range cache after old new (Ok a) → ReadCosts {A = B} sum t range cache after old new (Err e)
 costs_refused sum t range cache after old new a e full costs =
     let pages = missing cache t (range ∷ []) in

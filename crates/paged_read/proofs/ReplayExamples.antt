@@ -29,7 +29,7 @@ batches_of_buffers : batch_of 64 76 ∷ batch_of 64 228 ∷ batch_of 64 304 ∷ 
     ≡ 1 ∷ 1 ∷ 1 ∷ 2 ∷ 2 ∷ 3 ∷ 16 ∷ 1 ∷ []
 batches_of_buffers = refl
 
--- of five pages, by two
+-- the batches of five pages, by two
 the_last_batch : after_batch 2 5 0 ∷ after_batch 2 5 2 ∷ after_batch 2 5 4 ∷ [] ≡ 2 ∷ 4 ∷ 5 ∷ []
 the_last_batch = refl
 
@@ -39,11 +39,11 @@ the_range_of_a_batch = refl
 abbrev read_of : (page : ℕ) → Ahead
 read_of page = record { page = page; read = Ok [] }
 
--- of two pages, one by one
+-- the next batches of two pages, one by one
 the_next_two : AreNext 3 1 2 0 (read_of 0 ∷ read_of 1 ∷ [])
 the_next_two = (refl, omega arith, (refl, omega arith, omega arith))
 
--- so they are of three pages too, but not where three are to be queued
+-- these two aren't the next three of three pages
 no_third_of_two : AreNext 3 1 3 0 (read_of 0 ∷ read_of 1 ∷ []) → ⊥
 no_third_of_two next = omega (arith, next.2.2)
 

@@ -33,7 +33,7 @@ use Rattle.paged_read.proofs.ReadAheads.{one_run}
 
 -- ---- the payloads of a batch
 
--- those of whole pages are what is stored in them
+-- the payloads of whole pages are what is stored in them
 payloads_whole : (P k : ℕ) (bytes : List ℕ) → length bytes ≡ k * (P + 12) → payloads P bytes ≡ stored P k bytes
 payloads_whole P zero [] size = payloads_none P
 payloads_whole P zero (byte ∷ bytes) size = absurd (omega (arith, size))
@@ -74,7 +74,7 @@ module _ (t : Tail) (readable : List ℕ) (reach : t.full_pages * (t.page_size +
   pages_within : (page + k) * t.page_size ≤ t.full_pages * t.page_size
   pages_within = mul-le-mul_right t.page_size within
 
-  -- those of the told bytes
+  -- the payloads of a batch are the tail's bytes from its first page on
   batch_told : payloads t.page_size run ≡ take (k * t.page_size) (drop (page * t.page_size) (logical_bytes t readable))
   batch_told =
       let P = t.page_size in
@@ -85,7 +85,7 @@ module _ (t : Tail) (readable : List ℕ) (reach : t.full_pages * (t.page_size +
       ∙ sym (take-append-le (k * P) (drop (page * P) all) t.bytes (omega (arith, size, more, length-drop (page * P) all)))
       ∙ ap (λ (l : List ℕ). take (k * P) l) (sym (drop-append-le (page * P) all t.bytes (omega (arith, size, more))))
 
-  -- and from an offset in the first page on
+  -- those from an offset in the first page on
   pub batch_more : (skip : ℕ) → skip ≤ k * t.page_size → drop skip (payloads t.page_size run) ≡ take (k * t.page_size - skip) (drop (page * t.page_size + skip) (logical_bytes t readable))
   batch_more skip less =
       let P = t.page_size in
@@ -105,7 +105,7 @@ module _ (t : Tail) (readable : List ℕ) (reach : t.full_pages * (t.page_size +
 
 -- ---- what is at hand
 
--- more bytes of the same
+-- more bytes of the same content
 hand_more : (told hand more : List ℕ) (position : ℕ) → hand ≡ take (length hand) (drop position told) → more ≡ take (length more) (drop (position + length hand) told)
     → hand ++ more ≡ take (length (hand ++ more)) (drop position told)
 hand_more told hand more position so_far next =
@@ -164,7 +164,7 @@ module _ (sum : List ℕ → ℕ) (r : ReplayState) (is : IsReplay r) (more : en
       let less : end_of r / r.tail.page_size < r.tail.full_pages + 1 = div_below (end_of r) r.tail.page_size (r.tail.full_pages + 1) some (omega (arith, more, is.short)) in
       omega (arith, less)
 
-  -- where it begins after the full pages it is of none
+  -- where a fill begins after the full pages it is of no page
   pub page_after : r.tail.full_pages * r.tail.page_size ≤ end_of r → r.tail.full_pages ≤ end_of r / r.tail.page_size
   page_after after_batch = (le-div_iff_mul-le {x = r.tail.full_pages} some).1 after_batch
 
@@ -194,7 +194,7 @@ module _ (sum : List ℕ → ℕ) (r : ReplayState) (is : IsReplay r) (more : en
   at_least_one : r.tail.page_size ≤ r.batch * r.tail.page_size
   at_least_one = let e : 1 * r.tail.page_size ≤ r.batch * r.tail.page_size = mul-le-mul_right r.tail.page_size (omega (arith, is.batch)) in omega (arith, e)
 
-  -- nothing more is at hand
+  -- a fill that fails: nothing more is at hand
   nothing_filled : (queue : List Ahead) (old new : Life) (e : Error) → CanReplay r old.present → IsQueue r.batch r.tail.full_pages queue → All (IsBatch r.tail.page_size r.batch r.tail.full_pages new.present) queue
       → Looked old new → FillFault sum r.tail old new e → Filled sum r (record r { queue = queue }) old new (Err e)
   nothing_filled queue old new e can follow batches looked fault =
@@ -219,7 +219,7 @@ module _ (sum : List ℕ → ℕ) (r : ReplayState) (is : IsReplay r) (more : en
         };
       }
 
-  -- the bytes after the full pages
+  -- a fill by the bytes after the full pages
   rest_filled : (old : Life) (hand : List ℕ) → CanReplay r old.present → end_of r / r.tail.page_size ≡ r.tail.full_pages
       → hand ≡ r.hand ++ drop (end_of r % r.tail.page_size) (payloads r.tail.page_size r.tail.bytes) → Filled sum r (record r { hand = hand }) old old (Ok (tt {0}))
   rest_filled old hand can last made =
@@ -280,7 +280,7 @@ module _ (sum : List ℕ → ℕ) (r : ReplayState) (is : IsReplay r) (more : en
       (subst (λ (l : List ℕ). Filled sum r (record r { hand = l }) old old (Err OutOfMemory)) (sym same)
       (nothing_filled r.queue old old OutOfMemory can is.queue can.queue (looked_start old) (tt {0})))
 
-  -- a batch
+  -- a fill by a batch
   batch_filled : (old new : Life) (run hand : List ℕ) (queue : List Ahead) → CanReplay r old.present → end_of r / r.tail.page_size < r.tail.full_pages
       → ReadsBatch sum r.tail.page_size r.batch r.tail.full_pages (end_of r / r.tail.page_size) old new (Ok run)
       → hand ≡ r.hand ++ drop (end_of r % r.tail.page_size) (payloads r.tail.page_size run)
@@ -358,7 +358,7 @@ module _ (sum : List ℕ → ℕ) (r : ReplayState) (is : IsReplay r) (more : en
       subst (λ (l : List ℕ). Filled sum r (record r { hand = l; queue = queue }) old new (Err e)) (sym adds.0)
       (nothing_filled queue old new e can follow batches looked (why old new e can adds.1))
 
-  -- the same by what the fields of a replay say
+  -- a fill by a batch, by the fields of a replay
   pub filled_batch : (P full page skip : ℕ) → P ≡ r.tail.page_size → full ≡ r.tail.full_pages → page ≡ end_of r / r.tail.page_size → skip ≡ end_of r % r.tail.page_size
       → (old new : Life) (hand : List ℕ) (queue : List Ahead) (result : Result (Unit {0}) Error) → CanReplay r old.present → page < full
       → AddsBatch sum P r.batch full page skip r.hand hand queue old new result
@@ -393,7 +393,7 @@ pub record Asked (r now : ReplayState) (old new : Life) : Type 0 where
   pub whole : (r.tail.full_pages ≤ end_of now / r.tail.page_size) ⊎ ((m : ℕ) × (end_of now / r.tail.page_size ≡ end_of r / r.tail.page_size + m * r.batch))
   pub reads : ReadsBatches r.tail.page_size r.batch r.tail.full_pages (end_of r / r.tail.page_size) old new
 
--- none yet
+-- no fill yet
 asked_none : (r : ReplayState) (life : Life) → Asked r r life life
 asked_none r life = record {
   calls = omega arith;
@@ -402,7 +402,7 @@ asked_none r life = record {
   reads = batches_none r.tail.page_size r.batch r.tail.full_pages (end_of r / r.tail.page_size) life life refl;
 }
 
--- a fill more, of a batch
+-- one fill more, by a batch
 asked_batch : (r mid now : ReplayState) (old between new : Life) (n : ℕ) → 0 < r.batch → end_of mid / r.tail.page_size < r.tail.full_pages → n ≡ end_of mid / r.tail.page_size → end_of now / r.tail.page_size ≡ after_batch r.batch r.tail.full_pages n
     → (length mid.hand ≡ length r.hand → between ≡ old) → Asked r mid old between → length new.present.log ≤ length between.present.log + 4
     → (IsReadAhead r → length mid.hand ≡ length r.hand → length new.present.log ≤ length between.present.log + 1)
@@ -440,7 +440,7 @@ asked_batch r mid now old between new n some below at step alone so_far calls se
       }
 ]
 
--- of the bytes after the full pages
+-- one fill more, by the bytes after the full pages
 asked_rest : (r mid now : ReplayState) (old between new : Life) → r.tail.full_pages ≤ end_of mid / r.tail.page_size → end_of mid / r.tail.page_size ≤ r.tail.full_pages → end_of now / r.tail.page_size ≡ after_batch r.batch r.tail.full_pages (end_of mid / r.tail.page_size)
     → (length mid.hand ≡ length r.hand → (between ≡ old) × (end_of mid ≡ end_of r)) → Asked r mid old between → new ≡ between → Asked r now old new
 asked_rest r mid now old between new ends within step alone so_far same =
@@ -488,7 +488,7 @@ reach_start sum r count old can = record {
   looked = looked_start old;
 }
 
--- a fill where no device is needed
+-- one fill more, where no device is needed
 pub reach_idle : (sum : List ℕ → ℕ) (r : ReplayState) (count : ℕ) (mid : ReplayState) (old between new : Life) → Reached sum r count mid old between → length mid.hand < count → (mid.tail.full_pages * mid.tail.page_size ≤ end_of mid → new ≡ between) → IsHad r count → new ≡ old
 reach_idle sum r count mid old between new so_far less idle had = elim had [
   | inl enough ↦ absurd (omega (arith, enough, less, so_far.fills.hand))
@@ -497,7 +497,7 @@ reach_idle sum r count mid old between new so_far less idle had = elim had [
       idle (subst (λ (u : Tail). u.full_pages * u.page_size ≤ end_of mid) (sym so_far.fills.tail) after) ∙ so_far.idle (inr rest)
 ]
 
--- a fill more
+-- one fill more
 pub reach_more : (sum : List ℕ → ℕ) (r : ReplayState) (count : ℕ) (mid now : ReplayState) (old between new : Life) → Reached sum r count mid old between → IsReplay mid → length mid.hand < count
     → FillsOnce sum mid now between new (Ok (tt {0})) → (mid.tail.full_pages * mid.tail.page_size ≤ end_of mid → new ≡ between)
     → end_of now / mid.tail.page_size ≡ after_batch mid.batch mid.tail.full_pages (end_of mid / mid.tail.page_size) → length new.present.log ≤ length between.present.log + 4 → (IsReadAhead mid → length new.present.log ≤ length between.present.log + 1)
@@ -567,7 +567,7 @@ reach_more sum r count mid now old between new so_far is less filled idle steppe
         (subst (λ (n : ℕ). AreNext 3 mid.batch mid.tail.full_pages n now.queue) (sym none.2)
         (subst (λ (q : List Ahead). AreNext 3 mid.batch mid.tail.full_pages (end_of mid / mid.tail.page_size) q) (sym none.1) topped))))
 
--- one that fails
+-- a fill that fails
 pub reach_fails : (sum : List ℕ → ℕ) (r : ReplayState) (count : ℕ) (mid now : ReplayState) (old between new : Life) (e : Error) → Reached sum r count mid old between
     → FillsOnce sum mid now between new (Err e) → TellsFailure {A = Unit {0}} between new (Err e) → Ensures sum r count now old new (Err e)
 reach_fails sum r count mid now old between new e so_far filled tells =
@@ -594,7 +594,7 @@ reach_fails sum r count mid now old between new e so_far filled tells =
     fault OutOfMemory none = tt {0}
     fault _ none = absurd none
 
--- and all that is left
+-- all that is left is at hand
 pub reach_ends : (sum : List ℕ → ℕ) (r : ReplayState) (count : ℕ) (now : ReplayState) (old new : Life) → Reached sum r count now old new → length now.hand < count → end_of now ≡ tail_size now.tail
     → Ensures sum r count (record now { exhausted = true }) old new (Ok false)
 reach_ends sum r count now old new so_far few ends =
@@ -610,7 +610,7 @@ reach_ends sum r count now old new so_far few ends =
       (λ yes. absurd (true≢false (sym yes))),
     )
 
--- ---- what a replay gives it gives
+-- ---- a replay still gives the content that it gave
 
 -- bytes that are passed over
 passed_over : (told hand : List ℕ) (position count : ℕ) → hand ≡ take (length hand) (drop position told)
@@ -648,7 +648,7 @@ advanced_replays count r = (
   },
 )
 
--- so by its fields
+-- a replay that passed over bytes, by its fields
 pub moved_replays : (count : ℕ) (r was : ReplayState) (position : ℕ) (hand : List ℕ) → was ≡ r → position ≡ was.position + min count (length was.hand) → hand ≡ drop count was.hand
     → ReplaysOn r (record was { position = position; hand = hand })
 moved_replays count r was position hand view at bytes =
@@ -656,7 +656,7 @@ moved_replays count r was position hand view at bytes =
     (subst (λ (n : ℕ). ReplaysOn was (record was { position = n; hand = hand })) (sym at)
     (subst (λ (l : List ℕ). ReplaysOn was (record was { position = was.position + min count (length was.hand); hand = l })) (sym bytes) (advanced_replays count was)))
 
--- one that went elsewhere, by its fields
+-- a replay that went elsewhere, by its fields
 pub cleared_replays : (r was : ReplayState) (position : ℕ) (hand : List ℕ) → was ≡ r → hand ≡ [] → ReplaysOn r (record was { position = position; hand = hand; exhausted = false })
 cleared_replays r was position hand view none =
     subst (λ (s : ReplayState). ReplaysOn s (record was { position = position; hand = hand; exhausted = false })) view
@@ -672,7 +672,7 @@ cleared_replays r was position hand view none =
       },
     )
 
--- a new one
+-- a new replay
 pub new_replays : (sum : List ℕ → ℕ) (t : Tail) (buffer_size : ℕ) (content : List ℕ) (d : Disk) → IsTailOf sum t content d → IsReplayOf sum (new_replay t buffer_size) content d
 new_replays sum t buffer_size content d tail = record {
   tail = tail;
@@ -680,7 +680,7 @@ new_replays sum t buffer_size content d tail = record {
   hand = refl;
 }
 
--- one that was filled
+-- a replay that was filled
 pub filled_replays : (r now : ReplayState) (old new : Life) → StaysFilled r now → CanReplay now new.present → Looked old new → ReplaysThrough r now old new
 filled_replays r now old new fills can looked sum content is =
     let same = looked_readable old new looked in
@@ -737,7 +737,7 @@ ensure_costs sum r count now old new b so_far = record {
   reads = so_far.asked.reads;
 }
 
--- and one that fails
+-- an ensure that fails
 pub ensure_fails : (sum : List ℕ → ℕ) (r : ReplayState) (count : ℕ) (mid now : ReplayState) (old between new : Life) (e f : Error) → Reached sum r count mid old between → IsReplay mid → FillsOnce sum mid now between new (Err e) → (IsHad r count → new ≡ old)
     → length new.present.log ≤ length between.present.log + 1 → ReadsBatches mid.tail.page_size mid.batch mid.tail.full_pages (end_of mid / mid.tail.page_size) between new → EnsureCosts r count now old new (Err f)
 ensure_fails sum r count mid now old between new e f so_far is filled idle calls reads =

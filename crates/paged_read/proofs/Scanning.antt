@@ -37,14 +37,14 @@ module _ (sum : List ℕ → ℕ) (P : ℕ) where
     | inr enough ↦ enough
   ]
 
-  -- so does a full one
+  -- a full page has its payload
   full_payload : (page : List ℕ) → value_len sum P page ≡ P → length (take P page) ≡ P
   full_payload page full = elim (cases_eq P 0) [
     | inl none ↦ length-take-le P page (omega (arith, none))
     | inr some ↦ length-take-le P page (has_payload page (λ none. some (sym full ∙ none)))
   ]
 
-  -- the bytes of a value are as many as are told
+  -- a value has as many bytes as its slot's length
   pub part_size : (page : List ℕ) (slot : Option ActiveChecksum) → active sum P page ≡ slot → length (tip_of (value_and_slot slot page)) ≡ length (take (value_len sum P page) page)
   part_size page None is = ap (λ (n : ℕ). length (take n page)) (sym (active_none sum P page is))
   part_size page (Some s) is = ap (λ (n : ℕ). length (take n page)) (active_is sum P page s is).len
@@ -71,7 +71,7 @@ module _ (sum : List ℕ → ℕ) (P : ℕ) where
         )
   ]
 
-  -- so is one after pages that count as full
+  -- a prefix after pages that count as full is as long as these and the text after them
   pub prefix_from_counts : (first pages : ℕ) (readable : List ℕ) → prefix_size P (prefix_from sum P first pages readable) ≡ first * P + counted sum P (pages - first) first readable
   prefix_from_counts first pages readable =
       omega (arith, prefix_counts (pages_from P (pages - first) first readable))

@@ -1,4 +1,4 @@
--- What a search through a blob's pages reads, told by the log.
+-- What a search through a blob's pages reads, by the device's log.
 use Rattle.std.proofs.Common.{◌≡◌, ◌⊎◌, inl, inr, ℕ, ◌+◌, ◌*◌, ◌/◌, ◌≤◌, max, List, [], ◌∷◌, ◌++◌, map, Bool, true, false, Result, Ok, Err, sym, ap, ◌∙◌, subst, arith, append-nil, append_assoc}
 use Rattle.std.proofs.Math.Nat.{mul-le-mul_left}
 use Rattle.std.proofs.lemmas.List.{map-append}
@@ -16,7 +16,7 @@ within_joins most (ReadMany ranges ∷ xs) ys first second = absurd first
 within_joins most (StartReadMany ranges ∷ xs) ys first second = absurd first
 within_joins most (_ ∷ xs) ys first second = within_joins most xs ys first second
 
--- more may be read at once
+-- a greater bound on what is read at once
 within_more : (few most : ℕ) (xs : List Request) → few ≤ most → AreReadsWithin few xs → AreReadsWithin most xs
 within_more few most [] enough fit = tt
 within_more few most (ReadAt offset len ∷ xs) enough fit = (omega (arith, fit.0), within_more few most xs enough fit.1)
@@ -26,15 +26,15 @@ within_more few most (_ ∷ xs) enough fit = within_more few most xs enough fit
 
 -- ---- the log
 
--- the same log
+-- the log gained nothing
 pub gained_none : (Q : List Request → Type 0) (old new : Life) → new ≡ old → Q [] → Gained Q old new
 gained_none Q old new same holds = ([], ap (λ (l : Life). l.present.log) same ∙ sym (append-nil old.present.log), holds)
 
--- one call more
+-- the log gained one call
 pub gained_once : (Q : List Request → Type 0) (request : Request) (failed : Bool) (old new : Life) → new.present.log ≡ old.present.log ++ record { request = request; failed = failed } ∷ [] → Q (request ∷ []) → Gained Q old new
 gained_once Q request failed old new is holds = (record { request = request; failed = failed } ∷ [], is, holds)
 
--- one part of a call after another
+-- the log gained the calls of one part and then of another
 pub gained_joins : (Q R S : List Request → Type 0) (old mid new : Life) → ((xs ys : List Request) → Q xs → R ys → S (xs ++ ys)) → Gained Q old mid → Gained R mid new → Gained S old new
 gained_joins Q R S old mid new joins first second = (
   first.0 ++ second.0,
@@ -42,7 +42,7 @@ gained_joins Q R S old mid new joins first second = (
   subst S (sym (map-append (λ (e : Entry). e.request) first.0 second.0)) (joins (map (λ (e : Entry). e.request) first.0) (map (λ (e : Entry). e.request) second.0) first.2 second.2),
 )
 
--- what follows
+-- what follows from what the log gained
 pub gained_then : (Q R : List Request → Type 0) (old new : Life) → ((xs : List Request) → Q xs → R xs) → Gained Q old new → Gained R old new
 gained_then Q R old new then gained = (gained.0, gained.1, then (map (λ (e : Entry). e.request) gained.0) gained.2)
 
@@ -63,13 +63,13 @@ read_asks offset len old new (Err IdsExhausted) goes = absurd goes
 
 -- ---- one search after another
 
--- and what follows it, which reads no more at once
+-- one search, and then calls that read no more at once
 pub cuts_within : (few most : ℕ) (old mid new : Life) → few ≤ most → ReadsWithin most old mid → ReadsWithin few mid new → ReadsWithin most old new
 cuts_within few most old mid new enough within last =
     gained_joins (AreReadsWithin most) (AreReadsWithin most) (AreReadsWithin most) old mid new (within_joins most) within
     (gained_then (AreReadsWithin few) (AreReadsWithin most) mid new (λ xs fit. within_more few most xs enough fit) last)
 
--- the most that fit, and at least one
+-- a scan's longest read has the most pages that fit, and at least one
 pub scan_bytes_is : (P size buffer_size most : ℕ) → size ≡ P + 12 → most ≡ max (buffer_size / size) 1 → most * (P + 12) ≡ scan_bytes P buffer_size
 scan_bytes_is P size buffer_size most is most_is =
     ap (λ (n : ℕ). n * (P + 12)) (most_is ∙ ap (λ (k : ℕ). max (buffer_size / k) 1) is ∙ (let e : max (buffer_size / (P + 12)) 1 ≡ max 1 (buffer_size / (P + 12)) = omega arith in e))

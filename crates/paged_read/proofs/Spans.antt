@@ -14,7 +14,7 @@ pub record Spans (P offset len first count : ℕ) : Type 0 where
   pub ends : offset + len ≤ (first + count) * P
   pub last : (first + count) * P < offset + len + P
 
--- those of a range
+-- the pages in which a range lies
 pub spans_of : (P offset len : ℕ) → 0 < P → Spans P offset len (offset / P) (div_ceil (offset % P + len) P)
 spans_of P offset len some =
     let whole : offset / P * P + offset % P ≡ offset = div-add-mod' offset P in
@@ -49,7 +49,7 @@ spans_end P offset len first count page spans above =
     let h : (first + 1) * P ≤ (page + 1) * P = mul-le-mul_right P (omega arith) in
     omega (arith, h, spans.next)
 
--- a page that does is among them
+-- a page that begins before the end of the range, and ends after its beginning, is among them
 pub spans_from : (P offset len first count page : ℕ) → Spans P offset len first count → offset < (page + 1) * P → first ≤ page
 spans_from P offset len first count page spans after = elim (cases_lt page first) [
   | inl less ↦ absurd (let h : (page + 1) * P ≤ first * P = mul-le-mul_right P (omega arith) in omega (arith, h, after, spans.begins))

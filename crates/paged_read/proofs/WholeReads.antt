@@ -1,4 +1,4 @@
--- Reads of what a tail tells: below it and after it.
+-- Reads of the bytes of a tail: those of its full pages, and those after them.
 use Rattle.std.proofs.Common.{◌≡◌, inl, inr, ℕ, ◌+◌, ◌*◌, ◌-◌, ◌≤◌, List, [], ◌∷◌, ◌++◌, length, take, drop, min, refl, sym, ap, ◌∙◌, arith, Ok, Err, length-append, length-drop, append-nil, Bool, true, false, ◌&&◌}
 use Rattle.std.specs.Prelude.{nat_eq, nat_le, Vec}
 use Rattle.std.specs.declared.alloc.Global.{Global}
@@ -42,7 +42,7 @@ module _ (t : Tail) (cache : CacheState) (offset len below : ℕ) (is : below �
   pub part_missing : missing cache t ((offset, len) ∷ []) ≡ missing cache t ((offset, below) ∷ [])
   part_missing = missing_below cache t offset len ∙ ap (λ n. missing cache t ((offset, n) ∷ [])) (sym is)
 
-  -- so it is served where the whole is
+  -- so the part below the tail is served exactly where the whole is
   pub part_served : is_served cache t (offset, len) ≡ is_served cache t (offset, below)
   part_served = ap (λ (l : List ℕ). nat_eq (length l) 0) part_missing
 
@@ -103,7 +103,7 @@ tries_no t range cache bytes missed = (
     none true = refl
     none false = refl
 
--- one whose part is
+-- a range within the size whose part below the tail is served
 pub tries_yes : (t : Tail) (range : ℕ × ℕ) (cache : CacheState) (bytes : List ℕ) → range.0 + range.1 ≤ tail_size t → is_served cache t range ≡ true → ((d : Disk) → CanRead t cache d → bytes ≡ slice (logical_bytes t d.readable) range) → TryReadGoes t range cache bytes true
 tries_yes t range cache bytes within served are = (
   sym (ap (λ b. nat_le (range.0 + range.1) (tail_size t) && b) served ∙ ap (λ b. b && true) (fits (range.0 + range.1) (tail_size t) within)),

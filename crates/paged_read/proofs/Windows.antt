@@ -16,14 +16,14 @@ use Rattle.paged_read.proofs.Spans.{spans_of, spans_begin, spans_end, page_count
 
 -- ---- tests over numbers in a row
 
--- none passes
+-- no number passes the test
 pub filter_none : (f : ℕ → Bool) (first n : ℕ) → ((p : ℕ) → first ≤ p → p < first + n → f p ≡ false) → filter f (range_with_len first n) ≡ []
 filter_none f first zero none = refl
 filter_none f first (suc n) none =
     ap (λ b. cond b (first ∷ filter f (range_with_len (first + 1) n)) (filter f (range_with_len (first + 1) n))) (none first (omega arith) (omega arith))
     ∙ filter_none f (first + 1) n (λ p above below. none p (omega (arith, above)) (omega (arith, below)))
 
--- two tests that are the same there
+-- two tests that agree on these numbers
 pub filter_same : (f g : ℕ → Bool) (first n : ℕ) → ((p : ℕ) → first ≤ p → p < first + n → f p ≡ g p) → filter f (range_with_len first n) ≡ filter g (range_with_len first n)
 filter_same f g first zero same = refl
 filter_same f g first (suc n) same =
@@ -69,7 +69,7 @@ filter_window f g first n all fits same before after =
 pub touches_yes : (P offset len page : ℕ) → 0 < len → page * P < offset + len → offset < (page + 1) * P → touches P (offset, len) page ≡ true
 touches_yes P offset len page some before after = grind (arith, nat_tests)
 
--- or not
+-- an empty range has bytes of no page
 pub touches_none : (P offset len page : ℕ) → len ≡ 0 → touches P (offset, len) page ≡ false
 touches_none P offset len page none = grind (arith, nat_tests)
 
@@ -117,7 +117,7 @@ left_pages cache id P range buf_offset first (suc n) = by_test (not (is_some (ca
     by_test true rest = ap (λ (l : List ℕ). first ∷ l) rest
     by_test false rest = rest
 
--- no byte needs no page
+-- an empty range needs no page
 pub missing_none : (cache : CacheState) (t : Tail) (offset len : ℕ) → len ≡ 0 → missing cache t ((offset, len) ∷ []) ≡ []
 missing_none cache t offset len none =
     filter_none (needs cache t (offset, len)) 0 t.full_pages (λ page above below. needs_as cache t (offset, len) page false (touches_none t.page_size offset len page none) ∙ and_false (not (is_some (cached_page cache (t.id, page)))))

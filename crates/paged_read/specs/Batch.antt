@@ -23,7 +23,7 @@ abbrev pub is_page : ℕ → Option ℕ → Bool
 is_page page None = false
 is_page page (Some last) = nat_eq last page
 
--- rising pages, and one that is none of them but the last
+-- rising pages, with one more at the end unless it is their last already
 abbrev pub with_page : (page : ℕ) → List ℕ → List ℕ
 with_page page pages =
     if is_page page (slice_get pages (length pages - 1)) then pages else pages ++ page ∷ []
@@ -35,12 +35,12 @@ pub record IsLack (P : ℕ) (pages : List ℕ) (room : ℕ) (lack : Lack) : Type
   pub within : lack.piece.skip + lack.piece.len ≤ P
   pub fits : lack.piece.buf_offset + lack.piece.len ≤ room
 
--- the pieces
+-- the pieces that are lacking
 abbrev pub pieces_in : List Lack → List Piece
 pieces_in lacks = map (λ lack. lack.piece) lacks
 
--- up to this offset a buffer holds these ranges, except for the pieces that are lacking; these are
--- of just the pages that the cache lacks
+-- up to this offset a buffer holds these ranges, except for the pieces that are lacking. Those are
+-- of `pages`, the pages of the ranges that the cache lacks
 pub record Gathered (cache : CacheState) (t : Tail) (ranges : List (ℕ × ℕ)) (buf_offset : ℕ)
     (pages : List ℕ) (lacks : List Lack) (buf : List ℕ) : Type 0 where
   pub wanted : pages ≡ missing cache t ranges
@@ -73,7 +73,8 @@ CachesFullPage sum P key bytes old new (Err _) = ⊥
 abbrev pub IsDelivered : (P count : ℕ) → ℕ × List ℕ → Type 0
 IsDelivered P count page = (page.0 < count) × (length page.1 ≡ P + 12)
 
--- of each of the first delivered pages: at its number stands where one of this number is
+-- for each of the first `count` delivered pages, `at` has at the page's number where in `out` a
+-- page of that number is
 abbrev pub AreMarked : (at : List ℕ) → List (ℕ × List ℕ) → (count : ℕ) → Type 0
 AreMarked at out count =
     (k : ℕ) (d : ℕ × List ℕ) → k < count

@@ -1,4 +1,4 @@
--- Whether device calls failed in a call, told by the log.
+-- Whether device calls failed in a call, by the device's log.
 use Rattle.std.specs.Prelude.{◌≡◌, ◌≢◌, List, ◌++◌, [], ◌∷◌, false, Result, Ok, Err}
 use Rattle.std.proofs.Common.{sym, ap, ◌∙◌, append-nil, append_assoc}
 use Rattle.disk.specs.Disk.{Disk, Entry, Life}
@@ -14,12 +14,12 @@ AreAnswered (e ∷ es) = (e.failed ≡ false) × AreAnswered es
 abbrev pub NoneFailed : Disk → Disk → Type 0
 NoneFailed from to = (more : List Entry) × (to.log ≡ from.log ++ more) × AreAnswered more
 
--- unless a call answers that the device failed, no device call of it did
+-- in a call that doesn't answer `ReadFailed` no device call failed
 abbrev pub TellsFailure : {A : Type 0} → Life → Life → Result A Error → Type 0
 TellsFailure old new (Ok _) = NoneFailed old.present new.present
 TellsFailure old new (Err e) = e ≢ ReadFailed → NoneFailed old.present new.present
 
--- no call
+-- where no device call was made, none failed
 pub none_failed_start : (d : Disk) → NoneFailed d d
 none_failed_start d = ([], sym (append-nil d.log), tt)
 
@@ -27,7 +27,7 @@ answered_both : (xs ys : List Entry) → AreAnswered xs → AreAnswered ys → A
 answered_both [] ys first second = second
 answered_both (x ∷ xs) ys first second = (first.0, answered_both xs ys first.1 second)
 
--- one call after another
+-- where none failed up to a moment, and none from there on, none failed
 pub none_failed_joins : (a b d : Disk) → NoneFailed a b → NoneFailed b d → NoneFailed a d
 none_failed_joins a b d first second = (
   first.0 ++ second.0,

@@ -27,7 +27,7 @@ abbrev pub IsCursor : List (List ℕ) → (start left : ℕ) → Type 0
 IsCursor [] start left = left ≡ 0
 IsCursor (first ∷ runs) start left = (0 < left) × (start + left ≤ length first)
 
--- what the fields of the bytes at hand say of one another: no run is empty
+-- how the fields of the bytes at hand fit together: no run is empty, and the cursor is in the first
 pub record IsHand (P : ℕ) (all : List (List ℕ)) (start left remaining : ℕ) : Type 0 where
   pub some : 0 < P
   pub runs : All (λ run. 0 < length run) all
@@ -40,8 +40,8 @@ pub record HandState : Type 0 where
   pub page_size : ℕ
   pub bytes : List ℕ
 
--- what a caller gives that wants the bytes of pages of this size: nothing yet. One that doesn't
--- gives None
+-- what a caller of a scan passes for the bytes of pages of this size: an empty hand if it wants
+-- them, and `None` if it doesn't
 abbrev pub IsEmptyHand : (P : ℕ) → Option HandState → Type 0
 IsEmptyHand P None = Unit {0}
 IsEmptyHand P (Some hand) = hand ≡ record { page_size = P; bytes = [] }
@@ -52,7 +52,8 @@ abbrev pub kept_with : List ℕ → Option HandState → Option HandState
 kept_with more None = None
 kept_with more (Some hand) = Some (record hand { bytes = hand.bytes ++ more })
 
--- such a caller has pages of this size, and room for so many bytes more
+-- a hand that a caller passes is for pages of this size, and has room for `more` bytes; `None`
+-- needs none
 abbrev pub HandHasRoom : (P more : ℕ) → Option HandState → Type 0
 HandHasRoom P more None = Unit {0}
 HandHasRoom P more (Some hand) = (hand.page_size ≡ P) × (length hand.bytes + more < 2 ^ 64)

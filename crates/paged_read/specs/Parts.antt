@@ -1,4 +1,4 @@
--- What the parts of a read do.
+-- What the parts of a read do. A tail is a blob's full pages and the bytes after them (`Tail`).
 use Rattle.std.specs.Prelude.{◌≡◌, ◌≢◌, ◌<◌, ℕ, List, [], ◌∷◌, take, drop}
 use Rattle.std.specs.Prelude.{map, Result, Ok, Err, Bool, true}
 use Rattle.std.specs.List.{Contains}
@@ -41,7 +41,7 @@ PagesFault sum P pages old new InvalidChecksum =
 PagesFault sum P pages old new OutOfMemory = NoneFailed old.present new.present
 PagesFault sum P pages old new _ = ⊥
 
--- a piece is of a page below the tail, and there is room for it
+-- a piece is of one of the tail's full pages, and there is room for it
 pub record IsPieceOf (t : Tail) (room : ℕ) (piece : Piece) : Type 0 where
   pub below : piece.page < t.full_pages
   pub part : IsPiece t.page_size room piece
@@ -67,7 +67,7 @@ FetchesPieces sum t pieces bytes bytes_after old new (Ok _) =
 FetchesPieces sum t pieces bytes bytes_after old new (Err e) =
     PagesFault sum t.page_size (piece_pages pieces) old new e
 
--- a range below the tail is read
+-- a range within the tail's full pages is read
 abbrev pub ReadsBelow : (List ℕ → ℕ) → Tail → CacheState → ℕ × ℕ → List ℕ → Life → Life
     → Result (Unit {0}) Error → Type 0
 ReadsBelow sum t cache range bytes old new (Ok _) =
@@ -76,8 +76,8 @@ ReadsBelow sum t cache range bytes old new (Ok _) =
     × NoneFailed old.present new.present
 ReadsBelow sum t cache range bytes old new (Err e) = ReadFault sum cache t (range ∷ []) old new e
 
--- a range below the tail is copied where the cache holds its pages: whether it does, and then these
--- are its bytes over each disk with which the cache agrees
+-- a range within the tail's full pages is copied if the cache holds its pages: whether it does, and
+-- then these are the range's bytes over each disk with which the cache agrees
 abbrev pub TriesBelow : Tail → ℕ × ℕ → CacheState → List ℕ → Bool → Type 0
 TriesBelow t range cache bytes answer =
     (answer ≡ is_served cache t range)

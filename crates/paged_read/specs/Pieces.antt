@@ -18,7 +18,7 @@ piece_of P range buf_offset page =
       len = end - from;
     }
 
--- how many pages it has bytes of
+-- how many pages a range has bytes of
 abbrev pub page_count : (P : ℕ) → ℕ × ℕ → ℕ
 page_count P range = if nat_eq range.1 0 then 0 else div_ceil (range.0 % P + range.1) P
 

@@ -11,7 +11,7 @@ use Rattle.paged_read.specs.Ranges.{page_at}
 abbrev pub after_pages : ℕ → Prefix → Prefix
 after_pages n p = record p { full_pages = n + p.full_pages }
 
--- a page's value and the slot that tells it
+-- a page's value with the slot that covers it; none where no slot verifies
 abbrev pub value_and_slot : Option ActiveChecksum → List ℕ → Option (List ℕ × ActiveChecksum)
 value_and_slot None page = None
 value_and_slot (Some slot) page = Some (take slot.len page, slot)
@@ -49,13 +49,14 @@ tip_of (Some p) = p.0
 abbrev pub prefix_size : ℕ → Prefix → ℕ
 prefix_size P p = p.full_pages * P + length (tip_of p.partial)
 
--- a partial page that was read holds bytes: its slots are those that the slot's length and checksum
--- are written as
+-- the page of a partial value, where there is one, holds bytes (numbers below 256), so that its
+-- slot's length and checksum can be written as they were read
 abbrev pub HasBytes : ℕ → ℕ → List ℕ → Option (List ℕ × ActiveChecksum) → Type 0
 HasBytes P page readable None = Unit {0}
 HasBytes P page readable (Some p) = (i : ℕ) → get_or (page_at P page readable) i 0 < 256
 
--- the bad slot of the page of a prefix's partial value
+-- the bad slot of the page of a prefix's partial value, where it has both: the slot that isn't the
+-- value's, if it neither verifies nor is all zero
 abbrev pub bad_beside_value : (List ℕ → ℕ) → ℕ → List ℕ → Option (List ℕ × ActiveChecksum)
     → Option Slot
 bad_beside_value sum P page None = None

@@ -15,7 +15,7 @@ PutsPages id content (page ∷ pages) old new =
     (mid : CacheState) × Puts (id, page) (page_of_content old.page_size content page) old mid
     × PutsPages id content pages mid new
 
--- the first of these pages of a tail are put, so many, and each of those is full
+-- the first `count` of these pages of a tail are put, and each of those is full
 pub record PutsFirst (sum : List ℕ → ℕ) (t : Tail) (pages readable : List ℕ) (old new : CacheState)
     : Type 0 where
   pub count : ℕ
@@ -29,7 +29,7 @@ PutsInOrder sum t pages readable old new (Ok _) =
     PutsPages t.id (logical_bytes t readable) pages old new
 PutsInOrder sum t pages readable old new (Err _) = PutsFirst sum t pages readable old new
 
--- a read of these pages puts them so, in some order
+-- a read of these pages puts them as `PutsInOrder` has it, in some order
 pub record PutsSome {A : Type 0} (sum : List ℕ → ℕ) (t : Tail) (pages readable : List ℕ)
     (old new : CacheState) (result : Result A Error) : Type 0 where
   pub order : List ℕ
@@ -43,8 +43,8 @@ PutsPageIfOk t page readable old new (Ok _) =
     PutsPages t.id (logical_bytes t readable) (page ∷ []) old new
 PutsPageIfOk t page readable old new (Err _) = new ≡ old
 
--- a read of these pages one by one: each is asked for once, and put. Where it fails, those are put
--- that were asked for before the last device call, or before none.
+-- a read of these pages one by one: each is asked for once, and put. Where it fails, it put the
+-- pages of all its device calls, or of all but the last.
 abbrev pub PutsAsked : {A : Type 0} → (List ℕ → ℕ) → Tail → List ℕ → Life → Life → CacheState
     → CacheState → Result A Error → Type 0
 PutsAsked sum t pages old new cache after (Ok _) =

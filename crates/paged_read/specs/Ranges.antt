@@ -26,22 +26,22 @@ abbrev pub touches : (P : ℕ) → ℕ × ℕ → (page : ℕ) → Bool
 touches P range page =
     nat_lt 0 range.1 && nat_lt (page * P) (range.0 + range.1) && nat_lt range.0 ((page + 1) * P)
 
--- the pages below the tail that a range has bytes of and the cache lacks, in rising order, each
--- once
+-- the full pages of a tail that one of these ranges has bytes of and the cache lacks, in rising
+-- order, each once
 abbrev pub missing : CacheState → Tail → List (ℕ × ℕ) → List ℕ
 missing cache t ranges =
     filter (λ page. not (is_some (cached_page cache (t.id, page)))
     && list_any (λ range. touches t.page_size range page) ranges) (range_with_len 0 t.full_pages)
 
--- a range needs none of them
+-- a range is served: it has bytes of no page that the cache lacks
 abbrev pub is_served : CacheState → Tail → ℕ × ℕ → Bool
 is_served cache t range = nat_eq (length (missing cache t (range ∷ []))) 0
 
--- how many ranges do
+-- how many of these ranges are served
 abbrev pub served_ranges : CacheState → Tail → List (ℕ × ℕ) → ℕ
 served_ranges cache t ranges = length (filter (is_served cache t) ranges)
 
--- the numbers of the others, rising, from this number on
+-- the numbers of the ranges that aren't served, rising, where the first range has the number n
 abbrev pub missed_from : ℕ → CacheState → Tail → List (ℕ × ℕ) → List ℕ
 missed_from n cache t [] = []
 missed_from n cache t (range ∷ ranges) =
@@ -72,7 +72,7 @@ ReadFault sum cache t ranges old new OutOfMemory = NoneFailed old.present new.pr
 ReadFault sum cache t ranges old new _ = ⊥
 
 -- what a read leaves: the disk, except for its log, and the cache, except for full pages of the
--- content that were put, and pages that went for them; and reads go on
+-- content that were put, and pages that went for them. The tail can still be read
 pub record LeavesAll (t : Tail) (cache cache_after : CacheState) (old new : Life) : Type 0 where
   pub looked : Looked old new
   pub cached : CachesOnly t.id 0 (logical_bytes t old.present.readable) cache cache_after
@@ -81,8 +81,8 @@ pub record LeavesAll (t : Tail) (cache cache_after : CacheState) (old new : Life
 
 -- ---- one range
 
--- the bytes from an offset on, and no device call failed; overflow comes before the end, and both
--- before anything is asked for
+-- a read of one range gives its bytes, and no device call failed. `OffsetOverflow` comes before
+-- `BlobInsufficientLength`, and both come before the device is asked
 abbrev pub Reads : {A : Type 0} → (List ℕ → ℕ) → Tail → CacheState → ℕ × ℕ → (A → List ℕ) → Life
     → Life → Result A Error → Type 0
 Reads sum t cache range bytes old new (Ok a) =
@@ -149,11 +149,12 @@ ReadsMany sum t cache ranges bytes old new (Err BlobInsufficientLength) =
 ReadsMany sum t cache ranges bytes old new (Err e) =
     EndWithin (tail_size t) ranges × ReadFault sum cache t ranges old new e
 
--- where these pages are
+-- the physical ranges of these pages: an offset and a length in bytes for each
 abbrev pub page_ranges : (P : ℕ) → List ℕ → List (ℕ × ℕ)
 page_ranges P pages = map (λ page. (page * (P + 12), P + 12)) pages
 
--- the device is asked for all of them in one call, at most once, and for none where there is none
+-- the device is asked for all of these ranges in one call, at most once. Where there is no range it
+-- isn't asked
 abbrev pub AsksTogether : List (ℕ × ℕ) → Life → Life → Type 0
 AsksTogether [] old new = new ≡ old
 AsksTogether (range ∷ ranges) old new =
@@ -164,13 +165,13 @@ abbrev pub AsksOnce : CacheState → Tail → List (ℕ × ℕ) → Life → Lif
 AsksOnce cache t ranges old new =
     AsksTogether (page_ranges t.page_size (missing cache t ranges)) old new
 
--- which ranges would need the device: all where one can't be read
+-- the numbers of the ranges that would need the device, or of all ranges where one can't be read
 abbrev pub Misses : Tail → List (ℕ × ℕ) → CacheState → List ℕ → Type 0
 Misses t ranges cache indices =
     (EndWithin (tail_size t) ranges × (indices ≡ missed_from 0 cache t ranges))
     ⊎ ((EndWithin (tail_size t) ranges → ⊥) × (indices ≡ range_with_len 0 (length ranges)))
 
--- the bytes of the others stand in their offsets, over each disk with which the cache agrees
+-- each range that is served has its bytes of this content at its place in the buffer
 abbrev pub HasServed : CacheState → Tail → List (ℕ × ℕ) → List ℕ → List ℕ → Type 0
 HasServed cache t [] content buf = Unit {0}
 HasServed cache t (range ∷ ranges) content buf =

@@ -1,4 +1,4 @@
--- What the pages of a blob that nobody opened tell of a range, and of the last bytes.
+-- What the pages of a blob that nobody opened hold of a range, and of the last bytes.
 use Rattle.std.specs.Prelude.{◌≡◌, ◌==◌, ◌+◌, ◌-◌, ◌*◌, ◌/◌, ◌%◌, ◌^◌, ℕ, zero, suc, List, [], ◌++◌}
 use Rattle.std.specs.Prelude.{length, take, drop, map, nat_lt, nat_le, if◌then◌else◌}
 use Rattle.std.specs.Prelude.{◌≢◌, ◌⊎◌, ◌≤◌, Result, Ok, Err}
@@ -14,8 +14,8 @@ use Rattle.paged_read.specs.Failures.{NoneFailed}
 use Rattle.paged_read.specs.Ranges.{page_at}
 use Rattle.paged_read.specs.Searches.{Gained}
 
--- a page's value, or why it tells none: its offset passes the greatest, or the blob ends before it
--- does, or no slot of it verifies
+-- a page's value, or why it can't be read: the page's end passes the greatest `u64`, or the blob
+-- ends before the page does, or no slot of the page verifies
 abbrev pub value_told : (List ℕ → ℕ) → (P page : ℕ) → List ℕ → Result (List ℕ) Error
 value_told sum P page readable =
     if nat_le (2 ^ 64) ((page + 1) * (P + 12)) then Err OffsetOverflow
@@ -23,7 +23,7 @@ value_told sum P page readable =
     else (if value_len sum P (page_at P page readable) == 0 then Err InvalidChecksum
     else Ok (value sum P (page_at P page readable))))
 
--- these bytes, or the refusal if there is none
+-- these bytes, or `BlobInsufficientLength` if there are none
 abbrev pub some_of : List ℕ → Result (List ℕ) Error
 some_of bytes = if length bytes == 0 then Err BlobInsufficientLength else Ok bytes
 
@@ -32,13 +32,13 @@ abbrev pub part_of : (P from to page : ℕ) → Result (List ℕ) Error → Resu
 part_of P from to page (Ok bytes) = some_of (drop (from - page * P) (take (to - page * P) bytes))
 part_of P from to page (Err e) = Err e
 
--- one after the other; the first that is refused decides
+-- the bytes of two results, one after the other; the first error decides
 abbrev pub joined_results : Result (List ℕ) Error → Result (List ℕ) Error → Result (List ℕ) Error
 joined_results (Ok front) (Ok back) = Ok (front ++ back)
 joined_results (Ok front) (Err e) = Err e
 joined_results (Err e) back = Err e
 
--- what so many pages tell of a range, from this one on
+-- what `count` pages from this one on hold of a range, or the first error
 abbrev pub parts_told : (List ℕ → ℕ) → (P from to count page : ℕ) → List ℕ
     → Result (List ℕ) Error
 parts_told sum P from to zero page readable = Ok []
@@ -46,16 +46,16 @@ parts_told sum P from to (suc count) page readable =
     joined_results (part_of P from to page (value_told sum P page readable))
     (parts_told sum P from to count (page + 1) readable)
 
--- these bytes if they are as many as were asked for, and otherwise the refusal
+-- these bytes if they are as many as were asked for, and otherwise `BlobInsufficientLength`
 abbrev pub all_of : ℕ → Result (List ℕ) Error → Result (List ℕ) Error
 all_of len (Ok bytes) = if length bytes == len then Ok bytes else Err BlobInsufficientLength
 all_of len (Err e) = Err e
 
--- before which page a range ends that isn't empty
+-- the page after the one that has the last byte of a range that isn't empty
 abbrev pub range_end : (P offset len : ℕ) → ℕ
 range_end P offset len = (offset + len - 1) / P + 1
 
--- the bytes of a range, or why they aren't told
+-- the bytes of a range, or why they can't be read
 abbrev pub range_told : (List ℕ → ℕ) → (P offset len : ℕ) → List ℕ → Result (List ℕ) Error
 range_told sum P offset len readable =
     if nat_le (2 ^ 64) (offset + len) then Err OffsetOverflow
@@ -63,13 +63,13 @@ range_told sum P offset len readable =
     else all_of len (parts_told sum P offset (offset + len)
     (range_end P offset len - offset / P) (offset / P) readable))
 
--- after which offset, with the bytes
+-- a result's bytes, with the logical offset at which they end
 abbrev pub ending_at : ℕ → Result (List ℕ) Error → Result (ℕ × List ℕ) Error
 ending_at end (Ok bytes) = Ok (end, bytes)
 ending_at end (Err e) = Err e
 
--- the last bytes, where the last page tells this: those before that page as a range of their own,
--- and then those of its value; and where that ends
+-- the logical offset at which the last page's value ends, and the last `len` bytes: those before
+-- that page as a range of their own, and then those of its value
 abbrev pub after_told : (List ℕ → ℕ) → (P page len : ℕ) → List ℕ → Result (List ℕ) Error
     → Result (ℕ × List ℕ) Error
 after_told sum P page len readable (Err e) = Err e
@@ -79,7 +79,8 @@ after_told sum P page len readable (Ok bytes) =
     else ending_at end (joined_results (range_told sum P from (page * P - from) readable)
     (Ok (drop (from - page * P) bytes)))
 
--- the logical size of a blob of so many physical bytes, and its last bytes, or why they aren't told
+-- the logical size of a blob of so many physical bytes, and its last bytes, or why they can't be
+-- read
 abbrev pub tail_told : (List ℕ → ℕ) → (P size len : ℕ) → List ℕ → Result (ℕ × List ℕ) Error
 tail_told sum P size len readable =
     let page = size / (P + 12) - 1 in
@@ -89,8 +90,8 @@ tail_told sum P size len readable =
     else after_told sum P page len readable (value_told sum P page readable))
     else Err BlobInsufficientLength
 
--- a read gives what is told, or is refused as that is, unless the device failed in the call, or it
--- didn't and memory was refused; and it only looks
+-- a read gives the bytes of this result, or fails with its error. Else the device failed in the
+-- call, or it didn't and memory was refused. The read only looks at the blob
 abbrev pub ReadsTold : {A B : Type 0} → (A → B) → Result B Error → Life → Life → Result A Error
     → Type 0
 ReadsTold of told old new (Ok a) =
@@ -106,16 +107,17 @@ ReadsTold of told old new (Err e) =
 abbrev pub page_request : (P page : ℕ) → Request
 page_request P page = ReadAt (page * (P + 12)) (P + 12)
 
--- so many pages from this one on were read since, in rising order, each by a read of its own
+-- `count` pages from this one on were read since then, in rising order, each by a read of its own
 abbrev pub ReadsEachPage : (P page count : ℕ) → Life → Life → Type 0
 ReadsEachPage P page count old new =
     Gained (λ requests. requests ≡ map (page_request P) (range_with_len page count)) old new
 
--- or the first of them
+-- the first of these pages were read since then, at most `count`, in rising order
 abbrev pub ReadsRising : (P page count : ℕ) → Life → Life → Type 0
 ReadsRising P page count old new = (few : ℕ) × (few ≤ count) × ReadsEachPage P page few old new
 
--- so a range is read, from the page that has its first byte on, up to that of its last
+-- the reads of a range: pages in rising order, from the one that has its first byte up to at most
+-- the one that has its last
 abbrev pub ReadsPagesOf : (P offset len : ℕ) → Life → Life → Type 0
 ReadsPagesOf P offset len old new =
     ReadsRising P (offset / P) (range_end P offset len - offset / P) old new
@@ -125,21 +127,21 @@ abbrev pub ReadsOne : {A : Type 0} → (P page : ℕ) → Life → Life → Resu
 ReadsOne P page old new (Ok _) = ReadsEachPage P page 1 old new
 ReadsOne P page old new (Err _) = ReadsRising P page 1 old new
 
--- this page first, and then those before it, from the one that has this offset on
+-- the page `last` is read first, and then those before it, from the one that has this offset on
 abbrev pub ReadsBefore : (P last from : ℕ) → Life → Life → Type 0
 ReadsBefore P last from old new =
     (mid : Life) × ReadsRising P last 1 old mid × ReadsRising P (from / P) (last - from / P) mid new
 
--- of the last bytes the last page first, and then the pages before it that have some of them: the
--- length of its value decides where they begin
+-- the reads of the last `len` bytes: the last page first, and then the pages before it that have
+-- some of them. The length of the last page's value decides where they begin
 abbrev pub ReadsTail : (List ℕ → ℕ) → (P size len : ℕ) → Life → Life → Type 0
 ReadsTail sum P size len old new =
     let last = size / (P + 12) - 1 in
     let from = last * P + value_len sum P (page_at P last old.present.readable) - len in
     ReadsBefore P last from old new
 
--- the end that needs no page: a size that isn't whole pages, or none that is to have bytes; and it
--- comes before memory
+-- the answers that need no page: an error where the size isn't whole pages, or is 0 and bytes are
+-- asked for, and 0 bytes of a blob of size 0. They come before the device or memory is asked
 abbrev pub EndsUnread : (P size len : ℕ) → Life → Life → Result (ℕ × List (List ℕ)) Error → Type 0
 EndsUnread P size len old new result =
     ((size % (P + 12) ≢ 0) ⊎ ((size ≡ 0) × (len ≢ 0))

@@ -21,11 +21,11 @@ batch_of P buffer_size = div_ceil (max 1 (buffer_size / (P + 12))) 4
 abbrev pub after_batch : (batch full page : ℕ) → ℕ
 after_batch batch full page = page + min batch (full - page)
 
--- the range of that batch
+-- the physical range of the batch that begins at this page: an offset and a length in bytes
 abbrev pub batch_range : (P batch full page : ℕ) → ℕ × ℕ
 batch_range P batch full page = (page * (P + 12), min batch (full - page) * (P + 12))
 
--- the bytes of that batch's range
+-- the bytes of the batch that begins at this page
 abbrev pub batch_bytes : (P batch full page : ℕ) → List ℕ → List (List ℕ)
 batch_bytes P batch full page readable = bytes_of (batch_range P batch full page ∷ []) readable
 
@@ -41,7 +41,7 @@ BatchesFollow batch full page [] = page ≤ full
 BatchesFollow batch full page (a ∷ rest) =
     (a.page ≡ page) × (page < full) × BatchesFollow batch full (after_batch batch full page) rest
 
--- the page that follows them
+-- the page that follows these batches
 abbrev pub page_after : (batch full page : ℕ) → List Ahead → ℕ
 page_after batch full page [] = page
 page_after batch full page (a ∷ rest) = page_after batch full (after_batch batch full page) rest
@@ -58,7 +58,7 @@ abbrev pub IsQueue : (batch full : ℕ) → List Ahead → Type 0
 IsQueue batch full [] = Unit {0}
 IsQueue batch full (a ∷ rest) = BatchesFollow batch full a.page (a ∷ rest) × (length rest ≤ 2)
 
--- pages of a blob are full
+-- the pages of a blob from `first` to before `end` are full
 abbrev pub AreFullPages : (List ℕ → ℕ) → (P first end : ℕ) → List ℕ → Type 0
 AreFullPages sum P first end readable =
     (page : ℕ) → first ≤ page → page < end → value_len sum P (page_at P page readable) ≡ P
@@ -84,7 +84,7 @@ ReadsBatch sum P batch full page old new (Err e) =
     FetchesBatch P batch full page old new (Err e)
 
 -- a batch is added to what is at hand, without so many bytes of its first page, and the next three
--- are queued; or nothing is
+-- are queued; or nothing is added
 abbrev pub AddsBatch : (List ℕ → ℕ) → (P batch full page skip : ℕ) → (hand now : List ℕ)
     → List Ahead → Life → Life → Result (Unit {0}) Error → Type 0
 AddsBatch sum P batch full page skip hand now queue old new (Ok _) =
@@ -94,7 +94,7 @@ AddsBatch sum P batch full page skip hand now queue old new (Ok _) =
 AddsBatch sum P batch full page skip hand now queue old new (Err e) =
     (now ≡ hand) × ReadsBatch sum P batch full page old new (Err e)
 
--- the first of the queue was read
+-- the queue has a first batch, and its read didn't fail
 abbrev pub HasFirst : List Ahead → Type 0
 HasFirst [] = ⊥
 HasFirst (a ∷ rest) = (bytes : List (List ℕ)) × (a.read ≡ Ok bytes)
@@ -108,6 +108,6 @@ AreOfBatches P batch full first (StartReadMany ranges ∷ rest) =
     × AreOfBatches P batch full first rest
 AreOfBatches P batch full first (_ ∷ rest) = ⊥
 
--- so do all since
+-- each device call since then starts a read of one batch, which begins at page `first` or after it
 abbrev pub ReadsBatches : (P batch full first : ℕ) → Life → Life → Type 0
 ReadsBatches P batch full first old new = Gained (AreOfBatches P batch full first) old new

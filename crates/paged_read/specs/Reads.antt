@@ -22,11 +22,12 @@ use Rattle.paged_read.specs.Snapshots.{LeavesAllWriters}
 
 -- ---- what a read answers
 
--- no page is found that isn't full, where the pages of the tail are full
+-- the answer isn't `InvalidChecksum`, where the pages of the tail are full
 abbrev pub NeverBad : {A : Type 0} → (List ℕ → ℕ) → Tail → Disk → Result A Error → Type 0
 NeverBad sum t d result = HasFullPages sum t d → IsErrOf result InvalidChecksum → ⊥
 
--- no page is found that isn't full, if the blob has a sound writer with at least the tail's pages
+-- the answer isn't `InvalidChecksum`, if the blob has a sound writer (one whose invariant holds)
+-- with at least the tail's full pages
 abbrev pub NeverBadIfSound : {A : Type 0} → (List ℕ → ℕ) → Tail → Disk → Result A Error → Type 0
 NeverBadIfSound sum t d result =
     (w : WriterState) → IsSound sum w d → w.page_size ≡ t.page_size
@@ -55,7 +56,7 @@ pub record ReadIntoGoes (sum : List ℕ → ℕ) (t : Tail) (cache : CacheState)
   pub never_if_sound : NeverBadIfSound sum t old.present result
   pub size : length after ≡ length buf
 
--- a read of as many bytes as there are, up to so many: none are read without fail
+-- a read of as many bytes as there are, up to `len`; for `len` 0 it never fails
 pub record ReadUpToGoes (sum : List ℕ → ℕ) (t : Tail) (cache : CacheState) (offset len : ℕ)
     (old new : Life) (result : Result (Vec ℕ Global × ℕ) Error) : Type 0 where
   pub answers : ReadsUpTo sum t cache offset len old new result
@@ -116,7 +117,8 @@ pub record ReadLeaves (sum : List ℕ → ℕ) (t : Tail) (cache after : CacheSt
   pub replays : LeavesAllReplays old new
   pub others : LeavesOthers t.id cache after
 
--- a call that only looks at a blob, without a cache, leaves all of it
+-- a call that only looks at a blob, without a cache: each writer, snapshot, replay and read that
+-- was valid before the call still is
 pub record LookLeaves (sum : List ℕ → ℕ) (old new : Life) : Type 0 where
   pub looked : Looked old new
   pub writers : LeavesAllWriters sum old new
@@ -132,7 +134,7 @@ pub record ReadCosts {A : Type 0} (sum : List ℕ → ℕ) (t : Tail) (range : �
   pub asks : AsksForMissing cache t range old new
   pub puts : PutsAsked sum t (missing cache t (range ∷ [])) old new cache after result
 
--- a read of many
+-- a read of many ranges: device calls, and pages that are put in the cache
 pub record ReadManyCosts {A : Type 0} (sum : List ℕ → ℕ) (t : Tail) (ranges : List (ℕ × ℕ))
     (cache after : CacheState) (old new : Life) (result : Result A Error) : Type 0 where
   pub asks : AsksOnce cache t ranges old new

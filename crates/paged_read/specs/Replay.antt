@@ -17,8 +17,8 @@ use Rattle.paged_read.specs.declared.ahead.Ahead.{Ahead}
 use Rattle.paged_read.specs.declared.hand.TooFew.{TooFew}
 
 -- the tail as it was when the replay began, how many pages are read at once, where the replay
--- stands, the bytes at hand from there on, the batches that are queued, and whether it said that
--- the blob is exhausted
+-- stands, the bytes at hand from there on, the batches that are queued, and whether a call answered
+-- that all that is left is at hand
 pub record ReplayState : Type 0 where
   pub tail : Tail
   pub batch : ℕ
@@ -42,7 +42,7 @@ new_replay t buffer_size = record {
 abbrev pub end_of : ReplayState → ℕ
 end_of r = r.position + length r.hand
 
--- what its fields say of one another
+-- how a replay's fields fit together
 pub record IsReplay (r : ReplayState) : Type 0 where
   pub batch : 0 < r.batch
   pub within : end_of r ≤ tail_size r.tail
@@ -52,17 +52,17 @@ pub record IsReplay (r : ReplayState) : Type 0 where
   -- pages come to hand whole
   pub whole : 0 < length r.hand → (end_of r % r.tail.page_size ≡ 0) ⊎ (end_of r ≡ tail_size r.tail)
   pub queue : IsQueue r.batch r.tail.full_pages r.queue
-  -- it was said only with all at hand that is left
+  -- a replay is exhausted only with all at hand that is left
   pub exhausted : r.exhausted ≡ true → end_of r ≡ tail_size r.tail
 
--- what a caller of a replay is to know: the pages are there, and what is at hand, and what is
--- queued, is theirs
+-- what a caller of a replay must know: the pages are there, and what is at hand and what is queued
+-- are their bytes
 pub record CanReplay (r : ReplayState) (d : Disk) : Type 0 where
   pub there : HasPages r.tail d
   pub hand : r.hand ≡ take (length r.hand) (drop r.position (logical_bytes r.tail d.readable))
   pub queue : All (IsBatch r.tail.page_size r.batch r.tail.full_pages d) r.queue
 
--- a replay gives this content, and none of its batches is refused for a page
+-- a replay gives this content, and none of its batches is refused with `InvalidChecksum`
 pub record IsReplayOf (sum : List ℕ → ℕ) (r : ReplayState) (content : List ℕ) (d : Disk) :
     Type 0 where
   pub tail : IsTailOf sum r.tail content d
@@ -80,7 +80,7 @@ Gives r bytes =
     (sum : List ℕ → ℕ) (content : List ℕ) (d : Disk) → IsReplayOf sum r content d
     → bytes ≡ take (length bytes) (drop r.position content)
 
--- what it gave it gives
+-- after a call that asks no device a replay can still be read, and gives the content that it gave
 abbrev pub ReplaysOn : ReplayState → ReplayState → Type 0
 ReplaysOn r now =
     ((d : Disk) → CanReplay r d → CanReplay now d)
@@ -93,14 +93,15 @@ ReplaysThrough r now old new =
     (sum : List ℕ → ℕ) (content : List ℕ)
     → IsReplayOf sum r content old.present → IsReplayOf sum now content new.present
 
--- a call of a blob leaves each replay of at most so many of its pages, which have this size
+-- a call of a blob leaves valid each replay of at most `full_pages` of its pages, which have P
+-- logical bytes
 abbrev pub LeavesReplays : (P full_pages : ℕ) → Life → Life → Type 0
 LeavesReplays P full_pages old new =
     (sum : List ℕ → ℕ) (content : List ℕ) (r : ReplayState)
     → r.tail.page_size ≡ P → r.tail.full_pages ≤ full_pages
     → IsReplayOf sum r content old.present → IsReplayOf sum r content new.present
 
--- a call that changes no byte leaves all
+-- a call that changes no byte leaves every replay valid
 abbrev pub LeavesAllReplays : Life → Life → Type 0
 LeavesAllReplays old new =
     (sum : List ℕ → ℕ) (content : List ℕ) (r : ReplayState)
@@ -136,7 +137,7 @@ IsToppedUp r = AreNext 3 r.batch r.tail.full_pages (end_of r / r.tail.page_size)
 abbrev pub IsAhead : ReplayState → ReplayState → Life → Life → Type 0
 IsAhead r now old new = ((new ≡ old) × (now.queue ≡ r.queue)) ⊎ IsToppedUp now
 
--- one batch more is at hand, or the bytes after the full pages; or nothing is
+-- one batch more is at hand, or the bytes after the full pages; or, at an error, nothing more is
 abbrev pub FillsOnce : (List ℕ → ℕ) → ReplayState → ReplayState → Life → Life
     → Result (Unit {0}) Error → Type 0
 FillsOnce sum r now old new (Ok _) =
@@ -149,9 +150,10 @@ FillsOnce sum r now old new (Err e) =
     StaysFilled r now × (now.exhausted ≡ r.exhausted) × (now.hand ≡ r.hand)
     × FillFault sum r.tail old new e
 
--- so many bytes are to be at hand: whether there are so many from the position on. What is fetched
--- is needed, or of the last batch that is. Where it fails with nothing more at hand, no device call
--- failed unless that is its error; else reads ahead may have, which it makes anew.
+-- a call that is to get `count` bytes at hand answers whether there are as many from the position
+-- on. What it brings to hand is needed, or of the last batch that is. Where it fails with nothing
+-- more at hand, no device call failed unless the error is `ReadFailed`. Where it fails with more at
+-- hand, reads ahead may have failed too: a later call reads those batches again.
 abbrev pub Ensures : (List ℕ → ℕ) → ReplayState → (count : ℕ) → ReplayState → Life → Life
     → Result Bool Error → Type 0
 Ensures sum r count now old new (Ok answer) =
@@ -167,7 +169,7 @@ Ensures sum r count now old new (Err e) =
     × (now.exhausted ≡ r.exhausted)
     × (length now.hand ≡ length r.hand → TellsFailure {A = Bool} old new (Err e))
 
--- a call that gets so many bytes at hand: the replay gives what it gave
+-- a call that gets `count` bytes at hand; afterwards the replay gives the content that it gave
 pub record EnsureGoes (sum : List ℕ → ℕ) (r : ReplayState) (count : ℕ) (now : ReplayState)
     (old new : Life) (result : Result Bool Error) : Type 0 where
   pub answers : Ensures sum r count now old new result

@@ -18,8 +18,8 @@ use Rattle.paged_read.specs.Searches.{Gained}
 abbrev pub pages_from : (P count page : ℕ) → List ℕ → List (List ℕ)
 pages_from P count page readable = pieces count (P + 12) (drop (page * (P + 12)) readable)
 
--- before which page a scan ends: after those that were flushed, as far as the first most bytes
--- meet them
+-- the page before which a scan ends: the one after the flushed pages, or after those that the first
+-- `most` bytes meet if that is earlier
 abbrev pub scan_end : (P flushed most : ℕ) → ℕ
 scan_end P flushed most = min flushed (div_ceil most P)
 
@@ -28,19 +28,19 @@ scan_end P flushed most = min flushed (div_ceil most P)
 abbrev pub scan_start : (P full end proven : ℕ) → ℕ
 scan_start P full end proven = min (proven / P) (min full end)
 
--- how long a text these pages say: the lengths of their values, added up to the first that isn't
--- full
+-- how many bytes of text these pages have: the lengths of their values, added up to and with the
+-- first that isn't full. Text is what a recovery keeps
 abbrev pub counted : (List ℕ → ℕ) → (P count page : ℕ) → List ℕ → ℕ
 counted sum P count page readable = length (text_of_pages sum P (pages_from P count page readable))
 
--- what a scan up to this page counts: a page's payload for each page before its start, and what
--- those from there on say
+-- what a scan up to this page counts, in bytes: P for each page before its start, and the text of
+-- the pages from there on
 abbrev pub scan_to : (List ℕ → ℕ) → (P full end proven : ℕ) → List ℕ → ℕ
 scan_to sum P full end proven readable =
     let start = scan_start P full end proven in
     start * P + counted sum P (end - start) start readable
 
--- what a scan answers that is to look at the first most bytes
+-- what a scan of the first `most` bytes answers
 abbrev pub scan : (List ℕ → ℕ) → (P full flushed proven most : ℕ) → List ℕ → ℕ
 scan sum P full flushed proven most readable =
     min most (scan_to sum P full (scan_end P flushed most) proven readable)
@@ -59,8 +59,8 @@ abbrev pub prefix_from : (List ℕ → ℕ) → (P first pages : ℕ) → List �
 prefix_from sum P first pages readable =
     after_pages first (prefix_of sum P (pages_from P (pages - first) first readable))
 
--- each that reads is a read of at most so many bytes, which begins where the one before it ended,
--- the first at this offset, and all end at or before that one
+-- each request that reads asks for at most `most` bytes, and begins where the read before it ended.
+-- The first begins at `from`, and all end at or before `to`
 abbrev pub AreForward : (most from to : ℕ) → List Request → Type 0
 AreForward most from to [] = Unit {0}
 AreForward most from to (ReadAt offset len ∷ rest) =
@@ -69,11 +69,11 @@ AreForward most from to (ReadMany ranges ∷ rest) = ⊥
 AreForward most from to (StartReadMany ranges ∷ rest) = ⊥
 AreForward most from to (_ ∷ rest) = AreForward most from to rest
 
--- the reads since
+-- the reads since then go forward from one offset up to another, as `AreForward` has it
 abbrev pub ReadsForward : (most from to : ℕ) → Life → Life → Type 0
 ReadsForward most from to old new = Gained (AreForward most from to) old new
 
--- each that reads begins at or before this offset
+-- each request that reads begins at or before this offset
 abbrev pub BeginBy : (last : ℕ) → List Request → Type 0
 BeginBy last [] = Unit {0}
 BeginBy last (ReadAt offset len ∷ rest) = (offset ≤ last) × BeginBy last rest
@@ -85,16 +85,16 @@ BeginBy last (_ ∷ rest) = BeginBy last rest
 abbrev pub StopsAt : (P page : ℕ) → Life → Life → Type 0
 StopsAt P page old new = Gained (BeginBy (page * (P + 12))) old new
 
--- the reads of a search for the first page that isn't full, from one page on to before another: the
--- last of them has that page
+-- the reads of a search for the first page that isn't full, from one page on to before another:
+-- none begins after that page
 pub record ReadsUpToEnd (sum : List ℕ → ℕ) (P most first pages : ℕ) (old new : Life)
     : Type 0 where
   pub forward : ReadsForward most (first * (P + 12)) (pages * (P + 12)) old new
   pub stops : StopsAt P (prefix_from sum P first pages old.present.readable).full_pages old new
 
--- a look through pages that end at this offset: it gives this, and only reads; where the blob is
--- too short for them, a read of what isn't there may end it. Unless it answers that the device
--- failed no device call did.
+-- a look through pages that end at this offset: it gives this, and only reads. Where the blob is
+-- too short for them it may answer `BlobInsufficientLength`. No device call failed unless it
+-- answers `ReadFailed`.
 abbrev pub LooksThrough : {A : Type 0} (reach : ℕ) (a : A) → Life → Life → Result A Error → Type 0
 LooksThrough reach a old new (Ok found) =
     (found ≡ a) × Looked old new × NoneFailed old.present new.present
@@ -107,13 +107,13 @@ LooksThrough reach a old new (Err OutOfMemory) =
     Looked old new × NoneFailed old.present new.present
 LooksThrough reach a old new (Err _) = ⊥
 
--- a scan: the same, unless an offset in its pages passes the greatest
+-- a scan answers as `LooksThrough` has it, or `OffsetOverflow` where the end of its pages passes
+-- the greatest `u64`
 abbrev pub ScanAnswers : (reach answer : ℕ) → Life → Life → Result ℕ Error → Type 0
 ScanAnswers reach answer old new (Err OffsetOverflow) = (2 ^ 64 ≤ reach) × (new ≡ old)
 ScanAnswers reach answer old new result = LooksThrough reach answer old new result
 
--- the answer is no refusal of an offset: nothing passes the greatest, and all that is to be read is
--- there
+-- the answer is neither `OffsetOverflow` nor `BlobInsufficientLength`
 abbrev pub IsWithinBlob : {A : Type 0} → Result A Error → Type 0
 IsWithinBlob (Err OffsetOverflow) = ⊥
 IsWithinBlob (Err BlobInsufficientLength) = ⊥

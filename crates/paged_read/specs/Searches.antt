@@ -1,4 +1,4 @@
--- What a search through a blob's pages answers, and what it reads, told by the log.
+-- What a search through a blob's pages answers, and what it reads, by the device's log.
 use Rattle.std.specs.Prelude.{◌≡◌, ◌≤◌, ◌+◌, ◌*◌, ◌/◌, ℕ, List, [], ◌∷◌, ◌++◌, map, max}
 use Rattle.std.specs.Prelude.{Option, Result, Ok, Err}
 use Rattle.page.specs.declared.slot.Slot.{Slot}
@@ -15,7 +15,7 @@ Gained Q old new =
     (more : List Entry) × (new.present.log ≡ old.present.log ++ more)
     × Q (map (λ e. e.request) more)
 
--- each that reads is a read of one range, of at most so many bytes
+-- each request that reads asks for one range, of at most `most` bytes
 abbrev pub AreReadsWithin : ℕ → List Request → Type 0
 AreReadsWithin most [] = Unit {0}
 AreReadsWithin most (ReadAt offset len ∷ rest) = (len ≤ most) × AreReadsWithin most rest
@@ -23,7 +23,7 @@ AreReadsWithin most (ReadMany ranges ∷ rest) = ⊥
 AreReadsWithin most (StartReadMany ranges ∷ rest) = ⊥
 AreReadsWithin most (_ ∷ rest) = AreReadsWithin most rest
 
--- each read since is of at most so many bytes
+-- each read since then is of at most `most` bytes
 abbrev pub ReadsWithin : ℕ → Life → Life → Type 0
 ReadsWithin most old new = Gained (AreReadsWithin most) old new
 
@@ -31,8 +31,8 @@ ReadsWithin most old new = Gained (AreReadsWithin most) old new
 abbrev pub scan_bytes : (P buffer_size : ℕ) → ℕ
 scan_bytes P buffer_size = max 1 (buffer_size / (P + 12)) * (P + 12)
 
--- a search through pages: it answers this prefix, and only reads. Unless it answers that the device
--- failed no device call did.
+-- a search through pages: it answers this prefix, and only reads. No device call failed unless it
+-- answers `ReadFailed`.
 abbrev pub Finds : Prefix → Life → Life → Result Prefix Error → Type 0
 Finds p old new (Ok found) =
     (found ≡ p) × Looked old new × NoneFailed old.present new.present

@@ -1,4 +1,5 @@
--- What reads stand on: the full pages of a blob, and the bytes after them, in memory.
+-- What reads see of a blob: its full pages, and the bytes after them, in memory. In a writer these
+-- bytes are its tip.
 use Rattle.std.specs.Prelude.{◌≡◌, ◌≤◌, ◌<◌, ◌+◌, ◌*◌, ◌/◌, ◌^◌, ◌++◌, ℕ, List, length, take}
 use Rattle.std.specs.Int.NonZero.{non_zero_u16_get}
 use Rattle.std.specs.declared.num.NonZeroU16.{NonZeroU16}
@@ -35,20 +36,20 @@ pub record IsView (P : ℕ) (tip : Tip) : Type 0 where
 abbrev pub logical_bytes : Tail → List ℕ → List ℕ
 logical_bytes t readable = stored t.page_size t.full_pages readable ++ t.bytes
 
--- how many there are
+-- how many logical bytes a tail has
 abbrev pub tail_size : Tail → ℕ
 tail_size t = t.full_pages * t.page_size + length t.bytes
 
--- the pages are in the blob
+-- the tail's full pages are in the blob
 abbrev pub HasPages : Tail → Disk → Type 0
 HasPages t d = t.full_pages * (t.page_size + 12) ≤ length d.readable
 
--- a tail's pages are in the blob, and full
+-- each of a tail's pages that is in the blob is full
 abbrev pub HasFullPages : (List ℕ → ℕ) → Tail → Disk → Type 0
 HasFullPages sum t d = AreFull sum t.page_size (take t.full_pages (pages t.page_size d.readable))
 
--- what a caller of a read is to know: the pages are there, the cache gave the blob's id, and what
--- it holds of them is theirs
+-- what a caller of a read must know: the tail's full pages are in the blob, the cache gave the
+-- blob's id, and what the cache holds of these pages is their bytes
 pub record CanRead (t : Tail) (cache : CacheState) (d : Disk) : Type 0 where
   pub there : HasPages t d
   pub page_size : cache.page_size ≡ t.page_size

@@ -51,7 +51,7 @@ impl Ahead {
     }
 }
 
-/// Whether each of these physical pages is full.
+/// Whether each of the first `pages` physical pages in `bytes` is full.
 fn are_full<H: Sum>(page_size: NonZeroU16, bytes: &[u8], pages: u64) -> bool
     requires { pages * (non_zero_u16_get page_size + 12) ≤ length bytes.now }
     ensures { let P = non_zero_u16_get page_size in
@@ -67,7 +67,7 @@ fn are_full<H: Sum>(page_size: NonZeroU16, bytes: &[u8], pages: u64) -> bool
 }
 
 impl Batches {
-    /// The page after the batch that begins at this one.
+    /// The page after the batch that begins at `page`.
     fn after(self, page: u64) -> u64
         requires { page ≤ self.full_pages }
         ensures { result ≡ after_batch self.batch self.full_pages page }
@@ -75,7 +75,7 @@ impl Batches {
         page + self.batch.min(self.full_pages - page)
     }
 
-    /// The page after these batches, which follow one another from a page on.
+    /// The page after the queued batches, which follow one another from `page` on.
     fn after_queue(self, queue: &[Ahead], page: u64) -> u64
         requires { BatchesFollow self.batch self.full_pages page queue.now }
         ensures next { result ≡ page_after self.batch self.full_pages page queue.now }
@@ -87,7 +87,7 @@ impl Batches {
         }
     }
 
-    /// Starts a read of the batch that begins at a page, which is there.
+    /// Starts a read of the batch that begins at `page`, one of the full pages.
     fn start<B: Blob>(self, blob: &mut B, page: u64) -> Ahead
         requires below { page < self.full_pages }
         requires there { let size = non_zero_u16_get self.page_size + 12 in
@@ -136,8 +136,8 @@ impl Batches {
         }
     }
 
-    /// The bytes of the batch that begins at a page, where it is the first that is queued and its
-    /// read didn't fail.
+    /// The bytes of the batch that begins at `page`, if it is the first that is queued, and its
+    /// read didn't fail. It leaves the queue, even if its read failed.
     fn take(self, queue: &mut Vec<Ahead>, page: u64) -> Option<IoBuf>
         requires queue { IsQueue self.batch self.full_pages queue.old.items }
         ensures bytes { let P = non_zero_u16_get self.page_size in (d : Disk)
@@ -162,7 +162,7 @@ impl Batches {
         }
     }
 
-    /// Reads the batch that begins at a page, which is there.
+    /// Reads the batch that begins at `page`, one of the full pages.
     fn read_now<B: Blob>(self, blob: &mut B, page: u64) -> Result<IoBuf, Error>
         requires below { page < self.full_pages }
         requires there { let size = non_zero_u16_get self.page_size + 12 in
@@ -181,8 +181,9 @@ impl Batches {
         self.start(blob, page).wait()
     }
 
-    /// The bytes of the batch that begins at a page: of the queue, where they were read ahead, and
-    /// else read on demand, and nothing stays queued. What is queued then follows it.
+    /// The bytes of the batch that begins at `page`. If they were read ahead they come from the
+    /// queue. Else the call empties the queue and reads them on demand. What is queued afterwards
+    /// follows this batch.
     fn fetch<B: Blob>(self, blob: &mut B, queue: &mut Vec<Ahead>, page: u64) -> Result<IoBuf, Error>
         requires below { page < self.full_pages }
         requires there { let size = non_zero_u16_get self.page_size + 12 in
@@ -220,7 +221,8 @@ impl Batches {
         }
     }
 
-    /// The bytes of a batch, from the queue or on demand, where all its pages are full.
+    /// The bytes of a batch, from the queue or on demand. `InvalidChecksum` where a page of it
+    /// isn't full.
     fn read<B: Blob, H: Sum>(
         self,
         blob: &mut B,
@@ -263,9 +265,9 @@ impl Batches {
         }
     }
 
-    /// Adds the bytes of the batch that begins at a page to what is at hand, without so many of its
-    /// first page, and tops the queue up. Where that fails it adds nothing and starts no read
-    /// ahead.
+    /// Adds the bytes of the batch that begins at `page` to what is at hand, without the first
+    /// `skip` bytes of that page, and tops the queue up. Where the call fails it adds nothing and
+    /// starts no read ahead.
     pub(crate) fn add<B: Blob, H: Sum>(
         self,
         blob: &mut B,

@@ -9,7 +9,7 @@ use disk::Error;
 use std::alloc::Global;
 
 /// What a read of many ranges still has to read: the pages, in rising order and each once, and the
-/// pieces of them; and how many of the ranges need none.
+/// pieces of those pages. `served` counts the ranges that need no page.
 #[derive(Drop)]
 pub(crate) struct Batch {
     pub(crate) pages: Vec<u64>,
@@ -46,7 +46,7 @@ impl Batch {
         }
     }
 
-    /// Adds a piece of a page after those that it has. `OutOfMemory` alone.
+    /// Adds a piece of a page after the pieces of the batch. `OutOfMemory` alone.
     pub(crate) fn add(&mut self, piece: Piece) -> Result<(), Error>
         ensures pages { OnOk result (self.new.pages.items
             ≡ with_page piece.page self.old.pages.items) }
@@ -61,7 +61,7 @@ impl Batch {
         Ok(())
     }
 
-    /// Counts a range that needs no page, where it is one.
+    /// Counts a range as one that needs no page, if `served`.
     pub(crate) fn count(&mut self, served: bool)
         requires { self.old.served + 1 < 2 ^ 64 }
         ensures served { self.new.served ≡ self.old.served + (if served then 1 else 0) }

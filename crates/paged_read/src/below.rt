@@ -84,9 +84,9 @@ impl<B: Blob, H: Sum> View<'_, B, H> {
         Ok(())
     }
 
-    /// The bytes from `offset` on, all below the tip, the first of which the cache doesn't hold.
-    /// Where they go on after its page, those of pages that the cache holds are copied first, since
-    /// each page that is put then may take the place of one that is held.
+    /// Reads the bytes from `offset` on into `buf`: all lie below the tip, and the cache lacks the
+    /// page of the first. If they go on after that page, the bytes of cached pages are copied
+    /// first, since each page that is put in the cache may take the place of a cached one.
     fn read_missing(
         self,
         blob: &mut B,
@@ -124,8 +124,9 @@ impl<B: Blob, H: Sum> View<'_, B, H> {
         self.read_pieces(blob, cache, buf, &left)
     }
 
-    /// The bytes from `offset` on, all below the tip, or none. Where the cache holds all their
-    /// pages it copies them once, takes no memory and asks no device.
+    /// Reads the bytes from `offset` on into `buf`: all lie below the tip, or there are none. Where
+    /// the cache holds all their pages the call copies them once, takes no memory and asks no
+    /// device.
     pub(crate) fn read_below(
         self,
         blob: &mut B,

@@ -23,8 +23,8 @@ use page::{CHECKSUM_SIZE, Sum};
 use std::alloc::Global;
 use std::num::NonZeroU16;
 
-/// The physical pages, each by its number among these, in one read of the device; in none where
-/// there are none.
+/// Reads these physical pages in one read of the device, and answers each with its number among
+/// `pages`. Where there are no pages the device isn't asked.
 pub(crate) fn fetch<B: Blob>(
     alloc: Global,
     page_size: NonZeroU16,
@@ -77,8 +77,8 @@ pub(crate) fn keep_page<H: Sum>(
 
 impl<B, H: Sum> View<'_, B, H> {
     /// Puts delivered pages in the cache, in the order in which they came, up to the first that
-    /// isn't full, and answers at each number where its page stands among them. `InvalidChecksum`
-    /// for a page that isn't full; `OutOfMemory`, before any is put.
+    /// isn't full, and answers for each page of `pages` where it stands in `out`. `InvalidChecksum`
+    /// for a page that isn't full. `OutOfMemory` comes before any page is put.
     fn keep_all(
         self,
         cache: &mut CacheRef,
@@ -132,7 +132,7 @@ fn fill(buf: &mut [u8], lacks: &[Lack], at: &[usize], out: &[(usize, IoBuf)])
 impl<B: Blob, H: Sum> View<'_, B, H> {
     /// Reads the pages that a batch lacks, together, puts them in the cache, and copies their
     /// pieces to their offsets. Where a page can't be read, those that came before it stay in the
-    /// cache. Where there is none it takes no memory.
+    /// cache. Where the batch lacks no page the call takes no memory and asks no device.
     pub(crate) fn read_lacks(
         self,
         blob: &mut B,

@@ -16,12 +16,12 @@ use std::num::NonZeroU16;
 /// The bytes of a footer.
 const FOOTER: usize = CHECKSUM_SIZE as usize;
 
-/// Why bytes aren't copied to a slice: fewer remain than it has room for. Nothing was taken.
+/// Why bytes aren't copied to a slice: fewer remain than the slice has room for. Nothing was taken.
 #[derive(Clone, Copy, Debug, PartialEq, Eq)]
 pub struct TooFew {
-    /// The cursors of the slice.
+    /// How many bytes the slice has room for.
     pub requested: usize,
-    /// The bytes that remain.
+    /// How many bytes remain.
     pub available: usize,
 }
 
@@ -38,7 +38,7 @@ pub struct Hand {
 }
 
 /// A cursor into runs of pages: in which run, where in it the next byte stands, and how many bytes
-/// of its page are left from there on. After the last page none are.
+/// of its page are left from there on. After the last page `left` is 0.
 #[derive(Clone, Copy)]
 struct Cursor {
     run: usize,
@@ -47,7 +47,7 @@ struct Cursor {
 }
 
 impl Cursor {
-    /// The first byte of a run.
+    /// A cursor at the first byte of a run.
     fn first(runs: &VecDeque<IoBuf>, page_size: usize, run: usize) -> Self
         requires some { 0 < page_size }
         requires runs { All (λ run. 0 < length run) runs.now.items }
@@ -69,7 +69,7 @@ impl Cursor {
         }
     }
 
-    /// The first byte after its page.
+    /// A cursor at the first byte after this cursor's page.
     fn after(self, runs: &VecDeque<IoBuf>, page_size: usize) -> Self
         requires some { 0 < page_size }
         requires runs { All (λ run. 0 < length run) runs.now.items }
@@ -95,7 +95,7 @@ impl Cursor {
         }
     }
 
-    /// What is left of its page.
+    /// The bytes that are left of this cursor's page.
     fn chunk(self, runs: &VecDeque<IoBuf>) -> &[u8]
         requires run { self.run ≤ length runs.now.items }
         requires cursor { IsCursor (drop self.run runs.now.items) self.start self.left }
@@ -109,8 +109,8 @@ impl Cursor {
         }
     }
 
-    /// The place of this cursor once a run of so many bytes is added: where there was none, a byte
-    /// of its first page.
+    /// This cursor once a run of `len` bytes is added. Where there was no run yet, a cursor at the
+    /// byte `skip` of the new one.
     fn beside(self, runs: &VecDeque<IoBuf>, page_size: usize, len: usize, skip: usize) -> Self
         requires skip { (skip < page_size) × (skip < len) }
         ensures none { runs.now.items ≡ [] → result
@@ -127,7 +127,7 @@ impl Cursor {
         }
     }
 
-    /// The byte so many bytes after it, which are there.
+    /// A cursor `count` bytes after this one, where there are as many.
     fn passed(self, runs: &VecDeque<IoBuf>, page_size: usize, count: usize) -> Self
         requires some { 0 < page_size }
         requires runs { All (λ run. 0 < length run) runs.now.items }
@@ -157,7 +157,7 @@ impl Cursor {
     }
 }
 
-/// The bytes from a cursor on, copied. `OutOfMemory` alone.
+/// A copy of the `count` bytes from a cursor on. `OutOfMemory` alone.
 fn copied(
     alloc: Global,
     runs: &VecDeque<IoBuf>,
@@ -187,7 +187,7 @@ fn copied(
     Ok(bytes)
 }
 
-/// How many bytes of payloads a run of so many bytes has.
+/// How many bytes of payloads a run of `len` bytes has.
 fn payload_bytes(page_size: usize, len: usize) -> usize
     requires { page_size + 12 < 2 ^ 64 }
     ensures { (run : List ℕ) → length run ≡ len → result ≡ length (payloads page_size run) }
@@ -196,7 +196,7 @@ fn payload_bytes(page_size: usize, len: usize) -> usize
     len / size * page_size + (len % size).min(page_size)
 }
 
-/// Drops so many runs.
+/// Drops the first `count` runs.
 fn drop_front(runs: &mut VecDeque<IoBuf>, count: usize)
     ensures { runs.new.items ≡ drop count runs.old.items }
 {
@@ -220,7 +220,7 @@ impl Model for Hand {
 }
 
 impl Hand {
-    /// Nothing, of pages of so many logical bytes.
+    /// An empty hand, for pages of `page_size` logical bytes.
     pub fn new(alloc: Global, page_size: NonZeroU16) -> Self
         ensures page_size { result.page_size ≡ non_zero_u16_get page_size }
         ensures bytes { result.bytes ≡ [] }
@@ -238,14 +238,15 @@ impl Hand {
         }
     }
 
-    /// How many bytes there are.
+    /// How many bytes the hand has.
     pub fn remaining(&self) -> usize
         ensures { result ≡ length self.now.bytes }
     {
         self.remaining
     }
 
-    /// The first of them, up to the end of their page: none only where there are none.
+    /// The first bytes, up to the end of their page, without a copy. Empty only where the hand is
+    /// empty.
     pub fn chunk(&self) -> &[u8]
         ensures chunk { result.now ≡ take (length result.now) self.now.bytes }
         ensures some { result.now ≡ [] → self.now.bytes ≡ [] }
@@ -253,7 +254,7 @@ impl Hand {
         self.at.chunk(&self.runs)
     }
 
-    /// Forgets all.
+    /// Drops all bytes.
     pub fn clear(&mut self)
         ensures page_size { self.new.page_size ≡ self.old.page_size }
         ensures bytes { self.new.bytes ≡ [] }
@@ -264,7 +265,7 @@ impl Hand {
         self.remaining = 0;
     }
 
-    /// Passes over so many bytes, or over all.
+    /// Passes over `count` bytes, or over all if there are fewer.
     pub fn advance(&mut self, count: usize)
         ensures page_size { self.new.page_size ≡ self.old.page_size }
         ensures bytes { self.new.bytes ≡ drop count self.old.bytes }
@@ -281,8 +282,9 @@ impl Hand {
         self.remaining -= count;
     }
 
-    /// Adds pages, the first of them from a byte on where there is nothing yet. `OutOfMemory`
-    /// alone, and then there is what there was.
+    /// Adds a run of physical pages, without the first `skip` bytes of its first page. `skip` must
+    /// be 0 unless the hand is empty. The only error is `OutOfMemory`, and it leaves the hand as it
+    /// was.
     pub fn push(&mut self, run: IoBuf, skip: usize) -> Result<(), Error>
         requires skip { (skip < self.old.page_size) × (0 < length self.old.bytes → skip ≡ 0) }
         requires fits { length self.old.bytes + length run < 2 ^ 64 }
@@ -305,8 +307,8 @@ impl Hand {
         Ok(())
     }
 
-    /// Takes so many bytes, which are there: shared with their page where they are of one, else
-    /// copied. `OutOfMemory` alone, and then nothing is taken.
+    /// Takes the first `count` bytes, which must be there. If they lie in one page they share its
+    /// memory, else they are copied. The only error is `OutOfMemory`, and then nothing is taken.
     pub fn copy_to_bytes(&mut self, count: usize) -> Result<IoBuf, Error>
         requires { count ≤ length self.old.bytes }
         ensures page_size { self.new.page_size ≡ self.old.page_size }
@@ -329,7 +331,8 @@ impl Hand {
         Ok(bytes)
     }
 
-    /// Takes as many bytes as the slice has room for. Where fewer remain nothing changes.
+    /// Takes as many bytes as the slice has room for. Where fewer remain the call answers `TooFew`,
+    /// and nothing changes.
     pub fn try_copy_to_slice(&mut self, out: &mut [u8]) -> Result<(), TooFew>
         ensures page_size { self.new.page_size ≡ self.old.page_size }
         ensures taken { OnOk result (out.new ≡ take (length out.old) self.old.bytes) }

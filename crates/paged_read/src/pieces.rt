@@ -8,7 +8,7 @@ use cache::Piece;
 use disk::Error;
 use std::num::NonZeroU16;
 
-/// The bytes that a range has of a page that it comes to, for a buffer in which it begins at
+/// The piece of a range that lies in the page `page`, for a buffer in which the range begins at
 /// `buf_offset`.
 fn piece_at(page_size: NonZeroU16, offset: u64, len: usize, buf_offset: usize, page: u64) -> Piece
     requires addressable { offset + len < 2 ^ 64 }
@@ -29,8 +29,8 @@ fn piece_at(page_size: NonZeroU16, offset: u64, len: usize, buf_offset: usize, p
     }
 }
 
-/// The bytes of a range that lies in one page, for a buffer in which it begins at 0: none where it
-/// goes on after the page in which it begins.
+/// The piece of a range that lies in one page, for a buffer in which the range begins at 0. `None`
+/// where the range goes on after the page in which it begins.
 pub(crate) fn only_piece(page_size: NonZeroU16, offset: u64, len: usize) -> Option<Piece>
     requires addressable { offset + len < 2 ^ 64 }
     requires some { 0 < len }
@@ -45,8 +45,8 @@ pub(crate) fn only_piece(page_size: NonZeroU16, offset: u64, len: usize) -> Opti
     Some(piece_at(page_size, offset, len, 0, offset / size))
 }
 
-/// Adds the bytes of a range page by page, for a buffer in which it begins at `buf_offset`.
-/// `OutOfMemory` alone.
+/// Adds the pieces of a range, page by page, for a buffer in which the range begins at
+/// `buf_offset`. `OutOfMemory` alone.
 pub(crate) fn push_pieces(
     pieces: &mut Vec<Piece>,
     page_size: NonZeroU16,

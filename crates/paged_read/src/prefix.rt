@@ -2,7 +2,8 @@
 use disk::IoBuf;
 use page::ActiveChecksum;
 
-/// The value of a page that isn't full, and the slot that tells it; `None` where there is none.
+/// The value of a page that isn't full, and the checksum slot that covers it. `None` where the page
+/// has no value.
 pub type Partial = Option<(IoBuf, ActiveChecksum)>;
 
 /// The pages at the front of a blob that are full or count as full, and the value of the page
@@ -11,6 +12,6 @@ pub type Partial = Option<(IoBuf, ActiveChecksum)>;
 pub struct Prefix {
     /// How many pages are or count as full.
     pub full_pages: u64,
-    /// The value of the page after them.
+    /// The value of the page after the full ones, if it has one.
     pub partial: Partial,
 }

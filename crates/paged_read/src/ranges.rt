@@ -21,8 +21,8 @@ use std::alloc::Global;
 use std::num::NonZeroUsize;
 
 impl<B, H> View<'_, B, H> {
-    /// How many of the bytes from one offset to before another lie in the first's page, where that
-    /// is below the tip; else all.
+    /// How many of the bytes from `at` to before `end` lie in the page of `at`, if `at` is below
+    /// the tip. If it isn't, all of them.
     fn part_len(self, at: u64, end: u64) -> usize
         requires { at < end }
         ensures some { 0 < result }
@@ -38,7 +38,8 @@ impl<B, H> View<'_, B, H> {
     }
 
     /// Copies some bytes of one page, or of the tip, to an offset of the buffer, if memory or the
-    /// cache has them, and answers so. Else they are added to the batch. `OutOfMemory` alone.
+    /// cache has them, and answers whether it did. Else the call adds them to the batch.
+    /// `OutOfMemory` alone.
     fn gather_part(
         self,
         cache: &CacheRef,
@@ -83,7 +84,7 @@ impl<B, H> View<'_, B, H> {
     }
 
     /// Copies what memory and the cache have of a range to an offset of the buffer, and adds the
-    /// rest to the batch. `OutOfMemory` alone.
+    /// rest to the batch. Answers whether there was no rest. `OutOfMemory` alone.
     fn gather_range(
         self,
         cache: &CacheRef,
@@ -243,10 +244,10 @@ impl<B, H> View<'_, B, H> {
         Ok(missed)
     }
 
-    /// Copies, with no device, the bytes of the ranges, each an offset and a length, to their
-    /// offsets in the buffer, one after the other. It answers in rising order the numbers of the
-    /// ranges that would need the device, whose offsets then hold anything; of all where one of
-    /// them can't be read. `OutOfMemory` alone.
+    /// Copies those of these ranges, each an offset and a length in logical bytes, that need no
+    /// device to their places in the buffer, one range after the other. Answers the numbers of the
+    /// other ranges, rising, or of all ranges if one of them can't be read. The places of the
+    /// ranges that it answers may hold anything. The only error is `OutOfMemory`.
     ///
     /// The ranges are in order and don't overlap, and fill the buffer.
     pub fn try_read_ranges_sync_into(
@@ -291,19 +292,20 @@ impl<B, H> View<'_, B, H> {
 }
 
 impl<B: Blob, H: Sum> View<'_, B, H> {
-    /// Reads the ranges, each an offset and a length, to their places in the buffer, one after the
-    /// other, and answers how many of them needed no device.
+    /// Reads the ranges, each an offset and a length in logical bytes, to their places in the
+    /// buffer, one after the other. Answers how many of them needed no device: empty ones count.
     ///
     /// The ranges are in order and don't overlap, and fill the buffer. Bytes after the full pages
-    /// come from memory, and those of pages that the cache holds from there; the other pages are
-    /// read in one call of the device, each once, and put in the cache as they are delivered. Where
-    /// the cache holds all pages of the ranges the call takes no memory.
+    /// come from memory, and those of cached pages from the cache. The other pages are read in one
+    /// call of the device, each once, and put in the cache as they are delivered. Where the cache
+    /// holds all pages of the ranges the call takes no memory.
     ///
     /// The first range that can't be read decides, before memory or the device is asked for:
-    /// `OffsetOverflow` where it passes the greatest `u64`, else `BlobInsufficientLength` where it
-    /// passes the size. `ReadFailed` where the device failed, `InvalidChecksum` where a page isn't
-    /// full, `OutOfMemory`. Then the buffer holds anything, and the pages that were delivered
-    /// before, and are full, were put in the cache, and no other.
+    /// `OffsetOverflow` where its end passes the greatest `u64`, else `BlobInsufficientLength`
+    /// where it passes the size. `ReadFailed` where the device failed, `InvalidChecksum` where a
+    /// page isn't full, `OutOfMemory` where memory was refused. After an error the buffer may hold
+    /// anything. The pages that were delivered and found full before the error were put in the
+    /// cache, and no others.
     pub fn read_ranges_into(
         self,
         blob: &mut B,

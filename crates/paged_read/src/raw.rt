@@ -19,9 +19,9 @@ use std::num::NonZeroU16;
 
 /// A physical page, in one read, and how many of its first bytes are its value.
 ///
-/// `OffsetOverflow` where its offset passes the greatest, `BlobInsufficientLength` where the blob
-/// ends before it does, `InvalidChecksum` where it has no value; `ReadFailed` where the device
-/// failed, `OutOfMemory`.
+/// `OffsetOverflow` where the page's end passes the greatest `u64`, `BlobInsufficientLength` where
+/// the blob ends before the page does, `InvalidChecksum` where the page has no value. `ReadFailed`
+/// where the device failed, `OutOfMemory` where memory was refused.
 fn read_value<B: Blob, H: Sum>(
     alloc: Global,
     blob: &mut B,
@@ -50,8 +50,8 @@ fn read_value<B: Blob, H: Sum>(
     }
 }
 
-/// The bytes of a page's value from one logical offset to before another, after which the page
-/// doesn't begin.
+/// The bytes of a page's value at or after the logical offset `offset` and before `end`. The page
+/// begins before `end`.
 ///
 /// Errors are those of [`read_value`], and `BlobInsufficientLength` where there is no such byte.
 fn read_part<B: Blob, H: Sum>(
@@ -81,16 +81,19 @@ fn read_part<B: Blob, H: Sum>(
     bytes.slice(skip as usize, stop as usize)
 }
 
-/// The `len` bytes from the logical offset `offset` on, of a blob of pages of `page_size` logical
-/// bytes that nobody opened: of the values of its pages, each read by a read of its own, in rising
-/// order. Of no bytes no device is asked.
+/// The `len` bytes from the logical offset `offset` on, of a blob that nobody opened, with pages of
+/// `page_size` logical bytes. They come from the values of its pages, each read by a read of its
+/// own, in rising order. For `len` 0 no device is asked.
 ///
-/// `OffsetOverflow` where the range passes the greatest `u64`, before anything is asked for. Then
-/// the first page decides that gives nothing: `InvalidChecksum` where it has no value,
-/// `BlobInsufficientLength` where its value has no byte of the range, or the blob ends before the
-/// page does, `OffsetOverflow` where its offset passes the greatest; and after the last
-/// `BlobInsufficientLength` where fewer than `len` bytes were found. `ReadFailed` where the device
-/// failed, `OutOfMemory`.
+/// `OffsetOverflow` where the range's end passes the greatest `u64`, before the device or memory is
+/// asked. Else the first page that gives nothing decides:
+/// - `InvalidChecksum` where the page has no value,
+/// - `BlobInsufficientLength` where its value has no byte of the range, or the blob ends before the
+///   page does,
+/// - `OffsetOverflow` where the page's physical end passes the greatest `u64`.
+///
+/// After the last page, `BlobInsufficientLength` where fewer than `len` bytes were found.
+/// `ReadFailed` where the device failed, `OutOfMemory` where memory was refused.
 pub fn read_range<B: Blob, H: Sum>(
     alloc: Global,
     blob: &mut B,
@@ -128,11 +131,12 @@ pub fn read_range<B: Blob, H: Sum>(
 
 /// The logical size of a blob of `physical_size` bytes that nobody opened, with pages of
 /// `page_size` logical bytes, and its last `len` bytes. The last page is read first, and what lies
-/// before it as by [`read_range`]; of an empty blob no device is asked, and no memory.
+/// before it as by [`read_range`]. For an empty blob neither the device nor memory is asked.
 ///
-/// `BlobInsufficientLength` where `physical_size` isn't whole pages, or they hold fewer than `len`
-/// bytes by what the last one says; `InvalidChecksum` where that has no value. The other errors are
-/// those of [`read_range`], of the bytes before that page.
+/// `BlobInsufficientLength` where `physical_size` isn't whole physical pages, where the blob is
+/// shorter, or where it has fewer than `len` bytes by the length of its last page's value.
+/// `InvalidChecksum` where the last page has no value. The other errors are those of
+/// [`read_range`], for the bytes before that page.
 pub fn read_tail<B: Blob, H: Sum>(
     alloc: Global,
     blob: &mut B,
@@ -166,7 +170,7 @@ pub fn read_tail<B: Blob, H: Sum>(
     Ok((0, IoBufs::new(alloc)))
 }
 
-/// Where the value of the page `last` ends, and the `len` bytes before that offset.
+/// The logical offset at which the value of the page `last` ends, and the `len` bytes before it.
 fn read_after<B: Blob, H: Sum>(
     alloc: Global,
     blob: &mut B,

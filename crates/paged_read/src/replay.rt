@@ -23,16 +23,16 @@ use page::Sum;
 use std::marker::Model;
 use std::num::NonZeroUsize;
 
-/// The bytes of a blob of the type `B`, with pages under the checksum function `H`, from one offset
-/// on: in order, and in batches that are read ahead of where the replay stands.
+/// A reader of a blob of the type `B`, with pages under the checksum function `H`, from one offset
+/// on. It gives the bytes in order, and reads pages in batches, ahead of where it stands.
 ///
-/// A replay gives the bytes that there were when it began, whatever the blob's writer does
-/// meanwhile: it holds their number and a copy of those after the full pages, and full pages are
-/// never written again. It ends with a crash, and with a recovery of the blob, which may cut it.
-/// The blob is lent to each call that may read; no cache is asked.
+/// A replay gives the bytes that the blob had when the replay began, whatever the blob's writer
+/// does meanwhile. It holds their number and a copy of the bytes after the full pages, and a writer
+/// never rewrites a full page. A replay ends with a crash, and with a recovery of the blob, which
+/// may cut the blob. The caller lends the blob to each call that may read. A replay uses no cache.
 ///
-/// Where a batch that was read ahead failed, it is read again once it is needed, and only what
-/// fails then is told.
+/// Where the read ahead of a batch failed, the replay reads the batch again once it is needed, and
+/// only a failure of that read is answered.
 #[derive(Drop)]
 pub struct Replay<B, H> {
     sealed: Sealed<B, H>,
@@ -74,9 +74,9 @@ impl<B, H> Model for Replay<B, H> {
 }
 
 impl<B, H> Replay<B, H> {
-    /// A replay of what a snapshot tells, from its first byte on. Pages are read in batches of a
-    /// quarter of those that fit `buffer_size` bytes, and at least one, and three batches ahead.
-    /// `OutOfMemory` alone.
+    /// A replay of a snapshot's content, from its first byte on. A batch has a quarter of the
+    /// physical pages that fit `buffer_size` bytes, rounded up, and at least one. Up to three
+    /// batches are read ahead. The only error is `OutOfMemory`.
     pub fn new(
         sealed: Sealed<B, H>,
         buffer_size: NonZeroUsize,
@@ -113,7 +113,8 @@ impl<B, H> Replay<B, H> {
         self.sealed.size()
     }
 
-    /// Whether a call answered that all is at hand that is left. A seek begins anew.
+    /// Whether an [`ensure`](Self::ensure) answered `false`, with all that is left at hand. A seek
+    /// resets this to `false`.
     pub fn is_exhausted(&self) -> bool
         ensures { result ≡ self.now.exhausted }
     {
@@ -127,8 +128,8 @@ impl<B, H> Replay<B, H> {
         self.hand.remaining()
     }
 
-    /// The first bytes at hand, up to the end of their page, without a copy: none only where none
-    /// are.
+    /// The first bytes at hand, up to the end of their page, without a copy. Empty only where no
+    /// byte is at hand.
     pub fn chunk(&self) -> &[u8]
         ensures chunk { result.now ≡ take (length result.now) self.now.hand }
         ensures some { result.now ≡ [] → self.now.hand ≡ [] }
@@ -137,7 +138,7 @@ impl<B, H> Replay<B, H> {
         self.hand.chunk()
     }
 
-    /// Passes over so many of the bytes at hand, or over all.
+    /// Passes over `count` of the bytes at hand, or over all if fewer are.
     pub fn advance(&mut self, count: usize)
         ensures advanced { self.new ≡ advanced count self.old }
         ensures replays { ReplaysOn self.old self.new }
@@ -146,8 +147,9 @@ impl<B, H> Replay<B, H> {
         self.hand.advance(count);
     }
 
-    /// Goes to an offset up to the size; nothing is at hand then. What is read ahead stays, for
-    /// where it is needed. `BlobInsufficientLength` past the size, and then nothing changed.
+    /// Goes to a logical offset, up to the size. Nothing is at hand then, and batches that were
+    /// read ahead stay queued. `BlobInsufficientLength` where `offset` passes the size, and then
+    /// nothing changes.
     pub fn seek_to(&mut self, offset: u64) -> Result<(), Error>
         ensures seeks { Seeks self.old offset self.new result }
         ensures replays { ReplaysOn self.old self.new }
@@ -161,8 +163,9 @@ impl<B, H> Replay<B, H> {
         Ok(())
     }
 
-    /// Takes so many of the bytes at hand: shared with their page where they are of one, else
-    /// copied. `OutOfMemory` alone, and then nothing is taken.
+    /// Takes the first `count` bytes at hand, which must be there. If they lie in one page they
+    /// share its memory, else they are copied. The only error is `OutOfMemory`, and then nothing is
+    /// taken.
     pub fn copy_to_bytes(&mut self, count: usize) -> Result<IoBuf, Error>
         requires { count ≤ length self.old.hand }
         ensures goes { CopyToBytesGoes self.old count self.new result }
@@ -173,8 +176,8 @@ impl<B, H> Replay<B, H> {
         Ok(bytes)
     }
 
-    /// Takes as many of the bytes at hand as the slice has room for. Where fewer remain nothing
-    /// changes.
+    /// Takes as many of the bytes at hand as the slice has room for. Where fewer remain the call
+    /// answers `TooFew`, and nothing changes.
     pub fn try_copy_to_slice(&mut self, out: &mut [u8]) -> Result<(), TooFew>
         ensures goes { CopyToSliceGoes self.old self.new out.old out.new result }
         ensures replays { ReplaysOn self.old self.new }
@@ -187,16 +190,22 @@ impl<B, H> Replay<B, H> {
 }
 
 impl<B: Blob, H: Sum> Replay<B, H> {
-    /// Reads on until so many bytes are at hand, and answers whether they are: where not, all is at
-    /// hand that is left. Each batch is read ahead, in one read of the device, before it is needed,
-    /// or on demand where that failed or the replay went elsewhere; what is at hand was found full,
-    /// page by page. Where they are at hand already, or all that is left is after the full pages,
-    /// the device isn't asked. Else it is asked four times at most for each batch that comes to
-    /// hand, and once more where the call fails.
+    /// Reads on until `count` bytes are at hand, and answers whether they are. At `false` all that
+    /// is left is at hand.
     ///
-    /// `ReadFailed` where a read failed that was needed, `InvalidChecksum` where a page isn't full,
-    /// which it always is in a sound blob, `OutOfMemory`. The replay then stands where it stood,
-    /// with no less at hand. All of that was found full, too, and the call may be made again.
+    /// Each batch is read ahead, in one read of the device, before it is needed. It is read on
+    /// demand if that read failed, or the replay went elsewhere. Each page that comes to hand was
+    /// found full.
+    ///
+    /// Where `count` bytes are at hand already, or all that is left is after the full pages, the
+    /// device isn't asked. Else it is asked four times at most for each batch that comes to hand,
+    /// and once more if the call fails.
+    ///
+    /// `ReadFailed` where a read failed that was needed, `InvalidChecksum` where a page that is
+    /// read isn't full, `OutOfMemory` where memory was refused. While the blob's writer is sound
+    /// (keeps its invariant) the answer is never `InvalidChecksum`. After an error the replay
+    /// stands where it stood, with no fewer bytes at hand. Each page that came to hand was found
+    /// full, and the call may be made again.
     pub fn ensure(&mut self, blob: &mut B, count: usize) -> Result<bool, Error>
         requires can { CanReplay self.old (B.life blob.old).present }
         ensures goes { let old = B.life blob.old in let new = B.life blob.new in
@@ -262,9 +271,10 @@ impl<B: Blob, H: Sum> Replay<B, H> {
 }
 
 impl<B: Blob, H: Sum> Sealed<B, H> {
-    /// A replay of what the snapshot tells, from its first byte on: it copies the bytes after the
-    /// full pages, and reads nothing yet. Pages are read in batches of a quarter of those that fit
-    /// `buffer_size` bytes, and at least one, and three batches ahead. `OutOfMemory` alone.
+    /// A replay of the snapshot's content, from its first byte on. The call copies the bytes after
+    /// the full pages, and reads nothing yet. A batch has a quarter of the physical pages that fit
+    /// `buffer_size` bytes, rounded up, and at least one. Up to three batches are read ahead. The
+    /// only error is `OutOfMemory`.
     pub fn replay(
         &self,
         buffer_size: NonZeroUsize,

@@ -23,10 +23,11 @@ use std::num::{NonZeroU16, NonZeroUsize};
 /// A snapshot of a blob of the type `B`, with pages under the checksum function `H`: how many full
 /// pages the blob had, and a copy of the bytes after them, less than a page.
 ///
-/// It doesn't move. Its reads give the content of the moment at which it was made, whatever the
-/// blob's writer does meanwhile and however that ends, until a crash, or a recovery of the blob
-/// that cuts it: the full pages of a blob are never written again. A snapshot borrows nothing and
-/// holds no page; the blob and the cache are lent to each read: always those of the blob's writer.
+/// A snapshot doesn't change. Its reads give the content of the moment at which it was made,
+/// whatever the blob's writer does meanwhile and however the writer ends: a writer never rewrites a
+/// full page. That holds until a crash, or until a recovery cuts the blob. A snapshot borrows
+/// nothing and holds no page. The caller lends the blob and the cache to each read, always those of
+/// the blob's writer.
 #[derive(Drop)]
 pub struct Sealed<B, H> {
     alloc: Global,
@@ -61,7 +62,8 @@ impl<B, H> Sealed<B, H> {
         }
     }
 
-    /// Another of the same: it copies the bytes after the full pages. `OutOfMemory` alone.
+    /// A snapshot equal to this one, with a copy of the bytes after the full pages. The only error
+    /// is `OutOfMemory`.
     pub fn try_clone(&self) -> Result<Self, Error>
         ensures same { IfOk result (λ copy. copy ≡ self.now) }
         ensures err { IsOkUnless result Error.OutOfMemory }
@@ -77,14 +79,14 @@ impl<B, H> Sealed<B, H> {
         Ok(Sealed::new(self.alloc, self.page_size, self.id, tip))
     }
 
-    /// The logical bytes.
+    /// The size in logical bytes.
     pub fn size(&self) -> u64
         ensures { result ≡ tail_size self.now }
     {
         self.tip.size()
     }
 
-    /// The memory that it takes its own of.
+    /// The allocator from which the snapshot takes its memory.
     pub(crate) fn alloc(&self) -> Global {
         self.alloc
     }
@@ -96,7 +98,7 @@ impl<B, H> Sealed<B, H> {
         self.page_size
     }
 
-    /// How many full pages it has; a blob has room for them.
+    /// How many full pages the snapshot has. Their physical end is below 2^64.
     pub(crate) fn full_pages(&self) -> u64
         ensures pages { result ≡ self.now.full_pages }
         ensures fits { self.now.full_pages * (self.now.page_size + 12) < 2 ^ 64 }
@@ -106,14 +108,14 @@ impl<B, H> Sealed<B, H> {
         self.tip.offset() / u64::from(self.page_size.get())
     }
 
-    /// The bytes after them.
+    /// The bytes after the full pages.
     pub(crate) fn bytes(&self) -> &[u8]
         ensures { result.now ≡ self.now.bytes }
     {
         self.tip.partial()
     }
 
-    /// What reads of the snapshot stand on: it borrows the snapshot, and can be copied.
+    /// The view through which the snapshot is read. It borrows the snapshot, and can be copied.
     pub fn view(&self) -> View<'_, B, H>
         ensures view { IsView (non_zero_u16_get result.page_size) result.tip.now }
         ensures tail { tail_at result.page_size result.id result.tip.now ≡ self.now }
@@ -122,10 +124,9 @@ impl<B, H> Sealed<B, H> {
         View::new(self.alloc, self.page_size, self.id, &self.tip)
     }
 
-    /// Copies the bytes from `offset` on into `buf`, as many as it has room for, where that needs
-    /// no device: where they are within the size, and the cache holds the pages of those below the
-    /// tip. It answers whether it did; where it didn't, what `buf` holds says nothing. It takes no
-    /// memory.
+    /// Copies the logical bytes from `offset` on into `buf`, as many as `buf` has room for, if that
+    /// needs no device: they lie within the size, and the cache holds the pages of those below the
+    /// tip. Answers whether it did. At `false` `buf` may hold anything. The call takes no memory.
     pub fn try_read_sync_into(&self, cache: &CacheRef, buf: &mut [u8], offset: u64) -> bool
         requires page_size { cache.now.page_size ≡ self.now.page_size }
         ensures goes { TryReadGoes self.now (offset, length buf.old) cache.now buf.new result }
@@ -134,10 +135,11 @@ impl<B, H> Sealed<B, H> {
         self.view().try_read_sync_into(cache, buf, offset)
     }
 
-    /// Copies those of these ranges, each an offset and a length, that need no device to their
-    /// offsets in `buf`, one range after the other, and answers the numbers of the others, rising:
-    /// of all where one passes the end. The ranges are in order, don't overlap, and fill `buf`. Its
-    /// only error is `OutOfMemory`.
+    /// Copies those of these ranges, each an offset and a length in logical bytes, that need no
+    /// device to their places in `buf`, one range after the other. Answers the numbers of the other
+    /// ranges, rising, or of all ranges if one passes the end. The places of the ranges that it
+    /// answers may hold anything. The ranges are in order, don't overlap, and fill `buf`. The only
+    /// error is `OutOfMemory`.
     pub fn try_read_ranges_sync_into(
         &self,
         cache: &CacheRef,
@@ -173,15 +175,18 @@ impl<B, H> Sealed<B, H> {
 }
 
 impl<B: Blob, H: Sum> Sealed<B, H> {
-    /// Copies the bytes from `offset` on into `buf`, as many as it has room for: those of full
-    /// pages from the cache, else from the blob, one read for each page, and the others from
-    /// memory. A read of held pages takes no memory and asks no device. Pages that are read are put
-    /// in the cache, also where the call fails after them.
+    /// Copies the logical bytes from `offset` on into `buf`, as many as `buf` has room for. Those
+    /// of full pages come from the cache, else from the blob, by one read for each page. The others
+    /// come from memory. Where the cache holds all pages that are needed the call takes no memory
+    /// and asks no device. Pages that are read are put in the cache, even if the call fails
+    /// afterwards.
     ///
-    /// `OffsetOverflow` where the range passes the greatest `u64`, else `BlobInsufficientLength`
-    /// where it passes the size: both before anything is asked for. `ReadFailed` where the device
-    /// failed, `InvalidChecksum` where a page isn't full, which it always is in a sound blob,
-    /// `OutOfMemory`; then what `buf` holds says nothing.
+    /// `OffsetOverflow` where the range's end passes the greatest `u64`, else
+    /// `BlobInsufficientLength` where it passes the size, both before the device or memory is
+    /// asked. `ReadFailed` where the device failed, `InvalidChecksum` where a page that is read
+    /// isn't full, `OutOfMemory` where memory was refused. While the blob's writer is sound (keeps
+    /// its invariant) the answer is never `InvalidChecksum`. After an error `buf` may hold
+    /// anything.
     pub fn read_into(
         &self,
         blob: &mut B,
@@ -201,8 +206,7 @@ impl<B: Blob, H: Sum> Sealed<B, H> {
         self.view().read_into(blob, cache, buf, offset)
     }
 
-    /// The `len` bytes from `offset` on, read as [`Sealed::read_into`] reads them, and refused as
-    /// it refuses them.
+    /// The `len` bytes from `offset` on, read as [`Sealed::read_into`] reads them, with its errors.
     pub fn read_at(
         &self,
         blob: &mut B,
@@ -221,11 +225,13 @@ impl<B: Blob, H: Sum> Sealed<B, H> {
         self.view().read_at(blob, cache, offset, len)
     }
 
-    /// As many bytes from `offset` on as there are, at most `len`, in place of what `bytes` held,
-    /// and how many: at least one, unless none is asked for, which is answered at any offset.
+    /// Reads as many bytes from `offset` on as there are, at most `len`, in place of what `bytes`
+    /// held. Answers them and their number, which is at least 1, unless `len` is 0: that is
+    /// answered at any offset.
     ///
-    /// `BlobInsufficientLength` at or after the end, before anything is asked for; `ReadFailed`,
-    /// `InvalidChecksum`, `OutOfMemory`, as [`Sealed::read_into`] answers them.
+    /// `BlobInsufficientLength` where `offset` is at or after the end and `len` isn't 0, before the
+    /// device or memory is asked. `ReadFailed`, `InvalidChecksum` and `OutOfMemory` as
+    /// [`Sealed::read_into`] answers them.
     pub fn read_up_to(
         &self,
         blob: &mut B,
@@ -246,16 +252,16 @@ impl<B: Blob, H: Sum> Sealed<B, H> {
         self.view().read_up_to(blob, cache, offset, len, bytes)
     }
 
-    /// Reads these ranges, each an offset and a length, to their places in `buf`, one after the
-    /// other, and answers how many of them needed no device: empty ones count. The ranges are in
-    /// order, don't overlap, and fill `buf`. The pages that the cache lacks are read in one call of
-    /// the device, each once, and put in the cache as they are delivered. Where it lacks none the
-    /// call takes no memory.
+    /// Reads these ranges, each an offset and a length in logical bytes, to their places in `buf`,
+    /// one after the other. Answers how many of them needed no device: empty ones count. The ranges
+    /// are in order, don't overlap, and fill `buf`. The pages that the cache lacks are read in one
+    /// call of the device, each once, and put in the cache as they are delivered. Where the cache
+    /// lacks none the call takes no memory.
     ///
     /// The first range that can't be read decides, before memory or the device is asked for:
-    /// `OffsetOverflow` where it passes the greatest `u64`, else `BlobInsufficientLength` where it
-    /// passes the size. `ReadFailed`, `InvalidChecksum`, `OutOfMemory`, as [`Sealed::read_into`]
-    /// answers them.
+    /// `OffsetOverflow` where its end passes the greatest `u64`, else `BlobInsufficientLength`
+    /// where it passes the size. `ReadFailed`, `InvalidChecksum` and `OutOfMemory` as
+    /// [`Sealed::read_into`] answers them.
     pub fn read_ranges_into(
         &self,
         blob: &mut B,

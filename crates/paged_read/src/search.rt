@@ -19,14 +19,14 @@ use page::{ActiveChecksum, CHECKSUM_SIZE, Checksum, Slot, Sum};
 use std::alloc::Global;
 use std::num::{NonZeroU16, NonZeroUsize};
 
-/// The bytes of a physical page: `page_size` logical bytes and a footer.
+/// How many bytes a physical page has: `page_size` logical bytes and a footer of 12 bytes.
 pub fn physical_page_size(page_size: NonZeroU16) -> u64
     ensures { result ≡ non_zero_u16_get page_size + 12 }
 {
     u64::from(page_size.get()) + CHECKSUM_SIZE
 }
 
-/// How many pages a prefix has, with the one of the partial value, if there is one.
+/// How many pages a prefix has: its full pages, and one more if it has a partial value.
 pub fn pages_of(prefix: &Prefix) -> u64
     requires { prefix.now.full_pages + 1 < 2 ^ 64 }
     ensures { result ≡ prefix_pages prefix.now }
@@ -37,14 +37,15 @@ pub fn pages_of(prefix: &Prefix) -> u64
     }
 }
 
-/// Whether a slot tells a full page.
+/// Whether a slot covers a full page.
 fn is_full(slot: Option<ActiveChecksum>, page_size: NonZeroU16) -> bool
     ensures { result ≡ (kept_len slot == non_zero_u16_get page_size) }
 {
     matches!(slot, Some(slot) if slot.len == page_size.get())
 }
 
-/// The slot that tells the value of the physical page of `size` bytes at `at`.
+/// The slot that covers the value of the physical page of `size` bytes at `at`. `None` where no
+/// slot of the page verifies.
 fn slot_at<H: Sum>(bytes: &[u8], at: usize, size: usize) -> Option<ActiveChecksum>
     requires { at + size ≤ length bytes.now }
     ensures slot { result ≡ active H.sum_of (size - 12) (take size (drop at bytes.now)) }
@@ -92,7 +93,7 @@ pub(crate) fn leading_pages<H: Sum>(page_size: NonZeroU16, bytes: &IoBuf) -> Res
     })
 }
 
-/// How many bytes a value has; none where there is none.
+/// How many bytes a value has, 0 where there is none.
 fn value_len(partial: &Partial) -> usize
     ensures { result ≡ length (tip_of partial.now) }
 {
@@ -102,8 +103,8 @@ fn value_len(partial: &Partial) -> usize
     }
 }
 
-/// Adds the values of these pages, whose prefix this is, to the bytes that are kept, where a caller
-/// wants them: shared with what was read. `OutOfMemory` alone.
+/// Adds the values of the physical pages in `bytes`, whose prefix is `prefix`, to `kept`, if the
+/// caller wants them. They share the memory of what was read. `OutOfMemory` alone.
 fn keep<H: Sum>(
     kept: &mut Option<Hand>,
     page_size: NonZeroU16,
@@ -124,13 +125,17 @@ fn keep<H: Sum>(
     hand.push(bytes.slice(0, full + value_len(&prefix.partial))?, 0)
 }
 
-/// Looks through the first `pages` pages of a blob, which has them, from the first one on: how many
-/// are full, of `page_size` logical bytes, up to the first that isn't, and the value of that one.
-/// Each read is of at most as many whole pages as fit `buffer_size` bytes, and at least one; pages
-/// after those of the read in which the search ends aren't read. Where `kept` is some, it holds
-/// nothing yet, and gets the values, one after the other: they share what was read.
+/// Looks through the first `pages` pages of a blob, of `page_size` logical bytes each, from the
+/// first one on. Answers how many are full, up to the first that isn't, and the value of that one,
+/// if it has one. The blob must have these pages.
 ///
-/// `ReadFailed` where the device failed, `OutOfMemory`. The blob is only read, also where it fails.
+/// A read has at most as many whole physical pages as fit `buffer_size` bytes, or one page if none
+/// fits. Pages after the read in which the search ends aren't read. If `kept` is some, it must be
+/// empty: the call adds the values to it, one after the other, and they share the memory of what
+/// was read.
+///
+/// `ReadFailed` where the device failed, `OutOfMemory` where memory was refused. The blob is only
+/// read, even where the call fails.
 pub fn scan<B: Blob, H: Sum>(
     alloc: Global,
     blob: &mut B,
@@ -158,10 +163,11 @@ pub fn scan<B: Blob, H: Sum>(
     scan_keeping::<B, H>(alloc, blob, page_size, 0, pages, buffer_size, options, kept)
 }
 
-/// A [`scan`] from the page `first` on, where those before it count as full, and aren't read; with
-/// the caller's options for each read. Where `first` is `pages` no device is asked.
+/// A [`scan`] from the page `first` on, with the caller's options for each read. Pages before
+/// `first` count as full, and aren't read. Where `first` is `pages` no device is asked.
 ///
-/// `BlobInsufficientLength` where the blob is too short for its pages.
+/// `BlobInsufficientLength` where the blob is shorter than `pages` physical pages. The other errors
+/// are those of [`scan`].
 pub fn scan_from<B: Blob, H: Sum>(
     alloc: Global,
     blob: &mut B,
@@ -200,7 +206,7 @@ pub fn scan_from<B: Blob, H: Sum>(
     )
 }
 
-/// A scan that adds the values of the pages that it reads to those that are kept.
+/// A [`scan_from`] that also adds the values of the pages that it reads to `kept`.
 fn scan_keeping<B: Blob, H: Sum>(
     alloc: Global,
     blob: &mut B,
@@ -254,12 +260,17 @@ fn scan_keeping<B: Blob, H: Sum>(
     })
 }
 
-/// Looks through the first `pages` pages of a blob, which has them, from the last one back, for one
-/// that has a value: the pages up to it, of which those before it count as full. Each page, of
-/// `page_size` logical bytes, is read once at most, by a read of its own; those before the last one
-/// that has a value aren't read.
+/// Looks through the first `pages` pages of a blob, of `page_size` logical bytes each, from the
+/// last one back, for one that has a value. Answers the pages up to and with that one, of which
+/// those before it count as full. If it isn't full, the call also answers its bad slot, if it has
+/// one: the slot that isn't the value's, if it neither verifies nor is all zero. The blob must have
+/// these pages.
 ///
-/// `ReadFailed` where the device failed, `OutOfMemory`. The blob is only read, also where it fails.
+/// Each page is read once at most, by a read of its own. Pages before the last one that has a value
+/// aren't read.
+///
+/// `ReadFailed` where the device failed, `OutOfMemory` where memory was refused. The blob is only
+/// read, even where the call fails.
 pub fn last_pages<B: Blob, H: Sum>(
     alloc: Global,
     blob: &mut B,

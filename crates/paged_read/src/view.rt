@@ -16,13 +16,14 @@ use std::alloc::{AllocError, Global};
 use std::marker::PhantomData;
 use std::num::NonZeroU16;
 
-/// What reads of a blob of the type `B` stand on, with pages under the checksum function `H`: its
-/// full pages, and the bytes after them, in memory.
+/// What reads see of a blob of the type `B`, with pages under the checksum function `H`: its full
+/// pages, and the bytes after them, in memory (the tip).
 ///
-/// The blob and the cache are lent to each call: always those of the blob's writer. A read leaves
-/// the blob as it is, and puts each page that it reads in the cache, in rising order, also where it
-/// fails after it. A page that isn't full is not put: it answers `InvalidChecksum`, which no page
-/// of a sound blob does.
+/// The caller lends the blob and the cache to each call, always those of the blob's writer. A read
+/// leaves the blob as it is. It puts each page that it reads in the cache, even if it fails
+/// afterwards: a read of one range in rising order, a read of many as the device delivers them. A
+/// page that isn't full isn't put: the read answers `InvalidChecksum`. That never happens while the
+/// blob's writer is sound (keeps its invariant).
 #[derive(Drop)]
 pub struct View<'a, B, H> {
     pub(crate) alloc: Global,
@@ -43,8 +44,8 @@ impl<B, H> Clone for View<'_, B, H> {
 impl<B, H> Copy for View<'_, B, H> {}
 
 impl<'a, B, H> View<'a, B, H> {
-    /// What reads of a blob stand on whose full pages, of `page_size` logical bytes, end where the
-    /// tip begins, and whose pages the cache knows under `id`.
+    /// A view of a blob whose full pages, of `page_size` logical bytes, end where the tip begins,
+    /// and whose pages the cache knows under `id`.
     pub fn new(alloc: Global, page_size: NonZeroU16, id: u64, tip: &'a Buffer) -> Self
         requires { IsView (non_zero_u16_get page_size) tip.now }
         ensures page_size { result.page_size ≡ page_size }
@@ -62,7 +63,7 @@ impl<'a, B, H> View<'a, B, H> {
 }
 
 impl<B, H> View<'_, B, H> {
-    /// The logical bytes.
+    /// The size in logical bytes, the tip included.
     pub fn size(self) -> u64
         requires { IsView (non_zero_u16_get self.page_size) self.tip.now }
         ensures { result ≡ tail_size
@@ -71,7 +72,7 @@ impl<B, H> View<'_, B, H> {
         self.tip.size()
     }
 
-    /// How many of the bytes of a range stand below the tip.
+    /// How many of the bytes of a range lie below the tip.
     pub(crate) fn len_below(self, offset: u64, len: usize) -> usize
         requires { IsView (non_zero_u16_get self.page_size) self.tip.now }
         ensures { let t = tail_at self.entry.page_size self.entry.id self.entry.tip.now in
@@ -82,13 +83,15 @@ impl<B, H> View<'_, B, H> {
 }
 
 impl<B: Blob, H: Sum> View<'_, B, H> {
-    /// Copies the bytes from `offset` on into `buf`, as many as it has room for: those below the
-    /// tip from pages that the cache holds, else from the blob, one read for each page, and the
-    /// others from memory. A read of held pages takes no memory and asks no device.
+    /// Copies the logical bytes from `offset` on into `buf`, as many as `buf` has room for. Those
+    /// below the tip come from pages that the cache holds, else from the blob, by one read for each
+    /// page. The others come from memory. Where the cache holds all pages that are needed the call
+    /// takes no memory and asks no device.
     ///
-    /// `OffsetOverflow` where the range passes the greatest `u64`, else `BlobInsufficientLength`
-    /// where it passes the size: both before anything is asked for. `ReadFailed` where the device
-    /// failed, `InvalidChecksum`, `OutOfMemory`; then what `buf` holds says nothing.
+    /// `OffsetOverflow` where the range's end passes the greatest `u64`, else
+    /// `BlobInsufficientLength` where it passes the size, both before the device or memory is
+    /// asked. `ReadFailed` where the device failed, `InvalidChecksum` where a page isn't full,
+    /// `OutOfMemory` where memory was refused. After an error `buf` may hold anything.
     pub fn read_into(
         self,
         blob: &mut B,
@@ -120,8 +123,7 @@ impl<B: Blob, H: Sum> View<'_, B, H> {
         Ok(())
     }
 
-    /// The `len` bytes from `offset` on, read as [`View::read_into`] reads them, and refused as it
-    /// refuses them.
+    /// The `len` bytes from `offset` on, read as [`View::read_into`] reads them, with its errors.
     pub fn read_at(
         self,
         blob: &mut B,
@@ -155,11 +157,13 @@ impl<B: Blob, H: Sum> View<'_, B, H> {
         Ok(bufs)
     }
 
-    /// As many bytes from `offset` on as there are, at most `len`, in place of what `bytes` held,
-    /// and how many: at least one, unless none is asked for, which is answered at any offset.
+    /// Reads as many bytes from `offset` on as there are, at most `len`, in place of what `bytes`
+    /// held. Answers them and their number, which is at least 1, unless `len` is 0: that is
+    /// answered at any offset.
     ///
-    /// `BlobInsufficientLength` at or after the end, before anything is asked for; `ReadFailed`,
-    /// `InvalidChecksum`, `OutOfMemory`.
+    /// `BlobInsufficientLength` where `offset` is at or after the end and `len` isn't 0, before the
+    /// device or memory is asked. `ReadFailed`, `InvalidChecksum` and `OutOfMemory` as
+    /// [`View::read_into`] answers them.
     pub fn read_up_to(
         self,
         blob: &mut B,
@@ -196,7 +200,7 @@ impl<B: Blob, H: Sum> View<'_, B, H> {
 }
 
 impl<B, H> View<'_, B, H> {
-    /// Copies the bytes from `offset` on, all after the full pages, if there are any.
+    /// Copies the bytes from `offset` on into `buf`. Any there are lie after the full pages.
     pub(crate) fn copy_tip(self, buf: &mut [u8], offset: u64)
         requires view { IsView (non_zero_u16_get self.page_size) self.tip.now }
         requires after { let t = tail_at self.page_size self.id self.tip.now in
@@ -212,8 +216,8 @@ impl<B, H> View<'_, B, H> {
         }
     }
 
-    /// Copies the bytes from `offset` on, all below the tip, or none, where the cache holds their
-    /// pages; it answers whether it does.
+    /// Copies the bytes from `offset` on into `buf`, if the cache holds their pages, and answers
+    /// whether it does. They all lie below the tip, or there are none.
     pub(crate) fn copy_held(self, cache: &CacheRef, buf: &mut [u8], offset: u64) -> bool
         requires view { IsView (non_zero_u16_get self.page_size) self.tip.now }
         requires page_size { cache.now.page_size ≡ non_zero_u16_get self.page_size }
@@ -226,10 +230,9 @@ impl<B, H> View<'_, B, H> {
         cache.read_cached(self.id, buf, offset) == buf.len()
     }
 
-    /// Copies the bytes from `offset` on into `buf`, as many as it has room for, where that needs
-    /// no device: where they are within the size, and the cache holds the pages of those below the
-    /// tip. It answers whether it did; where it didn't, what `buf` holds says nothing. It takes no
-    /// memory.
+    /// Copies the logical bytes from `offset` on into `buf`, as many as `buf` has room for, if that
+    /// needs no device: they lie within the size, and the cache holds the pages of those below the
+    /// tip. Answers whether it did. At `false` `buf` may hold anything. The call takes no memory.
     pub fn try_read_sync_into(self, cache: &CacheRef, buf: &mut [u8], offset: u64) -> bool
         requires view { IsView (non_zero_u16_get self.page_size) self.tip.now }
         requires page_size { cache.now.page_size ≡ non_zero_u16_get self.page_size }

@@ -18,7 +18,7 @@ use Rattle.paged.proofs.outlook.look.Given.{Over}
 use Rattle.paged.proofs.outlook.look.Goals as goal
 use Rattle.paged.proofs.outlook.look.Goals.{After-scan_from, After-size_of-len}
 
--- it only looks
+-- the scan only looks
 looks : (g : Over) (c : After-scan_from g) → Looked (g.B.Blob.life c.args.blob.now) (g.B.Blob.life c.scan_from.new.blob)
 looks g c =
     let sum = g.H.Sum.sum_of in
@@ -31,14 +31,14 @@ looks g c =
     finds_only_looks first old (g.B.Blob.life c.scan_from.new.blob) c.scan_from.result
     (look_finds (n * (P + 12)) (prefix_from sum P 0 n readable) first old (g.B.Blob.life c.scan_from.new.blob) c.scan_from.result there (sym (stands_first sum P n readable)) c.scan_from.ensures.looks)
 
--- by no read of more than was asked for
+-- no read is of more than was asked for
 within : (g : Over) (c : After-scan_from g) → ReadsWithin (scan_bytes (non_zero_u16_get c.args.page_size) (non_zero_usize_get c.args.buffer_size)) (g.B.Blob.life c.args.blob.now) (g.B.Blob.life c.scan_from.new.blob)
 within g c =
     let P = non_zero_u16_get c.args.page_size in
     forward_is_within (scan_bytes P (non_zero_usize_get c.args.buffer_size)) (0 * (P + 12)) (c.args.size / c.physical_page_size-physical_page_size.result * (P + 12)) (g.B.Blob.life c.args.blob.now) (g.B.Blob.life c.scan_from.new.blob)
     c.scan_from.ensures.costs.forward
 
--- nor beyond the page in which the text ends
+-- no read begins beyond the page in which the text ends
 stops : (g : Over) (c : After-scan_from g) → let P = non_zero_u16_get c.args.page_size in let old = g.B.Blob.life c.args.blob.now in
     StopsAt P (prefix_from g.H.Sum.sum_of P 0 (c.args.size / (P + 12)) old.present.readable).full_pages old (g.B.Blob.life c.scan_from.new.blob)
 stops g c =
@@ -98,7 +98,7 @@ answer g c = record {
   cut = c.args.size - c.pages_of-pages.result * c.physical_page_size-physical_page_size.result;
 }
 
--- with the rest these are all bytes
+-- with the bytes that would be cut these are all bytes
 rest : (g : Over) (c : After-size_of-len g) → c.pages_of-pages.result * (non_zero_u16_get c.args.page_size + 12) + (c.args.size - c.pages_of-pages.result * c.physical_page_size-physical_page_size.result) ≡ c.args.size
 rest g c = omega (arith, kept g c, ap (λ (n : ℕ). c.pages_of-pages.result * n) c.physical_page_size-physical_page_size.ensures)
 

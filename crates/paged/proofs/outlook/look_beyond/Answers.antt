@@ -72,7 +72,7 @@ counted g c =
     (c.as_ref.ensures ∙ subst (λ (n : ℕ). bytes ≡ take (b * n) (drop (k * n) readable)) is read)
     c.loop-done.invariant.counted c.values_in-found.ensures
 
--- and whether all bytes are zero so far
+-- all bytes are zero so far, or not
 zeros : (g : Over) (c : After-are_zeros-blank g) → let P = non_zero_u16_get c.args.page_size in
     (c.loop-done.blank && c.are_zeros-blank.result) ≡ are_zeros (take ((c.loop-done.done + c.min-batch.result - c.args.first) * (P + 12)) (drop (c.args.first * (P + 12)) (g.B.Blob.life c.args.blob.now).present.readable))
 zeros g c =

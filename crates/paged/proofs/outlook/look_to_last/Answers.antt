@@ -30,7 +30,7 @@ pages_end g c =
 few : (g : Over) (c : After-last_is_torn g) → non_zero_u16_get c.args.page_size + 12 ≤ scan_bytes (non_zero_u16_get c.args.page_size) (non_zero_usize_get c.args.buffer_size)
 few g c = page_within (non_zero_u16_get c.args.page_size) (non_zero_usize_get c.args.buffer_size) (non_zero_u16_get c.args.page_size + 12) refl
 
--- it only looks
+-- the call only looks
 looks : (g : Over) (c : After-last_is_torn g) → Looked (g.B.Blob.life c.args.blob.now) (g.B.Blob.life c.last_is_torn.new.blob)
 looks g c =
     let mid = g.B.Blob.life c.look.new.blob in
@@ -104,7 +104,7 @@ returns-in_err-torn-clause-within g c =
 pub returns-in_err-torn-clause-looked : goal.returns-in_err-torn-clause-looked
 returns-in_err-torn-clause-looked g c = looks g (goal.at.returns-in_err-torn-clause-looked g c).After-last_is_torn
 
--- ---- what it tells
+-- ---- what it answers
 
 pub returns-clause-looks : goal.returns-clause-looks
 returns-clause-looks g c = (

@@ -22,7 +22,7 @@ last_looks g c =
     let n = c.args.size / c.physical_page_size.result in
     only_looks (n * (P + 12)) (beyond_of g.H.Sum.sum_of P c.in_ok-outlook.outlook.pages n mid.present.readable) mid (g.B.Blob.life c.look_beyond.new.blob) c.look_beyond.result c.look_beyond.ensures.counts
 
--- it only looks
+-- the call only looks
 looks : (g : Over) (c : After-look_beyond g) → Looked (g.B.Blob.life c.args.blob.now) (g.B.Blob.life c.look_beyond.new.blob)
 looks g c = looked_joins (g.B.Blob.life c.args.blob.now) (g.B.Blob.life c.look_to_last.new.blob) (g.B.Blob.life c.look_beyond.new.blob) c.look_to_last.ensures.looked (last_looks g c)
 
@@ -111,7 +111,7 @@ pub returns-in_err-beyond-clause-leaves : goal.returns-in_err-beyond-clause-leav
 returns-in_err-beyond-clause-leaves g c =
     leaves_as_is (g.B.Blob.life c.args.blob.now) (g.B.Blob.life c.look_beyond.new.blob) (looks g (goal.at.returns-in_err-beyond-clause-leaves g c).After-look_beyond)
 
--- ---- what it tells
+-- ---- what it answers
 
 pub returns-clause-goes : goal.returns-clause-goes
 returns-clause-goes g c =

@@ -194,7 +194,7 @@ returns-clause-mended g c =
     let size = ap (λ (x : WriterState). x.page_size) c.recovery.view_is in
     recovers_mended sum cache c.args.capacity n old mid scanned w all g.met.H.Sum.small (omega (arith, size, c.recovery.inside.page_size.ok)) (omega (arith, size)) (life c.truncate_all.new.blob) c.truncate_all.result c.truncate_all.ensures.truncates (c.truncate_all.ensures.exact none)
 
--- and of what it did before, whatever the answer
+-- what the cut and what came before it guarantee, whatever the answer
 owes : (g : Over) (c : After-truncate_all g) → CutToText g.H.Sum.sum_of c.args.cache.now c.args.capacity c.size_of-text_size.result (g.B.Blob.life c.args.blob.now) (g.B.Blob.life c.open_all.new.blob) (g.B.Blob.life c.scan.new.blob) c.in_ok-recovery.recovery → Owes g.H.Sum.sum_of c.args.cache.now.page_size (g.B.Blob.life c.args.blob.now) (g.B.Blob.life c.truncate_all.new.blob)
 owes g c all =
     let life = g.B.Blob.life in

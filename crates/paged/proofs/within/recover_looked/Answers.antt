@@ -44,7 +44,7 @@ fits g c =
     let size : c.from.result ≡ c.args.cache.now.page_size = c.from.ensures ∙ c.get.ensures.value ∙ c.page_size-page_size.ensures in
     subst (λ (n : ℕ). adjusted c.args.capacity n < 2 ^ 64) size c.in_ok-adjusted_capacity.ensures.capacity.0
 
--- so many go
+-- this many bytes would go
 stake : (g : Over) (c : After-recover_text g) → c.at_stake-stake.result ≡ at_stake g.H.Sum.sum_of (non_zero_u16_get c.page_size-page_size.result) (g.B.Blob.life c.args.blob.now).present.readable c.in_ok-outlook.outlook
 stake g c = c.at_stake-stake.ensures ∙ ap (λ (torn : Bool). c.in_ok-outlook.outlook.cut + (if torn then non_zero_u16_get c.page_size-page_size.result + 12 else 0)) c.in_ok-outlook.ensures.looks.1
 
@@ -72,7 +72,7 @@ returns-clause-recovers g c =
       recovers_after sum cache c.args.capacity old (life c.look_to_last.new.blob) (life c.recover_text.new.blob) c.look_to_last.ensures.looked (Ok c.in_ok-recovery.recovery) (fits g k) c.in_ok-recovery.ensures.recovers,
     )
 
--- whatever it answers
+-- what the recovery guarantees, whatever it answers
 owes : (g : Over) (c : After-recover_text g) → Owes g.H.Sum.sum_of c.args.cache.now.page_size (g.B.Blob.life c.args.blob.now) (g.B.Blob.life c.recover_text.new.blob)
 owes g c =
     let life = g.B.Blob.life in

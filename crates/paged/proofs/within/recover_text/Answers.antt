@@ -80,7 +80,7 @@ returns-clause-mended g c =
     let size = opened_page_size sum cache c.args.capacity old mid w c.in_ok-recovery.ensures.opens in
     recovers_mended sum cache c.args.capacity n old mid mid w all g.met.H.Sum.small (omega (arith, size, c.requires.small)) (omega (arith, size, c.requires.positive)) (life c.truncate_all.new.blob) c.truncate_all.result c.truncate_all.ensures.truncates (c.truncate_all.ensures.exact none)
 
--- of what it did before, whatever the answer
+-- what the recovery guarantees, whatever the answer
 owes : (g : Over) (c : After-truncate_all g) → Owes g.H.Sum.sum_of c.args.cache.now.page_size (g.B.Blob.life c.args.blob.now) (g.B.Blob.life c.truncate_all.new.blob)
 owes g c =
     let life = g.B.Blob.life in

@@ -68,14 +68,14 @@ loop-page-init g c =
     (found_first g.H.Sum.sum_of (non_zero_u16_get c.args.page_size) c.args.offset c.in_ok-end.end (c.args.offset / size) ((c.in_ok-end.end - 1) / size + 1) old.present.readable) in
     record { found = first; looked = looked_start old; answered = none_failed_start old.present; from = omega arith; within = omega arith; reads = subst (λ (n : ℕ). ReadsEachPage (non_zero_u16_get c.args.page_size) (c.args.offset / size) n old old) (let e : 0 ≡ c.args.offset / size - c.args.offset / size = omega arith in e) (pages_none (non_zero_u16_get c.args.page_size) (c.args.offset / size) old) }
 
--- a part that was read, told of the blob as it was at the start
+-- a part that was read, by the blob as it was at the start
 part_read : (g : Over) (c : After-read_part g) → let old = g.B.Blob.life c.args.blob.now in let P = non_zero_u16_get c.args.page_size in
     ReadsTold (λ (b : List ℕ). b) (part_of P c.args.offset c.in_ok-end.end c.loop-page.page (value_told g.H.Sum.sum_of P c.loop-page.page old.present.readable)) (g.B.Blob.life c.loop-page.blob) (g.B.Blob.life c.read_part.new.blob) c.read_part.result
 part_read g c =
     told_before g.H.Sum.sum_of (non_zero_u16_get c.args.page_size) c.args.offset c.in_ok-end.end c.loop-page.page (g.B.Blob.life c.args.blob.now) (g.B.Blob.life c.loop-page.blob) (g.B.Blob.life c.read_part.new.blob) c.read_part.result
     c.loop-page.invariant.looked c.read_part.ensures.told
 
--- it only looked
+-- the read of a part only looked
 part_looked : (g : Over) (c : After-read_part g) → Looked (g.B.Blob.life c.args.blob.now) (g.B.Blob.life c.read_part.new.blob)
 part_looked g c =
     let P = non_zero_u16_get c.args.page_size in
@@ -83,7 +83,7 @@ part_looked g c =
     looked_joins old (g.B.Blob.life c.loop-page.blob) (g.B.Blob.life c.read_part.new.blob) c.loop-page.invariant.looked
     (told_looks (λ (b : List ℕ). b) (part_of P c.args.offset c.in_ok-end.end c.loop-page.page (value_told g.H.Sum.sum_of P c.loop-page.page old.present.readable)) (g.B.Blob.life c.loop-page.blob) (g.B.Blob.life c.read_part.new.blob) c.read_part.result (part_read g c))
 
--- and the device answered
+-- and no device call of it failed
 part_answered : (g : Over) (c : After-read_part g) → NoneFailed (g.B.Blob.life c.loop-page.blob).present (g.B.Blob.life c.read_part.new.blob).present → NoneFailed (g.B.Blob.life c.args.blob.now).present (g.B.Blob.life c.read_part.new.blob).present
 part_answered g c here =
     none_failed_joins (g.B.Blob.life c.args.blob.now).present (g.B.Blob.life c.loop-page.blob).present (g.B.Blob.life c.read_part.new.blob).present c.loop-page.invariant.answered here

@@ -55,7 +55,7 @@ told g c whole some =
     ∙ sym (tail_after sum P c.args.physical_size c.args.len readable (subst (λ (n : ℕ). c.args.physical_size % n ≡ 0) c.physical_page_size-size.ensures whole) some) in
     subst (λ (r : Result (ℕ × List ℕ) Error). ReadsTold {A = ℕ × List (List ℕ)} (λ q. (q.0, concat q.1)) r old (g.B.Blob.life c.read_after.new.blob) c.read_after.result) is c.read_after.ensures.told
 
--- and it only looks
+-- and the read only looks
 looks : (g : Over) (c : After-read_after g) → Looked (g.B.Blob.life c.args.blob.now) (g.B.Blob.life c.read_after.new.blob)
 looks g c =
     let sum = g.H.Sum.sum_of in

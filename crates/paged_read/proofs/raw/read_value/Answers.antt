@@ -59,7 +59,7 @@ returns-in-None-clause-told g c =
     read_missing_value {A = List ℕ × ℕ} g.H.Sum.sum_of (λ r. take r.1 r.0) (non_zero_u16_get c.args.page_size) c.args.page c.in_ok-page_start.size c.in_ok-page_start.page_start old new bytes (size_is g k) (page_start_is g k) (fits g k) goes
     (seen_active g.H.Sum.sum_of (non_zero_u16_get c.args.page_size) c.in_ok-page_start.size bytes c.as_ref.result.now None (size_is g k) many c.as_ref.ensures (sym c.in-None.is ∙ c.validate_page.ensures))
 
--- what tells the value
+-- the slot of the value
 told_by : (g : Over) (c : In-Some g) → active g.H.Sum.sum_of (non_zero_u16_get c.args.page_size) c.in_ok-bytes.bytes ≡ Some c.in-Some.slot
 told_by g c =
     let old = g.B.Blob.life c.args.blob.now in

@@ -127,7 +127,7 @@ returns-then-prefix-batch-clause-bytes g c =
     let batch = batch_read sum P size k b old.present.readable bytes q c.physical_page_size-size.ensures there read c.in_ok-prefix.ensures.ok in
     has_bytes_batch sum P c.args.pages k b old.present.readable bytes q q.partial le batch c.if-prefix-batch.true c.in_ok-prefix.ensures.bytes
 
--- it begins at or before the page in which the text ends
+-- the next read begins at or before the page in which the text ends
 stops_next : (g : Over) (c : After-read_at g) → let P = non_zero_u16_get c.args.page_size in
     StopsAt P (prefix_from g.H.Sum.sum_of P c.args.first c.args.pages (g.B.Blob.life c.args.blob.now).present.readable).full_pages (g.B.Blob.life c.args.blob.now) (g.B.Blob.life c.read_at.new.self)
 stops_next g c =

@@ -121,7 +121,7 @@ has g c =
     subst (λ (x : Prefix). HasBytes P x.full_pages readable x.partial)
     (opened_is sum P (non_zero_u16_get c.page_size-page_size.result) c.args.size c.physical_page_size-physical_page_size.result readable p c.page_size-page_size.ensures c.physical_page_size-physical_page_size.ensures c.requires.length c.in_ok-last.ensures.finds_last.0) bytes
 
--- and then cut and mended, whatever the answer
+-- the blob was then cut and mended, whatever the answer
 owes : (g : Over) (c : After-keep_pages g) → Owes g.H.Sum.sum_of c.args.cache.now.page_size (g.B.Blob.life c.args.blob.now) (g.B.Blob.life c.keep_pages.new.blob)
 owes g c =
     let life = g.B.Blob.life in

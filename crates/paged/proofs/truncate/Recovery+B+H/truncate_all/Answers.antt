@@ -29,7 +29,7 @@ begun g c = record {
   room = c.sync_written.ensures.room;
 }
 
--- what the sync owes
+-- what the sync guarantees
 written : (g : Over) (c : After-sync_written g) (answer : Result (Unit {0}) Error) → c.sync_written.result ≡ answer
     → SyncsWritten g.H.Sum.sum_of c.args.self c.sync_written.new.self (g.B.Blob.life c.args.blob.now) (g.B.Blob.life c.sync_written.new.blob) answer
 written g c answer is =
@@ -43,7 +43,7 @@ written g c answer is =
       calls = c.sync_written.ensures.calls;
     })
 
--- where that isn't done
+-- where the sync isn't done
 refused_owes : (g : Over) (c : After-sync_written g) (e : Error) (result : Result WriterState Error) → c.sync_written.result ≡ Err e → IsErrAnd result (λ f. f ≡ e)
     → TruncateOwes g.H.Sum.sum_of c.args.size c.args.self (g.B.Blob.life c.args.blob.now) (g.B.Blob.life c.sync_written.new.blob) result
 refused_owes g c e result failed is =
@@ -59,7 +59,7 @@ cut_owes g c done size is less new answer covered shortens cuts =
     truncate_owes g.H.Sum.sum_of c.args.size c.args.self (g.B.Blob.life c.args.blob.now) (begun g c) new answer covered
     (cut c.sync_written.new.self (g.B.Blob.life c.sync_written.new.blob) answer (written g c (Ok tt) done) (omega (arith, less, is)) shortens cuts)
 
--- and that isn't done
+-- where the cut isn't done
 failed_owes : (g : Over) (c : After-sync_written g) → c.sync_written.result ≡ Ok tt → (size : ℕ) → size ≡ size_of c.sync_written.new.self → c.args.size < size → (new : Life) (e : Error) (result : Result WriterState Error) → AreCovered new.present
     → Shortens g.H.Sum.sum_of c.args.size c.sync_written.new.self (g.B.Blob.life c.sync_written.new.blob) new (Err e) → CutsTo g.H.Sum.sum_of c.args.size c.sync_written.new.self (g.B.Blob.life c.sync_written.new.blob) new
     → IsErrAnd result (λ f. f ≡ e) → TruncateOwes g.H.Sum.sum_of c.args.size c.args.self (g.B.Blob.life c.args.blob.now) new result

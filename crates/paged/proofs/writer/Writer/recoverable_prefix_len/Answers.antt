@@ -13,7 +13,7 @@ use Rattle.paged.proofs.writer.Writer.recoverable_prefix_len.Given.{Over}
 use Rattle.paged.proofs.writer.Writer.recoverable_prefix_len.Goals as goal
 use Rattle.paged.proofs.writer.Writer.recoverable_prefix_len.Goals.{After-scan_to}
 
--- it scans what was flushed
+-- the call scans what was flushed
 scans : (g : Over) (c : After-scan_to g) → let w = c.args.self.now in let old = g.B.Blob.life c.args.blob.now in
     ScanAnswers (flushed_pages w * (w.page_size + 12)) (scan_to g.H.Sum.sum_of w.page_size w.full_pages (flushed_pages w) c.args.proven old.present.readable) old (g.B.Blob.life c.scan_to.new.blob) c.scan_to.result
 scans g c =
@@ -22,7 +22,7 @@ scans g c =
     subst (λ (n : ℕ). ScanAnswers (n * (w.page_size + 12)) (scan_to g.H.Sum.sum_of w.page_size w.full_pages n c.args.proven old.present.readable) old (g.B.Blob.life c.scan_to.new.blob) c.scan_to.result)
     c.flushed_pages.ensures c.scan_to.ensures.scans
 
--- it only looks
+-- the call only looks
 looks : (g : Over) (c : After-scan_to g) → Looked (g.B.Blob.life c.args.blob.now) (g.B.Blob.life c.scan_to.new.blob)
 looks g c =
     let w = c.args.self.now in

@@ -9,7 +9,7 @@ use Rattle.paged.proofs.writer.Writer.recoverable_prefix_len_at_most.Given.{Over
 use Rattle.paged.proofs.writer.Writer.recoverable_prefix_len_at_most.Goals as goal
 use Rattle.paged.proofs.writer.Writer.recoverable_prefix_len_at_most.Goals.{After-scan_first}
 
--- it only looks
+-- the call only looks
 looks : (g : Over) (c : After-scan_first g) → Looked (g.B.Blob.life c.args.blob.now) (g.B.Blob.life c.scan_first.new.blob)
 looks g c =
     let w = c.args.self.now in

@@ -11,7 +11,7 @@ use Rattle.paged.proofs.writer.Writer.scan_first.Given.{Over}
 use Rattle.paged.proofs.writer.Writer.scan_first.Goals as goal
 use Rattle.paged.proofs.writer.Writer.scan_first.Goals.{After-scan_to}
 
--- where it ends
+-- where the scan ends
 ends : (g : Over) (c : After-scan_to g) → c.min-end.result ≡ scan_end c.args.self.now.page_size (flushed_pages c.args.self.now) c.args.max_size
 ends g c =
     let met : c.div_ceil-met.result ≡ div_ceil c.args.max_size c.args.self.now.page_size = c.div_ceil-met.ensures ∙ ap (λ (n : ℕ). div_ceil c.args.max_size n) (c.from.ensures ∙ c.get.ensures.value ∙ ap (λ (x : WriterState). x.page_size) c.self.view_is) in
@@ -35,7 +35,7 @@ returns-clause-text g c = λ sound.
     ∙ ap (λ (n : ℕ). scan_to g.H.Sum.sum_of w.page_size w.full_pages n c.args.proven old.present.readable) (ends g (goal.at.returns-clause-text g c).After-scan_to))
     ∙ sound_scan_most g.H.Sum.sum_of w old.present c.args.proven c.args.max_size some sound
 
--- what it reads, whatever the answer
+-- what the scan reads, whatever the answer
 reads : (g : Over) (c : After-scan_to g) → let w = c.args.self.now in let P = w.page_size in
     let end = scan_end P (flushed_pages w) c.args.max_size in
     ReadsUpToEnd g.H.Sum.sum_of P (scan_bytes P (non_zero_usize_get c.args.buffer_size)) (scan_start P w.full_pages end c.args.proven) end (g.B.Blob.life c.args.blob.now) (g.B.Blob.life c.scan_to.new.blob)

@@ -71,7 +71,7 @@ returns-clause-scans g c =
       c.in_ok-prefix.ensures.looks.2,
     )
 
--- what it reads, whatever the answer
+-- what the scan reads, whatever the answer
 reads : (g : Over) (c : After-scan_from g) → let w = c.args.self.now in let P = w.page_size in
     ReadsUpToEnd g.H.Sum.sum_of P (scan_bytes P (non_zero_usize_get c.args.buffer_size)) (scan_start P w.full_pages c.args.end c.args.proven) c.args.end (g.B.Blob.life c.args.blob.now) (g.B.Blob.life c.scan_from.new.blob)
 reads g c =
