@@ -366,7 +366,7 @@ answer_of_start s from =
     then elim s.awaited [ None ↦ AllDone | Some name ↦ Named name ]
     else Named (length from.started)
 
--- what sealing answers: where all is written, `Done` (there is nothing to wait for), and else a new
+-- what sealing answers: where all is written, `Done`, since all is durable then, and else a new
 -- started sync
 abbrev pub sealed_by : RunState → Disk → StartedSync
 sealed_by s from = if s.written then AllDone else Named (length from.started)
