@@ -1,6 +1,6 @@
 //! Keeps two records in a journal over a blob that counts its calls, and then shows what comes back
-//! of a journal whose blob crashed inside a record. A survey first looks at what the crash left: if
-//! a recovery would cut what no crash leaves, the journal isn't recovered, and bytes that a recovery
+//! of a journal whose blob crashed inside a record. A survey first looks at what the crash left. If
+//! a recovery would cut what no crash leaves, the journal isn't recovered. Bytes that a recovery
 //! cuts and that may have been synced are set aside.
 #![tactic(auto)]
 
