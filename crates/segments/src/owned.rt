@@ -46,7 +46,7 @@ impl<B: Blob, H, R> Model for OwnedJournal<B, H, R> {
 }
 
 impl<B: Blob + Drop, H: Sum, R: Sum> OwnedJournal<B, H, R> {
-    /// A blob with no journal yet, and a cache of so many pages.
+    /// A blob with no journal yet, and a cache of so many pages. The only error is `OutOfMemory`.
     pub fn new(
         alloc: Global,
         blob: B,

@@ -20,8 +20,8 @@ impl<F: Folder<B> + Drop, B: Blob + Drop, H: Sum, R: Sum> SegmentedLog<F, B, H, 
     ///
     /// All records are committed first. Then the length and the digest of the segment's bytes are
     /// computed, the next segment's file is made, and its name is made durable. Last, the closed
-    /// segment is listed in the manifest. So a crash at any moment of that leaves the log before it
-    /// or after it, and both have the same records.
+    /// segment is listed in the manifest. So a crash while the manifest is written leaves the log
+    /// before that or after it, and both have the same records.
     ///
     /// `Closed` where a call before failed, `Layer` where the device or memory failed, `System`
     /// where the folder refused the next file or the sync of its name, `Unlisted` where the next
