@@ -67,7 +67,7 @@ go_on sum s more cache after old new w now stood held is size whole is_ready =
       same = holds.same;
     }
 
--- so they did by a call that pushes nothing
+-- so the items went on by a call that pushes nothing
 pub goes_same : (sum : List ℕ → ℕ) (s : ItemsState) (cache after : CacheState) (old new : Life) (w : WriterState) (now : ItemsState) → AreItems sum s cache old → Holds sum s.writer old [] w new → now.writer ≡ w → now.size ≡ s.size
     → IsReady sum w after new → GoOn sum s [] after old new now × (items_of now new ≡ items_of s old)
 goes_same sum s cache after old new w now stood holds is size is_ready =
@@ -78,7 +78,7 @@ goes_same sum s cache after old new w now stood holds is size is_ready =
 
 -- ---- what lasts
 
--- what is said of pages, a size and a content holds of the items now
+-- what holds of pages, a size and a content holds of the items now
 carried : (Q : (P s : ℕ) → List ℕ → Type 0) (s now : ItemsState) (held : List ℕ) (new : Life) → now.writer.page_size ≡ s.writer.page_size → now.size ≡ s.size → items_content now new ≡ held → Q s.writer.page_size s.size held → Q now.writer.page_size now.size (items_content now new)
 carried Q s now held new page_size size holds says =
     subst (λ (p : ℕ). Q p now.size (items_content now new)) (sym page_size) (subst (λ (k : ℕ). Q s.writer.page_size k (items_content now new)) (sym size) (subst (λ (l : List ℕ). Q s.writer.page_size s.size l) (sym holds) says))
@@ -110,14 +110,14 @@ lasts sum s more cache old new w now items held_now is size kept covers =
       completed = completes sum s now s.writer.sync old new some up holds.completed;
     }
 
--- by a call that owes so
+-- what lasts through a call, by what that holds at each of its moments
 pub lasts_through : (sum : List ℕ → ℕ) (s : ItemsState) (more all : List ℕ) (cache : CacheState) (old new : Life) (w : WriterState) (now : ItemsState) → AreItems sum s cache old → Holds sum s.writer old more w new → now.writer ≡ w → now.size ≡ s.size
     → OwedThrough sum s.writer.page_size s.writer.full_pages (items_content s old) all old new → DurabilityLasts sum s now old new
 lasts_through sum s more all cache old new w now items holds is size through =
     let owed = through_end (Owed sum s.writer.page_size s.writer.full_pages (items_content s old) all old.present) old new through in
     lasts sum s more cache old new w now items holds is size owed.kept owed.covers
 
--- by no call
+-- where nothing was done, no sync was completed
 none_completes : (sum : List ℕ → ℕ) (s now : ItemsState) (before : SyncState) (life : Life) → now.writer.sync ≡ before → CompletesItems sum s now before life life
 none_completes sum s now Clean life same = tt
 none_completes sum s now Dirty life same = tt
@@ -221,7 +221,7 @@ not_tried sum s bytes v InvalidChecksum tries = absurd tries
 not_tried sum s bytes v BlobInsufficientLength tries = absurd tries
 not_tried sum s bytes v IdsExhausted tries = absurd tries
 
--- after it items are such, whatever it answered
+-- after a push that asks no device items are such, whatever it answered
 same_ready : (sum : List ℕ → ℕ) (s now : ItemsState) → now ≡ s → (cache : CacheState) (life : Life) → AreItems sum s cache life → GoReady sum s now cache life × DurabilityLasts sum s now life life
 same_ready sum s now same cache life items =
     (subst (λ (t : ItemsState). GoReady sum s t cache life) (sym same) (are_ready sum s cache life items, refl, refl, refl, omega arith), lasts_same sum s now life same)
@@ -257,7 +257,7 @@ all_durable sum s cache life stood keeps =
     durable_of sum s.writer.page_size s.size (items_content s life) n life.present stood.some (omega (arith, long))
     (subst (λ (k : ℕ). AllKeep sum s.writer.page_size (items_content s life) k life.present) (sym long) keeps)
 
--- a sync
+-- a sync of the writer is one of the items
 pub synced : (sum : List ℕ → ℕ) (s : ItemsState) (cache after : CacheState) (old new : Life) (w : WriterState) (now : ItemsState) → AreItems sum s cache old → HasSynced sum s.writer old new w → now.writer ≡ w → now.size ≡ s.size
     → IsReady sum w after new → AreSynced sum s after old new now
 synced sum s cache after old new w now stood goes is size is_ready =
@@ -271,7 +271,7 @@ synced sum s cache after old new w now stood goes is size is_ready =
           (subst (λ (p : ℕ). KeepsAll sum p (items_content now new) new) (sym gone.0.same.page_size) (subst (λ (l : List ℕ). KeepsAll sum P l new) (sym same) (goes.durable (stand sum s cache old stood).ready.sound)));
     }
 
--- all bytes are durable, or are once the sync completed: so are all items
+-- where all bytes are durable, or will be once the sync completed, so are all items
 started_for : (sum : List ℕ → ℕ) (s : ItemsState) (cache : CacheState) (life : Life) (started : StartedSync) → AreItems sum s cache life → StartedSyncKeeps sum s.writer.page_size (items_content s life) life started → StartedFor sum s life started
 started_for sum s cache life Done items starts = all_durable sum s cache life (stand sum s cache life items) starts
 started_for sum s cache life (Named name) items starts =
@@ -296,7 +296,7 @@ begun sum s cache after old new w started now items goes is size is_ready =
           (subst (λ (P : ℕ). StartedSyncKeeps sum P (items_content now new) new started) (sym gone.0.same.page_size) (subst (λ (l : List ℕ). StartedSyncKeeps sum s.writer.page_size l new started) (sym same) (goes.starts (stand sum s cache old items).ready.sound)));
     }
 
--- nothing is pending once it was waited for
+-- no sync is pending once it was waited for
 never_pending : (sync : SyncState) (name : ℕ) → waited_state sync ≢ Pending name
 never_pending Clean name = λ same. cc
 never_pending Dirty name = λ same. cc

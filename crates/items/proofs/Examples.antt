@@ -29,7 +29,7 @@ use Rattle.items.proofs.Standing.{stand}
 pub two_items : items 3 seven ≡ (97 ∷ 98 ∷ 99 ∷ []) ∷ (100 ∷ 101 ∷ 102 ∷ []) ∷ []
 two_items = refl
 
--- the rest, "g", is none
+-- the rest, "g", is no item
 pub the_rest_is_none : slice_get (items 3 seven) 2 ≡ Some (103 ∷ []) → ⊥
 the_rest_is_none is = absurd (cc is)
 
@@ -41,14 +41,14 @@ no_item = refl
 pub an_item : item 3 seven 1 ≡ 100 ∷ 101 ∷ 102 ∷ []
 an_item = refl
 
--- seven durable bytes hold two of them whole
+-- seven durable bytes hold two items of three bytes whole
 pub a_floor_of_items : item_floor 3 7 ≡ 2
 a_floor_of_items = refl
 
 pub are_first : AreFirst ((97 ∷ []) ∷ []) ((97 ∷ []) ∷ (98 ∷ []) ∷ [])
 are_first = refl
 
--- an item that stands among them isn't their first
+-- an item that is second among these isn't the first of them
 pub is_not_first : AreFirst ((98 ∷ []) ∷ []) ((97 ∷ []) ∷ (98 ∷ []) ∷ []) → ⊥
 is_not_first first = omega (arith, ap (λ (l : List (List ℕ)). get_or (get_or l 0 []) 0 0) first)
 
@@ -66,19 +66,19 @@ one_is_durable = durable_of add_sum 4 4 six 1 durable (omega arith) (omega arith
 pub seven_are_not : AreDurable add_sum 4 7 seven 1 durable → ⊥
 seven_are_not one = a_lost_floor (one.bytes.kept (abcd_page ++ ef_page) (base_is_image durable))
 
--- nor are three items of three bytes, since there are no such
+-- three items of three bytes aren't durable, since there are no such
 pub there_is_no_third : AreDurable add_sum 4 3 seven 3 durable → ⊥
 there_is_no_third three = omega (arith, three.within)
 
--- it would be durable once the started sync completed
+-- an item of seven bytes would be durable once the started sync completed
 pub it_would_be : WouldBeDurable add_sum 4 7 seven 1 0 flush_started
 it_would_be = record { within = omega arith; keeps = all_is_covered }
 
--- what comes back of the durable blob begins with both
+-- what comes back of the durable blob begins with both items
 pub both_come_back : BringsItemsBack add_sum 4 3 durable (items 3 (text add_sum 4 (abcd_page ++ ef_page)))
 both_come_back = brings_back add_sum 4 3 durable (abcd_page ++ ef_page) (omega arith) (base_is_image durable)
 
--- so one of them isn't enough
+-- so one item isn't enough
 pub one_is_too_few : BringsItemsBack add_sum 4 3 durable ((97 ∷ 98 ∷ 99 ∷ []) ∷ []) → ⊥
 one_is_too_few back = omega (arith, (back six 2 two_are_durable).0)
 
@@ -110,7 +110,7 @@ found = (refl, omega arith, omega arith)
 pub the_last_is_there : IsThere 3 2 1
 the_last_is_there = (omega arith, omega arith)
 
--- one past the last is refused
+-- a number one past the last is refused
 pub past_the_last : ItemIsAt 3 2 2 (Err BlobInsufficientLength)
 past_the_last = (omega arith, omega arith)
 
@@ -121,7 +121,7 @@ two_is_none finds = omega (arith, finds.2)
 pub past_all_offsets : ItemIsAt 3 2 6148914691236517205 (Err OffsetOverflow)
 past_all_offsets = (omega arith, omega arith)
 
--- that of the number before it would end there, and so it only isn't there
+-- the item of the number before it would end at that greatest number, so it is only missing
 pub the_last_offset : ItemIsAt 3 2 6148914691236517204 (Err BlobInsufficientLength)
 the_last_offset = (omega arith, omega arith)
 
@@ -146,7 +146,7 @@ no_get life = (refl, omega arith, omega arith)
 pub no_overflow : (life : Life) → GetGoes 3 seven 2 [] life life (Err OffsetOverflow) → ⊥
 no_overflow life gets = omega (arith, gets.1)
 
--- the same blob, after a read of the device that failed
+-- the blob after a read of the device that failed
 abbrev pub failed_read : Entry
 failed_read = record { request = ReadAt 0 16; failed = true }
 
@@ -159,7 +159,7 @@ it_failed life (more, is, answered) =
     let told : true ≡ false = (subst (λ (es : List Entry). AreAnswered es) (sym same) answered).0 in
     absurd (cc told)
 
--- it isn't told as want of memory, of an item or of a replay to which nothing came
+-- a failed read isn't answered as OutOfMemory, for an item or for a replay to which nothing came
 pub no_want_of_memory : (life : Life) → GetGoes 3 seven 1 [] life (after_failed_read life) (Err OutOfMemory) → ⊥
 no_want_of_memory life gets = it_failed life gets.1
 
@@ -169,7 +169,7 @@ no_want_in_a_replay r life refused = it_failed life (refused refl)
 pub they_rise : AreRising (0 ∷ 2 ∷ 5 ∷ [])
 they_rise = (omega arith, (omega arith, (omega arith, tt)))
 
--- one number twice doesn't
+-- a number that comes twice doesn't rise
 pub twice_is_no_rise : AreRising (2 ∷ 2 ∷ []) → ⊥
 twice_is_no_rise rise = omega (arith, rise.1.0)
 

@@ -47,7 +47,7 @@ first_trans xs ys zs first second =
     let le : length xs ≤ length ys = omega (arith, ap length first, length-take (length xs) ys) in
     first ∙ ap (λ l. take (length xs) l) second ∙ take-take (length xs) (length ys) zs le
 
--- a beginning has the first items
+-- a prefix of some bytes has the first of their items
 pub items_first : (s : ℕ) (xs ys : List ℕ) → 0 < s → xs ≡ take (length xs) ys → AreFirst (items s xs) (items s ys)
 items_first s xs ys some begins =
     let n = length xs / s in
@@ -102,13 +102,13 @@ keeps_items sum P s old new some keeps = λ content n durable.
     (λ d kept. durable_of sum P s content n d some durable.within kept)
     (keeps content (n * s) durable.within durable.bytes)
 
--- what is durable of some items is of these and more
+-- what is durable of some items is durable of these and more
 pub durable_longer : (sum : List ℕ → ℕ) (P s : ℕ) (content more : List ℕ) (n : ℕ) (d : Disk) → 0 < s → AreDurable sum P s content n d → AreDurable sum P s (content ++ more) n d
 durable_longer sum P s content more n d some durable =
     durable_of sum P s (content ++ more) n d some (omega (arith, durable.within, length-append content more))
     (keeps_same sum P content (content ++ more) (n * s) d (sym (take-append-le (n * s) content more durable.within)) durable.bytes)
 
--- contents that are left leave their items
+-- where a crash leaves only prefixes of contents, it leaves only the first of their items
 pub only_items : (sum : List ℕ → ℕ) (P s : ℕ) (before after : List ℕ) (all : List (List ℕ)) (d : Disk) → 0 < s → AreFirst (items s before) all → AreFirst (items s after) all → AllOnly sum P before after d → AreOnly sum P s all d
 only_items sum P s before after all d some first second only = record {
   only = λ image is_image free. elim (only.only image is_image free) [
@@ -147,7 +147,7 @@ keeps_started sum P s content old new covers = λ n name would.
     through_then (CoversStay sum P content old.present) (WouldBeDurable sum P s content n name) old new
     (λ d stay. record { within = would.within; keeps = stay name (n * s) would.within would.keeps }) covers
 
--- what it would of some items it would of these and more
+-- what a started sync would make durable of some items it would make durable of these and more
 pub would_longer : (sum : List ℕ → ℕ) (P s : ℕ) (content more : List ℕ) (n name : ℕ) (d : Disk) → WouldBeDurable sum P s content n name d → WouldBeDurable sum P s (content ++ more) n name d
 would_longer sum P s content more n name d would = record {
   within = omega (arith, would.within, length-append content more);

@@ -61,7 +61,7 @@ made sum s cache after old new w t now items goes is size is_ready =
       below = omega (arith, pages);
     }
 
--- one for which nothing is written
+-- a snapshot of items for which nothing is written
 pub tried_snapshot : (sum : List ℕ → ℕ) (s : ItemsState) (t : Tail) → TriesSnapshot s.writer (Ok (Some t)) → TriesItemsSnapshot sum s (Ok (Some (record { tail = t; size = s.size })))
 tried_snapshot sum s t (short, is) = (
   short,
@@ -121,7 +121,7 @@ items_step s j xs some long =
     let m : length (drop s xs) / s ≡ j = ap (λ (k : ℕ). k / s) left ∙ mul-div_cancel j some in
     ap (λ (k : ℕ). pieces k s xs) n ∙ ap (λ (k : ℕ). take s xs ∷ pieces k s (drop s xs)) (sym m)
 
--- no bytes have none
+-- no bytes have no item
 items_nil : (s : ℕ) → items s [] ≡ []
 items_nil s =
     let none : 0 / s ≡ 0 = omega (arith, div-le_self 0 s) in
@@ -138,7 +138,7 @@ items_next s k held position some whole at there =
     let rest : length (drop position held) ≡ (j + 1) * s = omega (arith, length-drop position held, long, at) in
     items_step s j (drop position held) some rest ∙ ap (λ (l : List ℕ). take s (drop position held) ∷ items s l) (drop-drop s position held)
 
--- none is left
+-- no item is left
 items_end : (s k : ℕ) (held : List ℕ) (position : ℕ) → length held ≡ length held / s * s → position ≡ k * s → length held < position + s → items s (drop position held) ≡ []
 items_end s k held position whole at past =
     let less : length held / s < k + 1 = elim (cases_lt (length held / s) (k + 1)) [
@@ -156,7 +156,7 @@ module _ (sum : List ℕ → ℕ) (r : ItemsReplayState) (old new : Life) (was :
   at : r.replay.position ≡ r.replay.position / r.size * r.size
   at = was.between
 
-  -- it stands where it stood
+  -- the replay stands where it stood
   pub stays_there : (now : ItemsReplayState) → now.size ≡ r.size → now.replay.tail ≡ r.replay.tail → now.replay.position ≡ r.replay.position → IsReplayOf sum now.replay held new.present
       → IsItemsReplay sum now new × (items_left now new ≡ items_left r old)
   stays_there now size tail position gives =
@@ -165,7 +165,7 @@ module _ (sum : List ℕ → ℕ) (r : ItemsReplayState) (old new : Life) (was :
       (position ∙ at ∙ ap (λ (n : ℕ). r.replay.position / r.size * n) (sym size)) gives in
       (found.0, ap₂ (λ (n : ℕ) (l : List ℕ). items n l) size (ap₂ (λ (i : ℕ) (l : List ℕ). drop i l) position found.1))
 
-  -- it gave an item, and stands after it
+  -- the replay gave an item, and stands after it
   pub gave : (now : ItemsReplayState) (item : List ℕ) → now.size ≡ r.size → now.replay.tail ≡ r.replay.tail → now.replay.position ≡ r.replay.position + r.size → IsReplayOf sum now.replay held new.present
       → r.replay.position + r.size ≤ tail_size r.replay.tail → item ≡ take r.size (drop r.replay.position held) → IsItemsReplay sum now new × (items_left r old ≡ item ∷ items_left now new)
   gave now item size tail position gives there is =
@@ -178,11 +178,12 @@ module _ (sum : List ℕ → ℕ) (r : ItemsReplayState) (old new : Life) (was :
         items_next r.size k held r.replay.position was.some was.whole at (omega (arith, there, was.size)) ∙ ap₂ (λ (b : List ℕ) (l : List (List ℕ)). b ∷ l) (sym is) (sym left),
       )
 
-  -- it had none to give
+  -- the replay had no item to give
   pub had_none : tail_size r.replay.tail < r.replay.position + r.size → items_left r old ≡ []
   had_none past = items_end r.size (r.replay.position / r.size) held r.replay.position was.whole at (omega (arith, past, was.size))
 
-  -- it wasn't refused for a page, and where no more came to hand memory was refused with no failed read
+  -- a fill isn't refused for a page, and if no more came to hand, memory was refused and no read
+  -- failed
   pub fill_refused : (now : ItemsReplayState) (e : Error) → FillFault sum r.replay.tail old new e → (length now.replay.hand ≡ length r.replay.hand → TellsFailure {A = Bool} old new (Err e)) → NextItemRefused r now old new e
   fill_refused now ReadFailed fault tells = fault
   fill_refused now OutOfMemory fault tells = λ same. tells same (λ is. absurd (cc is))
@@ -254,7 +255,7 @@ not_sought sum r now i offset is fits same OffsetOverflow seeks = absurd seeks
 not_sought sum r now i offset is fits same OutOfMemory seeks = absurd seeks
 not_sought sum r now i offset is fits same IdsExhausted seeks = absurd seeks
 
--- whatever it answers
+-- a replay goes to an item, whatever it answers
 pub seeks_item : (sum : List ℕ → ℕ) (r : ItemsReplayState) (replay : ReplayState) (i offset : ℕ) (result : Result (Unit {0}) Error) → offset ≡ i * r.size → i * r.size < 2 ^ 64 → Seeks r.replay offset replay result → ReplaysOn r.replay replay
     → SeekItemGoes sum r i (record { replay = replay; size = r.size }) result
 seeks_item sum r replay i offset (Ok u) is fits seeks goes = sought sum r (record { replay = replay; size = r.size }) i offset is refl seeks goes

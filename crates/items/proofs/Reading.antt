@@ -50,16 +50,16 @@ not_got s n content i buf life InvalidChecksum is finds = absurd finds
 not_got s n content i buf life OutOfMemory is finds = absurd finds
 not_got s n content i buf life IdsExhausted is finds = absurd finds
 
--- one that is to be found is there
+-- an item that is to be found is there
 pub there_is : (s n : ℕ) (content : List ℕ) (i offset : ℕ) → n ≡ length content → ItemIsAt s (n / s) i (Ok offset) → i < length content / s
 there_is s n content i offset is finds = omega (arith, finds.2, ap (λ (k : ℕ). k / s) is)
 
--- a read's device calls, told of the item's range
+-- a read's device calls, by the item's range
 pub asks_item : (s : ℕ) (t : Tail) (cache : CacheState) (i offset long : ℕ) (old new : Life) → offset ≡ i * s → long ≡ s → AsksForMissing cache t (offset, long) old new → AsksForMissing cache t (i * s, s) old new
 asks_item s t cache i offset long old new at size asks =
     subst (λ (k : ℕ). AsksForMissing cache t (k, s) old new) at (subst (λ (n : ℕ). AsksForMissing cache t (offset, n) old new) size asks)
 
--- none are made where nothing is read
+-- no device calls are made where nothing is read
 pub asks_none : (t : Tail) (cache : CacheState) (range : ℕ × ℕ) (life : Life) → AsksForMissing cache t range life life
 asks_none t cache range life = (omega arith, λ is_served. refl)
 
@@ -75,7 +75,7 @@ in_order s n (i ∷ indices) (le, rising) =
 pub are_in_order : (s : ℕ) (indices : List ℕ) → AreRising indices → AreInOrder (item_ranges s indices)
 are_in_order s indices rising = let e : 0 * s ≡ 0 = omega arith in subst (λ (k : ℕ). AreInOrderFrom k (item_ranges s indices)) e (in_order s 0 indices rising)
 
--- their bytes
+-- the bytes of the ranges of many items
 many_bytes : (s : ℕ) (content indices : List ℕ) → flat_map (slice content) (item_ranges s indices) ≡ flat_map (item s content) indices
 many_bytes s content [] = refl
 many_bytes s content (i ∷ indices) = ap (λ (l : List ℕ). item s content i ++ l) (many_bytes s content indices)
@@ -114,7 +114,7 @@ not_past size ranges all (before, after, (range, is, first, goes)) =
     let ends : range.0 + range.1 ≤ size = among (λ r. r.0 + r.1 ≤ size) before after range (subst (λ (l : List (ℕ × ℕ)). EndWithin size l) is all) in
     omega (arith, ends, goes.1)
 
--- all numbers are items', told of the content
+-- all numbers are items', by the content
 all_there : (s n : ℕ) (content indices : List ℕ) → n ≡ length content → All (IsThere s (n / s)) indices → All (λ i. i < length content / s) indices
 all_there s n content indices is all = λ k d less. omega (arith, (all k d less).1, ap (λ (j : ℕ). j / s) is)
 
@@ -156,7 +156,7 @@ many_not_got s n t content indices cache buf life InvalidChecksum is refused = a
 many_not_got s n t content indices cache buf life OutOfMemory is there = (all_there s n content indices is there, none_failed_start life.present)
 many_not_got s n t content indices cache buf life IdsExhausted is refused = absurd refused.refused
 
--- their device calls
+-- the device calls of a read of many items
 pub asks_items : (s : ℕ) (t : Tail) (cache : CacheState) (indices at : List ℕ) (old new : Life) → at ≡ map (λ i. i * s) indices → AsksOnce cache t (ranges_of s at) old new → AsksOnce cache t (item_ranges s indices) old new
 asks_items s t cache indices at old new is asks = subst (λ (l : List ℕ). AsksOnce cache t (ranges_of s l) old new) is asks
 

@@ -64,7 +64,7 @@ within_kept sum P n content floor mid new le within keeps kept =
     (λ d. keeps_same sum P (take n content) content floor d same)
     (keeps content floor (omega (arith, le, within, length-take n content)) (keeps_same sum P content (take n content) floor mid.present (sym same) kept))
 
--- so items are, by a recovery and a cut to the whole ones
+-- so items are kept by a recovery and a cut to the whole ones
 cut_keeps : (sum : List ℕ → ℕ) (P s : ℕ) (old mid new : Life) → 0 < s → IsImage old.present old.present.readable → KeepsAllFloors sum P old mid
     → KeepsFloorsWithin (length (text sum P old.present.readable) / s * s) sum P mid new → KeepsItems sum P s old new
 cut_keeps sum P s old mid new some is_image floors within = λ content n durable.

@@ -25,7 +25,7 @@ pub fresh_in : (sum : List ℕ → ℕ) (was : Option ItemsState) (cache : Cache
 fresh_in sum None cache life stood = stood
 fresh_in sum (Some s) cache life stood = (stand sum s cache life stood).ready.fresh
 
--- no call leaves items as they are, and so the first of more
+-- doing nothing leaves items as they are, and so the first of more
 pub nothing_done : (sum : List ℕ → ℕ) (s : ItemsState) (more : List (List ℕ)) (cache : CacheState) (life : Life) → AreItems sum s cache life → ItemsCallLeaves sum s (items_of s life ++ more) cache cache life life
 nothing_done sum s more cache life stood = nothing_leaves sum s (items_of s life ++ more) cache life (first_of_more (items_of s life) more) stood
 
@@ -93,7 +93,7 @@ opened sum Sync was now cache after old new reply did = did.stands
 
 -- ---- the moments after the steps
 
--- at the end
+-- the moment after all steps
 stop_last : (sum : List ℕ → ℕ) (steps : List ItemStep) (replies : List ItemReply) (was now : Option ItemsState) (cache after : CacheState) (old new : Life) (taken : ℕ) → RunsItems sum was cache old steps replies now after new → IsOpenSession sum now after new → length steps ≤ taken → length replies ≤ taken
     → Stop sum steps replies was now cache old new taken
 stop_last sum steps replies was now cache after old new taken runs stood steps_end replies_end = record {
@@ -106,7 +106,7 @@ stop_last sum steps replies was now cache after old new taken runs stood steps_e
   kept = λ P s has. (λ content n durable. through_start (AreDurable sum P s content n) new durable, has);
 }
 
--- before one step more
+-- a moment before one step more
 stop_before : (sum : List ℕ → ℕ) (steps : List ItemStep) (replies : List ItemReply) (step : ItemStep) (reply : ItemReply) (was mid now : Option ItemsState) (cache between after : CacheState) (old then new : Life) (taken : ℕ) → taken ≤ length steps → taken ≤ length replies
     → Stop sum steps replies was mid cache old then taken → DidItem sum step mid now between after then new reply → Stop sum (steps ++ step ∷ []) (replies ++ reply ∷ []) was now cache old new taken
 stop_before sum steps replies step reply was mid now cache between after old then new taken steps_there replies_there stop did = record {
@@ -126,7 +126,7 @@ stop_before sum steps replies step reply was mid now cache between after old the
       );
 }
 
--- no step, and one more
+-- a run of no step, and of one more
 pub ran_none : (sum : List ℕ → ℕ) (was : Option ItemsState) (cache : CacheState) (life : Life) (replies : List ItemReply) → IsOpenSession sum was cache life → RanItems sum [] was was cache cache life life replies replies
 ran_none sum was cache life replies stood = record {
   added = [];

@@ -92,7 +92,7 @@ all_snapshots_stay sum cache after old new leaves = λ r snapshot.
     let was = over sum r cache old snapshot in
     still_over sum r cache after old new was (leaves r.tail (bytes_over r old) was.stands)
 
--- a snapshot that can be read with another cache
+-- a snapshot that can be read with another cache stays one
 readable_over : (sum : List ℕ → ℕ) (r : ItemsSnapshotState) (cache after : CacheState) (life : Life) → IsItemsSnapshot sum r cache life → (CanRead r.tail cache life.present → CanRead r.tail after life.present) → IsItemsSnapshot sum r after life
 readable_over sum r cache after life snapshot can =
     let was = over sum r cache life snapshot in
@@ -170,7 +170,7 @@ same_leaves sum s cache after old new some fresh others kept covers only tails r
     let first = first_of_itself (items_of s old) in
     call_leaves sum s (items_of s old) held held cache after old new some fresh others kept covers only first first tails replays
 
--- so what a call of the writer owes leaves: the items, or these
+-- so a call of the writer leaves the items, or these, by what holds at each of its moments
 pub owed_leaves : (sum : List ℕ → ℕ) (s : ItemsState) (all : List (List ℕ)) (next : List ℕ) (cache after : CacheState) (old new : Life) → 0 < s.size → AreFirst (items_of s old) all → AreFirst (items s.size next) all → Owes sum s.writer next cache after old new
     → ItemsCallLeaves sum s all cache after old new
 owed_leaves sum s all next cache after old new some first second owes =
@@ -180,13 +180,13 @@ owed_leaves sum s all next cache after old new some first second owes =
     call_leaves sum s all held next cache after old new some owes.fresh owes.others (owed_floors sum P k held next old new owes.through) (owed_covers sum P k held next old new owes.through) (owed_only sum P k held next old new owes.through) first second
     owes.tails owes.replays
 
--- of one that pushes nothing
+-- so a call that pushes nothing leaves the items
 pub owed_same : (sum : List ℕ → ℕ) (s : ItemsState) (cache after : CacheState) (old new : Life) → AreItems sum s cache old → Owes sum s.writer (items_content s old) cache after old new → ItemsCallLeaves sum s (items_of s old) cache after old new
 owed_same sum s cache after old new items owes =
     let first = first_of_itself (items_of s old) in
     owed_leaves sum s (items_of s old) (items_content s old) cache after old new (stand sum s cache old items).some first first owes
 
--- of a wait, with each cache
+-- so a wait leaves the items, with each cache
 pub owed_wait : (sum : List ℕ → ℕ) (s : ItemsState) (cache : CacheState) (old new : Life) → AreItems sum s cache old → OwesWaiting sum s.writer old new → ItemsCallLeaves sum s (items_of s old) cache cache old new
 owed_wait sum s cache old new items owes =
     let stood = stand sum s cache old items in
@@ -196,7 +196,7 @@ owed_wait sum s cache old new items owes =
     same_leaves sum s cache cache old new stood.some stood.ready.fresh (λ t d apart can. can) (owed_floors sum P k held held old new owes.through) (owed_covers sum P k held held old new owes.through) (owed_only sum P k held held old new owes.through)
     (owes.tails cache stood.ready.can.page_size) owes.replays
 
--- so no call leaves them, and the first of more
+-- so doing nothing leaves the items, and the first of more
 pub nothing_leaves : (sum : List ℕ → ℕ) (s : ItemsState) (all : List (List ℕ)) (cache : CacheState) (life : Life) → AreFirst (items_of s life) all → AreItems sum s cache life → ItemsCallLeaves sum s all cache cache life life
 nothing_leaves sum s all cache life first items =
     let stood = stand sum s cache life items in
@@ -209,7 +209,7 @@ nothing_leaves sum s all cache life first items =
 
 -- ---- calls that only read
 
--- a disk that is the same but for its log has the same images
+-- a disk that is the same except for its log has the same images
 image_before : (d e : Disk) (image : List ℕ) → SameButLog d e → IsImage e image → IsImage d image
 image_before d e image same is =
     let i : IsImage (record d { log = e.log }) image = subst (λ (x : Disk). IsImage x image) same is in
@@ -220,7 +220,7 @@ looked_keeps sum P old new looked = λ content floor enough kept.
     through_then (SameButLog old.present) (AllKeep sum P content floor) old new
     (λ d same. keeps_alike sum P content floor old.present d (ap (λ (x : Disk). x.base) same) (ap (λ (x : Disk). x.since) same) kept) looked.through
 
--- nor are other texts left
+-- no other texts are left by such a disk
 only_later : (sum : List ℕ → ℕ) (P : ℕ) (held : List ℕ) (d e : Disk) → SameButLog d e → AllOnly sum P held held d → AllOnly sum P held held e
 only_later sum P held d e same only = record {
   only = λ image is free. only.only image (image_before d e image same is) (subst (λ (x : Disk). IsChanceFree sum P x image) same free);
@@ -244,7 +244,7 @@ read_leaves sum s cache after old new items looked fresh others tails replays =
     same_leaves sum s cache after old new stood.some fresh others (looked_keeps sum P old new looked) (looked_covers sum s cache old new looked items) (looked_leaves sum P (items_content s old) old new looked stood.only) tails
     (λ own content r size below gives. replays own content r gives)
 
--- the items after a read that leaves what reads stand on: they stay such, the same ones
+-- the items after a read that leaves what reads need: they stay such, the same ones
 pub read_items : (sum : List ℕ → ℕ) (s : ItemsState) (cache after : CacheState) (old new : Life) → AreItems sum s cache old → Looked old new → IsFresh after → CanRead (tail_of s.writer) after new.present → AreItems sum s after new × (items_content s new ≡ items_content s old)
 read_items sum s cache after old new items looked fresh can =
     let stood = stand sum s cache old items in
@@ -295,12 +295,12 @@ only_reads sum id cache after old new looked fresh others tails replays = record
       leaves_items sum s.writer.page_size s.size held held (items_of s old) old new stood.some first first (looked_leaves sum s.writer.page_size held old new looked stood.only);
 }
 
--- no read
+-- what no read leaves
 pub nothing_read : (sum : List ℕ → ℕ) (id : ℕ) (cache : CacheState) (life : Life) → SnapshotReadLeaves sum id cache cache life life
 nothing_read sum id cache life =
     only_reads sum id cache cache life life (looked_start life) (λ fresh. fresh) (λ t d apart can. can) (λ t held stands. stands) (λ own content r gives. gives)
 
--- a replay that read on, with each cache
+-- what a replay leaves that read on, with each cache
 pub only_reads_on : (sum : List ℕ → ℕ) (old new : Life) → Looked old new → ((cache : CacheState) → LeavesAllTails sum cache cache old new) → LeavesAllReplays old new → ReplayReadLeaves sum old new
 only_reads_on sum old new looked tails replays =
     let with_cache : (cache : CacheState) → SnapshotReadLeaves sum 0 cache cache old new = λ cache. only_reads sum 0 cache cache old new looked (λ fresh. fresh) (λ t d apart can. can) (tails cache) replays in

@@ -32,8 +32,8 @@ use Rattle.items.specs.Standing.{ItemsRecoveryLeaves, count, items_content, item
 
 -- ---- calls that take the items
 
--- where items wait no more for the sync that they waited for, whichever call waited, what it covers
--- of them is durable
+-- once the items wait no more for the sync that was pending, whichever call waited, what that sync
+-- covers of them is durable
 abbrev pub CompletesItems : (List ℕ → ℕ) → (s now : ItemsState) → (pending : SyncState) → Life
     → Life → Type 0
 CompletesItems sum s now Clean old new = Unit {0}
@@ -59,8 +59,8 @@ GoReady sum s now after new =
     × (now.writer.page_size ≡ s.writer.page_size) × (now.writer.id ≡ s.writer.id)
     × (s.writer.full_pages ≤ now.writer.full_pages)
 
--- what lasts over a call: what was durable of the items before, or would be once a sync completed,
--- is or would be of the items now; and a sync that was waited for has completed
+-- what lasts over a call: what was durable of the items before is durable of the items now; what a
+-- started sync would make durable it still would; and a sync that was waited for has completed
 pub record DurabilityLasts (sum : List ℕ → ℕ) (s now : ItemsState) (old new : Life) : Type 0 where
   pub durable : (n : ℕ)
       → AreDurable sum s.writer.page_size s.size (items_content s old) n old.present
@@ -75,7 +75,7 @@ abbrev pub AreGivenBack : (List ℕ → ℕ) → (s now : ItemsState) → CacheS
 AreGivenBack sum s now after old new =
     GoReady sum s now after new × DurabilityLasts sum s now old new
 
--- an item was pushed: under this number, after those that there were
+-- an item was pushed under this number, after those that there were
 pub record IsPushed (sum : List ℕ → ℕ) (s : ItemsState) (item : List ℕ) (after : CacheState)
     (old new : Life) (now : ItemsState) (i : ℕ) : Type 0 where
   pub goes : GoOn sum s item after old new now
@@ -97,7 +97,7 @@ abbrev pub AllDurable : (List ℕ → ℕ) → ItemsState → Life → Type 0
 AllDurable sum s life =
     AreDurable sum s.writer.page_size s.size (items_content s life) (count s) life.present
 
--- a sync
+-- a sync was made: the items are the same, and all of them are durable
 pub record AreSynced (sum : List ℕ → ℕ) (s : ItemsState) (after : CacheState) (old new : Life)
     (now : ItemsState) : Type 0 where
   pub goes : GoOn sum s [] after old new now
@@ -109,7 +109,7 @@ abbrev pub ItemsSyncGoes : (List ℕ → ℕ) → ItemsState → CacheState → 
 ItemsSyncGoes sum s after old new (Ok now) = AreSynced sum s after old new now
 ItemsSyncGoes sum s after old new (Err e) = CallCause s.writer.sync old new e
 
--- what a started sync stands for: all items are durable already, or are once it completed
+-- what starting a sync answers for: all items are durable already, or once the sync has completed
 abbrev pub StartedFor : (List ℕ → ℕ) → ItemsState → Life → StartedSync → Type 0
 StartedFor sum s life Done = AllDurable sum s life
 StartedFor sum s life (Named name) =
@@ -128,7 +128,7 @@ abbrev pub ItemsStartSyncGoes : (List ℕ → ℕ) → ItemsState → CacheState
 ItemsStartSyncGoes sum s after old new (Ok r) = AreStarted sum s after old new r.0 r.1
 ItemsStartSyncGoes sum s after old new (Err e) = CallCause s.writer.sync old new e
 
--- a wait: no sync is pending then
+-- a wait was made: no sync is pending any more
 pub record HaveWaited (sum : List ℕ → ℕ) (s : ItemsState) (cache : CacheState) (old new : Life)
     (now : ItemsState) : Type 0 where
   pub goes : GoOn sum s [] cache old new now
@@ -140,7 +140,7 @@ abbrev pub ItemsWaitGoes : (List ℕ → ℕ) → ItemsState → CacheState → 
 ItemsWaitGoes sum s cache old new (Ok now) = HaveWaited sum s cache old new now
 ItemsWaitGoes sum s cache old new (Err e) = CallCause s.writer.sync old new e
 
--- a push of an item that fits what is buffered: over whatever blob
+-- a push of an item, if the buffer has room for it, over whatever blob
 abbrev pub TryPushGoes : (List ℕ → ℕ) → ItemsState → List ℕ → ItemsState → Result (Option ℕ) Error
     → Type 0
 TryPushGoes sum s item now (Ok (Some i)) =
@@ -173,7 +173,7 @@ pub record HaveRecovered (sum : List ℕ → ℕ) (s : ℕ) (cache after : Cache
   pub same : items_of now new ≡ items s (text sum cache.page_size old.present.readable)
   pub durable : AllDurable sum now new
 
--- a recovery is refused as that of a blob is
+-- a recovery of items, whose errors are those of a recovery of the blob
 abbrev pub RecoversItems : (List ℕ → ℕ) → (s : ℕ) → (cache after : CacheState) → (capacity : ℕ)
     → Life → Life → Result ItemsState Error → Type 0
 RecoversItems sum s cache after capacity old new (Ok now) =
@@ -190,8 +190,8 @@ pub record ItemsRecoverGoes (sum : List ℕ → ℕ) (s : ℕ) (cache after : Ca
   pub only : let was = old.present in
       IfOk result (λ r. BringsOnlyItems sum cache.page_size s was was.readable (items_of r new))
 
--- a blob in memory crashed, which kept what these flags say, and its items were recovered; where
--- memory was refused, nothing changed, or the recovery of what the flags leave was refused
+-- a blob in memory crashed and kept what the true flags name, and its items were recovered. At
+-- OutOfMemory nothing changed, or the recovery of what the flags leave was refused
 abbrev pub CrashesAndRecovers : (List ℕ → ℕ) → (s : ℕ) → (cache after : CacheState)
     → (capacity : ℕ) → List Bool → Life → Life → Result ItemsState Error → Type 0
 CrashesAndRecovers sum s cache after capacity keep old new (Ok now) =
@@ -224,16 +224,16 @@ ItemReadRefused old new ReadFailed = HasFailed ReadFailed old.present new.presen
 ItemReadRefused old new OutOfMemory = NoneFailed old.present new.present
 ItemReadRefused old new _ = ⊥
 
--- where the item of this number begins, of n items of s bytes; a number whose bytes have no offsets
--- comes before another that is no item's
+-- where the item of this number begins, of n items of s bytes. OffsetOverflow, where its bytes pass
+-- the greatest `u64`, comes before BlobInsufficientLength
 abbrev pub ItemIsAt : (s n : ℕ) → (i : ℕ) → Result ℕ Error → Type 0
 ItemIsAt s n i (Ok offset) = (offset ≡ i * s) × (i * s + s < 2 ^ 64) × (i < n)
 ItemIsAt s n i (Err OffsetOverflow) = (2 ^ 64 ≤ i * s + s) × (n ≤ i)
 ItemIsAt s n i (Err BlobInsufficientLength) = (i * s + s < 2 ^ 64) × (n ≤ i)
 ItemIsAt s n i (Err _) = ⊥
 
--- the item of this number; where there is none this is told before anything is asked for. Unless
--- the answer is that a read of the device failed, none did
+-- the item of this number; if there is none, the error comes before anything is asked for. Unless
+-- the answer is ReadFailed, no read of the device failed
 abbrev pub GetGoes : (s : ℕ) → List ℕ → (i : ℕ) → List ℕ → Life → Life → Result (Unit {0}) Error
     → Type 0
 GetGoes s content i buf old new (Ok u) =
@@ -252,11 +252,11 @@ AreRisingFrom n (i ∷ indices) = (n ≤ i) × AreRisingFrom (i + 1) indices
 abbrev pub AreRising : List ℕ → Type 0
 AreRising indices = AreRisingFrom 0 indices
 
--- there is an item of this number, and it has offsets
+-- there is an item of this number, and its bytes are below the greatest `u64`
 abbrev pub IsThere : (s n : ℕ) → (i : ℕ) → Type 0
 IsThere s n i = (i * s + s < 2 ^ 64) × (i < n)
 
--- the first of these numbers that is no item's is refused so
+-- the first of these numbers that is no item's is refused with this error
 pub record FirstRefused (s n : ℕ) (indices : List ℕ) (e : Error) : Type 0 where
   pub at : ℕ
   pub there : at < length indices
@@ -275,13 +275,13 @@ ItemsAreAt s n indices (Ok offsets) =
 ItemsAreAt s n indices (Err OutOfMemory) = All (IsThere s n) indices
 ItemsAreAt s n indices (Err e) = FirstRefused s n indices e
 
--- where the items of these numbers are
+-- the ranges of the items of these numbers, each a logical offset and a length in bytes
 abbrev pub item_ranges : (s : ℕ) → List ℕ → List (ℕ × ℕ)
 item_ranges s indices = ranges_of s (map (λ i. i * s) indices)
 
--- the items of these numbers, joined, and of how many the cache and the buffer had all; the first
--- number that is refused decides, before anything is asked for. Unless the answer is that a read of
--- the device failed, none did
+-- the items of these numbers, joined, and how many of them needed no device; the first number that
+-- is refused decides, before anything is asked for. Unless the answer is ReadFailed, no read of the
+-- device failed
 abbrev pub GetManyGoes : (s : ℕ) → Tail → List ℕ → (indices : List ℕ) → CacheState → List ℕ → Life
     → Life → Result ℕ Error → Type 0
 GetManyGoes s t content indices cache buf old new (Ok n) =

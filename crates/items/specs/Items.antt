@@ -12,7 +12,7 @@ use Rattle.crash.specs.Started.{WouldKeep}
 abbrev pub items : (s : ℕ) → List ℕ → List (List ℕ)
 items s content = pieces (length content / s) s content
 
--- one of them, by its number
+-- the item of this number
 abbrev pub item : (s : ℕ) → List ℕ → (i : ℕ) → List ℕ
 item s content i = take s (drop (i * s) content)
 
@@ -20,7 +20,7 @@ item s content i = take s (drop (i * s) content)
 abbrev pub item_floor : (s floor : ℕ) → ℕ
 item_floor s floor = floor / s
 
--- these items are the first of all those
+-- `some` items are the first of `all`
 abbrev pub AreFirst : List (List ℕ) → List (List ℕ) → Type 0
 AreFirst some all = some ≡ take (length some) all
 
@@ -30,7 +30,8 @@ ItemsKept sum P s content n d =
     (image : List ℕ) → IsImage d image
     → take n (items s (text sum P image)) ≡ take n (items s content)
 
--- each chance-free image has as its items the first of these
+-- chance aside (no checksum collides), each image (what a crash may leave) has as its items the
+-- first of these
 abbrev pub ItemsOnly : (List ℕ → ℕ) → (P s : ℕ) → List (List ℕ) → Disk → Type 0
 ItemsOnly sum P s all d =
     (image : List ℕ) → IsImage d image → IsChanceFree sum P d image
@@ -49,8 +50,8 @@ pub record WouldBeDurable (sum : List ℕ → ℕ) (P s : ℕ) (content : List �
   pub within : n * s ≤ length content
   pub keeps : WouldKeep sum P content name (n * s) d
 
--- chance aside, a crash leaves only the first of these items; and where no checksum collides there
--- is no chance
+-- chance aside, a crash leaves only the first of these items; and an image in which no checksum
+-- collides is one without chance
 pub record AreOnly (sum : List ℕ → ℕ) (P s : ℕ) (all : List (List ℕ)) (d : Disk) : Type 0 where
   pub only : ItemsOnly sum P s all d
   pub vouched : IsVouched sum P d
@@ -61,8 +62,8 @@ KeepsItems sum P s old new =
     (content : List ℕ) (n : ℕ) → AreDurable sum P s content n old.present
     → Through (AreDurable sum P s content n) old new
 
--- what a started sync would make durable of a content as a call began, it would at each moment
--- since
+-- what a started sync would make durable of a content as a call began, it would make durable at
+-- each moment since
 abbrev pub KeepsStarted : (List ℕ → ℕ) → (P s : ℕ) → List ℕ → Life → Life → Type 0
 KeepsStarted sum P s content old new =
     (n name : ℕ) → WouldBeDurable sum P s content n name old.present

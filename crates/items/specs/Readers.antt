@@ -15,7 +15,7 @@ use Rattle.items.specs.Standing.{AreItems, IsItemsReplay, IsItemsSnapshot, bytes
 use Rattle.items.specs.Standing.{items_of, items_over}
 use Rattle.items.specs.Calls.{AreGivenBack, GoOn}
 
--- a snapshot was made of all items, which go on: its pages lie below their tip
+-- a snapshot was made of all items, which go on: its full pages are among theirs
 pub record HasItemsSnapshot (sum : List ℕ → ℕ) (s : ItemsState) (after : CacheState)
     (old new : Life) (now : ItemsState) (r : ItemsSnapshotState) : Type 0 where
   pub goes : GoOn sum s [] after old new now
@@ -26,7 +26,7 @@ pub record HasItemsSnapshot (sum : List ℕ → ℕ) (s : ItemsState) (after : C
   pub id : r.tail.id ≡ s.writer.id
   pub below : r.tail.full_pages ≤ now.writer.full_pages
 
--- the items are given back, with it
+-- the items are given back, with a snapshot of them
 abbrev pub AreGivenWithSnapshot : (List ℕ → ℕ) → (s now : ItemsState) → ItemsSnapshotState
     → CacheState → Life → Life → Type 0
 AreGivenWithSnapshot sum s now r after old new =
@@ -51,7 +51,7 @@ TriesItemsSnapshot sum s (Ok None) = s.writer.page_size ≤ length s.writer.tip
 TriesItemsSnapshot sum s (Err OutOfMemory) = length s.writer.tip < s.writer.page_size
 TriesItemsSnapshot sum s (Err _) = ⊥
 
--- a replay began of all items, which go on: its pages lie below their tip
+-- a replay began of all items, which go on: its full pages are among theirs
 pub record HasItemsReplay (sum : List ℕ → ℕ) (s : ItemsState) (after : CacheState) (old new : Life)
     (now : ItemsState) (r : ItemsReplayState) : Type 0 where
   pub goes : GoOn sum s [] after old new now
@@ -62,7 +62,7 @@ pub record HasItemsReplay (sum : List ℕ → ℕ) (s : ItemsState) (after : Cac
   pub page_size : r.replay.tail.page_size ≡ now.writer.page_size
   pub below : r.replay.tail.full_pages ≤ now.writer.full_pages
 
--- the items are given back, with it
+-- the items are given back, with a replay of them
 abbrev pub AreGivenWithReplay : (List ℕ → ℕ) → (s now : ItemsState) → ItemsReplayState → CacheState
     → Life → Life → Type 0
 AreGivenWithReplay sum s now r after old new =
@@ -93,7 +93,7 @@ NextItemGoes r now old new (Ok None) = (items_left r old ≡ []) × (items_left 
 NextItemGoes r now old new (Err e) =
     (items_left now new ≡ items_left r old) × NextItemRefused r now old new e
 
--- at hand is no more than what was there, or an item and a batch of pages
+-- no more bytes are at hand than were, or than an item and a batch of pages
 abbrev pub HoldsAlong : (r now : ItemsReplayState) → Type 0
 HoldsAlong r now =
     (now.replay.batch ≡ r.replay.batch)

@@ -24,7 +24,8 @@ abbrev pub IsOpenSession : (List ℕ → ℕ) → Option ItemsState → CacheSta
 IsOpenSession sum None cache life = IsFresh cache
 IsOpenSession sum (Some s) cache life = AreItems sum s cache life
 
--- what a step leaves, whatever its reply: what a call does that pushes these items, or nothing new
+-- what a step leaves, whatever its reply: what a call leaves that pushes `more` items, or, where
+-- the session has no items, all as it was
 abbrev pub StepLeaves : (List ℕ → ℕ) → Option ItemsState → List (List ℕ)
     → (cache after : CacheState) → Life → Life → Type 0
 StepLeaves sum None more cache after old new = (after ≡ cache) × (new ≡ old)
@@ -70,8 +71,8 @@ GivesItem s i old new (Ok bytes) =
     (slice_get (items_of s old) i ≡ Some bytes.items) × NoneFailed old.present new.present
 GivesItem s i old new (Err e) = GetGoes s.size (items_content s old) i [] old new (Err e)
 
--- a read of an item, which changes nothing; unless it answers that a read of the device failed,
--- none did
+-- a read of an item, which leaves the items as they were; unless it answers ReadFailed, no read of
+-- the device failed
 abbrev pub SaysGot : (i : ℕ) → (was now : Option ItemsState) → Life → Life → ItemReply → Type 0
 SaysGot i None now old new reply = (reply ≡ Closed) × (now ≡ None)
 SaysGot i (Some s) now old new (Bytes bytes) =
@@ -91,7 +92,7 @@ abbrev pub TellsLength : Option ItemsState → ItemReply → Type 0
 TellsLength None reply = reply ≡ Closed
 TellsLength (Some s) reply = reply ≡ Length (count s)
 
--- a sync, after which all items are durable; a refusal ends them
+-- a sync, after which all items are durable; a refusal ends the items
 abbrev pub SaysSynced : (List ℕ → ℕ) → (was now : Option ItemsState) → CacheState → Life → Life
     → ItemReply → Type 0
 SaysSynced sum None now after old new reply = (reply ≡ Closed) × (now ≡ None)

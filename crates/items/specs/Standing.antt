@@ -26,12 +26,12 @@ items_content s life = content s.writer life.present.readable
 abbrev pub items_of : ItemsState → Life → List (List ℕ)
 items_of s life = items s.size (items_content s life)
 
--- how many there are
+-- how many items there are
 abbrev pub count : ItemsState → ℕ
 count s = writer.size_of s.writer / s.size
 
--- items between two calls, as the last of them left them: their writer is ready, they are whole,
--- and chance aside a crash leaves only them
+-- items between two calls, as the last call left them: their writer is ready, they are whole, and
+-- chance aside (no checksum collides) a crash leaves only the first of them
 pub record StandAsItems (sum : List ℕ → ℕ) (s : ItemsState) (cache : CacheState) (life : Life)
     : Type 0 where
   pub some : 0 < s.size
@@ -40,7 +40,8 @@ pub record StandAsItems (sum : List ℕ → ℕ) (s : ItemsState) (cache : Cache
   pub whole : length (items_content s life) ≡ length (items_content s life) / s.size * s.size
   pub only : LeavesItsContent sum s.writer life.present
 
--- the word for it in contracts: a caller hands it from call to call, and has no need to see into it
+-- `StandAsItems`, as contracts name it: a caller hands it from call to call, and has no need to see
+-- into it
 unfoldable pub AreItems : (List ℕ → ℕ) → ItemsState → CacheState → Life → Type 0
 AreItems sum s cache life = StandAsItems sum s cache life
 
@@ -56,7 +57,7 @@ OtherItemsStay id cache after =
     (sum : List ℕ → ℕ) (s : ItemsState) (life : Life) → s.writer.id ≢ id
     → AreItems sum s cache life → AreItems sum s after life
 
--- one over a blob that is new to the cache: all items do
+-- a call over a blob that is new to the cache: all items that have this cache stay such
 abbrev pub AllItemsStay : CacheState → CacheState → Type 0
 AllItemsStay cache after =
     (sum : List ℕ → ℕ) (s : ItemsState) (life : Life)
@@ -93,7 +94,7 @@ pub record StandsOverItems (sum : List ℕ → ℕ) (r : ItemsSnapshotState) (ca
   pub size : tail_size r.tail ≡ length (bytes_over r life)
   pub whole : length (bytes_over r life) ≡ length (bytes_over r life) / r.size * r.size
 
--- the word for it in contracts
+-- `StandsOverItems`, as contracts name it
 unfoldable pub IsItemsSnapshot : (List ℕ → ℕ) → ItemsSnapshotState → CacheState → Life → Type 0
 IsItemsSnapshot sum r cache life = StandsOverItems sum r cache life
 
@@ -104,13 +105,14 @@ StaysOver sum r cache after old new =
     IsItemsSnapshot sum r cache old
     → IsItemsSnapshot sum r after new × (items_over r new ≡ items_over r old)
 
--- a call of items, whatever it answers: each snapshot of their blob does that was made before
+-- a call of items, whatever it answers: each snapshot of their blob that was made before stays one,
+-- of the same items
 abbrev pub SnapshotsStay : (List ℕ → ℕ) → (full_pages : ℕ) → CacheState → CacheState → Life → Life
     → Type 0
 SnapshotsStay sum full_pages cache after old new =
     (r : ItemsSnapshotState) → r.tail.full_pages ≤ full_pages → StaysOver sum r cache after old new
 
--- a call that only reads: each does
+-- a call that only reads: each snapshot stays one, of the same items
 abbrev pub AllSnapshotsStay : (List ℕ → ℕ) → CacheState → CacheState → Life → Life → Type 0
 AllSnapshotsStay sum cache after old new =
     (r : ItemsSnapshotState) → StaysOver sum r cache after old new
@@ -121,7 +123,7 @@ OtherSnapshotsStay id cache after =
     (sum : List ℕ → ℕ) (r : ItemsSnapshotState) (life : Life) → r.tail.id ≢ id
     → IsItemsSnapshot sum r cache life → IsItemsSnapshot sum r after life
 
--- one over a blob that is new to the cache: each of another blob does
+-- a call over a blob that is new to the cache: each snapshot with this cache stays one
 abbrev pub EachSnapshotStays : CacheState → CacheState → Type 0
 EachSnapshotStays cache after =
     (sum : List ℕ → ℕ) (r : ItemsSnapshotState) (life : Life)
@@ -142,7 +144,7 @@ bytes_along r life = logical_bytes r.replay.tail life.present.readable
 abbrev pub items_left : ItemsReplayState → Life → List (List ℕ)
 items_left r life = items r.size (drop r.replay.position (bytes_along r life))
 
--- how many it goes over
+-- how many items a replay goes over
 abbrev pub count_along : ItemsReplayState → ℕ
 count_along r = tail_size r.replay.tail / r.size
 
@@ -154,7 +156,7 @@ pub record ReplaysItems (sum : List ℕ → ℕ) (r : ItemsReplayState) (life : 
   pub whole : length (bytes_along r life) ≡ length (bytes_along r life) / r.size * r.size
   pub between : r.replay.position ≡ r.replay.position / r.size * r.size
 
--- the word for it in contracts
+-- `ReplaysItems`, as contracts name it
 unfoldable pub IsItemsReplay : (List ℕ → ℕ) → ItemsReplayState → Life → Type 0
 IsItemsReplay sum r life = ReplaysItems sum r life
 
@@ -163,22 +165,23 @@ abbrev pub StaysAlong : (List ℕ → ℕ) → ItemsReplayState → Life → Lif
 StaysAlong sum r old new =
     IsItemsReplay sum r old → IsItemsReplay sum r new × (items_left r new ≡ items_left r old)
 
--- a call of items, whatever it answers: each replay of their blob does that began before
+-- a call of items, whatever it answers: each replay of their blob that began before stays one, with
+-- the same items left
 abbrev pub ReplaysStay : (List ℕ → ℕ) → (P full_pages : ℕ) → Life → Life → Type 0
 ReplaysStay sum P full_pages old new =
     (r : ItemsReplayState) → r.replay.tail.page_size ≡ P → r.replay.tail.full_pages ≤ full_pages
     → StaysAlong sum r old new
 
--- a call that only reads: each does
+-- a call that only reads: each replay stays one, with the same items left
 abbrev pub AllReplaysStay : (List ℕ → ℕ) → Life → Life → Type 0
 AllReplaysStay sum old new = (r : ItemsReplayState) → StaysAlong sum r old new
 
 -- ---- what calls leave
 
 -- what a call of items leaves, whatever it answers: the cache serves on, for the items and the
--- snapshots of other blobs too; what was durable is so at each moment since, and so is what a
--- started sync would make durable; chance aside a crash at any of these moments leaves only the
--- first of these items; and the snapshots and replays of the blob go on
+-- snapshots of other blobs too; what was durable is durable at each moment since, and what a
+-- started sync would make durable it still would; chance aside a crash at any of these moments
+-- leaves only the first of these items; and the snapshots and replays of the blob go on
 pub record ItemsCallLeaves (sum : List ℕ → ℕ) (s : ItemsState) (all : List (List ℕ))
     (cache after : CacheState) (old new : Life) : Type 0 where
   pub fresh : IsFresh after
@@ -190,15 +193,16 @@ pub record ItemsCallLeaves (sum : List ℕ → ℕ) (s : ItemsState) (all : List
   pub snapshots : SnapshotsStay sum s.writer.full_pages cache after old new
   pub replays : ReplaysStay sum s.writer.page_size s.writer.full_pages old new
 
--- a read of items: the same, and the device was only read
+-- a read of items leaves what a call does that adds no item, and the device was only read
 pub record ItemReadLeaves (sum : List ℕ → ℕ) (s : ItemsState) (cache after : CacheState)
     (old new : Life) : Type 0 where
   pub looked : Looked old new
   pub call : ItemsCallLeaves sum s (items_of s old) cache after old new
 
 -- what a recovery leaves, whatever it answers: the cache serves on, for the items and the snapshots
--- of other blobs too; what was durable is so at each moment since; and where all was durable as it
--- began, all items of the text are, and chance aside a crash leaves only them
+-- of other blobs too; what was durable is so at each moment since; and if all was durable as the
+-- recovery began, then at each moment since all items of the text are durable, and chance aside a
+-- crash leaves only the first of them
 pub record ItemsRecoveryLeaves (sum : List ℕ → ℕ) (s : ℕ) (cache after : CacheState)
     (old new : Life) : Type 0 where
   pub fresh : IsFresh after
@@ -237,7 +241,9 @@ pub record SnapshotReadLeaves (sum : List ℕ → ℕ) (id : ℕ) (cache after :
   pub only : (s : ItemsState) → AreItems sum s cache old
       → LeavesItems sum s.writer.page_size s.size (items_of s old) old new
 
--- what a replay leaves as it reads on, whatever it answers, with each cache: the same
+-- what a replay leaves as it reads on, whatever it answers, with each cache: the device was only
+-- read, the items, snapshots and replays of the blob are as they were, and a crash at each moment
+-- since keeps and leaves what it did before
 pub record ReplayReadLeaves (sum : List ℕ → ℕ) (old new : Life) : Type 0 where
   pub looked : Looked old new
   pub items : (s : ItemsState) (cache : CacheState) → AreItems sum s cache old

@@ -13,13 +13,14 @@ use page::Sum;
 use std::alloc::Global;
 use std::num::NonZeroUsize;
 
-/// Crashes a blob, which keeps what these flags say, and recovers its items: they begin with all
-/// that were durable as the crash came, whatever the checksum function; and where no checksum
-/// collides in what the crash left they are the first of those that were pushed.
+/// Crashes a blob, which keeps what the true flags name, and recovers its items. They begin with
+/// all items that were durable as the crash came, whatever the checksum function. Where no checksum
+/// collides in what the crash left, they are the first of the items that were pushed.
 ///
-/// The errors are those of [`Items::recover`]; where memory for the crash is refused nothing
-/// changed. What was durable still is, whatever it answers: so it may be called again, however often
-/// it was refused. The cache is to have pages of the size that the items had.
+/// The errors are those of [`Items::recover`]. Where memory for the crash is refused, the error is
+/// `OutOfMemory` and nothing changed. What was durable still is, whatever the call answers, so the
+/// caller may call it again, however often it was refused. The cache must have pages of the size
+/// that the items had.
 pub fn crash_and_recover<H: Sum>(
     alloc: Global,
     blob: &mut MemBlob,

@@ -37,7 +37,7 @@ use std::num::NonZeroUsize;
 ///
 /// The blob and the cache are lent to each call, as a writer's are: always the same ones, and many
 /// values of items may share a cache. A call that takes the items gives them back only on success;
-/// after an error they are to be recovered, and the cache serves for that.
+/// after an error the caller recovers them, and may use the same cache for that.
 #[derive(Drop)]
 pub struct Items<B, H> {
     alloc: Global,
@@ -92,16 +92,16 @@ impl<B, H> Items<B, H> {
 
 impl<B: Blob, H: Sum> Items<B, H> {
     /// Recovers the items of a blob of `blob_size` physical bytes, whatever they are: those of the
-    /// blob's text, which begin with all that were durable. The bytes after the last whole item are
-    /// cut off, so that the next item that is pushed has the number [`Items::len`]. All items are
-    /// durable then. The other arguments are those of [`paged::recover`], and `size`, the bytes of an
-    /// item. The cache is a new one, or one that other items have, or had until a call of theirs
-    /// failed.
+    /// blob's text (what a recovery keeps), which begin with all items that were durable. The bytes
+    /// after the last whole item are cut off, so that the next item that is pushed has the number
+    /// [`Items::len`]. All items are durable then. `size` is the bytes of an item, and the other
+    /// arguments are those of [`paged::recover`]. The cache is a new one, or one that other items
+    /// have, or had until a call of theirs failed.
     ///
     /// The errors are those of [`paged::recover`]: `ReadFailed`, `WriteFailed`, `ResizeFailed` and
-    /// `SyncFailed` where the device failed, `OffsetOverflow` where the capacity can't be rounded up,
-    /// `OutOfMemory`, and `IdsExhausted` where the cache has given all its ids. What was durable
-    /// then still is.
+    /// `SyncFailed` where the device failed, `OffsetOverflow` where the capacity can't be rounded
+    /// up, `OutOfMemory`, and `IdsExhausted` where the cache has given all its ids. After an error,
+    /// what was durable still is.
     pub fn recover(
         alloc: Global,
         blob: &mut B,
@@ -138,13 +138,14 @@ impl<B: Blob, H: Sum> Items<B, H> {
         }
     }
 
-    /// Pushes an item of the items' size, and answers its number: how many there were. It is durable
-    /// once the next [`Items::sync`] has answered.
+    /// Pushes an item of the items' size, and answers its number, which is how many there were. The
+    /// item is durable once the next [`Items::sync`] has answered `Ok`.
     ///
-    /// It makes no device call where the item fits the buffer, and at most three else.
+    /// The push makes no device call where the item fits the buffer, and at most three otherwise.
     ///
-    /// `OffsetOverflow` where the blob has no room for the item, `WriteFailed` and `SyncFailed`
-    /// where the device failed, `OutOfMemory`. The items are gone then.
+    /// `OffsetOverflow` where the blob's physical size would pass the greatest `u64`. `WriteFailed`
+    /// and `SyncFailed` where the device failed, in the call or in the sync that was started
+    /// before. `OutOfMemory`. After an error the items are gone.
     pub fn push(self, blob: &mut B, cache: &mut CacheRef, item: &[u8]) -> Result<(Self, u64), Error>
         requires items { AreItems H.sum_of self cache.old (B.life blob.old) }
         requires size { length item.now ≡ self.size }
@@ -167,12 +168,12 @@ impl<B: Blob, H: Sum> Items<B, H> {
         }
     }
 
-    /// Pushes a value of the items' size where it fits the buffer, and answers its number: how many
-    /// there were. `None` exactly where the buffer would then hold more than its capacity. No device
-    /// is asked.
+    /// Pushes a value of the items' size where it fits the buffer, and answers its number, which is
+    /// how many there were. `None` exactly where the buffer would then hold more than its capacity.
+    /// No device is asked.
     ///
-    /// `OffsetOverflow` where the blob has no room for the value, `OutOfMemory`. After `None` or an
-    /// error the items are as they were.
+    /// `OffsetOverflow` where the blob's physical size would pass the greatest `u64`,
+    /// `OutOfMemory`. After `None` or an error the items are as they were.
     pub fn try_push_value<T: FixedSize + Write>(&mut self, value: &T) -> Result<Option<u64>, Error>
         requires size { T.SIZE ≡ self.old.size }
         ensures goes { TryPushGoes H.sum_of self.old (T.encoded value.now) self.new result }
@@ -187,10 +188,10 @@ impl<B: Blob, H: Sum> Items<B, H> {
         }
     }
 
-    /// Makes all items durable. It makes two device calls at most.
+    /// Makes all items durable, by two device calls at most.
     ///
-    /// `WriteFailed` and `SyncFailed` where the device failed, `OutOfMemory`. The items are gone
-    /// then.
+    /// `WriteFailed` and `SyncFailed` where the device failed, in the call or in the sync that was
+    /// started before. `OutOfMemory`. After an error the items are gone.
     pub fn sync(self, blob: &mut B, cache: &mut CacheRef) -> Result<Self, Error>
         requires items { AreItems H.sum_of self cache.old (B.life blob.old) }
         ensures goes { let old = B.life blob.old in let new = B.life blob.new in
@@ -208,12 +209,12 @@ impl<B: Blob, H: Sum> Items<B, H> {
         }
     }
 
-    /// Writes all items, and starts to make them durable. It answers the name to wait for, or
-    /// `Done` where all are durable already. A wait for it that answers `Ok` makes all items that
-    /// there are now durable. It makes at most three device calls.
+    /// Writes all items, and starts to make them durable. The call answers the name of the started
+    /// sync, or `Done` where all items are durable already. Once a wait for that name has answered
+    /// `Ok`, all items that there are now are durable. The call makes at most three device calls.
     ///
-    /// `WriteFailed` and `SyncFailed` where the device failed, `OutOfMemory`. The items are gone
-    /// then.
+    /// `WriteFailed` and `SyncFailed` where the device failed, in the call or in the sync that was
+    /// started before. `OutOfMemory`. After an error the items are gone.
     pub fn start_sync(
         self,
         blob: &mut B,
@@ -235,10 +236,11 @@ impl<B: Blob, H: Sum> Items<B, H> {
         }
     }
 
-    /// Waits until what the sync that was started last covers is durable; where none is pending it
-    /// does nothing. It makes one device call at most.
+    /// Waits until all that the sync that was started last covers is durable. Where no sync is
+    /// pending the call does nothing; otherwise it makes one device call at most.
     ///
-    /// `SyncFailed` where the device failed, `OutOfMemory`. The items are gone then.
+    /// `SyncFailed` where that sync or the wait for it failed, `OutOfMemory`. After an error the
+    /// items are gone.
     pub fn wait_for_sync(self, blob: &mut B) -> Result<Self, Error>
         requires items { (cache : CacheState) × AreItems H.sum_of self cache (B.life blob.old) }
         ensures goes { let old = B.life blob.old in let new = B.life blob.new in
@@ -261,8 +263,8 @@ impl<B: Blob, H: Sum> Items<B, H> {
     }
 
     /// A snapshot of all items, for which nothing is written: `None` exactly while a full page is
-    /// buffered. It copies less than a page, and makes no device call. `OutOfMemory` alone; the
-    /// items stay as they are.
+    /// buffered. The call copies less than a page, and makes no device call. Its only error is
+    /// `OutOfMemory`; the items stay as they are.
     pub fn try_snapshot(&self) -> Result<Option<ItemsSnapshot<B, H>>, Error>
         ensures { TriesItemsSnapshot H.sum_of self.now result }
     {
@@ -275,12 +277,12 @@ impl<B: Blob, H: Sum> Items<B, H> {
 
     /// A snapshot of all items that there are now, and the items, which go on. Full pages that are
     /// buffered are written first, without a sync; the bytes after them, less than a page, are
-    /// copied. So nothing is made durable by it, and a crash ends it. It makes at most two device
-    /// calls, a wait for the sync that was started before and a write, and none where no full page
-    /// is buffered.
+    /// copied. So a snapshot makes nothing durable, and a crash ends it. The call makes at most two
+    /// device calls, a wait for the sync that was started before and a write, and none where no
+    /// full page is buffered.
     ///
-    /// `WriteFailed` and `SyncFailed` where the device failed, `OutOfMemory`. The items are gone
-    /// then.
+    /// `WriteFailed` and `SyncFailed` where the device failed, in the call or in the sync that was
+    /// started before. `OutOfMemory`. After an error the items are gone.
     pub fn snapshot(
         self,
         blob: &mut B,
@@ -306,15 +308,15 @@ impl<B: Blob, H: Sum> Items<B, H> {
         }
     }
 
-    /// A replay of all items that there are now, from the first on, and the items, which go on. What
-    /// isn't written is written first, without a sync. So nothing is made durable by it, and a crash
-    /// or a recovery of the blob ends it. It makes at most two device calls, a wait for the sync
-    /// that was started before and a write, and none where all is written. The replay reads nothing
-    /// yet: it reads batches of a quarter of the pages that fit `buffer_size` bytes, and at least
-    /// one, three batches ahead.
+    /// A replay of all items that there are now, from the first on, and the items, which go on.
+    /// What isn't written is written first, without a sync. So a replay makes nothing durable, and
+    /// a crash or a recovery of the blob ends it. The call makes at most two device calls, a wait
+    /// for the sync that was started before and a write, and none where all is written. The replay
+    /// reads nothing yet. As it goes on, it reads three batches ahead; a batch is a quarter of the
+    /// pages that fit `buffer_size` bytes, and at least one page.
     ///
-    /// `WriteFailed` and `SyncFailed` where the device failed, `OutOfMemory`. The items are gone
-    /// then.
+    /// `WriteFailed` and `SyncFailed` where the device failed, in the call or in the sync that was
+    /// started before. `OutOfMemory`. After an error the items are gone.
     pub fn replay(
         self,
         blob: &mut B,
@@ -341,14 +343,14 @@ impl<B: Blob, H: Sum> Items<B, H> {
         }
     }
 
-    /// Copies the item of this number into `buf`, which has the items' size. Each page that the
-    /// cache lacks of it is read by one device call.
+    /// Copies the item of this number into `buf`, which has the items' size. Each page of the item
+    /// that the cache lacks is read by one device call.
     ///
     /// `OffsetOverflow` where an item of this number would begin or end past the greatest `u64`,
-    /// else `BlobInsufficientLength` where there is none: both before anything is asked for.
-    /// `ReadFailed` where a read of the device failed; `OutOfMemory`, also after reads of the
-    /// device, where none failed. Then what `buf` holds says nothing. An error leaves all else as it
-    /// was, apart from pages that the cache may hold now.
+    /// else `BlobInsufficientLength` where there is no such item: both before the device or memory
+    /// is asked. `ReadFailed` where a read of the device failed. `OutOfMemory` where memory was
+    /// refused, perhaps after reads of the device, of which none failed. After an error the bytes
+    /// of `buf` mean nothing, and the cache may hold more pages; all else is as it was.
     pub fn get(
         &self,
         blob: &mut B,
@@ -380,8 +382,8 @@ impl<B: Blob, H: Sum> Items<B, H> {
     /// how many of them needed no device. The pages that the cache lacks are read by one device
     /// call, each once.
     ///
-    /// The first number that [`Items::get`] would refuse decides, before anything is asked for. The
-    /// other errors are those of [`Items::get`].
+    /// The first number that is no item's decides, with the error that [`Items::get`] would answer,
+    /// before the device or memory is asked. The other errors are those of [`Items::get`].
     pub fn get_many(
         &self,
         blob: &mut B,

@@ -7,7 +7,10 @@ use disk::Error;
 use std::alloc::Global;
 use std::num::NonZeroUsize;
 
-/// Where the item of a number begins, of `count` items.
+/// The logical offset at which the item of a number begins, of `count` items of `size` bytes.
+///
+/// `OffsetOverflow` where the item would begin or end past the greatest `u64`, else
+/// `BlobInsufficientLength` where there is no such item.
 pub fn offset_of(i: u64, count: u64, size: NonZeroUsize) -> Result<u64, Error>
     requires { count * non_zero_usize_get size < 2 ^ 64 }
     ensures { ItemIsAt (non_zero_usize_get size) count i result }
@@ -25,8 +28,8 @@ pub fn offset_of(i: u64, count: u64, size: NonZeroUsize) -> Result<u64, Error>
     Ok(offset)
 }
 
-/// Whether there are items of all these numbers, of `count` items. The first that there is none of
-/// decides.
+/// Whether there are items of all these numbers, of `count` items. The first number that is no
+/// item's decides the error.
 fn find_all(indices: &[u64], count: u64, size: NonZeroUsize) -> Result<(), Error>
     requires { count * non_zero_usize_get size < 2 ^ 64 }
     ensures { FindsAll (non_zero_usize_get size) count indices.now result }
@@ -37,8 +40,8 @@ fn find_all(indices: &[u64], count: u64, size: NonZeroUsize) -> Result<(), Error
     Ok(())
 }
 
-/// Where the items of these numbers begin, of `count` items. The first number that there is none of
-/// decides, before memory is asked for.
+/// Where the items of these numbers begin, of `count` items. The first number that is no item's
+/// decides the error, before memory is asked for.
 pub fn offsets_of(
     alloc: Global,
     indices: &[u64],

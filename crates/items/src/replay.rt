@@ -13,11 +13,11 @@ use std::num::NonZeroUsize;
 
 /// The items that there were when the replay began, by
 /// [`Items::replay`](crate::items::Items::replay): one by one, in order, by [`ItemsReplay::next`],
-/// with pages read ahead of where it stands.
+/// with pages read ahead of where the replay stands.
 ///
-/// It gives just those items, whatever is pushed and synced meanwhile, and whatever is refused,
-/// until the blob crashes or is recovered. Items that weren't durable by then aren't by being read.
-/// The blob is lent to each call that may read; no cache is asked.
+/// The replay gives just those items, whatever is pushed, synced or refused meanwhile, until the
+/// blob crashes or is recovered. Reading an item doesn't make it durable. The blob is lent to each
+/// call that may read; no cache is asked.
 #[derive(Drop)]
 pub struct ItemsReplay<B, H> {
     replay: Replay<B, H>,
@@ -40,7 +40,7 @@ impl<B, H> ItemsReplay<B, H> {
         ItemsReplay { replay, size }
     }
 
-    /// How many items it goes over, from the first on.
+    /// How many items the replay goes over, from the first on.
     pub fn len(&self) -> u64
         ensures { result ≡ count_along self.now }
     {
@@ -59,12 +59,13 @@ impl<B: Blob, H: Sum> ItemsReplay<B, H> {
     /// The next item, or `None` after the last. This isn't `Iterator::next`, since the blob is lent
     /// to each call. The bytes of an item that lies in one page are shared with what was read of
     /// the page; those of another item are copied. Where the item is at hand already the device
-    /// isn't asked. At hand is no more than an item and a batch of pages, or what was there.
+    /// isn't asked. After the call no more bytes are at hand than before, or than an item and a
+    /// batch of pages.
     ///
-    /// `ReadFailed` where a read of the device failed that was needed; `OutOfMemory`, also after
-    /// reads of the device. Where no more came to hand none of these failed; else a read ahead may
-    /// have, which is made again once it is needed. An error leaves the replay where it was, so that
-    /// the call can be made again.
+    /// `ReadFailed` where a read of the device that was needed failed. `OutOfMemory` where memory
+    /// was refused, perhaps after reads of the device. If no more bytes came to hand, none of these
+    /// reads failed. If more did, a read ahead may have failed, which is made again once its pages
+    /// are needed. An error leaves the replay at the same item, so the call can be made again.
     pub fn next(&mut self, blob: &mut B) -> Result<Option<IoBuf>, Error>
         requires replay { IsItemsReplay H.sum_of self.old (B.life blob.old) }
         ensures goes { let old = B.life blob.old in let new = B.life blob.new in
@@ -85,11 +86,11 @@ impl<B: Blob, H: Sum> ItemsReplay<B, H> {
         Ok(Some(item))
     }
 
-    /// Goes to the item of this number, which [`ItemsReplay::next`] then gives, or to the end. What
-    /// is read ahead stays, for where it is needed.
+    /// Goes to the item of this number, which [`ItemsReplay::next`] then gives, or to the end.
+    /// Pages that were read ahead stay, for where they are needed.
     ///
     /// `OffsetOverflow` where an item of this number would begin past the greatest `u64`, else
-    /// `BlobInsufficientLength` where there are fewer items. An error changes nothing.
+    /// `BlobInsufficientLength` where there are fewer than `i` items. An error changes nothing.
     pub fn seek_to(&mut self, i: u64) -> Result<(), Error>
         ensures goes { SeekItemGoes H.sum_of self.old i self.new result }
         ensures same { (self.new.size ≡ self.old.size)

@@ -40,7 +40,7 @@ pub enum ItemReply {
     Done,
     /// The step was refused.
     Fault(Error),
-    /// A step before was refused that ended the items.
+    /// The session has no items: an earlier step that was refused ended them, or it never had any.
     Closed,
 }
 
@@ -78,7 +78,7 @@ impl<B, H> ItemSession<B, H> {
         ItemSession { alloc, items: None }
     }
 
-    /// Its items, unless a refusal ended them.
+    /// The session's items; `None` if a refusal ended them, or if it never had any.
     pub fn into_items(self) -> Option<Items<B, H>>
         ensures { result ≡ self }
     {
@@ -190,8 +190,8 @@ impl<B: Blob, H: Sum> ItemSession<B, H> {
 /// or a sync that is refused ends the items: each later step replies `Closed`. A read that is
 /// refused, and a push of bytes that aren't of the items' size, change nothing.
 ///
-/// Room for all the replies is made first. `OutOfMemory` where it is refused: then no step was
-/// taken.
+/// Room for all the replies is made first. The only error is `OutOfMemory`, where that room is
+/// refused: then no step was taken.
 pub fn run_items<B: Blob, H: Sum>(
     session: &mut ItemSession<B, H>,
     blob: &mut B,

@@ -18,10 +18,10 @@ use std::num::NonZeroUsize;
 /// [`Items::snapshot`](crate::items::Items::snapshot) or
 /// [`Items::try_snapshot`](crate::items::Items::try_snapshot).
 ///
-/// It doesn't move: it gives just those items, whatever is pushed and synced meanwhile, and whatever
-/// is refused, until the blob crashes or is recovered. Items that weren't durable by then aren't by
-/// being read. It borrows nothing and holds no page: the blob and the cache are lent to each call,
-/// always those of the items.
+/// The snapshot gives just those items, whatever is pushed, synced or refused meanwhile, until the
+/// blob crashes or is recovered. Reading an item doesn't make it durable. The snapshot borrows
+/// nothing and holds no page: the blob and the cache are lent to each call, always those of the
+/// items.
 #[derive(Drop)]
 pub struct ItemsSnapshot<B, H> {
     alloc: Global,
@@ -49,7 +49,7 @@ impl<B, H> ItemsSnapshot<B, H> {
         }
     }
 
-    /// How many items it has.
+    /// How many items the snapshot has.
     pub fn len(&self) -> u64
         ensures count { result ≡ count_over self.now }
         ensures fits { count_over self.now * self.now.size < 2 ^ 64 }
@@ -66,14 +66,14 @@ impl<B, H> ItemsSnapshot<B, H> {
 }
 
 impl<B: Blob, H: Sum> ItemsSnapshot<B, H> {
-    /// Copies the item of this number into `buf`, which has the items' size. Each page that the
-    /// cache lacks of it is read by one device call.
+    /// Copies the item of this number into `buf`, which has the items' size. Each page of the item
+    /// that the cache lacks is read by one device call.
     ///
     /// `OffsetOverflow` where an item of this number would begin or end past the greatest `u64`,
-    /// else `BlobInsufficientLength` where the snapshot has none: both before anything is asked for.
-    /// `ReadFailed` where a read of the device failed; `OutOfMemory`, also after reads of the
-    /// device, where none failed. Then what `buf` holds says nothing. An error leaves all else as it
-    /// was, apart from pages that the cache may hold now.
+    /// else `BlobInsufficientLength` where the snapshot has no such item: both before the device or
+    /// memory is asked. `ReadFailed` where a read of the device failed. `OutOfMemory` where memory
+    /// was refused, perhaps after reads of the device, of which none failed. After an error the
+    /// bytes of `buf` mean nothing, and the cache may hold more pages; all else is as it was.
     pub fn get(
         &self,
         blob: &mut B,
@@ -105,8 +105,9 @@ impl<B: Blob, H: Sum> ItemsSnapshot<B, H> {
     /// how many of them needed no device. The pages that the cache lacks are read by one device
     /// call, each once.
     ///
-    /// The first number that [`ItemsSnapshot::get`] would refuse decides, before anything is asked
-    /// for. The other errors are those of [`ItemsSnapshot::get`].
+    /// The first number that is no item's decides, with the error that [`ItemsSnapshot::get`] would
+    /// answer, before the device or memory is asked. The other errors are those of
+    /// [`ItemsSnapshot::get`].
     pub fn get_many(
         &self,
         blob: &mut B,

@@ -30,7 +30,7 @@ use Rattle.journal.specs.Reader.{ReaderState}
 
 -- ---- appends
 
--- a call that was refused puts nothing
+-- a call that was refused puts nothing in the cache
 once : (cache : CacheState) (e : Error) → PutsOnceWaited {A = WriterState × ℕ} cache cache (Err e)
 once cache OffsetOverflow = refl
 once cache SyncFailed = refl
@@ -65,19 +65,19 @@ not_tried w now bytes cache life InvalidChecksum tries = absurd tries
 not_tried w now bytes cache life BlobInsufficientLength tries = absurd tries
 not_tried w now bytes cache life IdsExhausted tries = absurd tries
 
--- by the buffer
+-- an append that the buffer refused
 pub costs_refused : (w now : WriterState) (bytes : List ℕ) (cache : CacheState) (life : Life) (e : Error) (result : Result (WriterState × ℕ) Error) → IsErrAnd result (λ x. x ≡ e) → TryAppendGoes w bytes now (Err e) → AppendCosts w bytes cache cache life life result
 costs_refused w now bytes cache life e (Ok r) is tries = absurd is
 costs_refused w now bytes cache life e (Err x) is tries =
     subst (λ (y : Error). AppendCosts w bytes cache cache life life (Err y)) (sym is) (not_tried w now bytes cache life e tries)
 
--- for want of memory for the frame
+-- an append that was refused for want of memory for the frame
 pub costs_unframed : (w : WriterState) (bytes : List ℕ) (cache : CacheState) (life : Life) (e : Error) (result : Result (WriterState × ℕ) Error) → IsErrAnd result (λ x. x ≡ e) → e ≡ OutOfMemory → AppendCosts w bytes cache cache life life result
 costs_unframed w bytes cache life e (Ok r) is memory = absurd is
 costs_unframed w bytes cache life e (Err x) is memory =
     subst (λ (y : Error). AppendCosts w bytes cache cache life life (Err y)) (sym (is ∙ memory)) (unasked w bytes cache life OutOfMemory (λ fits. refl))
 
--- one that the buffer took
+-- an append that the buffer took
 pub costs_buffered : (w now : WriterState) (bytes : List ℕ) (cache : CacheState) (life : Life) (at : ℕ) (fits : Option ℕ) → fits ≡ Some at → TryAppendGoes w bytes now (Ok fits) → AppendCosts w bytes cache cache life life (Ok (now, at))
 costs_buffered w now bytes cache life at fits is tried =
     let tries : TryAppendGoes w bytes now (Ok (Some at)) = subst (λ (o : Option ℕ). TryAppendGoes w bytes now (Ok o)) is tried in
@@ -131,7 +131,7 @@ one_more x true false more l m le = absurd (both_ways false refl (more refl))
 one_more x false true more l m le = omega (arith, le)
 one_more x false false more l m le = le
 
--- what fewer tests let through is no more
+-- a list has no fewer elements that pass a test than elements that pass a stronger one
 fewer_pass : (p q : ℕ → Bool) → ((x : ℕ) → p x ≡ true → q x ≡ true) → (xs : List ℕ) → length (filter p xs) ≤ length (filter q xs)
 fewer_pass p q more [] = omega arith
 fewer_pass p q more (x ∷ xs) = one_more x (p x) (q x) (more x) (filter p xs) (filter q xs) (fewer_pass p q more xs)
@@ -165,7 +165,7 @@ nothing_put sum t [] readable old new (Ok a) none puts = puts
 nothing_put sum t [] readable old new (Err e) none puts = none_put t.id (logical_bytes t readable) puts.count old new puts.puts
 nothing_put sum t (page ∷ pages) readable old new result none puts = absurd (omega (arith, none))
 
--- a read
+-- the device calls of a read of a range
 pub range_costs : {A : Type 0} (sum : List ℕ → ℕ) (t : Tail) (range : ℕ × ℕ) (cache after : CacheState) (old new : Life) (result : Result A Error) → ReadCosts sum t range cache after old new result → RangeCosts t range cache after old new
 range_costs sum t range cache after old new result costs = record {
   calls = omega (arith, costs.asks.0, missing_met cache t range);
@@ -173,13 +173,13 @@ range_costs sum t range cache after old new result costs = record {
       (costs.asks.1 served, nothing_put sum t (missing cache t (range ∷ [])) old.present.readable cache after result (eqb-true _ _ served) (asked_in_order sum t (missing cache t (range ∷ [])) old new cache after result costs.puts));
 }
 
--- no read
+-- no read makes no device call
 pub range_unread : (t : Tail) (range : ℕ × ℕ) (cache : CacheState) (life : Life) → RangeCosts t range cache cache life life
 range_unread t range cache life = record { calls = omega arith; held = λ served. (refl, refl) }
 
 -- ---- reads of a frame
 
--- its length, and then the frame
+-- a read of a frame reads its length, and then the frame
 pub frame_costs : (t : Tail) (content : List ℕ) (offset rest : ℕ) (cache between after : CacheState) (old mid new : Life) → offset + rest ≡ length content → 0 < rest → RangeCosts t (offset, min 2 rest) cache between old mid
     → RangeCosts t (offset, min (frame_len (drop offset content)) rest) between after mid new → FrameCosts t content offset cache after old new
 frame_costs t content offset rest cache between after old mid new all some first second =
@@ -197,7 +197,7 @@ frame_costs t content offset rest cache between after old mid new all some first
       none = λ end. absurd (omega (arith, all, some, end));
     }
 
--- the length alone, since the read of it was refused
+-- only the length was read, since the read of it was refused
 pub frame_unread : (t : Tail) (content : List ℕ) (offset rest : ℕ) (cache after : CacheState) (old new : Life) → offset + rest ≡ length content → 0 < rest → RangeCosts t (offset, min 2 rest) cache after old new → FrameCosts t content offset cache after old new
 frame_unread t content offset rest cache after old new all some first =
     frame_costs t content offset rest cache after after old new new all some first (range_unread t (offset, min (frame_len (drop offset content)) rest) after new)
@@ -238,7 +238,7 @@ module _ (own : List ℕ → ℕ) (t : Tail) (content : List ℕ) (from offset :
       let here = last.held (subst (λ (c : CacheState). is_served c t (offset, n) ≡ true) (sym before.1) (part_served cache t from (end - from) offset n begins (omega (arith, is, begins)) served)) in
       (here.0 ∙ before.0, here.1 ∙ before.1)
 
-  -- one frame more, which is the last that is read
+  -- one frame more is read, which is the last
   pub next_costs : NextCosts own t content from cache after old new
   next_costs = record {
     passed = so_far.passed;
@@ -247,7 +247,7 @@ module _ (own : List ℕ → ℕ) (t : Tail) (content : List ℕ) (from offset :
     held = quiet (after_frames content from (suc so_far.passed)) (ap (λ (k : ℕ). k + (frame_range content k).1) (sym so_far.at));
   }
 
-  -- or which holds no record either
+  -- or one frame more is passed, which holds no record either
   pub passed_on : (end : ℕ) → end ≡ offset + (frame_range content offset).1 → records own (drop from content) ≡ records own (drop end content) → HasPassed own t content from end cache after old new
   passed_on end is empty = record {
     passed = suc so_far.passed;

@@ -16,15 +16,15 @@ use Rattle.journal.specs.Frame.{frame, record_len, frame_len, is_record, record_
 abbrev pub ab_frame : List ℕ
 ab_frame = 0 ∷ 2 ∷ 97 ∷ 98 ∷ 0 ∷ 0 ∷ 0 ∷ 195 ∷ 1 ∷ []
 
--- that of "c"
+-- the frame of "c"
 abbrev pub c_frame : List ℕ
 c_frame = 0 ∷ 1 ∷ 99 ∷ 0 ∷ 0 ∷ 0 ∷ 99 ∷ 1 ∷ []
 
--- that of "ab" with another checksum and no mark
+-- the frame of "ab" with another checksum and no mark
 abbrev pub bad_frame : List ℕ
 bad_frame = 0 ∷ 2 ∷ 97 ∷ 98 ∷ 0 ∷ 0 ∷ 0 ∷ 0 ∷ 0 ∷ []
 
--- that of "ab" of which the last four bytes are missing
+-- the frame of "ab" without its last four bytes
 abbrev pub half_frame : List ℕ
 half_frame = 0 ∷ 2 ∷ 97 ∷ 98 ∷ 0 ∷ []
 
@@ -40,7 +40,7 @@ pub a_length : record_len (1 ∷ 2 ∷ 97 ∷ []) ≡ 258
 unfolding record_len
 a_length = refl
 
--- of which the second byte is missing
+-- a length of which the second byte is missing
 pub a_cut_length : record_len (1 ∷ []) ≡ 256
 unfolding record_len
 a_cut_length = refl
@@ -53,12 +53,12 @@ pub a_record : record_of add_sum (ab_frame ++ c_frame) ≡ Some (97 ∷ 98 ∷ [
 unfolding record_len is_record record_of
 a_record = refl
 
--- its mark is 0
+-- a frame whose mark is 0 is no record
 pub no_record : record_of const_sum bad_frame ≡ None
 unfolding record_len is_record record_of
 no_record = refl
 
--- its sum is another
+-- a frame whose checksum is another is no record
 pub another_sum : is_record add_sum (0 ∷ 1 ∷ 99 ∷ 0 ∷ 0 ∷ 0 ∷ 98 ∷ 1 ∷ []) ≡ false
 unfolding record_len is_record
 another_sum = refl
@@ -67,7 +67,7 @@ pub two_frames : frames (ab_frame ++ c_frame) ≡ ab_frame ∷ c_frame ∷ []
 unfolding record_len frames
 two_frames = refl
 
--- the second is cut short
+-- the second frame is cut short
 pub a_cut_frame : frames (ab_frame ++ 0 ∷ 1 ∷ 99 ∷ []) ≡ ab_frame ∷ (0 ∷ 1 ∷ 99 ∷ []) ∷ []
 unfolding record_len frames
 a_cut_frame = refl
@@ -86,12 +86,12 @@ pub whole_is_kept : whole_frames (ab_frame ++ bad_frame) ≡ ab_frame ++ bad_fra
 unfolding record_len frames whole_frames
 whole_is_kept = refl
 
--- one that is cut short isn't
+-- a frame that is cut short isn't whole
 pub half_is_left_out : whole_frames (ab_frame ++ bad_frame ++ half_frame) ≡ ab_frame ++ bad_frame
 unfolding record_len frames whole_frames
 half_is_left_out = refl
 
--- nor is one of whose length a byte is left
+-- a frame of whose length one byte is left isn't whole
 pub a_byte_is_left_out : whole_frames (c_frame ++ 0 ∷ []) ≡ c_frame
 unfolding record_len frames whole_frames
 a_byte_is_left_out = refl
@@ -103,7 +103,7 @@ a_whole = refl
 pub a_prefix : IsPrefix ((97 ∷ 98 ∷ []) ∷ []) ((97 ∷ 98 ∷ []) ∷ (99 ∷ []) ∷ [])
 a_prefix = ((99 ∷ []) ∷ [], refl)
 
--- the same blob, after a read of the device that failed
+-- the blob after a read of the device that failed
 abbrev pub failed_read : Entry
 failed_read = record { request = ReadAt 0 16; failed = true }
 
@@ -116,11 +116,11 @@ it_failed life (more, is, answered) =
     let told : true ≡ false = (subst (λ (es : List Entry). AreAnswered es) (sym same) answered).0 in
     absurd (cc told)
 
--- it isn't told as want of memory, though memory may have been asked for after it
+-- a failed read isn't answered as OutOfMemory, though memory may have been asked for after it
 pub no_want_of_memory : (own : List ℕ → ℕ) (life : Life) → ReadRecordGoes own ab_frame 0 life (after_failed_read life) (Err OutOfMemory) → ⊥
 no_want_of_memory own life refused = it_failed life refused
 
--- nor does it give a record
+-- a failed read gives no record
 pub no_record_after : (own : List ℕ → ℕ) (life : Life) (found : Found) → ReadRecordGoes own ab_frame 0 life (after_failed_read life) (Ok (Some found)) → ⊥
 no_record_after own life found goes = it_failed life goes.1
 
@@ -141,17 +141,18 @@ one_met = refl
 pub none_met : pages_met in_pages (3, 0) ≡ 0
 none_met = refl
 
--- the second frame
+-- where the second frame lies
 pub where_it_is : frame_range two 9 ≡ (9, 8)
 unfolding record_len
 where_it_is = refl
 
--- one of which five bytes are missing
+-- where a frame lies of which five bytes are missing
 pub where_it_ends : frame_range (0 ∷ 2 ∷ 97 ∷ 98 ∷ []) 0 ≡ (0, 4)
 unfolding record_len
 where_it_ends = refl
 
--- the first has bytes of three pages, and two bytes of one tell its length; the second begins in the third
+-- the first frame has bytes of three pages, and its length is in one of them; the second begins in
+-- the third
 pub calls_of_the_first : frame_calls in_pages two 0 ≡ 4
 unfolding record_len
 calls_of_the_first = refl

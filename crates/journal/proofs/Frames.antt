@@ -10,13 +10,13 @@ use Rattle.std.proofs.Math.Seq.{take-add}
 use Rattle.std.proofs.lemmas.Bool.{cases_lt, lt-ltb, le-ltb, ne_eqb}
 use Rattle.journal.specs.Frame.{frame, record_len, frame_len, is_record, record_of, frames_in, frames, listed, records, if_whole, whole_frames, AreWholeFrames, IsPrefix}
 
--- what stands within a beginning of some bytes stands in all of them
+-- what lies within a prefix of some bytes lies in all of them
 pub within_take : (n k m : ℕ) (xs : List ℕ) → k + n ≤ m → take n (drop k (take m xs)) ≡ take n (drop k xs)
 within_take n k m xs le =
     let e : m ≡ k + (m - k) = omega arith in
     ap (λ (j : ℕ). take n (drop k (take j xs))) e ∙ ap (λ (l : List ℕ). take n l) (drop-take k (m - k) xs) ∙ take-take n (m - k) (drop k xs) (omega arith)
 
--- these bytes are the same up to there; what a list lacks is 0
+-- the bytes of two lists are the same up to this offset; what a list lacks counts as 0
 abbrev Agree : ℕ → List ℕ → List ℕ → Type 0
 Agree n xs ys = (i : ℕ) → i < n → get_or xs i 0 ≡ get_or ys i 0
 
@@ -32,7 +32,7 @@ record_len-agree : (xs ys : List ℕ) → Agree 2 xs ys → record_len xs ≡ re
 unfolding record_len
 record_len-agree xs ys same = two_agree xs ys same
 
--- a beginning that has the length says the same length
+-- a prefix that has the length's two bytes has the same length
 pub record_len-take : (k : ℕ) (xs : List ℕ) → 2 ≤ k → record_len (take k xs) ≡ record_len xs
 record_len-take k xs enough = record_len-agree (take k xs) xs (λ i lt. get_or-take k xs i 0 (omega arith))
 
@@ -86,12 +86,12 @@ is_record-marked sum xs n crc is mark same =
 after_at : (frame bytes : List ℕ) (i j : ℕ) → drop 2 frame ≡ bytes → j ≡ 2 + i → get_or bytes i 0 ≡ get_or frame j 0
 after_at frame bytes i j is e = ap (λ (l : List ℕ). get_or l i 0) (sym is) ∙ get_or-drop 2 frame i 0 ∙ ap (λ k. get_or frame k 0) (sym e)
 
--- it has another mark
+-- a frame has another mark
 unmarked_after : (sum : List ℕ → ℕ) (frame bytes : List ℕ) (n : ℕ) → record_len frame ≡ n → drop 2 frame ≡ bytes → (get_or bytes (n + 4) 0 ≡ 1 → ⊥) → false ≡ is_record sum frame
 unmarked_after sum frame bytes n len is other =
     sym (is_record-other sum frame (λ one. other (after_at frame bytes (n + 4) (record_len frame + 6) is (omega (arith, len)) ∙ one)))
 
--- it has the mark
+-- a frame has the mark
 marked_after : (sum : List ℕ → ℕ) (frame bytes : List ℕ) (n crc : ℕ) → record_len frame ≡ n → drop 2 frame ≡ bytes → get_or bytes (n + 4) 0 ≡ 1
     → crc ≡ from_be_bytes w32 (get_or bytes n 0 ∷ get_or bytes (n + 1) 0 ∷ get_or bytes (n + 2) 0 ∷ get_or bytes (n + 3) 0 ∷ [])
     → (crc == sum (take n bytes)) ≡ is_record sum frame
@@ -121,12 +121,12 @@ record_of-after sum frame bytes offset n is len after =
 past_bytes : (bytes after : List ℕ) (i j : ℕ) → i ≡ length bytes + j → get_or (bytes ++ after) i 0 ≡ get_or after j 0
 past_bytes bytes after i j e = ap (λ k. get_or (bytes ++ after) k 0) e ∙ get_or-append-add bytes after j 0
 
--- another mark
+-- the byte after the checksum is another mark
 pub unmarked_before : (sum : List ℕ → ℕ) (frame bytes after : List ℕ) → record_len frame ≡ length bytes → drop 2 frame ≡ bytes ++ after → (get_or after 4 0 ≡ 1 → ⊥) → false ≡ is_record sum frame
 unmarked_before sum frame bytes after len is other =
     unmarked_after sum frame (bytes ++ after) (length bytes) len is (λ one. other (sym (past_bytes bytes after (length bytes + 4) 4 refl) ∙ one))
 
--- the mark
+-- the byte after the checksum is the mark
 pub marked_before : (sum : List ℕ → ℕ) (frame bytes after : List ℕ) (crc : ℕ) → record_len frame ≡ length bytes → drop 2 frame ≡ bytes ++ after → get_or after 4 0 ≡ 1
     → crc ≡ from_be_bytes w32 (get_or after 0 0 ∷ get_or after 1 0 ∷ get_or after 2 0 ∷ get_or after 3 0 ∷ []) → (crc == sum bytes) ≡ is_record sum frame
 marked_before sum frame bytes after crc len is mark same =
@@ -144,8 +144,8 @@ record_of-before sum frame bytes after is len rest =
     ap Some (sym (take_at bytes after (length bytes) refl) ∙ ap (λ (l : List ℕ). take (length bytes) l) (sym rest))
     ∙ ap₂ (λ b m. if b then Some (take m (drop 2 frame)) else None) (sym is) (sym len)
 
--- whether the whole frame at the front of some bytes is a record is said by its record's bytes and
--- those after them
+-- whether the whole frame at the front of some bytes is a record, by its record's bytes and those
+-- after them
 pub front_is : (sum : List ℕ → ℕ) (xs : List ℕ) (n : ℕ) (is : Bool) → n ≡ record_len xs → n + 7 ≤ length xs
     → ((frame : List ℕ) → record_len frame ≡ length (take n (drop 2 xs)) → drop 2 frame ≡ take n (drop 2 xs) ++ take 5 (drop (2 + n) xs) → is ≡ is_record sum frame) → is ≡ is_record sum xs
 front_is sum xs n is says whole judged =
@@ -156,7 +156,7 @@ front_is sum xs n is says whole judged =
     ap (λ m. drop 2 (take m xs)) e ∙ drop-take 2 (n + 5) xs ∙ take-add n 5 (drop 2 xs) ∙ ap (λ (l : List ℕ). take n (drop 2 xs) ++ take 5 l) (drop-drop n 2 xs) in
     judged (take (n + 7) xs) len rest ∙ is_record-take sum (n + 7) xs (omega (arith, says))
 
--- what a beginning holds that has the whole frame
+-- the record of a prefix that has the whole frame
 pub record_of-take : (sum : List ℕ → ℕ) (k : ℕ) (xs : List ℕ) → frame_len xs ≤ k → record_of sum (take k xs) ≡ record_of sum xs
 unfolding record_of
 record_of-take sum k xs le =
@@ -224,7 +224,7 @@ whole-step : (xs : List ℕ) → 0 < length xs → whole_frames xs ≡ if_whole 
 unfolding whole_frames
 whole-step xs some = ap (λ fs. flat_map if_whole fs) (frames-step xs some)
 
--- where it is whole
+-- the whole frames where the first frame is whole
 whole-first : (xs : List ℕ) → frame_len xs ≤ length xs → whole_frames xs ≡ take (frame_len xs) xs ++ whole_frames (drop (frame_len xs) xs)
 whole-first xs le =
     let f = take (frame_len xs) xs in
@@ -233,7 +233,7 @@ whole-first xs le =
     whole-step xs (omega (arith, le))
     ∙ ap (λ b. (if b then [] else f) ++ whole_frames (drop (frame_len xs) xs)) (le-ltb (length f) (frame_len f) (omega (arith, same, long)))
 
--- where it is cut short, or there is none, there is no record and no whole frame
+-- where the first frame is cut short, or there is none, there is no record and no whole frame
 none_left : (sum : List ℕ → ℕ) (xs : List ℕ) → length xs < frame_len xs → (records sum xs ≡ []) × (whole_frames xs ≡ [])
 none_left sum [] short = (records-none sum, whole-none)
 none_left sum (x ∷ xs) short =
@@ -298,7 +298,7 @@ whole_append (suc n) (x ∷ xs) ys le whole =
 pub records-append : (sum : List ℕ → ℕ) (xs ys : List ℕ) → AreWholeFrames xs → records sum (xs ++ ys) ≡ records sum xs ++ records sum ys
 records-append sum xs ys whole = records_append sum (length xs) xs ys (omega arith) whole
 
--- and what is whole of it
+-- after whole frames the whole frames of what follows are appended
 whole-append : (xs ys : List ℕ) → AreWholeFrames xs → whole_frames (xs ++ ys) ≡ xs ++ whole_frames ys
 whole-append xs ys whole = whole_append (length xs) xs ys (omega arith) whole
 
@@ -312,7 +312,7 @@ whole_alone f same =
     whole-first f (omega (arith, same)) ∙ ap₂ (λ (a b : List ℕ). a ++ whole_frames b) (take_all (frame_len f) f (omega (arith, same))) (drop_all (frame_len f) f (omega (arith, same)))
     ∙ ap (λ (l : List ℕ). f ++ l) whole-none ∙ append-nil f
 
--- a beginning that ends inside a frame lacks its end
+-- a prefix that ends inside a frame lacks that frame's end
 shorter : (k : ℕ) (xs : List ℕ) → k < frame_len xs → length (take k xs) < frame_len (take k xs)
 shorter k xs cut = elim (cases_lt k 2) [
   | inl few ↦ omega (arith, few, length-take k xs)
@@ -351,11 +351,11 @@ records_begin sum (suc n) (suc k) (x ∷ xs) le =
           (records sum l, ap (λ rs. rs ++ records sum l) (sym none))
     ]
 
--- the records of a beginning are the first of all
+-- the records of a prefix are the first of all
 pub records-take : (sum : List ℕ → ℕ) (k : ℕ) (xs : List ℕ) → IsPrefix (records sum (take k xs)) (records sum xs)
 records-take sum k xs = records_begin sum (length xs) k xs (omega arith)
 
--- the whole frames of some bytes are whole, have their records, and are a beginning of them
+-- the whole frames of some bytes are whole, have their records, and are a prefix of them
 record Kept (sum : List ℕ → ℕ) (xs : List ℕ) : Type 0 where
   whole : AreWholeFrames (whole_frames xs)
   same : records sum (whole_frames xs) ≡ records sum xs
@@ -399,11 +399,11 @@ whole_kept sum (suc n) xs le = elim (cases_lt (length xs) (frame_len xs)) [
 pub whole_is_whole : (xs : List ℕ) → AreWholeFrames (whole_frames xs)
 whole_is_whole xs = (whole_kept (λ l. 0) (length xs) xs (omega arith)).whole
 
--- have the same records
+-- the whole frames of some bytes have the same records
 pub records-whole : (sum : List ℕ → ℕ) (xs : List ℕ) → records sum (whole_frames xs) ≡ records sum xs
 records-whole sum xs = (whole_kept sum (length xs) xs (omega arith)).same
 
--- and are the first of the bytes
+-- the whole frames of some bytes are the first of the bytes
 pub whole_first : (xs : List ℕ) → take (length (whole_frames xs)) xs ≡ whole_frames xs
 whole_first xs =
     let kept = whole_kept (λ l. 0) (length xs) xs (omega arith) in
@@ -477,7 +477,7 @@ frame_alone sum bytes fits =
 pub frame_is_whole : (sum : List ℕ → ℕ) (bytes : List ℕ) → length bytes < 2 ^ 16 → AreWholeFrames (frame sum bytes)
 frame_is_whole sum bytes fits = whole_alone (frame sum bytes) (frame_alone sum bytes fits)
 
--- and has that one record
+-- a record's frame has that one record
 pub records-frame : (sum : List ℕ → ℕ) (bytes : List ℕ) → length bytes < 2 ^ 16 → sum bytes < 2 ^ 32 → records sum (frame sum bytes) ≡ bytes ∷ []
 records-frame sum bytes fits small =
     let l = frame sum bytes in
@@ -494,7 +494,7 @@ records-next sum xs i n found r lt is held so_far =
     ∙ append_assoc found (listed (record_of sum (drop i xs))) (records sum (drop (frame_len (drop i xs)) (drop i xs)))
     ∙ ap (λ rs. found ++ rs) (sym (records-step sum (drop i xs) (omega (arith, length-drop i xs)))) ∙ so_far
 
--- so for how many bytes they have
+-- the bytes of the whole frames so far, and of one frame more
 pub whole-next : (xs : List ℕ) (i n : ℕ) → i + n ≤ length xs → n ≡ frame_len (drop i xs) → i + length (whole_frames (drop i xs)) ≡ length (whole_frames xs)
     → (i + n) + length (whole_frames (drop (i + n) xs)) ≡ length (whole_frames xs)
 whole-next xs i n le is so_far =
@@ -516,7 +516,7 @@ whole-end xs i lt so_far =
     let none : length (whole_frames (drop i xs)) ≡ 0 = ap length (none_left (λ l. 0) (drop i xs) (omega (arith, lt, length-drop i xs))).1 in
     omega (arith, so_far, none)
 
--- what the front of some bytes says, where it holds as much of it as there is
+-- the length at the front of some bytes, where the front holds as much of it as there is
 pub record_len-front : (k : ℕ) (xs : List ℕ) → min 2 (length xs) ≤ k → record_len (take k xs) ≡ record_len xs
 record_len-front k xs enough = elim (cases_lt k 2) [
   | inl few ↦ ap record_len (take_all k xs (omega (arith, few)))

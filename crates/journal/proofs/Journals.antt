@@ -54,11 +54,11 @@ keeps_committed sum own P old new keeps = λ content n commits.
     (λ d kept. record { floor = commits.floor; within = commits.within; kept = kept; there = commits.there })
     (keeps content commits.floor commits.within commits.kept)
 
--- a text that is a beginning of a content has the first of its records
+-- a text that is a prefix of a content has the first of its records
 text_prefix : (own : List ℕ → ℕ) (read content : List ℕ) → read ≡ take (length read) content → IsPrefix (records own read) (records own content)
 text_prefix own read content is = subst (λ (l : List ℕ). IsPrefix (records own l) (records own content)) (sym is) (records-take own (length read) content)
 
--- contents that are left leave their records
+-- where a crash leaves only prefixes of contents, it leaves only the first of their records
 pub only_records : (sum own : List ℕ → ℕ) (P : ℕ) (before after : List ℕ) (all : List (List ℕ)) (d : Disk) → IsPrefix (records own before) all → IsPrefix (records own after) all
     → AllOnly sum P before after d → OnlyRecords sum own P all d
 only_records sum own P before after all d first second only = record {
@@ -74,14 +74,14 @@ pub leaves_records : (sum own : List ℕ → ℕ) (P : ℕ) (before after : List
 leaves_records sum own P before after all old new first second leaves =
     through_then (AllOnly sum P before after) (OnlyRecords sum own P all) old new (λ d only. only_records sum own P before after all d first second only) leaves
 
--- where nothing was asked, there is what there was
+-- where nothing was asked, all is left as it was
 pub leaves_still : (sum own : List ℕ → ℕ) (w : WriterState) (all : List (List ℕ)) (life : Life) → LeavesItsContent sum w life.present → IsPrefix (records own (content w life.present.readable)) all
     → LeavesRecords sum own w.page_size all life life
 leaves_still sum own w all life only first =
     let held = content w life.present.readable in
     leaves_records sum own w.page_size held held all life life first first (through_start (AllOnly sum w.page_size held held) life only)
 
--- what is committed of a content is of a longer one
+-- what is committed of a content is committed of a longer one
 pub commits_longer : (sum own : List ℕ → ℕ) (P : ℕ) (content more : List ℕ) (n : ℕ) (d : Disk) → Commits sum own P content n d → Commits sum own P (content ++ more) n d
 commits_longer sum own P content more n d commits = record {
   floor = commits.floor;
@@ -101,7 +101,7 @@ commits_all sum own P content d keeps = record {
 
 -- ---- the cache
 
--- what a journal stands on
+-- a journal's writer is between two calls
 pub between_of : (sum : List ℕ → ℕ) (w : WriterState) (cache : CacheState) (life : Life) → IsJournal sum w cache life → IsBetweenCalls sum w cache life
 unfolding IsJournal
 between_of sum w cache life journal = journal.between
@@ -134,7 +134,7 @@ pub others_stay : (id : ℕ) (cache after : CacheState) → LeavesOthers id cach
 others_stay id cache after leaves fresh = λ sum w life apart journal.
     stays_journal sum w cache after life (leaves (tail_of w) life.present apart (ready_of sum w cache life journal).can) fresh journal
 
--- so does a call that leaves the reads of each blob
+-- a call that leaves the reads of each blob leaves a journal one
 pub recovery_stays : (cache after : CacheState) → LeavesReads cache after → (IsFresh cache → IsFresh after) → AllJournalsStay cache after
 recovery_stays cache after leaves fresh = λ sum w life journal.
     stays_journal sum w cache after life (leaves (tail_of w) life.present (ready_of sum w cache life journal).can) fresh journal
@@ -208,7 +208,7 @@ buffer_refused sum own w now bytes after life e (Ok r) is tries = absurd is
 buffer_refused sum own w now bytes after life e (Err x) is tries =
     subst (λ (y : Error). AppendRecordGoes sum own w bytes after life life (Err y)) (sym is) (not_buffered sum own w now bytes after life e tries)
 
--- one that it took
+-- a frame that the buffer took
 pub buffered : (sum own : List ℕ → ℕ) (w now : WriterState) (bytes : List ℕ) (cache : CacheState) (life : Life) (at : ℕ) (fits : Option ℕ) → length bytes ≤ 65535 → own bytes < 2 ^ 32 → IsJournal sum w cache life
     → fits ≡ Some at → BuffersOver sum w (frame own bytes) now (Ok fits) → KeepsReads w now → StartsStay sum own w now life life → IsAppended sum own w bytes cache life life now at
 buffered sum own w now bytes cache life at fits short small journal is buffers keeps starts =
@@ -219,7 +219,7 @@ buffered sum own w now bytes cache life at fits short small journal is buffers k
     appended sum own w bytes cache life life now at short small (whole_of sum w cache life journal) is_at goes.content goes.same
     (record { ready = record { sound = goes.sound; can = keeps cache life.present ready.can; fresh = ready.fresh }; size = goes.size; only = goes.only }) starts
 
--- one for which it has no room: nothing has changed
+-- a frame for which the buffer has no room: nothing has changed
 pub not_fitting : (w now : WriterState) (framed : List ℕ) (fits : Option ℕ) → fits ≡ None → TryAppendGoes w framed now (Ok fits) → now ≡ w
 not_fitting w now framed fits is tries = (subst (λ (o : Option ℕ). TryAppendGoes w framed now (Ok o)) is tries).2
 
@@ -231,7 +231,7 @@ pub after_append : (own : List ℕ → ℕ) (before bytes : List ℕ) → length
 after_append own before bytes short small whole =
     ([], sym (append-nil (records own (before ++ frame own bytes)) ∙ records-append own before (frame own bytes) whole ∙ ap (λ rs. records own before ++ rs) (records-frame own bytes (omega arith) small)))
 
--- a commit
+-- a commit of the writer is one of the journal
 pub committed : (sum own : List ℕ → ℕ) (w : WriterState) (after : CacheState) (old new : Life) (now : WriterState) → IsSound sum w old.present → AreWholeFrames (content w old.present.readable) → IsReady sum now after new → SyncAllGoes sum w old new (Ok now)
     → StartsStay sum own w now old new → IsCommitted sum own w after old new now
 committed sum own w after old new now sound whole ready goes starts =
@@ -298,7 +298,7 @@ failed_later : (e : Error) (a b c : Disk) → LogGrows a b → HasFailed e b c �
 failed_later e a b c (first, one) (second, two, some) =
     (first ++ second, two ∙ ap (λ l. l ++ second) one ∙ append_assoc a.log first second, some_after e first second some)
 
--- so is one after another that didn't fail
+-- a read is refused so after a read that didn't fail
 pub refused_later : (old mid new : Life) (e : Error) → Looked old mid → NoneFailed old.present mid.present → RecordReadRefused mid new e → RecordReadRefused old new e
 refused_later old mid new ReadFailed looked none refused = failed_later ReadFailed old.present mid.present new.present looked.log refused
 refused_later old mid new OutOfMemory looked none refused = none_failed_joins old.present mid.present new.present none refused
@@ -343,7 +343,7 @@ found own content offset rest framed bytes end within some is held after =
           ∙ ap₂ (λ b n. listed b ++ records own (drop n content)) (sym is_record) (sym ends);
     }
 
--- no read
+-- what no read leaves
 pub reads_start : (sum : List ℕ → ℕ) (w : WriterState) (cache : CacheState) (life : Life) → IsBetweenCalls sum w cache life → OnlyReads sum w cache cache life life
 reads_start sum w cache life between =
     let held = content w life.present.readable in
@@ -416,7 +416,7 @@ trim_refused sum own w cache after end old new e between is more refused =
     ]) in
     inr (old, looked_start old, less, subst (λ (n : ℕ). Truncates sum n w old new (Err e)) is refused)
 
--- a floor is one of less, too
+-- where a floor is kept, any lower one is kept
 less_kept : (sum : List ℕ → ℕ) (P : ℕ) (content : List ℕ) (floor less : ℕ) (d : Disk) → less ≤ floor → AllKeep sum P content floor d → AllKeep sum P content less d
 less_kept sum P content floor less d le kept = keeps_less sum P content floor less d le kept
 
@@ -456,7 +456,7 @@ whole_commits sum own P T content floor n within same there =
           )
     ]
 
--- so it stays committed where the floors within these are kept
+-- so what is committed stays so where the floors within the whole frames are kept
 pub trim_commits : (sum own : List ℕ → ℕ) (P : ℕ) (T : List ℕ) (old mid new : Life) → IsImage old.present old.present.readable → text sum P old.present.readable ≡ T
     → KeepsAllFloors sum P old mid → KeepsFloorsWithin (length (whole_frames T)) sum P mid new → KeepsCommitted sum own P old new
 trim_commits sum own P T old mid new is_image is keeps within = λ content n commits.
@@ -520,13 +520,13 @@ recovery_goes sum own cache after capacity old mid new w now found recovers id a
       all = subst (λ (l : List ℕ). CommitsAll sum own P l new.present) (sym holds) (commits_all sum own P whole new.present kept);
     }
 
--- one of the blob that was refused
+-- a recovery of a journal where that of the blob was refused
 pub recovery_unbegun : (sum own : List ℕ → ℕ) (cache after : CacheState) (capacity : ℕ) (old new : Life) (e : Error) (result : Result (WriterState × Vec (List ℕ) Global) Error) → IsErrAnd result (λ x. x ≡ e) → Recovers sum cache capacity old new (Err e)
     → RecoversJournal sum own cache after capacity old new result
 recovery_unbegun sum own cache after capacity old new e (Ok r) is recovers = absurd is
 recovery_unbegun sum own cache after capacity old new e (Err x) is recovers = inl (subst (λ (y : Error). Recovers sum cache capacity old new (Err y)) (sym is) recovers)
 
--- one whose content wasn't trimmed
+-- a recovery whose content wasn't trimmed
 pub recovery_refused : (sum own : List ℕ → ℕ) (cache after : CacheState) (capacity : ℕ) (old mid new : Life) (w : WriterState) (e : Error) (result : Result (WriterState × Vec (List ℕ) Global) Error) → IsErrAnd result (λ x. x ≡ e)
     → Recovers sum cache capacity old mid (Ok w) → Trims sum own w after mid new (Err e) → RecoversJournal sum own cache after capacity old new result
 recovery_refused sum own cache after capacity old mid new w e (Ok r) is recovers trims = absurd is
@@ -571,6 +571,6 @@ abbrev bytes_of : Option HandState → List ℕ
 bytes_of None = []
 bytes_of (Some hand) = hand.bytes
 
--- all of the content, for a caller that had nothing yet
+-- the bytes kept are all of the content, for a caller that had nothing yet
 pub kept_held : (start held : HandState) (kept : Option HandState) (all : List ℕ) → kept ≡ Some held → kept ≡ kept_with all (Some start) → start.bytes ≡ [] → held.bytes ≡ all
 kept_held start held kept all is with nothing = ap bytes_of (sym is ∙ with) ∙ ap (λ (l : List ℕ). l ++ all) nothing

@@ -42,7 +42,7 @@ use Rattle.journal.proofs.Frames.{records-none}
 use Rattle.journal.proofs.Starts.{starts_looked}
 use Rattle.journal.proofs.Journals.{all_stay, brings_back, commits_through, new_id, recovered_keeps, recovered_leaves, recovery_stays, trim_commits, between_of, held_on, is_journal, keeps_committed, leaves_records, leaves_still, others_stay, prefix_of_itself, refused_later, whole_of}
 
--- what a reader stands on
+-- a reader's snapshot can be read
 pub opened_by : (sum : List ℕ → ℕ) (r : ReaderState) (cache : CacheState) (life : Life) → IsReader sum r cache life → IsOpenSnapshot sum r.tail cache life
 unfolding IsReader
 opened_by sum r cache life reader = reader
@@ -53,7 +53,7 @@ is_reader sum r cache life opened = opened
 
 -- ---- what stays
 
--- a snapshot that stands where it stood tells what it told
+-- a snapshot that is left gives what it gave
 module _ (sum : List ℕ → ℕ) (t : Tail) (cache after : CacheState) (old new : Life) (opened : IsOpenSnapshot sum t cache old)
     (stands : SnapshotReads sum t (logical_bytes t old.present.readable) after new.present) where
   pub still_tells : logical_bytes t new.present.readable ≡ logical_bytes t old.present.readable
@@ -75,7 +75,7 @@ readers_stay sum w cache after old new leaves = λ r below reader.
       holds = still_tells sum r.tail cache after old new opened stands;
     }
 
--- a read leaves all of them
+-- a read leaves all readers of the blob
 pub all_readers_stay : (sum : List ℕ → ℕ) (cache after : CacheState) (old new : Life) → LeavesAllTails sum cache after old new → AllReadersStay sum cache after old new
 all_readers_stay sum cache after old new leaves = λ r reader.
     let opened = opened_by sum r cache old reader in
@@ -93,7 +93,7 @@ other_readers_stay id cache after leaves = λ sum r life apart reader. record {
   size = reader.size;
 }
 
--- so does a call that leaves the reads of each blob
+-- a call that leaves the reads of each blob leaves each reader
 pub each_reader_stays : (cache after : CacheState) → LeavesReads cache after → EachReaderStays cache after
 unfolding IsReader
 each_reader_stays cache after leaves = λ sum r life reader. record {
@@ -112,7 +112,7 @@ each_reader_still id cache mid after is first second = λ sum r life reader.
 
 -- ---- recovery
 
--- what a recovery of the blob owes leaves
+-- what a recovery leaves, by what that of the blob holds at each of its moments
 pub owed_recovery : (sum own : List ℕ → ℕ) (cache after : CacheState) (old new : Life) → IsFresh cache → OwesRecovering sum cache.page_size cache after old new → JournalRecoveryLeaves sum own cache after old new
 owed_recovery sum own cache after old new fresh owes =
     let P = cache.page_size in
@@ -127,7 +127,7 @@ owed_recovery sum own cache after old new fresh owes =
       only = λ durable. leaves_records sum own P T T (records own T) old new itself itself (owes.only durable);
     }
 
--- and what the trim after it does
+-- what a recovery and the trim after it leave
 pub trim_leaves_all : (sum own : List ℕ → ℕ) (cache between after : CacheState) (old mid new : Life) (w : WriterState) → IsFresh cache → IsImage old.present old.present.readable → OwesRecovering sum cache.page_size cache between old mid
     → w.id ≡ cache.ids_given → w.page_size ≡ cache.page_size → content w mid.present.readable ≡ text sum cache.page_size old.present.readable → IsFresh after → LeavesOthers w.id between after
     → KeepsFloorsWithin (length (whole_frames (text sum cache.page_size old.present.readable))) sum cache.page_size mid new → LeavesOnly sum w.page_size (content w mid.present.readable) (whole_frames (content w mid.present.readable)) mid new
@@ -167,7 +167,7 @@ pub crash_refused : (sum own : List ℕ → ℕ) (P : ℕ) (was : Disk) (image :
 crash_refused sum own P was image e (Ok r) is = absurd is
 crash_refused sum own P was image e (Err x) is = record { back = tt; only = tt }
 
--- no crash
+-- what no crash leaves
 pub nothing_crashed : (sum own : List ℕ → ℕ) (cache : CacheState) (d : Disk) → IsFresh cache → JournalCrashLeaves sum own cache cache d d
 nothing_crashed sum own cache d fresh = record {
   fresh = fresh;
@@ -178,7 +178,7 @@ nothing_crashed sum own cache d fresh = record {
 
 -- ---- reads through a view
 
--- a read
+-- what a read through a view leaves
 pub read_views : (sum : List ℕ → ℕ) (t : Tail) (cache after : CacheState) (old new : Life) → IsOpenSnapshot sum t cache old → ReadLeaves sum t cache after old new → ViewLeaves sum t cache after old new
 read_views sum t cache after old new opened leaves =
     let stands = leaves.tails t (logical_bytes t old.present.readable) opened.stands in
@@ -192,7 +192,7 @@ read_views sum t cache after old new opened leaves =
       fresh = leaves.fresh;
     }
 
--- no read
+-- what no read through a view leaves
 pub views_start : (sum : List ℕ → ℕ) (t : Tail) (cache : CacheState) (life : Life) → IsOpenSnapshot sum t cache life → ViewLeaves sum t cache cache life life
 views_start sum t cache life opened = record {
   opened = opened;
@@ -204,7 +204,7 @@ views_start sum t cache life opened = record {
   fresh = λ fresh. fresh;
 }
 
--- one after another
+-- what two reads leave, one after another
 pub views_join : (sum : List ℕ → ℕ) (t : Tail) (cache between after : CacheState) (old mid new : Life) → ViewLeaves sum t cache between old mid → ViewLeaves sum t between after mid new → ViewLeaves sum t cache after old new
 views_join sum t cache between after old mid new first second = record {
   opened = second.opened;
@@ -232,7 +232,7 @@ view_refused sum t cache offset len bytes old new IdsExhausted refused opened wi
 
 -- ---- reads of a snapshot
 
--- through its view, whose own bytes are less than a page
+-- what reads of a snapshot leave, through its view, whose own bytes are less than a page
 pub views_look : (sum : List ℕ → ℕ) (t : Tail) (cache after : CacheState) (old new : Life) → length t.bytes < t.page_size → ViewLeaves sum t cache after old new → OnlyLooks sum t cache after old new
 views_look sum t cache after old new short views = record {
   opened = views.opened;
@@ -244,7 +244,7 @@ views_look sum t cache after old new short views = record {
   fresh = views.fresh;
 }
 
--- no read
+-- what no read of a snapshot leaves
 pub looks_start : (sum : List ℕ → ℕ) (t : Tail) (cache : CacheState) (life : Life) → IsOpenSnapshot sum t cache life → OnlyLooks sum t cache cache life life
 looks_start sum t cache life opened = record {
   opened = opened;
@@ -256,7 +256,7 @@ looks_start sum t cache life opened = record {
   fresh = λ fresh. fresh;
 }
 
--- one after another
+-- what two such reads leave, one after another
 pub looks_join : (sum : List ℕ → ℕ) (t : Tail) (cache between after : CacheState) (old mid new : Life) → OnlyLooks sum t cache between old mid → OnlyLooks sum t between after mid new → OnlyLooks sum t cache after old new
 looks_join sum t cache between after old mid new first second = record {
   opened = second.opened;
@@ -270,7 +270,7 @@ looks_join sum t cache between after old mid new first second = record {
 
 -- ---- a crash after such reads
 
--- a disk that is the same but for its log has the same images
+-- a disk that is the same except for its log has the same images
 image_before : (d e : Disk) (image : List ℕ) → SameButLog d e → IsImage e image → IsImage d image
 image_before d e image same is =
     let i : IsImage (record d { log = e.log }) image = subst (λ (x : Disk). IsImage x image) same is in
@@ -281,7 +281,7 @@ looked_keeps sum P old new looked = λ content floor enough kept.
     through_then (SameButLog old.present) (AllKeep sum P content floor) old new
     (λ d same. keeps_alike sum P content floor old.present d (ap (λ (x : Disk). x.base) same) (ap (λ (x : Disk). x.since) same) kept) looked.through
 
--- nor are other texts left
+-- no other texts are left by such a disk
 only_later : (sum : List ℕ → ℕ) (P : ℕ) (held : List ℕ) (d e : Disk) → SameButLog d e → AllOnly sum P held held d → AllOnly sum P held held e
 only_later sum P held d e same only = record {
   only = λ image is free. only.only image (image_before d e image same is) (subst (λ (x : Disk). IsChanceFree sum P x image) same free);
@@ -292,7 +292,7 @@ pub looked_leaves : (sum : List ℕ → ℕ) (P : ℕ) (held : List ℕ) (old ne
 looked_leaves sum P held old new looked only =
     through_then (SameButLog old.present) (AllOnly sum P held held) old new (λ d same. only_later sum P held old.present d same only) looked.through
 
--- so only the records of the blob's journal
+-- so only the first records of the blob's journal are left
 pub looked_records : (sum own : List ℕ → ℕ) (cache : CacheState) (old new : Life) → Looked old new → LeavesTheirRecords sum own cache old new
 looked_records sum own cache old new looked = λ w journal.
     let held = content w old.present.readable in
@@ -341,7 +341,7 @@ views_read sum w cache after old new between views =
       only = looked_leaves sum w.page_size held old new views.looked between.only;
     }
 
--- so it stays a journal
+-- so a journal of the blob stays one
 pub journals_stay : (sum : List ℕ → ℕ) (t : Tail) (cache after : CacheState) (old new : Life) → OnlyLooks sum t cache after old new → JournalsStay sum cache after old new
 journals_stay sum t cache after old new looks = λ w journal.
     let between = between_of sum w cache old journal in
@@ -360,7 +360,7 @@ journals_stay sum t cache after old new looks = λ w journal.
 
 -- ---- what calls leave
 
--- a call of the writer that owes so
+-- what a call of a journal leaves, by what the writer's call holds at each of its moments
 pub owed_leaves : (sum own : List ℕ → ℕ) (w : WriterState) (all : List (List ℕ)) (next : List ℕ) (cache after : CacheState) (old new : Life) → IsPrefix (records_in own w old) all → IsPrefix (records own next) all → Owes sum w next cache after old new
     → JournalCallLeaves sum own w all cache after old new
 owed_leaves sum own w all next cache after old new first second owes =
@@ -375,13 +375,13 @@ owed_leaves sum own w all next cache after old new first second owes =
       only = leaves_records sum own P held next all old new first second (owed_only sum P w.full_pages held next old new owes.through);
     }
 
--- one that appends nothing
+-- what a call leaves that appends nothing
 pub owed_same : (sum own : List ℕ → ℕ) (w : WriterState) (cache after : CacheState) (old new : Life) → Owes sum w (content w old.present.readable) cache after old new → JournalCallLeaves sum own w (records_in own w old) cache after old new
 owed_same sum own w cache after old new owes =
     let itself = prefix_of_itself (records_in own w old) in
     owed_leaves sum own w (records_in own w old) (content w old.present.readable) cache after old new itself itself owes
 
--- a wait: with each cache with which the journal was one
+-- what a wait leaves, with each cache with which the journal was one
 pub waiting_leaves : (sum own : List ℕ → ℕ) (w : WriterState) (cache : CacheState) (old new : Life) → OwesWaiting sum w old new → IsJournal sum w cache old → JournalCallLeaves sum own w (records_in own w old) cache cache old new
 waiting_leaves sum own w cache old new owes journal =
     let P = w.page_size in
@@ -397,7 +397,7 @@ waiting_leaves sum own w cache old new owes journal =
       only = leaves_records sum own P held held (records_in own w old) old new itself itself (owed_only sum P w.full_pages held held old new owes.through);
     }
 
--- no call
+-- what no call leaves
 pub nothing_leaves : (sum own : List ℕ → ℕ) (w : WriterState) (all : List (List ℕ)) (cache : CacheState) (life : Life) → IsJournal sum w cache life → IsPrefix (records_in own w life) all → JournalCallLeaves sum own w all cache cache life life
 nothing_leaves sum own w all cache life journal first = record {
   fresh = (between_of sum w cache life journal).ready.fresh;
@@ -425,7 +425,7 @@ reads_leave sum own w cache after old new reads =
       };
     }
 
--- and a reader's
+-- what a reader's reads leave
 pub looks_leave : (sum own : List ℕ → ℕ) (r : ReaderState) (cache after : CacheState) (old new : Life) → OnlyLooks sum r.tail cache after old new → ReaderLeaves sum own r cache after old new
 looks_leave sum own r cache after old new looks = record {
   looked = looks.looked;
@@ -441,18 +441,18 @@ looks_leave sum own r cache after old new looks = record {
 
 -- ---- the next record
 
--- none is left at the end
+-- no record is left at the end
 pub next_none : (own : List ℕ → ℕ) (held : List ℕ) (from offset : ℕ) → records own (drop from held) ≡ records own (drop offset held) → length held ≤ offset → IsNext own held from None offset
 next_none own held from offset so_far end =
     record { goes = so_far; ends = λ none. ap (λ (l : List ℕ). records own l) (drop_all offset held end) ∙ records-none own }
 
--- it is no record, and is passed over
+-- the frame is no record, and is passed over
 pub next_later : (own : List ℕ → ℕ) (held : List ℕ) (from offset : ℕ) (bytes : Option (List ℕ)) (end : ℕ) → records own (drop from held) ≡ records own (drop offset held)
     → IsFound own held offset bytes end → bytes ≡ None → records own (drop from held) ≡ records own (drop end held)
 next_later own held from offset bytes end so_far found none =
     so_far ∙ found.rest ∙ ap (λ (b : Option (List ℕ)). listed b ++ records own (drop end held)) none
 
--- it is a record
+-- the frame is a record
 pub next_found : (own : List ℕ → ℕ) (held : List ℕ) (from offset : ℕ) (bytes : Option (List ℕ)) (end : ℕ) → records own (drop from held) ≡ records own (drop offset held)
     → IsFound own held offset bytes end → is_some bytes ≡ true → IsNext own held from bytes end
 next_found own held from offset bytes end so_far found some = record {
@@ -460,13 +460,13 @@ next_found own held from offset bytes end so_far found some = record {
   ends = λ none. let e : false ≡ true = ap (λ (o : Option (List ℕ)). is_some o) (sym none) ∙ some in absurd (cc e);
 }
 
--- it wasn't read
+-- the frame wasn't read
 pub next_refused : (own : List ℕ → ℕ) (held : List ℕ) (offset : ℕ) (old mid new : Life) (e : Error) (result : Result Found Error) → IsErrAnd result (λ x. x ≡ e) → Looked old mid → NoneFailed old.present mid.present → RecordReadRefused mid new e
     → FindsNext own held offset old new result
 next_refused own held offset old mid new e (Ok f) is looked none refused = absurd is
 next_refused own held offset old mid new e (Err x) is looked none refused = refused_later old mid new x looked none (subst (λ (y : Error). RecordReadRefused mid new y) (sym is) refused)
 
--- nothing that is found is nothing
+-- an option that isn't some is none
 pub not_some : (o : Option (List ℕ)) → is_some o ≡ false → o ≡ None
 not_some None is = refl
 not_some (Some bytes) is = cc

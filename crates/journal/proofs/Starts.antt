@@ -29,7 +29,8 @@ use Rattle.journal.specs.Frame.{AreWholeFrames, records}
 use Rattle.journal.specs.Journal.{Commits, HasStartedCommit, HasWaitedForCommit, IsJournal, IsStarted, StartsStay, PendingCommits, StartCommitGoes, StartedCommits, WaitForCommitGoes, WouldCommit}
 use Rattle.journal.proofs.Journals.{commits_all, commits_longer, front, held_on, is_journal, ready_of, whole_of}
 
--- committed, or once the sync completed that a writer in this state waits for
+-- the first n records are committed, or will be once the sync that a writer in this state waits for
+-- has completed
 abbrev Either : (sum own : List ℕ → ℕ) → ℕ → List ℕ → ℕ → SyncState → Disk → Type 0
 Either sum own P held n s d = Commits sum own P held n d ⊎ PendingCommits sum own P held n s d
 
@@ -56,7 +57,7 @@ either_longer sum own P held more n s d (inr pends) = inr (pending_longer sum ow
 
 -- ---- what calls leave of them
 
--- what would be committed is, where so many bytes are kept
+-- what would be committed is committed, where so many bytes are kept
 commits_done : (sum own : List ℕ → ℕ) (P : ℕ) (held : List ℕ) (n name : ℕ) (d e : Disk) (would : WouldCommit sum own P held n name d) → AllKeep sum P held would.floor e → Commits sum own P held n e
 commits_done sum own P held n name d e would kept = record { floor = would.floor; within = would.within; kept = kept; there = would.there }
 
@@ -70,7 +71,8 @@ module _ (sum own : List ℕ → ℕ) (P : ℕ) (held : List ℕ) (n : ℕ) (old
     there = commits.there;
   }
 
-  -- a sync that is no longer waited for has committed what it would; the one that is would still
+  -- a sync that is no longer waited for has committed what it would; the one that still is would
+  -- still commit it
   pending_on : (s t : SyncState) → CoversThrough sum P held old new → Completed sum P held s t old new → PendingCommits sum own P held n s old.present → Either sum own P held n t new.present
   pending_on Clean t covers done pends = absurd pends
   pending_on Dirty t covers done pends = absurd pends
@@ -87,14 +89,14 @@ module _ (sum own : List ℕ → ℕ) (P : ℕ) (held : List ℕ) (n : ℕ) (old
   either_on s t keeps covers done (inl commits) = inl (commits_on keeps commits)
   either_on s t keeps covers done (inr pends) = pending_on s t covers done pends
 
-  -- once it completed they are committed
+  -- once the sync has completed, those records are committed
   either_done : (s : SyncState) → KeepsAllFloors sum P old new → Completes sum P s old new → Either sum own P held n s old.present → Commits sum own P held n new.present
   either_done s keeps done (inl commits) = commits_on keeps commits
   either_done Clean keeps done (inr pends) = absurd pends
   either_done Dirty keeps done (inr pends) = absurd pends
   either_done (Pending name) keeps done (inr pends) = commits_done sum own P held n name old.present new.present pends (done held pends.floor pends.kept)
 
--- of a journal, whatever the call
+-- each commit that was started is a started commit still, whatever the call
 pub starts_on : (sum own : List ℕ → ℕ) (w now : WriterState) (more : List ℕ) (old new : Life) → content now new.present.readable ≡ content w old.present.readable ++ more → now.page_size ≡ w.page_size
     → KeepsAllFloors sum w.page_size old new → CoversThrough sum w.page_size (content w old.present.readable) old new → Completed sum w.page_size (content w old.present.readable) w.sync now.sync old new → StartsStay sum own w now old new
 unfolding IsStarted
@@ -104,7 +106,7 @@ starts_on sum own w now more old new holds size keeps covers done = λ n started
     subst (λ (P : ℕ). Either sum own P (content now new.present.readable) n now.sync new.present) (sym size)
     (subst (λ (l : List ℕ). Either sum own w.page_size l n now.sync new.present) (sym holds) (either_longer sum own w.page_size held more n now.sync new.present on))
 
--- one that the writer answered well
+-- by a call that the writer answered Ok
 pub starts_held : (sum own : List ℕ → ℕ) (w now : WriterState) (more next : List ℕ) (cache after : CacheState) (old new : Life) → Holds sum w old more now new → Owes sum w next cache after old new → StartsStay sum own w now old new
 starts_held sum own w now more next cache after old new holds owes =
     let held = content w old.present.readable in
@@ -120,7 +122,7 @@ pub commit_starts : (sum own : List ℕ → ℕ) (w : WriterState) (next : List 
 commit_starts sum own w next cache after old new (Ok now) goes owes = starts_held sum own w now [] next cache after old new goes.holds owes
 commit_starts sum own w next cache after old new (Err e) goes owes = tt
 
--- one that asked nothing of the device
+-- by a call that asked nothing of the device
 unwaited : (sum : List ℕ → ℕ) (P : ℕ) (held : List ℕ) (s t : SyncState) (life : Life) → t ≡ s → Completed sum P held s t life life
 unwaited sum P held Clean t life same = tt
 unwaited sum P held Dirty t life same = tt
@@ -132,7 +134,7 @@ starts_buffered sum own w now more life holds size same =
     starts_on sum own w now more life life holds size (λ other floor within kept. through_start (AllKeep sum w.page_size other floor) life kept)
     (through_start (CoversStay sum w.page_size held life.present) life (λ name cover within would. would)) (unwaited sum w.page_size held w.sync now.sync life same)
 
--- bytes that the buffer took
+-- by an append that the buffer took
 pub buffered_starts : (sum own : List ℕ → ℕ) (w now : WriterState) (bytes : List ℕ) (cache : CacheState) (life : Life) (at : ℕ) (fits : Option ℕ) → IsJournal sum w cache life → fits ≡ Some at → TryAppendGoes w bytes now (Ok fits) → BuffersOver sum w bytes now (Ok fits)
     → StartsStay sum own w now life life
 buffered_starts sum own w now bytes cache life at fits journal is tries buffers =
@@ -141,7 +143,7 @@ buffered_starts sum own w now bytes cache life at fits journal is tries buffers 
     let goes = (over life (ready_of sum w cache life journal).sound).1 in
     starts_buffered sum own w now bytes life goes.content goes.same.page_size (ap (λ (v : WriterState). v.sync) tried.3)
 
--- one that only looked
+-- by a call that only looked
 pub starts_looked : (sum own : List ℕ → ℕ) (w : WriterState) (old new : Life) → Looked old new → StartsStay sum own w w old new
 unfolding IsStarted
 starts_looked sum own w old new looked = λ n started.
@@ -222,7 +224,7 @@ start_gives sum own w after old new (Err e) is = tt
 
 -- ---- a wait
 
--- of a sound writer that has nothing unsynced all that is readable is durable
+-- if a sound writer has nothing unsynced, all that is readable is durable
 clean_is_durable : (sum : List ℕ → ℕ) (w : WriterState) (d : Disk) → IsSound sum w d → w.sync ≡ Clean → IsDurable d
 unfolding IsSound
 clean_is_durable sum w d sound clean =

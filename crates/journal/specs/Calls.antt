@@ -15,8 +15,8 @@ use Rattle.journal.specs.Reader.{AllReadersStay, EachReaderStays, IsNewToReaders
 use Rattle.journal.specs.Reader.{KeepsTheirStarts, LeavesTheirRecords, OtherReadersStay}
 use Rattle.journal.specs.Reader.{ReaderState, ReadersStay}
 
--- what a call of a journal leaves: the cache serves on; the readers of its blob go on, and the
--- journals and the readers of other blobs
+-- what a call of a journal leaves: the cache serves on, and the readers of its blob go on, as do
+-- the journals and the readers of other blobs
 pub record JournalCallLeaves (sum own : List ℕ → ℕ) (w : WriterState) (all : List (List ℕ))
     (cache after : CacheState) (old new : Life) : Type 0 where
   pub fresh : IsFresh after
@@ -28,7 +28,7 @@ pub record JournalCallLeaves (sum own : List ℕ → ℕ) (w : WriterState) (all
   -- and chance aside a crash at any of these moments leaves only the first of these records
   pub only : LeavesRecords sum own w.page_size all old new
 
--- a read of a journal: the same, and the device was only read
+-- a read of a journal leaves what a call does that adds no record, and the device was only read
 pub record RecordReadLeaves (sum own : List ℕ → ℕ) (w : WriterState) (cache after : CacheState)
     (old new : Life) : Type 0 where
   pub looked : Looked old new
@@ -52,8 +52,8 @@ pub record ReaderLeaves (sum own : List ℕ → ℕ) (r : ReaderState) (cache af
 
 -- ---- recovery
 
--- a recovery: its id is no other journal's and no reader's, and the records begin with all that
--- were committed
+-- a recovery: the journal's id is no other journal's and no reader's, and the records begin with
+-- all that were committed
 pub record JournalRecoverGoes (sum own : List ℕ → ℕ) (cache after : CacheState) (capacity : ℕ)
     (old new : Life) (result : Result (WriterState × Vec (List ℕ) Global) Error) : Type 0 where
   pub answers : RecoversJournal sum own cache after capacity old new result
@@ -61,7 +61,8 @@ pub record JournalRecoverGoes (sum own : List ℕ → ℕ) (cache after : CacheS
   pub readers_apart : IfOk result (λ r. IsNewToReaders r.0.id cache)
   pub back : IfOk result (λ r. BringsRecordsBack sum own cache.page_size old.present r.1.items)
 
--- what it leaves: the cache serves on, and the journals and the readers of other blobs go on
+-- what a recovery leaves: the cache serves on, and the journals and the readers of other blobs go
+-- on
 pub record JournalRecoveryLeaves (sum own : List ℕ → ℕ) (cache after : CacheState) (old new : Life)
     : Type 0 where
   pub fresh : IsFresh after
@@ -69,8 +70,8 @@ pub record JournalRecoveryLeaves (sum own : List ℕ → ℕ) (cache after : Cac
   pub readers : EachReaderStays cache after
   -- what was committed is so at each moment since the call began
   pub kept : KeepsCommitted sum own cache.page_size old new
-  -- where all was durable, all records of the text are committed at each of these moments, and
-  -- chance aside a crash leaves only them
+  -- if all was durable as the call began, all records of the text are committed at each of these
+  -- moments, and chance aside a crash leaves only the first of them
   pub all : KeepsAllRecords sum own cache.page_size old new
   pub only : LeavesAllRecords sum own cache.page_size old new
 
@@ -81,8 +82,8 @@ pub record JournalCrashGoes (sum own : List ℕ → ℕ) (P : ℕ) (was : Disk) 
   pub back : IfOk result (λ r. BringsRecordsBack sum own P was r.1.items)
   pub only : IfOk result (λ r. BringsOnlyRecords sum own P was image r.1.items)
 
--- what both leave: the cache serves on, the journals and the readers of other blobs go on, and what
--- was committed still is
+-- what a crash and a recovery leave: the cache serves on, the journals and the readers of other
+-- blobs go on, and what was committed still is
 pub record JournalCrashLeaves (sum own : List ℕ → ℕ) (cache after : CacheState) (was is : Disk)
     : Type 0 where
   pub fresh : IsFresh after

@@ -26,7 +26,7 @@ abbrev pub ReaderCosts : WriterState → (cache after : CacheState) → Life →
 ReaderCosts w cache after old new result =
     SnapshotCosts w cache after old new (writer_and_tail result)
 
--- how many pages below a tail a range has bytes of
+-- of how many of a tail's full pages a range has bytes
 abbrev pub pages_met : Tail → ℕ × ℕ → ℕ
 pages_met t range = length (filter (touches t.page_size range) (range_with_len 0 t.full_pages))
 
@@ -36,7 +36,7 @@ frame_range content offset =
     (offset, min (frame_len (drop offset content)) (length content - offset))
 
 -- the most device calls that a read of this frame makes: one for each page of its first two bytes,
--- which tell its length, and one for each of its pages
+-- which are its length, and one for each of its pages
 abbrev pub frame_calls : Tail → List ℕ → (offset : ℕ) → ℕ
 frame_calls t content offset =
     let range = frame_range content offset in
@@ -53,8 +53,8 @@ pub record RangeCosts (t : Tail) (range : ℕ × ℕ) (cache after : CacheState)
   pub calls : AsksAtMost (pages_met t range) old new
   pub held : is_served cache t range ≡ true → IsQuiet cache after old new
 
--- a read of the frame that begins at an offset, whatever it answers; where none does it asks for
--- nothing
+-- a read of the frame that begins at an offset, whatever it answers; if no frame begins there, the
+-- read asks for nothing
 pub record FrameCosts (t : Tail) (content : List ℕ) (offset : ℕ) (cache after : CacheState)
     (old new : Life) : Type 0 where
   pub calls : AsksAtMost (frame_calls t content offset) old new
@@ -67,14 +67,14 @@ after_frames content from zero = from
 after_frames content from (suc n) =
     let at = after_frames content from n in at + (frame_range content at).1
 
--- the most device calls that a read of these makes
+-- the most device calls that a read of so many frames makes, of which the first begins here
 abbrev pub frames_calls : Tail → List ℕ → (from : ℕ) → (n : ℕ) → ℕ
 frames_calls t content from zero = 0
 frames_calls t content from (suc n) =
     frames_calls t content from n + frame_calls t content (after_frames content from n)
 
 -- a read of the next record from an offset on, whatever it answers: it reads the frames that hold
--- none, each once, and one more
+-- no record, each once, and one frame more
 pub record NextCosts (own : List ℕ → ℕ) (t : Tail) (content : List ℕ) (from : ℕ)
     (cache after : CacheState) (old new : Life) : Type 0 where
   pub passed : ℕ

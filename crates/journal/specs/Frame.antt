@@ -10,22 +10,23 @@ use Rattle.std.specs.Int.{w16, w32, to_be_bytes, from_be_bytes}
 unfoldable pub frame : (List ℕ → ℕ) → List ℕ → List ℕ
 frame sum bytes = to_be_bytes w16 (length bytes) ++ bytes ++ to_be_bytes w32 (sum bytes) ++ 1 ∷ []
 
--- of the frame at the front of some bytes: how many it says that its record has
+-- how many bytes a record has, by the length in its frame, which is at the front of these bytes
 unfoldable pub record_len : List ℕ → ℕ
 record_len bytes = from_be_bytes w16 bytes
 
--- how many the frame has
+-- how many bytes the frame has: the length and the record, the checksum and the mark
 abbrev pub frame_len : List ℕ → ℕ
 frame_len bytes = record_len bytes + 7
 
--- whether it is a record: its mark is 1, and its checksum is that of the record's bytes
+-- whether the frame at the front of these bytes is a record: its mark is 1, and its checksum is
+-- that of the record's bytes
 unfoldable pub is_record : (List ℕ → ℕ) → List ℕ → Bool
 is_record sum bytes =
     let n = record_len bytes in
     (slice_index bytes (n + 6) == 1)
     && (from_be_bytes w32 (drop (n + 2) bytes) == sum (take n (drop 2 bytes)))
 
--- the record
+-- the record of the frame at the front of these bytes, if it is one
 unfoldable pub record_of : (List ℕ → ℕ) → List ℕ → Option (List ℕ)
 record_of sum bytes =
     if is_record sum bytes then Some (take (record_len bytes) (drop 2 bytes)) else None
@@ -37,11 +38,11 @@ frames_in (suc n) [] = []
 frames_in (suc n) (b ∷ bytes) =
     let all = b ∷ bytes in take (frame_len all) all ∷ frames_in n (drop (frame_len all) all)
 
--- all of them
+-- all frames of some bytes
 unfoldable pub frames : List ℕ → List (List ℕ)
 frames bytes = frames_in (length bytes) bytes
 
--- a list of what there is
+-- a record as a list, which is empty if there is none
 abbrev pub listed : Option (List ℕ) → List (List ℕ)
 listed None = []
 listed (Some bytes) = bytes ∷ []
@@ -62,6 +63,6 @@ whole_frames bytes = flat_map if_whole (frames bytes)
 abbrev pub AreWholeFrames : List ℕ → Type 0
 AreWholeFrames bytes = whole_frames bytes ≡ bytes
 
--- these records are the first of all those
+-- the records of `front` are the first of `all`
 abbrev pub IsPrefix : List (List ℕ) → List (List ℕ) → Type 0
 IsPrefix front all = (rest : List (List ℕ)) × (all ≡ front ++ rest)

@@ -35,8 +35,8 @@ use Rattle.journal.specs.declared.frame.Found.{Found}
 use Rattle.journal.specs.Frame.{frame, frame_len, record_of, records, listed, whole_frames}
 use Rattle.journal.specs.Frame.{AreWholeFrames, IsPrefix}
 
--- a writer between two calls, as the last of them left it: it is ready, its size is that of its
--- content, and chance aside a crash leaves only that
+-- a writer between two calls, as the last call left it: the writer is ready, its size is that of
+-- its content, and chance aside (no checksum collides) a crash leaves only a prefix of its content
 pub record IsBetweenCalls (sum : List ℕ → ℕ) (w : WriterState) (cache : CacheState) (life : Life)
     : Type 0 where
   pub ready : IsReady sum w cache life
@@ -49,8 +49,8 @@ pub record IsJournalNow (sum : List ℕ → ℕ) (w : WriterState) (cache : Cach
   pub between : IsBetweenCalls sum w cache life
   pub whole : AreWholeFrames (content w life.present.readable)
 
--- a journal between two calls. The word for it in contracts: a caller hands it from call to call,
--- and has no need to see into it
+-- `IsJournalNow`, as contracts name it: a caller hands it from call to call, and has no need to see
+-- into it
 unfoldable pub IsJournal : (List ℕ → ℕ) → WriterState → CacheState → Life → Type 0
 IsJournal sum w cache life = IsJournalNow sum w cache life
 
@@ -60,7 +60,7 @@ OtherJournalsStay id cache after =
     (sum : List ℕ → ℕ) (w : WriterState) (life : Life) → w.id ≢ id
     → IsJournal sum w cache life → IsJournal sum w after life
 
--- one over a blob that is new to the cache: every journal does
+-- a call over a blob that is new to the cache: every journal that has this cache stays one
 abbrev pub AllJournalsStay : CacheState → CacheState → Type 0
 AllJournalsStay cache after =
     (sum : List ℕ → ℕ) (w : WriterState) (life : Life)
@@ -71,12 +71,13 @@ abbrev pub IsNewToJournals : ℕ → CacheState → Type 0
 IsNewToJournals id cache =
     (sum : List ℕ → ℕ) (w : WriterState) (life : Life) → IsJournal sum w cache life → w.id ≢ id
 
--- chance aside, a crash at any moment since leaves of this content a beginning
+-- chance aside, a crash at any moment since leaves a prefix of this content
 abbrev pub LeavesContent : (List ℕ → ℕ) → ℕ → List ℕ → Life → Life → Type 0
 LeavesContent sum P content old new = LeavesOnly sum P content content old new
 
--- reads: the writer is so again, the content is the same, snapshots and whoever reads other blobs
--- stand as they stood, and a crash at any moment since keeps and leaves what one before them did
+-- what reads leave: the writer is between two calls again, the content is the same, snapshots and
+-- reads of other blobs stay valid, and a crash at any moment since keeps and leaves what one before
+-- the reads did
 pub record OnlyReads (sum : List ℕ → ℕ) (w : WriterState) (cache after : CacheState)
     (old new : Life) : Type 0 where
   pub between : IsBetweenCalls sum w after new
@@ -91,8 +92,8 @@ pub record OnlyReads (sum : List ℕ → ℕ) (w : WriterState) (cache after : C
 abbrev pub records_in : (own : List ℕ → ℕ) → WriterState → Life → List (List ℕ)
 records_in own w life = records own (content w life.present.readable)
 
--- the content's first n records are committed: they stand in so many of its bytes as every image
--- keeps
+-- the content's first n records are committed: they lie within the floor, which is how many of the
+-- content's first bytes every image (what a crash may leave) keeps
 pub record Commits (sum own : List ℕ → ℕ) (P : ℕ) (content : List ℕ) (n : ℕ) (d : Disk)
     : Type 0 where
   pub floor : ℕ
@@ -112,21 +113,21 @@ pub record WouldCommit (sum own : List ℕ → ℕ) (P : ℕ) (content : List �
   pub kept : WouldKeep sum P content name floor d
   pub there : n ≤ length (records own (take floor content))
 
--- chance aside, the records of whatever a crash leaves are the first of these; and where no
--- checksum collides there is no chance
+-- chance aside, the records of whatever a crash leaves are the first of these; and an image in
+-- which no checksum collides is one without chance
 pub record OnlyRecords (sum own : List ℕ → ℕ) (P : ℕ) (all : List (List ℕ)) (d : Disk)
     : Type 0 where
   pub only : (image : List ℕ) → IsImage d image → IsChanceFree sum P d image
       → IsPrefix (records own (text sum P image)) all
   pub vouched : IsVouched sum P d
 
--- what a started sync stands for: the content's first n records are committed already, or are once
--- it completed
+-- what starting a sync answers for: the content's first n records are committed already, or once
+-- the sync has completed
 abbrev pub StartedCommits : (sum own : List ℕ → ℕ) → ℕ → List ℕ → ℕ → StartedSync → Disk → Type 0
 StartedCommits sum own P content n Done d = Commits sum own P content n d
 StartedCommits sum own P content n (Named name) d = WouldCommit sum own P content n name d
 
--- a writer in this state waits for a sync that commits them
+-- a writer in this state waits for a sync that commits the content's first n records
 abbrev pub PendingCommits : (sum own : List ℕ → ℕ) → ℕ → List ℕ → ℕ → SyncState → Disk → Type 0
 PendingCommits sum own P content n Clean d = ⊥
 PendingCommits sum own P content n Dirty d = ⊥
@@ -141,7 +142,7 @@ IsStarted sum own w n life =
     Commits sum own w.page_size held n life.present
     ⊎ PendingCommits sum own w.page_size held n w.sync life.present
 
--- each commit that was started as a call began still is
+-- each commit that was started as a call began is a started commit still
 abbrev pub StartsStay : (sum own : List ℕ → ℕ) → (w now : WriterState) → Life → Life → Type 0
 StartsStay sum own w now old new =
     (n : ℕ) → IsStarted sum own w n old → IsStarted sum own now n new
@@ -156,12 +157,13 @@ KeepsCommitted sum own P old new =
 abbrev pub LeavesRecords : (sum own : List ℕ → ℕ) → ℕ → List (List ℕ) → Life → Life → Type 0
 LeavesRecords sum own P all old new = Through (OnlyRecords sum own P all) old new
 
--- the first of those that a journal had as the call began
+-- chance aside, a crash at any moment since leaves only the first of the records that a journal had
+-- as the call began
 abbrev pub LeavesItsRecords : (sum own : List ℕ → ℕ) → WriterState → Life → Life → Type 0
 LeavesItsRecords sum own w old new =
     LeavesRecords sum own w.page_size (records_in own w old) old new
 
--- a record was appended: at this offset, after the records that there were
+-- a record was appended at this offset, after the records that there were
 pub record IsAppended (sum own : List ℕ → ℕ) (w : WriterState) (bytes : List ℕ)
     (after : CacheState) (old new : Life) (now : WriterState) (offset : ℕ) : Type 0 where
   pub at : offset ≡ length (content w old.present.readable)
@@ -193,7 +195,7 @@ pub record IsCommitted (sum own : List ℕ → ℕ) (w : WriterState) (after : C
   pub holds : content now new.present.readable ≡ content w old.present.readable
   pub same : IsSameWriter w now
   pub all : CommitsAll sum own now.page_size (content now new.present.readable) new.present
-  -- and so is all that is readable of the blob: it may be copied, or its digest kept
+  -- all that is readable of the blob is durable: it may be copied, or its digest kept
   pub durable : IsDurable new.present
   pub starts : StartsStay sum own w now old new
 
@@ -202,8 +204,8 @@ abbrev pub CommitGoes : (sum own : List ℕ → ℕ) → WriterState → CacheSt
 CommitGoes sum own w after old new (Ok now) = IsCommitted sum own w after old new now
 CommitGoes sum own w after old new (Err e) = CallCause w.sync old new e
 
--- a commit of all records was started: they are committed already, or are once the sync of this
--- answer completed, which is the one that the journal waits for
+-- a commit of all records was started: they are committed already, or will be once the sync of this
+-- answer has completed, which is the one that the journal waits for
 pub record HasStartedCommit (sum own : List ℕ → ℕ) (w : WriterState) (after : CacheState)
     (old new : Life) (now : WriterState) (started : StartedSync) : Type 0 where
   pub journal : IsJournal sum now after new
@@ -212,12 +214,12 @@ pub record HasStartedCommit (sum own : List ℕ → ℕ) (w : WriterState) (afte
   pub sync : now.sync ≡ started_state started
   pub all : IsStarted sum own now (length (records_in own w old)) new
   pub starts : StartsStay sum own w now old new
-  -- so whoever waits for it by its name commits them
+  -- so a wait for that sync by its name commits those records
   pub named : StartedCommits sum own now.page_size (content now new.present.readable)
       (length (records_in own w old)) started new.present
   -- where the device was asked, the sync has the name that comes next
   pub fresh : 0 < start_calls w → started ≡ Named (length old.present.started)
-  -- where it has failed by now, it did in this call, or had before
+  -- if the sync that the journal waits for has failed by now, it failed in this call or before
   pub waits : PendingSyncFailed now.sync new.present → CallCause w.sync old new SyncFailed
 
 abbrev pub StartCommitGoes : (sum own : List ℕ → ℕ) → WriterState → CacheState → Life → Life
@@ -254,14 +256,14 @@ ReadsContent content offset len old new (Ok bytes) =
     (bytes ≡ take len (drop offset content)) × NoneFailed old.present new.present
 ReadsContent content offset len old new (Err e) = RecordReadRefused old new e
 
--- a look at how long the frame at an offset is, after which so many bytes stand, where it may be
--- cut short
+-- a read of how long the frame at an offset is, from which on `rest` bytes are left, so that the
+-- frame may be cut short
 abbrev pub MeasuresFrame : List ℕ → (offset rest : ℕ) → Life → Life → Result ℕ Error → Type 0
 MeasuresFrame content offset rest old new (Ok len) =
     (len ≡ min (frame_len (drop offset content)) rest) × NoneFailed old.present new.present
 MeasuresFrame content offset rest old new (Err e) = RecordReadRefused old new e
 
--- a read of the frame at an offset after which so many bytes stand, where it may be cut short
+-- a read of the frame at an offset, from which on `rest` bytes are left: it may be cut short
 abbrev pub ReadsFrame : List ℕ → (offset rest : ℕ) → Life → Life → Result (List ℕ) Error → Type 0
 ReadsFrame content offset rest old new (Ok bytes) =
     let after = drop offset content in
@@ -279,7 +281,7 @@ pub record IsFound (own : List ℕ → ℕ) (content : List ℕ) (offset : ℕ) 
 
 -- a read of the frame at an offset: none begins at the end or after it. The device is asked for the
 -- frame's length before memory is asked for; so where memory is refused, reads may have been made.
--- Unless the answer is that a read failed, none did
+-- Unless the answer is ReadFailed, no read failed
 abbrev pub ReadRecordGoes : (own : List ℕ → ℕ) → List ℕ → ℕ → Life → Life
     → Result (Option Found) Error → Type 0
 ReadRecordGoes own content offset old new (Ok None) =
@@ -288,7 +290,7 @@ ReadRecordGoes own content offset old new (Ok (Some f)) =
     IsFound own content offset f.bytes f.end × NoneFailed old.present new.present
 ReadRecordGoes own content offset old new (Err e) = RecordReadRefused old new e
 
--- the whole frames are left of a content; these are the records
+-- a content was cut to its whole frames; these are its records
 pub record IsTrimmed (sum own : List ℕ → ℕ) (w : WriterState) (after : CacheState)
     (old new : Life) (now : WriterState) (found : List (List ℕ)) : Type 0 where
   pub between : IsBetweenCalls sum now after new
@@ -321,7 +323,8 @@ pub record JournalHasRecovered (sum own : List ℕ → ℕ) (cache after : Cache
   pub same : found ≡ records own (content w new.present.readable)
   pub all : CommitsAll sum own cache.page_size (content w new.present.readable) new.present
 
--- a recovery: that of the blob was refused, or it ended well and the content wasn't trimmed
+-- a recovery of a journal: at an error the recovery of the blob was refused, or it answered Ok and
+-- the trim of the content was refused
 abbrev pub RecoversJournal : (sum own : List ℕ → ℕ) → (cache after : CacheState) → ℕ → Life
     → Life → Result (WriterState × Vec (List ℕ) Global) Error → Type 0
 RecoversJournal sum own cache after capacity old new (Ok r) =

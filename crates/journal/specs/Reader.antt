@@ -29,14 +29,14 @@ read_over r life = logical_bytes r.tail life.present.readable
 abbrev pub left : (own : List ℕ → ℕ) → ReaderState → Life → List (List ℕ)
 left own r life = records own (drop r.offset (read_over r life))
 
--- a snapshot that tells its content, and can be read with this cache
+-- a snapshot that gives its content, and can be read with this cache
 pub record IsOpenSnapshot (sum : List ℕ → ℕ) (t : Tail) (cache : CacheState) (life : Life) : Type
     0 where
   pub stands : SnapshotReads sum t (logical_bytes t life.present.readable) cache life.present
   pub size : tail_size t ≡ length (logical_bytes t life.present.readable)
 
--- a reader between two calls. The word for it in contracts: a caller hands it from call to call,
--- and has no need to see into it
+-- a reader between two calls, as contracts name it: a caller hands it from call to call, and has no
+-- need to see into it
 unfoldable pub IsReader : (List ℕ → ℕ) → ReaderState → CacheState → Life → Type 0
 IsReader sum r cache life = IsOpenSnapshot sum r.tail cache life
 
@@ -46,14 +46,14 @@ pub record StaysReader (sum : List ℕ → ℕ) (r : ReaderState) (after : Cache
   pub reader : IsReader sum r after new
   pub holds : read_over r new ≡ read_over r old
 
--- a call of a journal, whatever it answers: each reader of its blob does whose pages lie below the
--- journal's tip, as they do of each that it made
+-- a call of a journal, whatever it answers: each reader of its blob stays one, if the reader's full
+-- pages are among the journal's, as they are for each reader that the journal made
 abbrev pub ReadersStay : (List ℕ → ℕ) → WriterState → CacheState → CacheState → Life → Life → Type 0
 ReadersStay sum w cache after old new =
     (r : ReaderState) → r.tail.full_pages ≤ w.full_pages → IsReader sum r cache old
     → StaysReader sum r after old new
 
--- a call that only reads the blob: each reader of the blob does
+-- a call that only reads the blob: each reader of the blob stays one, of the same content
 abbrev pub AllReadersStay : (List ℕ → ℕ) → CacheState → CacheState → Life → Life → Type 0
 AllReadersStay sum cache after old new =
     (r : ReaderState) → IsReader sum r cache old → StaysReader sum r after old new
@@ -64,7 +64,7 @@ OtherReadersStay id cache after =
     (sum : List ℕ → ℕ) (r : ReaderState) (life : Life) → r.tail.id ≢ id
     → IsReader sum r cache life → IsReader sum r after life
 
--- one over a blob that is new to the cache: each of another blob does
+-- a call over a blob that is new to the cache: each reader with this cache stays one
 abbrev pub EachReaderStays : CacheState → CacheState → Type 0
 EachReaderStays cache after =
     (sum : List ℕ → ℕ) (r : ReaderState) (life : Life)
@@ -75,9 +75,10 @@ abbrev pub IsNewToReaders : ℕ → CacheState → Type 0
 IsNewToReaders id cache =
     (sum : List ℕ → ℕ) (r : ReaderState) (life : Life) → IsReader sum r cache life → r.tail.id ≢ id
 
--- reads through a view, a writer's or a snapshot's: it can be read on, over the same content; the
--- device was only read, and reads of other blobs stay valid. So does each snapshot whose pages lie
--- below the view's own bytes, and every snapshot if these bytes are less than a page
+-- reads through a view, a writer's or a snapshot's: the view can be read on, over the same content;
+-- the device was only read, and reads of other blobs stay valid. Each snapshot whose pages lie
+-- below the view's own bytes stays valid, and every snapshot does if these bytes are less than a
+-- page
 pub record ViewLeaves (sum : List ℕ → ℕ) (t : Tail) (cache after : CacheState) (old new : Life)
     : Type 0 where
   pub opened : IsOpenSnapshot sum t after new
@@ -89,7 +90,7 @@ pub record ViewLeaves (sum : List ℕ → ℕ) (t : Tail) (cache after : CacheSt
   pub fresh : IsFresh cache → IsFresh after
 
 -- reads of a snapshot: it can be read on, over the same content; each writer of the blob stays
--- sound, each snapshot stands, and so does what reads of other blobs stand on
+-- sound (its invariant holds), and each snapshot and the reads of other blobs stay valid
 pub record OnlyLooks (sum : List ℕ → ℕ) (t : Tail) (cache after : CacheState) (old new : Life)
     : Type 0 where
   pub opened : IsOpenSnapshot sum t after new
@@ -100,8 +101,8 @@ pub record OnlyLooks (sum : List ℕ → ℕ) (t : Tail) (cache after : CacheSta
   pub others : LeavesOthers t.id cache after
   pub fresh : IsFresh cache → IsFresh after
 
--- the next record of a content from an offset on, and the offset after its frame; none is left
--- where it finds none
+-- the next record of a content from an offset on, and the offset after its frame; if there is no
+-- next record, none is left after that offset
 pub record IsNext (own : List ℕ → ℕ) (content : List ℕ) (offset : ℕ) (bytes : Option (List ℕ))
     (end : ℕ) : Type 0 where
   pub goes : records own (drop offset content) ≡ listed bytes ++ records own (drop end content)
@@ -122,7 +123,7 @@ pub record MovesOn (own : List ℕ → ℕ) (r now : ReaderState) (old new : Lif
   pub none_failed : NoneFailed old.present new.present
 
 -- a read of the next record; one that is refused leaves the reader where it was. Unless the answer
--- is that a read of the device failed, none did
+-- is ReadFailed, no read of the device failed
 abbrev pub NextRecordGoes : (own : List ℕ → ℕ) → (r now : ReaderState) → Life → Life
     → Result (Option (List ℕ)) Error → Type 0
 NextRecordGoes own r now old new (Ok bytes) = MovesOn own r now old new bytes
@@ -134,7 +135,7 @@ pub record StaysJournal (sum : List ℕ → ℕ) (w : WriterState) (after : Cach
   pub journal : IsJournal sum w after new
   pub holds : content w new.present.readable ≡ content w old.present.readable
 
--- a call of a reader: each journal of its blob does
+-- a call of a reader: each journal of its blob stays one, with the same content
 abbrev pub JournalsStay : (List ℕ → ℕ) → CacheState → CacheState → Life → Life → Type 0
 JournalsStay sum cache after old new =
     (w : WriterState) → IsJournal sum w cache old → StaysJournal sum w after old new
@@ -145,11 +146,11 @@ abbrev pub LeavesTheirRecords : (sum own : List ℕ → ℕ) → CacheState → 
 LeavesTheirRecords sum own cache old new =
     (w : WriterState) → IsJournal sum w cache old → LeavesItsRecords sum own w old new
 
--- for each journal of the blob: each commit that was started still is
+-- for each journal of the blob: each commit that was started is a started commit still
 abbrev pub KeepsTheirStarts : (sum own : List ℕ → ℕ) → Life → Life → Type 0
 KeepsTheirStarts sum own old new = (w : WriterState) → StartsStay sum own w w old new
 
--- a reader of all records of a journal was made: its pages lie below the journal's tip
+-- a reader of all records of a journal was made: its full pages are among the journal's
 pub record HasReader (sum own : List ℕ → ℕ) (w : WriterState) (after : CacheState)
     (old new : Life) (now : WriterState) (r : ReaderState) : Type 0 where
   pub journal : IsJournal sum now after new

@@ -14,7 +14,7 @@ pub record IsPassed (own : List ℕ → ℕ) (content : List ℕ) (offset : ℕ)
   pub after : end ≡ offset + frame_len (drop offset content)
   pub within : end ≤ length content
 
--- the next frame: none is whole where the content ends before it does
+-- the next frame; none if the content ends before the frame does
 abbrev pub PassesFrame : (own : List ℕ → ℕ) → List ℕ → (offset : ℕ) → (left : List ℕ)
     → Result (Option Found) Error → Type 0
 PassesFrame own content offset left (Ok None) =

@@ -15,14 +15,15 @@ use page::Sum;
 use std::alloc::Global;
 use std::num::NonZeroUsize;
 
-/// Crashes a blob, which keeps what these flags say, and recovers its journal: the records that
-/// come back begin with all that were committed as the crash came, whatever the checksum functions;
-/// and where no checksum collides in what the crash left they are the first of those that were
+/// Crashes a blob, which keeps what the true flags name, and recovers its journal. The records that
+/// come back begin with all that were committed as the crash came, whatever the checksum functions.
+/// Where no checksum collides in what the crash left, they are the first of those that were
 /// appended.
 ///
-/// The errors are those of [`Journal::recover`]; where memory for the crash is refused nothing
-/// changed. What was committed still is, whatever it answers: so it may be called again, however
-/// often it was refused. The cache is to have pages of the size that the journal had.
+/// The errors are those of [`Journal::recover`]. Where memory for the crash is refused, the error
+/// is `OutOfMemory` and nothing changed. What was committed still is, whatever the call answers, so
+/// the caller may call it again, however often it was refused. The cache must have pages of the
+/// size that the journal had.
 pub fn crash_and_recover<H: Sum, R: Sum>(
     alloc: Global,
     blob: &mut MemBlob,

@@ -15,19 +15,19 @@ pub const MOST_BYTES: usize = 65_535;
 /// How many bytes of a frame stand in front of its record: the length.
 pub const IN_FRONT: usize = 2;
 
-/// How many stand after it: the checksum and the mark.
+/// How many bytes of a frame stand after its record: the checksum and the mark.
 pub const AFTER: usize = 5;
 
 /// A frame that was found in a journal.
 #[derive(Drop)]
 pub struct Found {
-    /// The record; none where the frame is passed over.
+    /// The record; `None` where the frame is no record, and so is passed over.
     pub bytes: Option<IoBuf>,
-    /// The offset after the frame.
+    /// The offset after the frame, in logical bytes.
     pub end: u64,
 }
 
-/// The frame of a record, whose bytes it borrows, for a buffer in which it is written at once.
+/// The frame of a record, whose bytes are borrowed, as a value that is encoded into a buffer.
 #[derive(Drop)]
 pub struct Framed<'a, R> {
     bytes: &'a [u8],
@@ -66,7 +66,7 @@ impl<R: Sum> Write for Framed<'_, R> {
     }
 }
 
-/// The frame of a record of these bytes. It answers `OutOfMemory` alone.
+/// The frame of a record of these bytes, at most 65,535. The only error is `OutOfMemory`.
 pub fn frame_of<R: Sum>(alloc: Global, bytes: &[u8]) -> Result<Vec<u8>, Error>
     requires { length bytes.now ≤ 65535 }
     ensures framed { IfOk result (λ framed. framed.items ≡ frame R.sum_of bytes.now) }
@@ -89,7 +89,7 @@ fn byte_at(bytes: &[u8], offset: usize) -> u8
     }
 }
 
-/// How many bytes the frame at the front of these says that its record has.
+/// How many bytes a record has, by the length in its frame, which is at the front of these bytes.
 #[tactic(auto, unfolding(crate::specs::Frame::record_len))]
 pub fn record_len_of(bytes: &[u8]) -> usize
     ensures len { result ≡ record_len bytes.now }
@@ -112,8 +112,8 @@ fn is_record_of<R: Sum>(bytes: &[u8], after: &[u8]) -> bool
     sum == R::sum(bytes)
 }
 
-/// The record with these bytes, if the five that stand after them in their frame say that it is
-/// one.
+/// The record with these bytes, if the five bytes after them in their frame, the checksum and the
+/// mark, are those of a record.
 pub fn record_before<R: Sum>(bytes: IoBuf, after: &[u8]) -> Option<IoBuf>
     requires { length after.now ≡ 5 }
     ensures { (frame : List ℕ) → record_len frame ≡ length bytes
@@ -126,8 +126,8 @@ pub fn record_before<R: Sum>(bytes: IoBuf, after: &[u8]) -> Option<IoBuf>
     }
 }
 
-/// The record of the frame at the front of some bytes, if it is one. It answers `OutOfMemory`
-/// alone.
+/// The record of the frame at the front of some bytes, if it is one. The only error is
+/// `OutOfMemory`.
 pub fn record_at<R: Sum>(framed: &IoBuf) -> Result<Option<IoBuf>, Error>
     ensures found { IfOk result (λ found. found ≡ record_of R.sum_of framed.now) }
     ensures err { IsOkUnless result Error.OutOfMemory }

@@ -45,7 +45,7 @@ use std::num::NonZeroUsize;
 ///
 /// The blob and the cache are lent to each call, as a writer's are: always the same ones, and many
 /// journals may share a cache. A call that takes the journal gives it back only on success; after
-/// an error it is to be recovered, and the cache serves for that.
+/// an error the caller recovers it, and may use the same cache for that.
 #[derive(Drop)]
 pub struct Journal<B, H, R> {
     alloc: Global,
@@ -61,8 +61,8 @@ impl<B, H, R> Model for Journal<B, H, R> {
     ghost view = { λ j. j.writer };
 }
 
-// Cuts the last frame off where it is half-written, and answers the records of the content, which
-// is given.
+// Cuts the last frame off where it is half-written, and answers the records of the content, whose
+// bytes are those of `held`.
 fn trim<B: Blob, H: Sum, R: Sum>(
     alloc: Global,
     recovery: Recovery<B, H>,
@@ -107,7 +107,7 @@ impl<B, H, R> Journal<B, H, R> {
         }
     }
 
-    /// The bytes of all frames. An offset after them is no record's.
+    /// How many logical bytes all frames have. No frame begins at this offset or after it.
     pub fn size(&self) -> u64
         ensures { result ≡ size_of self.now }
     {
@@ -116,14 +116,15 @@ impl<B, H, R> Journal<B, H, R> {
 }
 
 impl<B: Blob, H: Sum, R: Sum> Journal<B, H, R> {
-    /// Appends a record, and answers the offset of its frame, in logical bytes. It is committed by
-    /// the next [`Journal::commit`], or once the next [`Journal::start_commit`] was waited for. A
-    /// commit that was started before goes on. No device is asked where the frame fits what is
-    /// buffered; else at most three calls are made, of which one waits for that commit.
+    /// Appends a record of at most 65,535 bytes, and answers the offset of its frame, in logical
+    /// bytes. The record is committed by the next [`Journal::commit`], or once the next
+    /// [`Journal::start_commit`] was waited for. A commit that was started before goes on. No
+    /// device is asked where the frame fits the buffer; else at most three calls are made, of which
+    /// one waits for that commit.
     ///
-    /// `OffsetOverflow` where the blob has no room for the frame, `WriteFailed` where the device
-    /// failed, `SyncFailed` where it failed in the wait, or the commit that was started had failed;
-    /// `OutOfMemory`. The journal is gone then.
+    /// `OffsetOverflow` where the blob's physical size would pass the greatest `u64`, `WriteFailed`
+    /// where the device failed, `SyncFailed` where it failed in the wait, or the commit that was
+    /// started had failed; `OutOfMemory`. After an error the journal is gone.
     pub fn append_record(
         self,
         blob: &mut B,
@@ -179,12 +180,12 @@ impl<B: Blob, H: Sum, R: Sum> Journal<B, H, R> {
         }
     }
 
-    /// Commits all records that were appended: whatever crashes from then on, they come back. All of
-    /// the blob is durable then. It makes at most two device calls, and none where all is durable.
-    /// It waits for a commit that was started before.
+    /// Commits all records that were appended: they come back after any crash from then on. All of
+    /// the blob is durable then. The call makes at most two device calls, and none where all is
+    /// durable. If a commit was started before, the call waits for that one.
     ///
     /// `WriteFailed` and `SyncFailed` where the device failed, and `SyncFailed` where the commit
-    /// that was started had failed; `OutOfMemory`. The journal is gone then.
+    /// that was started had failed; `OutOfMemory`. After an error the journal is gone.
     pub fn commit(self, blob: &mut B, cache: &mut CacheRef) -> Result<Self, Error>
         requires journal { IsJournal H.sum_of self cache.old (B.life blob.old) }
         ensures goes { let old = B.life blob.old in let new = B.life blob.new in
@@ -217,19 +218,19 @@ impl<B: Blob, H: Sum, R: Sum> Journal<B, H, R> {
     }
 
     /// Starts a commit: it writes all records that were appended, and starts to make them durable.
-    /// Others may be appended and read meanwhile. It answers the name of the started sync, or
-    /// `Done` where all is durable already; where one was started and nothing was appended since,
-    /// that one's name. All records that there are now are committed by a wait for it that answers
-    /// `Ok`: by [`Journal::wait_for_commit`], by any later call of the journal that has to wait,
-    /// or, where the journal is gone, by [`paged::wait_sync`]. Before that the started sync
-    /// promises nothing.
+    /// Other records may be appended and read meanwhile. The call answers the name of the started
+    /// sync, or `Done` where all is durable already. Where a sync was started and nothing was
+    /// appended since, the name is that sync's. A wait for the sync that answers `Ok` commits all
+    /// records that there are now: the wait is [`Journal::wait_for_commit`], any later call of the
+    /// journal that has to wait, or, where the journal is gone, [`paged::wait_sync`]. Before that
+    /// the started sync promises nothing.
     ///
-    /// It makes at most three device calls: a wait for the commit that was started before, a write,
-    /// and the start. A start that fails shows at the wait.
+    /// The call makes at most three device calls: a wait for the commit that was started before, a
+    /// write, and the start. If the start fails, the wait reports it.
     ///
     /// `WriteFailed` and `SyncFailed` where the device failed, and `SyncFailed` where the commit
-    /// that was started before had failed; `OutOfMemory`. The journal is gone then, and what was
-    /// committed still is.
+    /// that was started before had failed; `OutOfMemory`. After an error the journal is gone, and
+    /// what was committed still is.
     pub fn start_commit(
         self,
         blob: &mut B,
@@ -266,13 +267,13 @@ impl<B: Blob, H: Sum, R: Sum> Journal<B, H, R> {
     }
 
     /// Waits for the commit that was started last, by [`Journal::start_commit`]. The records that
-    /// there were at that start are committed then: whatever crashes from then on, they come back.
-    /// Those that were appended since need not be. Where nothing is to be waited for it does
-    /// nothing. It makes at most one device call, and uses no cache: the journal goes on with its
-    /// own.
+    /// there were at that start are committed then: they come back after any crash from then on.
+    /// Records that were appended since need not be committed. Where there is nothing to wait for,
+    /// the call does nothing. It makes at most one device call, and uses no cache: the journal goes
+    /// on with its own.
     ///
     /// `SyncFailed` where the device failed, now or as the commit was started or waited for before;
-    /// `OutOfMemory`. The journal is gone then, and what was committed still is.
+    /// `OutOfMemory`. After an error the journal is gone, and what was committed still is.
     pub fn wait_for_commit(self, blob: &mut B) -> Result<Self, Error>
         requires journal { (cache : CacheState) × IsJournal H.sum_of self cache (B.life blob.old) }
         ensures goes { let old = B.life blob.old in let new = B.life blob.new in
@@ -304,13 +305,13 @@ impl<B: Blob, H: Sum, R: Sum> Journal<B, H, R> {
         }
     }
 
-    /// A reader of the records that the journal has now, and the journal, which goes on. What is
-    /// buffered of whole pages is written for it, without a sync; so nothing is committed by it,
-    /// but for a commit that was started before, for which it waits then. It makes at most two
-    /// device calls, and none where no whole page is buffered.
+    /// A reader of the records that the journal has now, and the journal, which goes on. Whole
+    /// pages that are buffered are written first, without a sync. So the call commits nothing,
+    /// except through a commit that was started before, for which it waits before such a write. It
+    /// makes at most two device calls, and none where no whole page is buffered.
     ///
     /// `WriteFailed` where the device failed, `SyncFailed` where it failed in the wait, or the
-    /// commit that was started had failed; `OutOfMemory`. The journal is gone then.
+    /// commit that was started had failed; `OutOfMemory`. After an error the journal is gone.
     pub fn reader(
         self,
         blob: &mut B,
@@ -351,15 +352,15 @@ impl<B: Blob, H: Sum, R: Sum> Journal<B, H, R> {
     }
 
     /// Recovers the journal of a blob of `size` physical bytes, whatever they are, and answers its
-    /// records: those of the blob's text, in order, which begin with all that were committed. Where
-    /// the last frame is half-written it is cut off, so that what is appended stands after whole
-    /// frames. A whole frame that is no record stays, and is passed over. The content is read once: a
-    /// record that lies in one page shares what the recovery read, up to `buffer_size` bytes, which
-    /// stay in memory as long as it does; any other is a copy. The other arguments are those of
-    /// [`paged::recover`]. The cache is a new one, or one that other journals have, or had until a
-    /// call of theirs failed.
+    /// records: those of the blob's text (what a recovery keeps), in order, which begin with all
+    /// that were committed. Where the last frame is half-written it is cut off, so that what is
+    /// appended stands after whole frames. A whole frame that is no record stays, and is passed
+    /// over. The content is read once: a record that lies in one page shares what the recovery
+    /// read, up to `buffer_size` bytes, which stay in memory as long as it does; any other is a
+    /// copy. The other arguments are those of [`paged::recover`]. The cache is a new one, or one
+    /// that other journals have, or had until a call of theirs failed.
     ///
-    /// The errors are those of [`paged::recover`]. What was committed then still is.
+    /// The errors are those of [`paged::recover`]. After an error, what was committed still is.
     pub fn recover(
         alloc: Global,
         blob: &mut B,
@@ -376,7 +377,7 @@ impl<B: Blob, H: Sum, R: Sum> Journal<B, H, R> {
         ensures leaves { let old = B.life blob.old in let new = B.life blob.new in
             JournalRecoveryLeaves H.sum_of R.sum_of cache.old cache.new old new }
 
-        // No read has more pages than fit `buffer_size`, and each may have one page.
+        // No read has more pages than fit `buffer_size` bytes, but each may have one page.
         ensures costs { let most = scan_bytes cache.old.page_size (non_zero_usize_get buffer_size) in
             ReadsWithin most (B.life blob.old) (B.life blob.new) }
     {
@@ -414,10 +415,10 @@ impl<B: Blob, H: Sum, R: Sum> Journal<B, H, R> {
     /// offset after another frame, the first of which begins at 0. `None` where none begins there:
     /// at the end of the journal and after it.
     ///
-    /// The device is asked first, for the two bytes that tell the frame's length, and then memory,
-    /// to read the frame. So `OutOfMemory` may come after reads of the device, and none of them
-    /// failed then; `ReadFailed` where one did. An error leaves all as it was, except for pages that
-    /// the cache may hold now.
+    /// The call first reads the two bytes of the frame's length, and then asks for memory to read
+    /// the frame. So `OutOfMemory` may come after reads of the device, and none of them failed
+    /// then; `ReadFailed` where one did. An error leaves all as it was, except for pages that the
+    /// cache may hold now.
     pub fn read_record(
         &self,
         blob: &mut B,
@@ -431,7 +432,7 @@ impl<B: Blob, H: Sum, R: Sum> Journal<B, H, R> {
         ensures leaves { let old = B.life blob.old in let new = B.life blob.new in
             RecordReadLeaves H.sum_of R.sum_of self.now cache.old cache.new old new }
 
-        // Each commit that was started still is.
+        // Each commit that was started before is a started commit still.
         ensures starts { let old = B.life blob.old in let new = B.life blob.new in
             StartsStay H.sum_of R.sum_of self.now self.now old new }
         ensures costs { let old = B.life blob.old in let new = B.life blob.new in

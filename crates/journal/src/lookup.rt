@@ -47,8 +47,8 @@ fn read_bytes<B: Blob, H: Sum>(
     }
 }
 
-// How many bytes the frame that begins at an offset has of those that stand there: what it says of
-// itself is read without memory.
+// How many bytes the frame that begins at an offset has, of the `rest` bytes that are left there.
+// The length in the frame is read without memory.
 fn frame_len_at<B: Blob, H: Sum>(
     view: View<'_, B, H>,
     blob: &mut B,
@@ -79,7 +79,7 @@ fn frame_len_at<B: Blob, H: Sum>(
     }
 }
 
-// The bytes of the frame that begins at an offset, after which so many stand in the content.
+// The bytes of the frame that begins at an offset, from which on `rest` bytes are left.
 fn read_frame<B: Blob, H: Sum>(
     alloc: Global,
     view: View<'_, B, H>,
@@ -111,7 +111,8 @@ fn read_frame<B: Blob, H: Sum>(
 /// The frame that begins at an offset, or none at the end and after it.
 ///
 /// The device is asked how long the frame is before memory is asked for. `ReadFailed` where a read
-/// of the device failed; `OutOfMemory`, also after reads of the device, where none failed.
+/// of the device failed. `OutOfMemory` where memory was refused, perhaps after reads of the device,
+/// of which none failed.
 pub fn frame_at<B: Blob, H: Sum, R: Sum>(
     alloc: Global,
     view: View<'_, B, H>,

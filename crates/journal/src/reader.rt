@@ -20,10 +20,10 @@ use std::marker::{Model, PhantomData};
 /// [`Journal::reader`](crate::journal::Journal::reader): one by one, in order, by
 /// [`Reader::next`].
 ///
-/// It goes over a snapshot. So it answers just those records, whatever is appended and committed
-/// meanwhile, and whatever is refused, until the blob crashes or is recovered. Records that weren't
-/// committed by then aren't by being read. It borrows nothing: the blob and the cache are lent to
-/// each call, always those of the journal.
+/// The reader goes over a snapshot. So it answers just those records, whatever is appended,
+/// committed or refused meanwhile, until the blob crashes or is recovered. Reading a record doesn't
+/// commit it. The reader borrows nothing: the blob and the cache are lent to each call, always
+/// those of the journal.
 #[derive(Drop)]
 pub struct Reader<B, H, R> {
     alloc: Global,
@@ -62,7 +62,7 @@ fn find<B: Blob, H: Sum, R: Sum>(
     frame_at::<B, H, R>(alloc, snapshot.view(), blob, cache, offset)
 }
 
-// The first frame from an offset on that is a record; at the end one with no record.
+// The first frame from an offset on that is a record; if there is none, no record and the end.
 fn find_record<B: Blob, H: Sum, R: Sum>(
     alloc: Global,
     snapshot: &Sealed<B, H>,
@@ -113,12 +113,12 @@ impl<B: Blob, H: Sum, R: Sum> Reader<B, H, R> {
     /// The next record, or `None` after the last. A frame that is no record is passed over. This
     /// isn't `Iterator::next`, since the blob and the cache are lent to each call.
     ///
-    /// Each of these frames is read as [`Journal::read_record`](crate::journal::Journal::read_record)
-    /// reads it, and once; and no other is.
+    /// Each frame that is passed over, and the record's, is read once, as
+    /// [`Journal::read_record`](crate::journal::Journal::read_record) reads it. No other is read.
     ///
-    /// `ReadFailed` where a read of the device failed; `OutOfMemory`, also after reads of the
-    /// device, where none failed. An error leaves the reader where it was, so that the call can be
-    /// made again.
+    /// `ReadFailed` where a read of the device failed. `OutOfMemory` where memory was refused,
+    /// perhaps after reads of the device, of which none failed. An error leaves the reader where it
+    /// was, so that the call can be made again.
     pub fn next(&mut self, blob: &mut B, cache: &mut CacheRef) -> Result<Option<IoBuf>, Error>
         requires reader { IsReader H.sum_of self.old cache.old (B.life blob.old) }
         ensures goes { let old = B.life blob.old in let new = B.life blob.new in

@@ -10,7 +10,7 @@ use page::Sum;
 use paged::Hand;
 use std::alloc::Global;
 
-// Takes as many of the bytes at hand as the slice has room for, which are there, without memory.
+// Fills the slice with the first of the bytes at hand, which are enough. It takes no memory.
 fn take_into(hand: &mut Hand, out: &mut [u8])
     requires { length out.old ≤ length hand.old.bytes }
     ensures taken { hand.new.bytes ≡ drop (length out.old) hand.old.bytes }
@@ -22,8 +22,8 @@ fn take_into(hand: &mut Hand, out: &mut [u8])
     }
 }
 
-// The frame that begins at an offset, from which on the bytes are at hand; it passes over it. None
-// where there is no whole one: so a length that passes what is left asks for no memory.
+// Passes the frame that begins at an offset, from which on the bytes are at hand, and answers it.
+// `None` where the frame isn't whole: so a length that passes what is left asks for no memory.
 fn next_frame<R: Sum>(hand: &mut Hand, offset: u64) -> Result<Option<Found>, Error>
     requires fits { offset + length hand.old.bytes < 2 ^ 64 }
     ensures passes { (content : List ℕ) → hand.old.bytes ≡ drop offset content
@@ -60,8 +60,8 @@ fn push_record(found: &mut Vec<IoBuf>, more: Option<IoBuf>) -> Result<(), Error>
     Ok(())
 }
 
-/// The records of a content, in order, and the offset after its last whole frame. Those that lie in
-/// one page are shared with it. It answers `OutOfMemory` alone.
+/// The records of a content, in order, and the offset after its last whole frame. A record that
+/// lies in one page shares that page's bytes. The only error is `OutOfMemory`.
 pub fn records_of<R: Sum>(alloc: Global, mut content: Hand) -> Result<(Vec<IoBuf>, u64), Error>
     ensures records { IfOk result (λ r. r.0.items ≡ records R.sum_of content.bytes) }
     ensures whole { IfOk result (λ r. r.1 ≡ length (whole_frames content.bytes)) }

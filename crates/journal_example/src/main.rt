@@ -1,6 +1,7 @@
 //! Keeps two records in a journal over a blob that counts its calls, and then shows what comes back
-//! of a journal whose blob crashed inside a record. What the crash left is looked at first, so that
-//! nothing is cut that a crash doesn't leave, and what goes and may have been synced is set aside.
+//! of a journal whose blob crashed inside a record. A survey first looks at what the crash left. If
+//! a recovery would cut what no crash leaves, the journal isn't recovered. Bytes that a recovery
+//! cuts and that may have been synced are set aside.
 #![tactic(auto)]
 
 ghost use Rattle.std.specs.Prelude.{IfOk};
@@ -26,7 +27,7 @@ const PAGE: usize = 28;
 // How many bytes may be cut although a page among them has a value.
 const LIMIT: u64 = 1 << 20;
 
-/// What is told of a journal.
+/// What the program prints of a journal: a record, the bytes of its frames, and its blob's calls.
 #[derive(Drop)]
 struct Told {
     record: Option<IoBuf>,
@@ -80,8 +81,8 @@ fn keep_two(alloc: Global) -> Result<Told, Error> {
     })
 }
 
-/// Commits a record, and answers what a crash leaves that cuts the commit of another short within
-/// its second page.
+/// Commits a record, starts to commit another, and answers what a crash leaves that cuts this
+/// second commit short within its second page.
 fn cut_short(alloc: Global) -> Result<MemBlob, Error> {
     let mut cache = new_cache(alloc)?;
     let mut blob = MemBlob::new(alloc);
@@ -103,8 +104,8 @@ fn cut_short(alloc: Global) -> Result<MemBlob, Error> {
     Ok(blob)
 }
 
-/// Looks at a blob, keeps a copy of what goes in a recovery and may have been synced, and recovers
-/// its journal; unless the blob is to be left as it is.
+/// Looks at a blob, keeps a copy of the bytes that a recovery cuts and that may have been synced,
+/// and recovers the blob's journal, unless the verdict is to leave the blob as it is.
 fn look_and_recover(alloc: Global, blob: &mut MemBlob) -> Result<Found, Error> {
     let size = blob.len();
     let survey = survey::<MemBlob, AddSum>(alloc, blob, size, page_size(), NonZeroUsize::MIN)?;

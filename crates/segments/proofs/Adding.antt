@@ -12,7 +12,7 @@ use Rattle.journal.specs.Calls.{JournalCallLeaves}
 use Rattle.segments.proofs.Closing.{pages_of}
 use Rattle.segments.specs.Owned.{IsAdded, IsOwned, KeepsJournal, KeepsRecords, OwnedAddKeeps, OwnedAppendGoes, OwnedLeaves, OwnedState, records_now, records_of}
 
--- one stretch of a life after another
+-- what is kept in one stretch of a life and in the next is kept in both
 pub keeps_joins : (sum own : List ℕ → ℕ) (P : ℕ) (all : List (List ℕ)) (old mid new : Life)
     → KeepsRecords sum own P all old mid → KeepsRecords sum own P all mid new → KeepsRecords sum own P all old new
 keeps_joins sum own P all old mid new first second = record {

@@ -1,4 +1,4 @@
--- A journal that is committed whole is durable whole, and its bytes tell just its records.
+-- A journal that is committed whole is durable whole, and its bytes have just its records.
 use Rattle.std.specs.Prelude.{◌≡◌, ◌≤◌, ◌++◌, ℕ, List, [], ◌∷◌, length, Some, None, Option, IfSome, Result, Ok, Err}
 use Rattle.std.proofs.Common.{ap, sym, ◌∙◌, refl, subst, arith, length-append, append-nil}
 use Rattle.disk.specs.Disk.{Disk, IsImage, IsWhole, Life}
@@ -17,7 +17,7 @@ use Rattle.segments.specs.declared.error.Error.{Error}
 use Rattle.segments.specs.declared.error.Error.TheVariants as errors
 use Rattle.segments.specs.Owned.{HasJournal, IsOwned, IsOwnedJournal, IsShut, KeepsJournal, KeepsRecords, OwnedCloseGoes, OwnedCommitGoes, OwnedKeeps, OwnedLeaves, OwnedState, records_now, records_of, without_journal}
 
--- where all is durable what is readable is no chance's
+-- where all is durable, what is readable is free of chance
 pub chance_free : (sum : List ℕ → ℕ) (P : ℕ) (d : Disk) → IsDurable d → IsChanceFree sum P d d.readable
 chance_free sum P d durable = λ p page there s some. (
   d.readable,
@@ -38,7 +38,7 @@ whole_prefix front all is long =
     let joined = ap length is.1 ∙ length-append front is.0 in
     sym (is.1 ∙ ap (λ rest. front ++ rest) (none_left is.0 (omega (arith, joined, long))) ∙ append-nil front)
 
--- what a commit leaves tells just the records
+-- what a commit leaves has just the records
 pub shut_by : (sum own : List ℕ → ℕ) (w now : WriterState) (cache after : CacheState) (old new : Life)
     → IsImage new.present new.present.readable → IsCommitted sum own w after old new now
     → JournalCallLeaves sum own w (records_in own w old) cache after old new

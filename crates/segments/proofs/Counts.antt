@@ -35,7 +35,7 @@ few_records own bytes =
     let framed = few_frames (length bytes) bytes in
     omega (arith, listed, framed)
 
--- so their number fits 64 bits
+-- so the number of records fits 64 bits
 pub records_fit : (sum own : List ℕ → ℕ) (w : WriterState) (cache : CacheState) (life : Life) (size : ℕ)
     → IsJournal sum w cache life → size ≡ size_of w → size < 2 ^ 64
     → length (records_in own w life) < 2 ^ 64
@@ -44,7 +44,7 @@ records_fit sum own w cache life size journal is fits =
     let whole = (between_of sum w cache life journal).size in
     omega (arith, few, whole, is, fits)
 
--- nor does one more, once it was appended
+-- the number still fits once one more record was appended
 pub one_more_fits : (sum own : List ℕ → ℕ) (w now : WriterState) (bytes : List ℕ) (after : CacheState)
     (old new : Life) (offset have size : ℕ) → have ≡ length (records_in own w old)
     → IsAppended sum own w bytes after old new now offset → size ≡ size_of now → size < 2 ^ 64

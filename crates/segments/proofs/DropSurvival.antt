@@ -24,7 +24,7 @@ use Rattle.segments.proofs.Turning.{two_cases}
 started : (P segment : ℕ) (l m : ListingState) → listed_with P (Starts segment P) l ≡ Some m → m ≡ listing_from segment l
 started P segment l m is = only_some ((nat_lt segment l.first || nat_lt (open_in l) segment) || nat_lt P P || nat_lt P P) (listing_from segment l) m is
 
--- at one moment: the entry is there, or not
+-- at one moment the entry is there, or it isn't
 dropped_at : (sum own : List ℕ → ℕ) (P segment : ℕ) (l m : ListingState) (rs : List (List ℕ)) (told : List ℕ)
     → listed_in P rs ≡ Some l → listed_in P (rs ++ entry_bytes (Starts segment P) ∷ []) ≡ Some m → m ≡ listing_from segment l → records own told ≡ rs
     → (e : Disk) → Commits sum own P told (length rs) e → OnlyRecords sum own P (rs ++ entry_bytes (Starts segment P) ∷ []) e
@@ -67,7 +67,7 @@ drop_still sum own segment s t log same =
     subst (λ (o : OwnedState). IfSome s.manifest.journal (λ m. Through (LogDropped sum own s.page_size s.listing segment) s.manifest.life o.life)) (sym same)
     (still_by sum own segment s s.manifest.journal log.manifest_pages log.manifest.1 log.lists)
 
--- the manifest was told, or wasn't touched
+-- the manifest got the entry, or wasn't touched
 pub drop_tries : (sum own : List ℕ → ℕ) (segment : ℕ) (s m t : LogState) → IsLog sum own s → Tries sum own (Starts segment s.page_size) s m → t.manifest ≡ m.manifest
     → DropSurvives sum own segment s t
 drop_tries sum own segment s m t log tries same = elim tries [

@@ -74,7 +74,7 @@ leaves_joins sum own s m t first second = record {
   journal = second.journal ∙ first.journal;
 }
 
--- nothing was read
+-- what no read leaves
 pub leaves_start : (sum own : List ℕ → ℕ) (s : LogState) → LeavesReading sum own s s
 leaves_start sum own s = record {
   manifest = refl;

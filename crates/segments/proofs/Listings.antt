@@ -18,7 +18,7 @@ last_of : (P : ℕ) (o : Option ListingState) → listed_after P o [] ≡ o
 last_of P None = refl
 last_of P (Some l) = refl
 
--- the listing that it told before, and the entry
+-- a manifest lists what it listed before, and the entry
 pub listed_more : (P : ℕ) (rs : List (List ℕ)) (r : List ℕ) (entry : Entry) (l m : ListingState)
     → listed_in P rs ≡ Some l → entry_in r ≡ Some entry → listed_with P entry l ≡ Some m
     → listed_in P (rs ++ r ∷ []) ≡ Some m

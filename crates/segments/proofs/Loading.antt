@@ -39,7 +39,7 @@ loaded_of sum own P old kept o answered opened of = record {
   holds = record { bytes = old.present.readable; of = of; holds = content_is (whole_frames (text sum P old.present.readable)) o.journal o.life opened.holds };
 }
 
--- a read leaves it
+-- a read leaves a closed segment in memory
 pub loaded_still : (sum own : List ℕ → ℕ) (P : ℕ) (l : LoadedState) (t : OwnedState) → IsLoaded sum own P l → OwnedReadLeaves sum own l.owned t → IsOwned sum own t
     → IsLoaded sum own P (record { kept = l.kept; owned = t })
 loaded_still sum own P l t loaded leaves owned =

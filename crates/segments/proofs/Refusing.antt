@@ -48,7 +48,7 @@ entry_cause s n t kept errors.Manifest same numbered is = absurd (follows n.page
 entry_cause s n t kept (errors.NoSegment k) same numbered is = absurd is
 entry_cause s n t kept errors.NumbersExhausted same numbered is = absurd is
 
--- the manifest couldn't be told
+-- the manifest couldn't get the entry
 pub enter_refused : (sum own : List ℕ → ℕ) (s m n t : LogState) (next : OwnedState) (kept : Closed) (e : Error) → IsSameButCurrent s m → m.current.journal ≡ None
     → HasNext sum own m n next → IsSameButAsked m n → IsSameButManifest n t → EnterGoes own (Closes kept) n t (Err e)
     → (t.current.journal ≡ None) × RotateRefused s t e

@@ -21,7 +21,7 @@ nothing : (bytes : List ℕ) → length bytes ≡ 0 → bytes ≡ []
 nothing [] few = refl
 nothing (b ∷ bytes) few = absurd (omega (arith, few))
 
--- its file gave no byte
+-- the next segment's file gave no byte
 pub next_asked : (old new : List FolderEvent) (number opened : ℕ) (life : Life) → number ≡ opened → length life.present.readable ≡ 0
     → new ≡ old ++ events_for (number + 1) life.present.readable → new ≡ old ++ events_for (opened + 1) []
 next_asked old new number opened life same few asked =
@@ -94,7 +94,7 @@ ready sum own m n e next has asks last log = record {
   loaded = log.loaded;
 }
 
--- the same of the log as it is put together again
+-- a rotation by its steps, of the log as it is put together again
 pub rotate_goes : (sum own : List ℕ → ℕ) (s m n e view : LogState) (next : OwnedState) (kept : Closed)
     → view ≡ e → IsClosedWith sum own s m kept → IsSameButCurrent s m → HasNext sum own m n next → IsSameButAsked m n
     → IsEntered own (Closes kept) n e → IsSameButManifest n e → IsRotated sum own s (record view { current = next })

@@ -77,7 +77,7 @@ pick_true b x y is = ap (λ b. if b then x else y) is
 pick_false : {X : Type 0} (b : Bool) (x y : X) → b ≡ false → (if b then x else y) ≡ y
 pick_false b x y is = ap (λ b. if b then x else y) is
 
--- what a segment's content is, it is by what was held
+-- the content of a segment is what it is by what the closed ones held
 pub is_held : (sum : List ℕ → ℕ) (held : ℕ → List ℕ) (s : LogState) (segment : ℕ) (C : List ℕ) → TellHeld held s.listing.first s.listing.closed → IsContentOf sum s segment C
     → (held_content sum s.page_size held s.listing (content_now s.current) segment ≡ C) ⊎ HasCollision
 is_held sum held s segment C tells (inl is) =
@@ -120,7 +120,7 @@ split_at [] k short = absurd (omega (arith, short))
 split_at (c ∷ cs) zero short = (c, refl)
 split_at (c ∷ cs) (suc k) short = split_at cs k (omega (arith, short))
 
--- the records of the segments from one on, and the same by its beginning
+-- the records of the segments from one on are those from its first place on
 next_first : (sum own : List ℕ → ℕ) (P : ℕ) (held : ℕ → List ℕ) (l : ListingState) (content : List ℕ) (n : ℕ) → l.first ≤ n → n ≤ open_in l
     → closed_records sum own P held n (drop (n - l.first) l.closed) ++ records own content ≡ records_at sum own P held l content (record { segment = n; offset = 0 })
 next_first sum own P held l content n after before = elim (cases_lt n (open_in l)) [
@@ -213,7 +213,7 @@ step_found sum own s at f fits is =
       },
     )
 
--- none was found in a closed segment: the next one follows
+-- no frame was found in a closed segment: the next one follows
 passed_by : (sum own : List ℕ → ℕ) (s : LogState) (at : Place) (C : List ℕ) → at.offset < 18446744073709551616 → at.segment ≢ open_in s.listing → IsContentOf sum s at.segment C → length C ≤ at.offset
     → StandBetween sum own s [] at (record { segment = at.segment + 1; offset = 0 })
     × IsBehind s at (record { segment = at.segment + 1; offset = 0 }) × (at.segment < open_in s.listing)
@@ -230,7 +230,7 @@ pub step_passed : (sum own : List ℕ → ℕ) (s : LogState) (at : Place) → a
     × IsBehind s at (record { segment = at.segment + 1; offset = 0 }) × (at.segment < open_in s.listing)
 step_passed sum own s at fits other is = passed_by sum own s at is.0 fits other is.1 is.2
 
--- none was found in the open one: it is the end
+-- no frame was found in the open one: it is the end
 stops_by : (sum own : List ℕ → ℕ) (s : LogState) (at : Place) (C : List ℕ) → at.segment ≡ open_in s.listing → IsContentOf sum s at.segment C → length C ≤ at.offset → IsEnd sum own s at
 stops_by sum own s at C last (inl here) le = open_end sum own s at C last here.1 le
 stops_by sum own s at C last (inr closed) le =

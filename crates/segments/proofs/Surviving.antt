@@ -27,7 +27,7 @@ image_of d durable =
       each = λ at byte there. inl (subst (λ bytes. slice_get bytes at ≡ Some byte) (sym durable.base) there);
     }
 
--- the manifest's bytes tell just its entries
+-- the manifest's bytes have just its entries
 manifest_tells : (sum own : List ℕ → ℕ) (P : ℕ) (l : ListingState) (o : OwnedState) (w : WriterState) → o.page_size ≡ P → IsOwnedJournal sum own o w → Lists sum own P l w o.life
     → records own (text sum P o.life.present.readable) ≡ records_in own w o.life
 manifest_tells sum own P l o w pages owned lists =
@@ -104,7 +104,7 @@ pub survives : (sum own : List ℕ → ℕ) (more : List (List ℕ)) (s t : LogS
 survives sum own more s t log keeps =
     survives_by sum own more s s.manifest.journal s.current.journal s.current.life t.current.life log.manifest_pages log.manifest.1 log.lists keeps
 
--- the same of one that adds no record
+-- a call of the open segment that adds no record
 pub survives_same : (sum own : List ℕ → ℕ) (s t : LogState) → IsLog sum own s → CurrentKeeps sum own (records_now own s.current) s t
     → CurrentSurvives sum own [] s t
 survives_same sum own s t log keeps =
@@ -119,7 +119,7 @@ survives_of sum own s o log leaves =
     survives_same sum own s (record s { current = o }) log
     (keeps_by sum own s.page_size s.current.journal (records_now own s.current) s.current.cache o.cache s.current.life o.life (current_pages sum own s.page_size s.current log.current log.current_pages) leaves)
 
--- the same by what the call of the journal leaves
+-- such a call, by what the call of the journal leaves
 pub survives_call : (sum own : List ℕ → ℕ) (view s : LogState) (o : OwnedState) → view ≡ s → IsLog sum own s → OwnedLeaves sum own (records_now own view.current) view.current o
     → CurrentSurvives sum own [] s (record view { current = o })
 survives_call sum own view s o is log leaves =

@@ -103,7 +103,7 @@ manifest_as sum own kept n e s manifest pages keeps =
     subst (λ (o : OwnedState). IfSome o.journal (λ w. KeepsRecords sum own s.page_size (records_now own o ++ entry_bytes (Closes kept) ∷ []) o.life e.manifest.life)) manifest
     (subst (λ P. IfSome n.manifest.journal (λ w. KeepsRecords sum own P (records_now own n.manifest ++ entry_bytes (Closes kept) ∷ []) n.manifest.life e.manifest.life)) pages keeps)
 
--- a rotation of which the manifest was told, or may have been
+-- a rotation in which the manifest got the entry, or may have got it
 pub turn_survives : (sum own : List ℕ → ℕ) (s m n e t : LogState) (next : OwnedState) (kept : Closed) → IsLog sum own s → IsClosedWith sum own s m kept
     → CurrentKeeps sum own (records_now own s.current) s m → IsSameButCurrent s m → HasNext sum own m n next → IsSameButAsked m n
     → IsTried sum own (Closes kept) n e → t.manifest ≡ e.manifest → (t.current ≡ m.current) ⊎ (t.current ≡ next) → RotationSurvives sum own s t
@@ -122,7 +122,7 @@ turn_survives sum own s m n e t next kept log closed keeps first has asks tried 
     (subst (λ (o : OwnedState). IfSome s.manifest.journal (λ w. KeepsRecords sum own s.page_size (records_now own s.manifest ++ entry_bytes (Closes kept) ∷ []) s.manifest.life o.life)) (sym same)
     (manifest_as sum own kept n e s manifest pages tried.keeps)))
 
--- a rotation that ended before
+-- a rotation that ended before the manifest got the entry
 pub close_survives : (sum own : List ℕ → ℕ) (s m t : LogState) → IsLog sum own s → CurrentKeeps sum own (records_now own s.current) s m
     → t.manifest ≡ s.manifest → t.current ≡ m.current → RotationSurvives sum own s t
 close_survives sum own s m t log keeps manifest current =

@@ -18,31 +18,32 @@ use Rattle.segments.specs.Log.{HasCollision, LogState, closed_records, events_fo
 use Rattle.segments.specs.Log.{log_records}
 
 -- the records of a log whose manifest lists this, and whose files hold these bytes; each closed
--- segment held what `held` tells
+-- segment held what `held` gives for its number
 abbrev pub records_by : (sum own : List ℕ → ℕ) → ℕ → (held file : ℕ → List ℕ) → Option ListingState
     → Option (List (List ℕ))
 records_by sum own P held file None = None
 records_by sum own P held file (Some l) = Some (closed_records sum own P held l.first l.closed
     ++ records own (text sum P (file (open_in l))))
 
--- the same of a log whose manifest holds these bytes; none where the manifest can't be read
+-- the records of a log whose manifest holds these bytes, and whose files hold those; none where the
+-- manifest can't be read
 abbrev pub records_left : (sum own : List ℕ → ℕ) → ℕ → (held file : ℕ → List ℕ) → List ℕ
     → Option (List (List ℕ))
 records_left sum own P held file manifest =
     records_by sum own P held file (listed_in P (records own (text sum P manifest)))
 
--- they begin with the first n of these
+-- there are records, and they begin with the first n of `all`
 abbrev pub BeginWith : ℕ → List (List ℕ) → Option (List (List ℕ)) → Type 0
 BeginWith n all None = ⊥
 BeginWith n all (Some rs) = (n ≤ length rs) × (take n rs ≡ take n all)
 
--- they are the first of these
+-- there are records, and they are the first of `all`
 abbrev pub AreFirstOf : List (List ℕ) → Option (List (List ℕ)) → Type 0
 AreFirstOf all None = ⊥
 AreFirstOf all (Some rs) = IsPrefix rs all
 
--- whatever a crash leaves of the manifest's disk and of those of the segments, no slot of the
--- manifest verifying by chance: the first n of these records come back
+-- whatever a crash leaves of the manifest's disk and of the segments' disks, the first n of these
+-- records come back, if no checksum slot of the manifest verifies by chance
 abbrev pub LogKept : (sum own : List ℕ → ℕ) → ℕ → (held : ℕ → List ℕ) → ℕ → List (List ℕ)
     → Disk → (ℕ → Disk) → Type 0
 LogKept sum own P held n all m d =
@@ -50,7 +51,8 @@ LogKept sum own P held n all m d =
     → (file : ℕ → List ℕ) → ((j : ℕ) → IsImage (d j) (file j))
     → BeginWith n all (records_left sum own P held file manifest)
 
--- and chance aside nothing else does
+-- whatever a crash leaves of these disks, only the first of these records come back, chance aside:
+-- if no checksum slot of the manifest or of a segment verifies by chance
 abbrev pub LogOnly : (sum own : List ℕ → ℕ) → ℕ → (held : ℕ → List ℕ) → List (List ℕ)
     → Disk → (ℕ → Disk) → Type 0
 LogOnly sum own P held all m d =
@@ -76,9 +78,9 @@ abbrev pub CurrentSurvives : (sum own : List ℕ → ℕ) → List (List ℕ) �
 CurrentSurvives sum own more s t = IfSome s.manifest.journal (λ m. IfSome s.current.journal (λ w.
     (held : ℕ → List ℕ) → KeepsLog sum own held s more s.current.life t.current.life))
 
--- as the manifest is told of a closed segment, with the number k, and of the next one: whatever a
--- crash leaves of the manifest's disk and of these two segments', chance aside, all of these
--- records come back, or two strings of one digest are at hand
+-- as the manifest gets the entry that segment k is closed and the next one is open: whatever a
+-- crash leaves of the manifest's disk and of the disks of these two segments, chance aside, all of
+-- these records come back, or two strings of one digest are at hand
 abbrev pub LogTurned : (sum own : List ℕ → ℕ) → ℕ → (held : ℕ → List ℕ) → List (List ℕ)
     → (k : ℕ) → (d e : Disk) → Disk → Type 0
 LogTurned sum own P held all k d e m =
@@ -87,7 +89,7 @@ LogTurned sum own P held all k d e m =
     → IsChanceFree sum P e (file (k + 1))
     → (records_left sum own P held file manifest ≡ Some all) ⊎ HasCollision
 
--- a rotation, at each moment: first the open segment is closed; then the manifest is told of it,
+-- a rotation, at each moment: first the open segment is closed; then the manifest gets its entry,
 -- and that leaves all records as they were
 pub record TurnKept (sum own : List ℕ → ℕ) (held : ℕ → List ℕ) (s t : LogState) : Type 0 where
   pub last : Life
@@ -101,7 +103,8 @@ pub record TurnKept (sum own : List ℕ → ℕ) (held : ℕ → List ℕ) (s t 
       → Through (LogTurned sum own s.page_size held (log_records sum own held s)
       (open_in s.listing) last.present next) s.manifest.life t.manifest.life
 
--- or it ended before the manifest was told
+-- a rotation, at each moment: it ended before the manifest got the entry, or it is as `TurnKept`
+-- has it
 abbrev pub IsRotationKept : (sum own : List ℕ → ℕ) → (held : ℕ → List ℕ) → LogState → LogState
     → Type 0
 IsRotationKept sum own held s t =
@@ -113,8 +116,8 @@ abbrev pub RotationSurvives : (sum own : List ℕ → ℕ) → LogState → LogS
 RotationSurvives sum own s t = IfSome s.manifest.journal (λ m. IfSome s.current.journal (λ w.
     (held : ℕ → List ℕ) → IsRotationKept sum own held s t))
 
--- an append, whatever it answers: to the open segment; or a rotation that failed; or one, and then
--- an append to the next segment
+-- an append, whatever it answers: to the open segment; or a rotation that failed; or a rotation,
+-- and then an append to the next segment
 abbrev pub AppendSurvives : (sum own : List ℕ → ℕ) → List ℕ → LogState → LogState → Type 0
 AppendSurvives sum own bytes s t = CurrentSurvives sum own (bytes ∷ []) s t
     ⊎ RotationSurvives sum own s t
@@ -122,8 +125,8 @@ AppendSurvives sum own bytes s t = CurrentSurvives sum own (bytes ∷ []) s t
 
 -- ---- dropping
 
--- as the manifest is told that a segment is the first one: whatever a crash leaves of its disk,
--- chance aside, the log has the segments that it had, or those from this one on
+-- as the manifest gets the entry that this segment is the first one: whatever a crash leaves of the
+-- manifest's disk, chance aside, the log has the segments that it had, or those from this one on
 abbrev pub LogDropped : (sum own : List ℕ → ℕ) → ℕ → ListingState → (segment : ℕ) → Disk → Type 0
 LogDropped sum own P l segment m =
     (manifest : List ℕ) → IsImage m manifest → IsChanceFree sum P m manifest
@@ -146,8 +149,8 @@ abbrev pub AsksForLog : (manifest : List ℕ) → ℕ → (segment : List ℕ) �
 AsksForLog manifest number segment old new =
     new ≡ old ++ opening_with calls.OpensManifest manifest ∷ events_for number segment
 
--- the log of a folder was opened that was asked for these calls before: what its files gave, the
--- manifest and the open segment, is what the log has. All of it is committed, and chance aside a
+-- the log of a folder was opened, which had been asked for these calls before. The log has what the
+-- files of the manifest and of the open segment gave. All of it is committed, and chance aside a
 -- crash leaves nothing else. An empty manifest gets its first entry, and lists no segment
 pub record IsOpenedLog (sum own : List ℕ → ℕ) (before : List FolderEvent) (s : LogState)
     : Type 0 where

@@ -1,4 +1,4 @@
--- What is kept of a closed segment, and what it says.
+-- What is kept of a closed segment, and of which bytes it is kept.
 use Rattle.std.specs.Prelude.{◌≡◌, ◌≢◌, ℕ, List, length}
 use Rattle.sha2.specs.Sha256.{sha256}
 use Rattle.segments.specs.declared.closed.Closed.{Closed}

@@ -3,7 +3,7 @@ use Rattle.std.specs.Prelude.{ℕ, List, [], Bool, false, true, Result, Ok, Err}
 use Rattle.disk.specs.Disk.{Life}
 use Rattle.segments.specs.declared.call.FolderCall.{FolderCall}
 
--- a call, whether it failed, and the bytes that an opened file gave; none for another call
+-- a call, whether it failed, and the bytes that an opened file gave; no bytes for another call
 pub record FolderEvent : Type 0 where
   pub call : FolderCall
   pub failed : Bool

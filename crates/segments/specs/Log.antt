@@ -57,7 +57,7 @@ pub record IsLoaded (sum own : List ℕ → ℕ) (P : ℕ) (l : LoadedState) : T
   pub there : HasJournal l.owned.journal (λ w. Unit {0})
   pub holds : HoldsClosed sum P l.kept (content_now l.owned)
 
--- the manifest tells this listing, and all of it is durable
+-- the records of the manifest list this, and all of the manifest is durable
 pub record Lists (sum own : List ℕ → ℕ) (P : ℕ) (listing : ListingState) (w : WriterState)
     (life : Life) : Type 0 where
   pub told : listed_in P (records_in own w life) ≡ Some listing
@@ -76,7 +76,7 @@ pub record IsLog (sum own : List ℕ → ℕ) (s : LogState) : Type 0 where
 
 -- ---- an entry
 
--- the same, except for the manifest and what it lists
+-- the log is the same, except for the manifest and what it lists
 pub record IsSameButManifest (s t : LogState) : Type 0 where
   pub current : t.current ≡ s.current
   pub asked : t.asked ≡ s.asked
@@ -91,7 +91,7 @@ pub record IsEntered (own : List ℕ → ℕ) (entry : Entry) (s t : LogState) :
   pub records : records_now own t.manifest
       ≡ records_now own s.manifest ++ entry_bytes entry ∷ []
 
--- an entry is refused: it can't follow those before it; or a call of the manifest failed, or did
+-- an entry is refused: it can't follow those before it; or a call of the manifest failed, now or
 -- before; or memory failed
 abbrev pub EnterRefused : Entry → LogState → Error → Type 0
 EnterRefused entry s (errors.Layer e) = Unit {0}
@@ -105,8 +105,9 @@ abbrev pub EnterGoes : (own : List ℕ → ℕ) → Entry → LogState → LogSt
 EnterGoes own entry s t (Ok u) = IsEntered own entry s t
 EnterGoes own entry s t (Err e) = ((t ≡ s) ⊎ (t.manifest.journal ≡ None)) × EnterRefused entry s e
 
--- what was committed of the manifest is so at each moment since, and chance aside a crash at any of
--- these moments leaves only the first of its entries and of this one
+-- what was committed of the manifest is so at each moment since, and chance aside (no checksum
+-- collides) a crash at any of these moments leaves only the first of its entries with this one
+-- after them
 abbrev pub ManifestKeeps : (sum own : List ℕ → ℕ) → Entry → LogState → LogState → Type 0
 ManifestKeeps sum own entry s t = IfSome s.manifest.journal (λ w.
     KeepsRecords sum own s.page_size (records_now own s.manifest ++ entry_bytes entry ∷ [])
@@ -125,7 +126,7 @@ Tries sum own entry s t = (t.manifest ≡ s.manifest) ⊎ IsTried sum own entry 
 
 -- ---- the open segment
 
--- the same, except for the open segment
+-- the log is the same, except for the open segment
 pub record IsSameButCurrent (s t : LogState) : Type 0 where
   pub manifest : t.manifest ≡ s.manifest
   pub listing : t.listing ≡ s.listing
@@ -134,7 +135,7 @@ pub record IsSameButCurrent (s t : LogState) : Type 0 where
   pub page_size : t.page_size ≡ s.page_size
   pub most : t.most ≡ s.most
 
--- the open segment was closed: this is what is kept of it, where all of it is durable
+-- the open segment was closed: this is what is kept of it, and all of it is durable
 pub record IsClosedWith (sum own : List ℕ → ℕ) (s t : LogState) (kept : Closed) : Type 0 where
   pub shut : IsShut sum own s.page_size (records_now own s.current) t.current.life
   pub of : IsOf t.current.life.present.readable kept
@@ -160,7 +161,7 @@ pub record HasOpened (sum own : List ℕ → ℕ) (P : ℕ) (old : Life) (o : Ow
       content w o.life.present.readable ≡ whole_frames (text sum P old.present.readable))
   pub told : records_now own o ≡ records own (text sum P old.present.readable)
   pub given : answered ≡ records own (text sum P old.present.readable)
-  -- all of them are committed
+  -- all of these records are committed
   pub committed : CommitsAll sum own P (content_now o) o.life.present
 
 -- the folder refused to open a segment, or to make its name durable
@@ -174,7 +175,7 @@ abbrev pub events_for : ℕ → (given : List ℕ) → List FolderEvent
 events_for number given =
     opening_with (calls.Opens number) given ∷ plain_event calls.Syncs false ∷ []
 
--- and by its answer
+-- what a folder was asked for by the opening of a segment, by the answer
 abbrev pub AsksForSegment : {B : Type 0} → (B → Life) → ℕ → List FolderEvent → List FolderEvent
     → Result B Error → Type 0
 AsksForSegment life number old new (Ok blob) =
@@ -192,8 +193,8 @@ pub record HasNext (sum own : List ℕ → ℕ) (s t : LogState) (next : OwnedSt
   pub leaves : OnlyRecords sum own s.page_size [] next.life.present
   pub asked : t.asked ≡ s.asked ++ events_for (open_in s.listing + 1) []
 
--- an opening of the next segment is refused: the folder refused it, or its file has bytes, or it
--- can have no number; or the device or memory failed
+-- an opening of the next segment is refused: the folder refused it, or its file has bytes, or no
+-- number is left for it; or the device or memory failed
 abbrev pub NextRefused : LogState → LogState → Error → Type 0
 NextRefused s t (errors.Layer e) = Unit {0}
 NextRefused s t (errors.System e) = AsksInVain (open_in s.listing + 1) s.asked t.asked
@@ -206,7 +207,7 @@ abbrev pub OpenNextGoes : (sum own : List ℕ → ℕ) → LogState → LogState
 OpenNextGoes sum own s t (Ok next) = HasNext sum own s t next
 OpenNextGoes sum own s t (Err e) = NextRefused s t e
 
--- the same, except for what the folder was asked for
+-- the log is the same, except for what the folder was asked for
 abbrev pub IsSameButAsked : LogState → LogState → Type 0
 IsSameButAsked s t = t ≡ record s { asked = t.asked }
 
@@ -265,8 +266,8 @@ pub record IsAppendedTo (sum own : List ℕ → ℕ) (bytes : List ℕ) (s t : L
   pub here : AppendHereGoes sum own bytes mid t (Ok p)
   pub rest : IsSameButCurrent mid t
 
--- an append is refused: it is to the open segment, or to the next one, after a rotation. There the
--- device or memory may fail too
+-- an append is refused: the append to the open segment; or, where the log is to be rotated first,
+-- the rotation or the append to the next segment, with an error that a rotation may answer
 abbrev pub AppendRefused : (sum own : List ℕ → ℕ) → List ℕ → LogState → LogState → Error → Type 0
 AppendRefused sum own bytes s t e =
     ((owned_size s.current.journal < s.most)
@@ -282,7 +283,7 @@ LogAppendGoes sum own bytes s t (Err e) =
 
 -- ---- the records, by what closed segments held
 
--- what was kept of closed segments tells what these held
+-- each closed segment held bytes of the length and the digest that were kept of it
 abbrev pub TellHeld : (held : ℕ → List ℕ) → (first : ℕ) → List Closed → Type 0
 TellHeld held first [] = Unit {0}
 TellHeld held first (c ∷ cs) = IsOf (held first) c × TellHeld held (suc first) cs
@@ -304,8 +305,8 @@ log_records sum own held s =
 abbrev pub HasCollision : Type 0
 HasCollision = (one other : List ℕ) × Collide one other
 
--- whatever the closed segments held, so long as what was kept tells it: the log has the records
--- that it had, and then these; or two strings of one digest are at hand
+-- whatever the closed segments held, so long as it has the lengths and digests that were kept: the
+-- log has the records that it had, and then these; or two strings of one digest are at hand
 abbrev pub HasMore : (sum own : List ℕ → ℕ) → List (List ℕ) → LogState → LogState → Type 0
 HasMore sum own more s t = (held : ℕ → List ℕ) → TellHeld held t.listing.first t.listing.closed
     → (log_records sum own held t ≡ log_records sum own held s ++ more) ⊎ HasCollision
@@ -322,7 +323,8 @@ abbrev pub IsCurrentContent : LogState → List ℕ → Type 0
 IsCurrentContent s held = HasJournal s.current.journal (λ w.
     held ≡ content w s.current.life.present.readable)
 
--- the content of a segment: of the open one; or the whole frames of bytes of which this was kept
+-- the content of a segment: that of the open one; or, for a closed one, the whole frames of bytes
+-- of the length and the digest that were kept
 abbrev pub IsContentOf : (sum : List ℕ → ℕ) → LogState → ℕ → List ℕ → Type 0
 IsContentOf sum s segment held =
     ((segment ≡ open_in s.listing) × IsCurrentContent s held)
@@ -353,7 +355,8 @@ LogReadGoes sum own s p (Ok found) =
     (held : List ℕ) × IsContentOf sum s p.segment held × IsReadOf own held p.offset found
 LogReadGoes sum own s p (Err e) = LogReadRefused s p.segment e
 
--- what a read leaves: all but what is in memory of the segments
+-- what a read leaves: all of the log, except the closed segment in memory; the open segment was
+-- only read
 pub record LeavesReading (sum own : List ℕ → ℕ) (s t : LogState) : Type 0 where
   pub manifest : t.manifest ≡ s.manifest
   pub listing : t.listing ≡ s.listing
@@ -390,7 +393,7 @@ TakeLoadedGoes sum own s number (Err (errors.System e)) = IsListed s number
 TakeLoadedGoes sum own s number (Err (errors.Layer e)) = Unit {0}
 TakeLoadedGoes sum own s number (Err e) = ⊥
 
--- the same, except for the closed segment in memory
+-- the log is the same, except for the closed segment in memory
 pub record IsSameButLoaded (s t : LogState) : Type 0 where
   pub manifest : t.manifest ≡ s.manifest
   pub current : t.current ≡ s.current
@@ -406,18 +409,18 @@ abbrev pub IsOfOlder : ℕ → FolderEvent → Type 0
 IsOfOlder first e = ((number : ℕ) × (number < first) × (e.call ≡ calls.Removes number))
     ⊎ (e.call ≡ calls.Syncs)
 
--- each of these calls is
+-- each of these calls is such a removal or sync
 abbrev pub AreOfOlder : ℕ → List FolderEvent → Type 0
 AreOfOlder first [] = Unit {0}
 AreOfOlder first (e ∷ es) = IsOfOlder first e × AreOfOlder first es
 
--- the folder was asked for nothing but such
+-- the folder was asked only for such calls
 pub record AsksOfOlder (first : ℕ) (old new : List FolderEvent) : Type 0 where
   pub events : List FolderEvent
   pub all : new ≡ old ++ events
   pub below : AreOfOlder first events
 
--- the last thing that it was asked for was a sync, which was done
+-- the last call that the folder was asked for was a sync, which succeeded
 abbrev pub EndsSynced : List FolderEvent → Type 0
 EndsSynced events = (before : List FolderEvent)
     × (events ≡ before ++ plain_event calls.Syncs false ∷ [])
@@ -427,7 +430,7 @@ abbrev pub listing_from : ℕ → ListingState → ListingState
 listing_from segment l =
     record { first = segment; closed = drop (segment - l.first) l.closed }
 
--- the manifest tells that a segment is the first one
+-- the manifest lists this segment as the first one
 pub record IsStartedFrom (segment : ℕ) (s t : LogState) : Type 0 where
   pub listing : t.listing ≡ listing_from segment s.listing
   pub rest : IsSameButManifest s t
@@ -437,7 +440,7 @@ StartFromGoes segment s t (Ok u) = IsStartedFrom segment s t
 StartFromGoes segment s t (Err e) =
     IsSameButManifest s t × EnterRefused (Starts segment s.page_size) s e
 
--- segments were dropped: just those before the one, where it wasn't the first
+-- segments were dropped: just those before this one, if there were such
 pub record IsDropped (segment : ℕ) (s t : LogState) : Type 0 where
   pub within : segment ≤ open_in s.listing
   pub listing : ((segment ≤ s.listing.first) × (t.listing ≡ s.listing))
@@ -459,7 +462,8 @@ LogDropGoes segment s t (Err e) = ⊥
 
 -- ---- opening
 
--- a manifest was opened: it lists what the bytes that its file gave tell, and all is durable
+-- a manifest was opened: it lists what the records in the bytes of its file list, and all is
+-- durable
 pub record HasManifest (sum own : List ℕ → ℕ) (P : ℕ) (o : OwnedState) (l : ListingState)
     (old new : List FolderEvent) : Type 0 where
   pub bytes : List ℕ
@@ -469,8 +473,8 @@ pub record HasManifest (sum own : List ℕ → ℕ) (P : ℕ) (o : OwnedState) (
   pub lists : HasJournal o.journal (λ w. Lists sum own P l w o.life)
   pub told : listed_in P (records own (text sum P bytes)) ≡ Some l
 
--- the open segment was opened: it has the records that the bytes tell that its file gave, and no
--- other; all are committed
+-- the open segment was opened: it has the records in the bytes that its file gave, and no other;
+-- all are committed
 pub record HasCurrent (sum own : List ℕ → ℕ) (P : ℕ) (o : OwnedState) (number : ℕ)
     (old new : List FolderEvent) : Type 0 where
   pub bytes : List ℕ
@@ -482,7 +486,7 @@ pub record HasCurrent (sum own : List ℕ → ℕ) (P : ℕ) (o : OwnedState) (n
   pub only : OnlyRecords sum own P (records_now own o) o.life.present
   pub asked : new ≡ old ++ events_for number bytes
 
--- both were opened
+-- the manifest and the open segment were opened
 pub record AreParts (sum own : List ℕ → ℕ) (P : ℕ) (manifest current : OwnedState)
     (l : ListingState) (old new : List FolderEvent) : Type 0 where
   pub mid : List FolderEvent

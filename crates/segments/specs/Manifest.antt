@@ -12,7 +12,7 @@ abbrev pub entry_bytes : Entry → List ℕ
 entry_bytes (Starts first page_size) = 0 ∷ to_be_bytes w64 first ++ to_be_bytes w16 page_size
 entry_bytes (Closes c) = 1 ∷ to_be_bytes w64 c.records ++ to_be_bytes w64 c.len ++ c.digest
 
--- the entry that some bytes are: the first of them tells which, and there are just so many
+-- the entry that some bytes are, by the first of them and by how many there are; none for others
 unfoldable pub entry_in : List ℕ → Option Entry
 entry_in bytes =
     if (length bytes == 11) && (slice_index bytes 0 == 0) then
@@ -44,7 +44,7 @@ abbrev pub closed_count : List Closed → ℕ
 closed_count [] = 0
 closed_count (c ∷ cs) = c.records + closed_count cs
 
--- a number, unless it passes the greatest one
+-- a number, unless it passes the greatest `u64`
 abbrev pub fitting : ℕ → Option ℕ
 fitting n = if nat_lt n 18446744073709551616 then Some n else None
 
@@ -52,7 +52,8 @@ fitting n = if nat_lt n 18446744073709551616 then Some n else None
 abbrev pub none_closed : ListingState
 none_closed = record { first = 0; closed = [] }
 
--- after an entry more, of a log with pages of so many bytes; none where it can't follow
+-- the listing after an entry more, of a log with pages of so many logical bytes; none where the
+-- entry can't follow
 abbrev pub listed_with : (page_size : ℕ) → Entry → ListingState → Option ListingState
 listed_with page_size (Starts first size) l =
     if (nat_lt first l.first || nat_lt (open_in l) first) || nat_lt size page_size
@@ -62,12 +63,12 @@ listed_with page_size (Closes c) l =
     if open_in l == 18446744073709551615 then None
     else Some (record { first = l.first; closed = l.closed ++ c ∷ [] })
 
--- after a record more
+-- the listing after a record of the manifest more; none where the record is no entry
 abbrev pub listed_by : (page_size : ℕ) → Option Entry → ListingState → Option ListingState
 listed_by page_size None l = None
 listed_by page_size (Some e) l = listed_with page_size e l
 
--- after these records, one after the other
+-- the listing after these records of the manifest, one after the other
 abbrev pub listed_after : (page_size : ℕ) → Option ListingState → List (List ℕ)
     → Option ListingState
 listed_after page_size None records = None

@@ -22,7 +22,8 @@ use Rattle.journal.specs.Calls.{JournalCallLeaves, JournalRecoverGoes, RecordRea
 use Rattle.segments.specs.declared.error.Error.{Error}
 use Rattle.segments.specs.declared.error.Error.TheVariants as errors
 
--- what contracts see of it; there is no journal once a call of it failed
+-- such a blob, journal and cache as contracts see them; there is no journal once a call that takes
+-- it failed
 pub record OwnedState : Type 0 where
   pub cache : CacheState
   pub life : Life
@@ -30,17 +31,17 @@ pub record OwnedState : Type 0 where
   pub page_size : ℕ
   pub records : ℕ
 
--- its journal is one, of pages of its size, and has so many records
+-- the journal is one between two calls, has pages of this size, and so many records
 pub record IsOwnedJournal (sum own : List ℕ → ℕ) (s : OwnedState) (w : WriterState) : Type 0 where
   pub journal : IsJournal sum w s.cache s.life
   pub page_size : w.page_size ≡ s.page_size
   pub counts : s.records ≡ length (records_in own w s.life)
 
--- between two calls
+-- such a blob, journal and cache between two calls
 abbrev pub IsOwned : (sum own : List ℕ → ℕ) → OwnedState → Type 0
 IsOwned sum own s = IsFresh s.cache × IfSome s.journal (λ w. IsOwnedJournal sum own s w)
 
--- the records that a journal has; none where there is none
+-- the records that a journal has; none where there is no journal
 abbrev pub records_of : (own : List ℕ → ℕ) → Option WriterState → Life → List (List ℕ)
 records_of own None life = []
 records_of own (Some w) life = records_in own w life
@@ -66,7 +67,7 @@ abbrev pub HasJournal : Option WriterState → (WriterState → Type 0) → Type
 HasJournal None P = ⊥
 HasJournal (Some w) P = P w
 
--- there was one, and there is one
+-- there was a journal, and there is one, of which this holds
 abbrev pub KeepsJournal : Option WriterState → Option WriterState
     → (WriterState → WriterState → Type 0) → Type 0
 KeepsJournal was is P = HasJournal was (λ w. HasJournal is (λ now. P w now))
@@ -112,7 +113,7 @@ OwnedWaitGoes sum own s t (Err (errors.Layer e)) = HasJournal s.journal (λ w.
 OwnedWaitGoes sum own s t (Err errors.Closed) = (s.journal ≡ None) × (t ≡ s)
 OwnedWaitGoes sum own s t (Err _) = ⊥
 
--- what a call of its journal leaves, whatever it answers
+-- what a call of the journal leaves, whatever it answers
 abbrev pub OwnedLeaves : (sum own : List ℕ → ℕ) → List (List ℕ) → OwnedState → OwnedState → Type 0
 OwnedLeaves sum own all s t = IfSome s.journal (λ w.
     JournalCallLeaves sum own w all s.cache t.cache s.life t.life)
@@ -144,8 +145,8 @@ OwnedRecoverGoes sum own capacity s t (Ok records) = HasJournal t.journal (λ w.
 OwnedRecoverGoes sum own capacity s t (Err e) = (t.journal ≡ None)
     × JournalRecoverGoes sum own s.cache t.cache capacity s.life t.life (Err e)
 
--- the blob's last life, of a segment with these records: all of it is durable, and the bytes tell
--- just the records
+-- the blob's last life, of a segment with these records: all bytes are durable, and their text has
+-- just these records
 pub record IsShut (sum own : List ℕ → ℕ) (P : ℕ) (all : List (List ℕ)) (life : Life) : Type 0 where
   pub durable : IsDurable life.present
   pub tells : records own (text sum P life.present.readable) ≡ all
@@ -160,19 +161,19 @@ OwnedCloseGoes sum own s t (Err (errors.Layer e)) = HasJournal s.journal (λ w.
 OwnedCloseGoes sum own s t (Err errors.Closed) = (s.journal ≡ None) × (t ≡ s)
 OwnedCloseGoes sum own s t (Err _) = ⊥
 
--- what was committed is so at each moment since, and chance aside a crash at any of these moments
--- leaves only the first of the records
+-- what was committed is so at each moment since, and chance aside (no checksum collides) a crash at
+-- any of these moments leaves only the first of the records
 pub record KeepsRecords (sum own : List ℕ → ℕ) (P : ℕ) (all : List (List ℕ)) (old new : Life)
     : Type 0 where
   pub kept : KeepsCommitted sum own P old new
   pub only : LeavesRecords sum own P all old new
 
--- a call of its journal, whatever it answers, where these records are the journal's then
+-- what a call of the journal that adds no record keeps, whatever it answers
 abbrev pub OwnedKeeps : (sum own : List ℕ → ℕ) → OwnedState → OwnedState → Type 0
 OwnedKeeps sum own s t = IfSome s.journal (λ w.
     KeepsRecords sum own s.page_size (records_in own w s.life) s.life t.life)
 
--- the same with no journal
+-- such a blob and cache, without the journal
 abbrev pub without_journal : OwnedState → OwnedState
 without_journal s = record s { journal = None }
 
@@ -193,7 +194,7 @@ OwnedAddGoes sum own bytes s t (Err (errors.Layer e)) =
 OwnedAddGoes sum own bytes s t (Err errors.Closed) = (s.journal ≡ None) × (t ≡ s)
 OwnedAddGoes sum own bytes s t (Err _) = ⊥
 
--- and what they leave, whatever they answer
+-- what an append and a commit keep, whatever they answer
 abbrev pub OwnedAddKeeps : (sum own : List ℕ → ℕ) → List ℕ → OwnedState → OwnedState → Type 0
 OwnedAddKeeps sum own bytes s t = IfSome s.journal (λ w.
     KeepsRecords sum own s.page_size (records_in own w s.life ++ bytes ∷ []) s.life t.life)

@@ -17,8 +17,8 @@ use Rattle.segments.specs.Log.{log_records}
 abbrev pub place_at : (segment offset : ℕ) → Place
 place_at segment offset = record { segment = segment; offset = offset }
 
--- the content of a segment, by what the closed ones held and by the content of the open one: the
--- whole frames of what a closed one held
+-- the content of a segment, by what the closed ones held and by the content of the open one; a
+-- closed one's is the whole frames of what it held
 abbrev pub held_content : (sum : List ℕ → ℕ) → ℕ → (held : ℕ → List ℕ) → ListingState
     → (content : List ℕ) → ℕ → List ℕ
 held_content sum P held l content segment =
@@ -39,7 +39,7 @@ records_at sum own P held l content p =
     records own (drop p.offset (held_content sum P held l content p.segment))
     ++ records_after sum own P held l content p.segment
 
--- those of a log
+-- the records of a log from a place on
 abbrev pub records_from : (sum own : List ℕ → ℕ) → (held : ℕ → List ℕ) → LogState → Place
     → List (List ℕ)
 records_from sum own held s p =
@@ -50,8 +50,9 @@ abbrev pub ComesFirst : (sum own : List ℕ → ℕ) → LogState → Place → 
 ComesFirst sum own s p =
     (held : ℕ → List ℕ) → records_from sum own held s p ≡ log_records sum own held s
 
--- whatever the closed segments held, so long as what was kept tells it: there are just these
--- records from the one place to the other, or two strings of one digest are at hand
+-- whatever the closed segments held, so long as it has the lengths and digests that were kept:
+-- there are just these records from the one place to the other, or two strings of one digest are at
+-- hand
 abbrev pub StandBy : (sum own : List ℕ → ℕ) → ℕ → ListingState → (content : List ℕ)
     → List (List ℕ) → (from to : Place) → Type 0
 StandBy sum own P l content these from to =
@@ -59,13 +60,13 @@ StandBy sum own P l content these from to =
     → (records_at sum own P held l content from
     ≡ these ++ records_at sum own P held l content to) ⊎ HasCollision
 
--- the same of a log
+-- in a log there are just these records from the one place to the other, as `StandBy` has it
 abbrev pub StandBetween : (sum own : List ℕ → ℕ) → LogState → List (List ℕ) → (from to : Place)
     → Type 0
 StandBetween sum own s these from to =
     StandBy sum own s.page_size s.listing (content_now s.current) these from to
 
--- there is none from this place on
+-- there is no record from this place on
 abbrev pub IsEnd : (sum own : List ℕ → ℕ) → LogState → Place → Type 0
 IsEnd sum own s p = (held : ℕ → List ℕ) → records_from sum own held s p ≡ []
 
@@ -75,7 +76,7 @@ abbrev pub IsNextAt : (sum own : List ℕ → ℕ) → LogState → (from at beh
 IsNextAt sum own s from at behind bytes = StandBetween sum own s [] from at
     × StandBetween sum own s (bytes ∷ []) at behind
 
--- how far the end is, at most: what goes down as one goes on
+-- how far the end is, at most; each step forward makes this number smaller
 abbrev pub far_from : LogState → Place → ℕ
 far_from s p = (open_in s.listing + 1 - p.segment) * 18446744073709551616 - p.offset
 

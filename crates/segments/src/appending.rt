@@ -16,8 +16,13 @@ use page::Sum;
 
 impl<F: Folder<B> + Drop, B: Blob + Drop, H: Sum, R: Sum> SegmentedLog<F, B, H, R> {
     /// Appends a record, of at most [`MOST_BYTES`](journal::MOST_BYTES) bytes, and answers where it
-    /// stands. It is committed by the next [`commit`](SegmentedLog::commit). Where the open segment
-    /// is as long as a segment is to be, the log is rotated first.
+    /// stands. The record is committed by the next [`commit`](SegmentedLog::commit). Where the open
+    /// segment has [`segment_size`](crate::log::Options::segment_size) bytes or more, the log is
+    /// rotated first.
+    ///
+    /// `Closed` where a call before failed, `Layer` where the device or memory failed, or the blob
+    /// has no room. Where the log is rotated, also the errors of [`rotate`](SegmentedLog::rotate).
+    /// After an error the log is closed.
     #[tactic(auto, using(crate::proofs::Records::log_adds))]
     pub fn append(&mut self, bytes: &[u8]) -> Result<Place, Error>
         requires log { IsLog H.sum_of R.sum_of self.old }
@@ -54,7 +59,10 @@ impl<F: Folder<B> + Drop, B: Blob + Drop, H: Sum, R: Sum> SegmentedLog<F, B, H, 
         }
     }
 
-    /// Commits all records that were appended: whatever crashes from then on, they come back.
+    /// Commits all records that were appended: they come back after any crash from then on.
+    ///
+    /// `Closed` where a call before failed, `Layer` where the device or memory failed. After an
+    /// error the log is closed.
     #[tactic(auto, using(crate::proofs::Surviving::survives_same))]
     pub fn commit(&mut self) -> Result<(), Error>
         requires log { IsLog H.sum_of R.sum_of self.old }
@@ -68,9 +76,12 @@ impl<F: Folder<B> + Drop, B: Blob + Drop, H: Sum, R: Sum> SegmentedLog<F, B, H, 
         self.current.commit()
     }
 
-    /// Starts a commit of all records that were appended, and waits for none: others may be
-    /// appended and read meanwhile. They are committed once a wait answered `Ok`, by
-    /// [`wait_for_commit`](SegmentedLog::wait_for_commit), and also once a rotation did.
+    /// Starts a commit of all records that were appended, and doesn't wait for it: other records
+    /// may be appended and read meanwhile. The records are committed once
+    /// [`wait_for_commit`](SegmentedLog::wait_for_commit) or a rotation has answered `Ok`. The call
+    /// may wait for a commit that was started before.
+    ///
+    /// The errors are those of [`commit`](SegmentedLog::commit).
     #[tactic(auto, using(crate::proofs::Surviving::survives_same))]
     pub fn start_commit(&mut self) -> Result<StartedSync, Error>
         requires log { IsLog H.sum_of R.sum_of self.old }
@@ -85,7 +96,9 @@ impl<F: Folder<B> + Drop, B: Blob + Drop, H: Sum, R: Sum> SegmentedLog<F, B, H, 
     }
 
     /// Waits for the commit that was started last: what was appended before that start is committed
-    /// then. Where there is none it does nothing.
+    /// then. Where no commit was started the call does nothing.
+    ///
+    /// The errors are those of [`commit`](SegmentedLog::commit).
     #[tactic(auto, using(crate::proofs::Surviving::survives_same))]
     pub fn wait_for_commit(&mut self) -> Result<(), Error>
         requires log { IsLog H.sum_of R.sum_of self.old }

@@ -9,9 +9,9 @@ use sha2::{Digest, Sha256};
 /// and their SHA-256.
 #[derive(Clone, Copy)]
 pub struct Closed {
-    /// How many records it has.
+    /// How many records the segment has.
     pub records: u64,
-    /// How many bytes its file had.
+    /// How many physical bytes the segment's file had.
     pub len: u64,
     /// The SHA-256 of these bytes.
     pub digest: [u8; 32],

@@ -15,12 +15,14 @@ use std::io;
 
 impl<F: Folder<B> + Drop, B: Blob + Drop, H: Sum, R: Sum> SegmentedLog<F, B, H, R> {
     /// Drops the segments before this one, if there are such, and removes their files, the oldest
-    /// first. The manifest tells it first; so a crash may leave some of the files, and no call
-    /// reads them any more. A later drop removes them too, also one that drops nothing.
+    /// first. The drop is written to the manifest before that, so a crash may leave some of the
+    /// files, and no call reads them any more. A later drop removes them too, even one that drops
+    /// nothing.
     ///
     /// `NoSegment` where there is no such segment yet: the open one is never dropped. Nothing is
-    /// done then. After any other error the open segment is as it was; open the log again to drop
-    /// segments or to rotate.
+    /// done then. `Closed` where a call of the manifest failed before, `Layer` where the device or
+    /// memory failed, `System` where the folder refused a call. After these errors the open segment
+    /// is as it was; open the log again to drop segments or to rotate.
     #[tactic(auto, using(crate::proofs::DropSurvival::drop_still, crate::proofs::DropSurvival::drop_tries))]
     pub fn drop_before(&mut self, segment: u64) -> Result<(), Error>
         requires log { IsLog H.sum_of R.sum_of self.old }
@@ -41,7 +43,7 @@ impl<F: Folder<B> + Drop, B: Blob + Drop, H: Sum, R: Sum> SegmentedLog<F, B, H, 
         }
     }
 
-    // Has the manifest tell that a segment is the first one.
+    // Adds to the manifest that this segment is the first one.
     pub(crate) fn start_from(&mut self, segment: u64) -> Result<(), Error>
         requires log { IsLog H.sum_of R.sum_of self.old }
         ensures goes { StartFromGoes segment self.old self.new result }

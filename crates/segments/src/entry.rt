@@ -27,7 +27,7 @@ fn number_at(bytes: &[u8], at: usize) -> u64
     u64::from_be_bytes(number)
 }
 
-/// The bytes of an entry. It answers `OutOfMemory` alone.
+/// The bytes of an entry. The only error is `OutOfMemory`.
 pub fn bytes_of(alloc: Global, entry: &Entry) -> Result<Vec<u8>, Error>
     ensures bytes { IfOk result (λ bytes. bytes.items ≡ entry_bytes entry.now) }
     ensures told { IfOk result (λ bytes. entry_in bytes.items ≡ Some entry.now) }

@@ -16,9 +16,9 @@ use std::marker::Model;
 use std::snapshot::Snapshot;
 use std::{fs, io};
 
-/// A folder of the system, in which a log's files stand: `manifest`, and of each segment its number
-/// with twenty digits and `.segment`. The folder is to be there; the files are made as they are
-/// needed.
+/// A folder of the system, in which a log's files stand: `manifest`, and for each segment its
+/// number with twenty digits and `.segment`. The folder must be there; the files are made as they
+/// are needed.
 #[derive(Drop)]
 pub struct FileFolder {
     names: Names,
@@ -61,14 +61,14 @@ impl FileFolder {
         File::open(self.names.rt(), self.names.folder())?.sync_all()
     }
 
-    // A call more was made.
+    // Notes one call more.
     fn note(&mut self, call: FolderCall, failed: bool)
         ensures { self.new ≡ self.old ++ plain_event call failed ∷ [] }
     {
         self.past = FolderPast::after(&self.past, call, failed);
     }
 
-    // A file more was opened, or wasn't.
+    // Notes one opening more, which gave a file or failed.
     fn note_opening(&mut self, file: Asked, opened: &io::Result<FileBlob>)
         ensures { let call = call_for file in
             let event = opening_outcome (λ b. life_of b.kept.history) call opened.now in

@@ -13,14 +13,14 @@ use std::io;
 /// A file of a log.
 #[derive(Clone, Copy)]
 pub enum Asked {
-    /// The one that lists the segments.
+    /// The file that lists the segments.
     Manifest,
     /// A segment, by its number.
     Segment(u64),
 }
 
 impl Asked {
-    /// The call that opens it.
+    /// The folder's call that opens this file.
     pub(crate) fn call(self) -> FolderCall
         ensures { result ≡ call_for self }
     {
@@ -34,12 +34,12 @@ impl Asked {
 /// What the files of a log stand in, each of which is opened as a blob of the type `B`. No clause
 /// says what a file gives: each says just what the folder was asked for.
 pub trait Folder<B: Blob> {
-    /// What it was asked for so far that changes it or makes it durable, how each call went, and
-    /// what each opened file gave.
+    /// The calls so far that change the folder or make it durable, how each went, and the bytes
+    /// that each opened file gave.
     ghost asked: { Self → List FolderEvent };
 
-    /// Opens a file to be written, and makes it where it is missing. What it holds is durable then,
-    /// and the file is nobody else's.
+    /// Opens a file to be written, and makes it where it is missing. The bytes that the file holds
+    /// are durable then, and nobody else uses the file.
     fn open(&mut self, file: Asked) -> io::Result<B>
         ensures rests { IfOk result (λ blob. IsDurable (B.life blob).present) }
         ensures asked { let event = opening_outcome B.life (call_for file) result in

@@ -16,7 +16,7 @@ use std::snapshot::Snapshot;
 
 /// A folder of the system of which nothing is changed: a file that is opened is read into memory,
 /// and only that copy changes. A file that is missing isn't made: its opening answers `NotFound`. A
-/// log over it is for reading; what is appended goes as it is dropped.
+/// log over it is for reading; what is appended is lost when the log is dropped.
 #[derive(Drop)]
 pub struct FolderCopy {
     names: Names,
@@ -50,14 +50,14 @@ impl FolderCopy {
         file::read(self.names.rt(), self.names.path_of(file)?.as_str())
     }
 
-    // A call more was made.
+    // Notes one call more.
     fn note(&mut self, call: FolderCall, failed: bool)
         ensures { self.new ≡ self.old ++ plain_event call failed ∷ [] }
     {
         self.past = FolderPast::after(&self.past, call, failed);
     }
 
-    // A file more was opened, or wasn't.
+    // Notes one opening more, which gave a copy or failed.
     fn note_opening(&mut self, file: Asked, opened: &io::Result<VecBlob>)
         ensures { let call = call_for file in
             let event = opening_outcome (λ b. life_of b.history) call opened.now in
@@ -100,13 +100,13 @@ impl Folder<VecBlob> for FolderCopy {
         self.names.last_with_bytes()
     }
 
-    /// It refuses: the folder isn't changed.
+    /// Always refused with `PermissionDenied`: the folder isn't changed.
     fn remove(&mut self, segment: u64) -> io::Result<()> {
         self.note(FolderCall::Removes(segment), true);
         Err(io::Error::from(io::ErrorKind::PermissionDenied))
     }
 
-    /// No name changed.
+    /// Does nothing: no name changed.
     fn sync(&mut self) -> io::Result<()> {
         self.note(FolderCall::Syncs, false);
         Ok(())

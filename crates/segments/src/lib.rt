@@ -1,6 +1,7 @@
-//! Logs in segments: numbered files, of which the last one is open, in memory, with all that is
-//! promised of a journal. Of each closed one a length and a digest are kept, in a manifest. So what
-//! is read of it is what it held when it was closed, or it is refused.
+//! Logs in segments, which are numbered files. The last one is open, in memory, with all that is
+//! promised of a journal. For each closed segment, a manifest keeps its length and its SHA-256. So,
+//! unless two different strings have one SHA-256, a read of a closed segment gives what it held
+//! when it was closed, or is refused.
 #![tactic(auto)]
 
 mod appending;

@@ -28,7 +28,7 @@ impl Model for Listing {
 }
 
 impl Listing {
-    /// No closed segment; the first one is open.
+    /// A listing of no closed segment: the first one, number 0, is open.
     pub fn new(alloc: Global) -> Self
         ensures { result ≡ none_closed }
     {
@@ -52,7 +52,7 @@ impl Listing {
         self.first + self.closed.len() as u64
     }
 
-    /// What was kept of a closed segment. None where it was dropped, or isn't closed.
+    /// What was kept of a closed segment. `None` where it was dropped, or isn't closed.
     pub fn closed(&self, number: u64) -> Option<Closed>
         ensures { result ≡ closed_at self.now number }
     {
@@ -62,7 +62,7 @@ impl Listing {
         self.closed.get((number - self.first) as usize).copied()
     }
 
-    /// How many records the closed segments have. None where that passes the greatest number.
+    /// How many records the closed segments have. `None` where that passes the greatest `u64`.
     pub fn records(&self) -> Option<u64>
         ensures { result ≡ fitting (closed_count self.now.closed) }
     {
@@ -73,7 +73,7 @@ impl Listing {
         Some(count)
     }
 
-    /// Has room for one closed segment more.
+    /// Makes room for one closed segment more.
     pub fn reserve(&mut self) -> Result<(), disk::Error>
         ensures { self.new ≡ self.old }
     {
@@ -81,8 +81,8 @@ impl Listing {
         Ok(())
     }
 
-    /// Takes in an entry of a log with pages of so many bytes, and answers whether it could follow
-    /// those before it.
+    /// Takes in an entry of a log with pages of so many logical bytes, and answers whether it could
+    /// follow those before it. If it couldn't, or memory was refused, the listing is as it was.
     pub fn take_in(&mut self, page_size: u16, entry: &Entry) -> Result<bool, disk::Error>
         ensures { TakesIn page_size entry.now self.old self.new result }
     {
@@ -108,8 +108,8 @@ impl Listing {
     }
 }
 
-/// What the records of a manifest list, of a log with pages of so many bytes. `Manifest` where one
-/// is no entry, or can't follow those before it.
+/// What the records of a manifest list, of a log with pages of so many logical bytes. `Manifest`
+/// where a record is no entry, or can't follow those before it.
 pub fn listing_of(alloc: Global, records: &[IoBuf], page_size: u16) -> Result<Listing, Error>
     ensures { IfOk result (λ l. listed_in page_size records.now ≡ Some l) }
 {

@@ -31,8 +31,8 @@ impl<H: Sum, R: Sum> Model for Loaded<H, R> {
 }
 
 impl<H: Sum, R: Sum> Loaded<H, R> {
-    /// A segment that was read, of which this was kept. None where its bytes aren't those of which
-    /// it was.
+    /// A segment that was read, of which `closed` was kept. `None` where its bytes have another
+    /// length or another digest.
     #[tactic(auto, using(crate::proofs::Loading::loaded_of))]
     pub fn new(
         alloc: Global,
@@ -53,14 +53,14 @@ impl<H: Sum, R: Sum> Loaded<H, R> {
         }
     }
 
-    /// Whether it is the segment of which this was kept.
+    /// Whether the same length and the same digest were kept of the segment in memory.
     pub fn is_of(&self, closed: &Closed) -> bool
         ensures { (result ≡ true) ↔ SameKept self.now.kept closed.now }
     {
         self.closed.len == closed.len && self.closed.digest == closed.digest
     }
 
-    /// The frame at an offset.
+    /// The frame at a logical offset of the segment; `None` at its end and after it.
     #[tactic(auto, using(crate::proofs::Loading::held_read, crate::proofs::Loading::loaded_still))]
     pub fn read(&mut self, offset: u64) -> Result<Option<Found>, Error>
         requires loaded { let P = self.old.owned.page_size in

@@ -28,7 +28,7 @@ pub struct Options {
     pub pages: NonZeroUsize,
     /// How many bytes an opening reads at once.
     pub buffer_size: NonZeroUsize,
-    /// From how many bytes of records and their frames on a segment is closed.
+    /// An append rotates where the frames of the open segment have so many logical bytes or more.
     pub segment_size: u64,
 }
 
@@ -76,7 +76,7 @@ impl<F: Folder<B> + Drop, B: Blob + Drop, H: Sum, R: Sum> SegmentedLog<F, B, H, 
         self.listing.open()
     }
 
-    /// The blob of the open segment: a file's tells why a call of it failed.
+    /// The blob of the open segment. If it is a file's, its `failure` is why a call of it failed.
     pub fn blob(&self) -> &B
         ensures { B.life result.now ≡ self.now.current.life }
     {
@@ -97,8 +97,8 @@ impl<F: Folder<B> + Drop, B: Blob + Drop, H: Sum, R: Sum> SegmentedLog<F, B, H, 
         self.current.records()
     }
 
-    /// How many records the log has, of those that weren't dropped. None where that passes the
-    /// greatest number: then the manifest is none that a log has written.
+    /// How many records the log has, of those that weren't dropped. `None` where that passes the
+    /// greatest `u64`: then the manifest is none that a log has written.
     pub fn len(&self) -> Option<u64>
         ensures { let all = closed_count self.now.listing.closed + self.now.current.records in
             result ≡ fitting all }
@@ -106,15 +106,15 @@ impl<F: Folder<B> + Drop, B: Blob + Drop, H: Sum, R: Sum> SegmentedLog<F, B, H, 
         self.listing.records()?.checked_add(self.current.records())
     }
 
-    /// What is kept of a closed segment; none where it was dropped, or isn't closed.
+    /// What is kept of a closed segment; `None` where it was dropped, or isn't closed.
     pub fn closed(&self, segment: u64) -> Option<Closed>
         ensures { result ≡ closed_at self.now.listing segment }
     {
         self.listing.closed(segment)
     }
 
-    // Adds an entry to the manifest, and makes it durable; the listing tells it first. `Manifest`
-    // where it can't follow the entries before it.
+    // Adds an entry to the listing, then to the manifest, and makes it durable. `Manifest` where
+    // the entry can't follow those before it.
     pub(crate) fn enter(&mut self, entry: &Entry) -> Result<(), Error>
         requires log { IsLog H.sum_of R.sum_of self.old }
         ensures goes { EnterGoes R.sum_of entry.now self.old self.new result }

@@ -7,7 +7,7 @@ use std::{fs, io};
 // What stands after the number in the name of a segment's file.
 const ENDING: &str = ".segment";
 
-/// The files of a log in a folder of the system: `manifest`, and of each segment its number with
+/// The files of a log in a folder of the system: `manifest`, and for each segment its number with
 /// twenty digits and `.segment`.
 #[derive(Drop)]
 pub struct Names {
@@ -16,7 +16,7 @@ pub struct Names {
 }
 
 impl Names {
-    /// Those of the folder at a path.
+    /// The files of a log in the folder at a path.
     pub fn new(rt: &HostRuntime, path: &str) -> io::Result<Self> {
         Ok(Names {
             rt: rt.clone()?,

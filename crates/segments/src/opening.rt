@@ -20,11 +20,12 @@ use std::io::ErrorKind;
 impl<F: Folder<B> + Drop, B: Blob + Drop, H: Sum, R: Sum> SegmentedLog<F, B, H, R> {
     /// Opens the log of a folder, and begins one where the folder has none.
     ///
-    /// Before anything is changed a copy of the manifest is read, and held against the files that
-    /// are there. `Manifest` where it can't be read, as with another page size. `Unlisted` where a
-    /// segment has bytes that comes after the open one, or where there is no manifest: it may be an
-    /// old one, or be lost. `Missing` where the open segment isn't there. `System` where the system
-    /// refuses a file, and `Layer` where the device or memory failed. What was committed still is.
+    /// Before anything is changed, a copy of the manifest is read and compared with the files that
+    /// are there. `Manifest` where the manifest can't be read, as with another page size.
+    /// `Unlisted` where a segment after the open one has bytes, or where a segment has bytes and
+    /// there is no manifest: the manifest may be an old one, or be lost. `Missing` where the open
+    /// segment isn't there. `System` where the system refuses a file, and `Layer` where the device
+    /// or memory failed. After an error, what was committed still is.
     #[tactic(auto, using(crate::proofs::Beginning::parts_open))]
     pub fn open(alloc: Global, folder: F, options: Options) -> Result<Self, Error>
         ensures log { IfOk result (λ log. IsLog H.sum_of R.sum_of log) }
@@ -179,8 +180,8 @@ fn open_number<F: Folder<B>, B: Blob + Drop, H: Sum, R: Sum>(
     Ok(number)
 }
 
-// The number of the open segment that a copy of the manifest tells; none where it has no entry.
-// Where segments have bytes a manifest that has some has an entry.
+// The number of the open segment, by a copy of the manifest; `None` where that is missing or has no
+// entry. `Manifest` where it has bytes and no entry, though segments have bytes.
 fn listed_open<F: Folder<B>, B: Blob + Drop, H: Sum, R: Sum>(
     alloc: Global,
     folder: &mut F,
@@ -197,7 +198,7 @@ fn listed_open<F: Folder<B>, B: Blob + Drop, H: Sum, R: Sum>(
     let has_bytes = copy.len() > 0;
     let (_, entries) = recover::<VecBlob, H, R>(alloc, options, copy)?;
     if entries.is_empty() {
-        // Pages of another size have no text.
+        // With another page size the manifest's pages have no text, and so no entry.
         return if has_bytes && is_used {
             Err(Error::Manifest)
         } else {

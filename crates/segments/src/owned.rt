@@ -19,8 +19,8 @@ use std::alloc::Global;
 use std::marker::Model;
 use std::num::{NonZeroU16, NonZeroUsize};
 
-/// A blob with a journal on it, and a cache of its own. A call of the journal that fails leaves
-/// none; then each later call answers `Closed`, except for a recovery.
+/// A blob with a journal on it, and a cache of its own. If a call that takes the journal fails, the
+/// journal is gone: each later call that needs one answers `Closed`, until a recovery.
 #[derive(Drop)]
 pub struct OwnedJournal<B: Blob, H, R> {
     pub blob: B,
@@ -46,7 +46,7 @@ impl<B: Blob, H, R> Model for OwnedJournal<B, H, R> {
 }
 
 impl<B: Blob + Drop, H: Sum, R: Sum> OwnedJournal<B, H, R> {
-    /// A blob with no journal yet, and a cache of so many pages. It answers `OutOfMemory` alone.
+    /// A blob with no journal yet, and a cache of so many pages. The only error is `OutOfMemory`.
     pub fn new(
         alloc: Global,
         blob: B,
@@ -71,21 +71,22 @@ impl<B: Blob + Drop, H: Sum, R: Sum> OwnedJournal<B, H, R> {
         }
     }
 
-    /// Its blob.
+    /// The blob of the journal.
     pub fn blob(&self) -> &B
         ensures { B.life result.now ≡ self.now.life }
     {
         &self.blob
     }
 
-    /// How many records it has.
+    /// How many records the journal has.
     pub fn records(&self) -> u64
         ensures { result ≡ self.now.records }
     {
         self.records
     }
 
-    /// Recovers the journal of the blob as it is, and answers its records.
+    /// Recovers the journal of the blob as it is, and answers its records. After an error there is
+    /// no journal.
     pub fn recover(
         &mut self,
         alloc: Global,
@@ -121,7 +122,7 @@ impl<B: Blob + Drop, H: Sum, R: Sum> OwnedJournal<B, H, R> {
         }
     }
 
-    /// Appends a record, and answers the offset of its frame.
+    /// Appends a record, and answers the logical offset of its frame.
     pub fn append(&mut self, bytes: &[u8]) -> Result<u64, Error>
         requires owned { IsOwned H.sum_of R.sum_of self.old }
         requires short { length bytes.now ≤ 65535 }
@@ -208,7 +209,7 @@ impl<B: Blob + Drop, H: Sum, R: Sum> OwnedJournal<B, H, R> {
         }
     }
 
-    /// The frame at an offset.
+    /// The frame at a logical offset; `None` at the end and after it. An error leaves the journal.
     pub fn read(&mut self, offset: u64) -> Result<Option<Found>, Error>
         requires owned { IsOwned H.sum_of R.sum_of self.old }
         ensures goes { OwnedReadGoes R.sum_of offset self.old self.new result }

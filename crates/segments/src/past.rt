@@ -16,7 +16,7 @@ pub struct FolderPast<B: Blob> {
     last: Last<B>,
 }
 
-// The last call, and what stood before it.
+// The last call, and the past before it.
 #[cycle(past)]
 #[derive(Drop)]
 enum Last<B: Blob> {
@@ -53,7 +53,7 @@ impl<B: Blob> FolderPast<B> {
         Snapshot::of(&past)
     }
 
-    /// A call more.
+    /// This past and one call more.
     pub fn after(before: &Snapshot<Self>, call: FolderCall, failed: bool) -> Snapshot<Self>
         ensures { result.value ≡ before.now.value ++ plain_event call failed ∷ [] }
     {
@@ -63,7 +63,7 @@ impl<B: Blob> FolderPast<B> {
         Snapshot::of(&past)
     }
 
-    /// An opening more, which gave this blob.
+    /// This past and one opening more, which gave this blob.
     pub fn opened(before: &Snapshot<Self>, call: FolderCall, blob: &B) -> Snapshot<Self>
         ensures { let given = (B.life blob.now).present.readable in
             result.value ≡ before.now.value ++ opening_with call given ∷ [] }

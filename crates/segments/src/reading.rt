@@ -16,8 +16,8 @@ use journal::Found;
 use page::Sum;
 
 impl<F: Folder<B> + Drop, B: Blob + Drop, H: Sum, R: Sum> SegmentedLog<F, B, H, R> {
-    // Takes a closed segment that is in memory, or reads it, unless its bytes aren't those of which
-    // was kept what is listed.
+    // Takes the closed segment of this number from memory, or else reads it. `Damaged` where its
+    // bytes haven't the length and the digest that are listed.
     fn take_loaded(&mut self, number: u64) -> Result<Loaded<H, R>, Error>
         requires log { IsLog H.sum_of R.sum_of self.old }
         ensures goes { TakeLoadedGoes H.sum_of R.sum_of self.old number result }
@@ -87,10 +87,12 @@ impl<F: Folder<B> + Drop, B: Blob + Drop, H: Sum, R: Sum> SegmentedLog<F, B, H, 
     /// The frame at a place: one that an append answered, or the place after another frame. `None`
     /// where none begins there: at the end of its segment and after it.
     ///
-    /// A closed segment is read whole, and stays in memory until another one is; it is held against
-    /// what was kept of it. `Damaged` where it doesn't hold what it held when it was closed: the
-    /// other segments can be read. `NoSegment` where it was dropped, or was never there. `System`
-    /// where the system refuses its file. An error leaves the log as it was.
+    /// A closed segment is read whole, is compared with the length and the digest that were kept of
+    /// it, and stays in memory until another one is read. `Damaged` where it doesn't hold what it
+    /// held when it was closed: the other segments can be read. `NoSegment` where it was dropped,
+    /// or was never there. `System` where the system refuses its file. `Closed` where the segment
+    /// is the open one and a call before failed. `Layer` where the device or memory failed. An
+    /// error leaves the log as it was.
     #[tactic(auto, using(crate::proofs::Readings::reads_current, crate::proofs::Joining::leaves_current))]
     pub fn read(&mut self, place: Place) -> Result<Option<Found>, Error>
         requires log { IsLog H.sum_of R.sum_of self.old }

@@ -18,10 +18,15 @@ use page::Sum;
 impl<F: Folder<B> + Drop, B: Blob + Drop, H: Sum, R: Sum> SegmentedLog<F, B, H, R> {
     /// Closes the open segment, whatever its size, and opens the next one.
     ///
-    /// All records are committed first; then what is to be kept of the segment's bytes is computed;
-    /// the next segment's file is made, and its name made durable; and then the manifest lists the
-    /// closed one. So a crash at any moment leaves the log before that or after it, and both have
-    /// the same records.
+    /// All records are committed first. Then the length and the digest of the segment's bytes are
+    /// computed, the next segment's file is made, and its name is made durable. Last, the closed
+    /// segment is listed in the manifest. So a crash while the manifest is written leaves the log
+    /// before that or after it, and both have the same records.
+    ///
+    /// `Closed` where a call before failed, `Layer` where the device or memory failed, `System`
+    /// where the folder refused the next file or the sync of its name, `Unlisted` where the next
+    /// file has bytes, which stay, and `NumbersExhausted` where no number is left. After an error
+    /// the log is closed.
     pub fn rotate(&mut self) -> Result<(), Error>
         requires log { IsLog H.sum_of R.sum_of self.old }
         ensures goes { RotateGoes H.sum_of R.sum_of self.old self.new result }
@@ -39,7 +44,7 @@ impl<F: Folder<B> + Drop, B: Blob + Drop, H: Sum, R: Sum> SegmentedLog<F, B, H, 
         }
     }
 
-    // Opens the next segment. `Unlisted` where its file has bytes: nothing was done to them.
+    // Opens the next segment. `Unlisted` where its file has bytes, which stay as they were.
     fn open_next(&mut self) -> Result<OwnedJournal<B, H, R>, Error>
         requires log { IsLog H.sum_of R.sum_of self.old }
         ensures goes { OpenNextGoes H.sum_of R.sum_of self.old self.new result }

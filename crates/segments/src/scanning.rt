@@ -16,7 +16,7 @@ use page::Sum;
 enum Step {
     // A record, and the place behind it.
     Record(IoBuf, Place),
-    // No record: here it goes on.
+    // No record, and the place from which to go on.
     Passed(Place),
     // The end of the log.
     End,
@@ -34,10 +34,10 @@ impl<F: Folder<B> + Drop, B: Blob + Drop, H: Sum, R: Sum> SegmentedLog<F, B, H, 
         }
     }
 
-    /// The next record from a place on, and where it stands; `None` after the last. The place goes
-    /// on behind the record. At the end of a closed segment the next one follows; a frame that is
-    /// no record is passed over. At the end of the log the place stays where the next append puts
-    /// its record, unless that rotates; so whoever comes back later reads on from there.
+    /// The next record from a place on, and where it stands; `None` after the last. The place moves
+    /// behind the record. At the end of a closed segment the next one follows; a frame that is no
+    /// record is passed over. At the end of the log the place is where the next append puts its
+    /// record, unless that append rotates; so a later call reads on from there.
     ///
     /// A place is one that an append or this call answered, or [`start`](SegmentedLog::start). The
     /// errors are those of [`read`](SegmentedLog::read); each leaves the place where it was, so
@@ -64,7 +64,7 @@ impl<F: Folder<B> + Drop, B: Blob + Drop, H: Sum, R: Sum> SegmentedLog<F, B, H, 
         }
     }
 
-    // One frame further from a place.
+    // Goes one frame further from a place.
     fn step(&mut self, segment: u64, offset: u64) -> Result<Step, Error>
         requires log { IsLog H.sum_of R.sum_of self.old }
         ensures goes { let at = place_at segment offset in
@@ -85,7 +85,8 @@ impl<F: Folder<B> + Drop, B: Blob + Drop, H: Sum, R: Sum> SegmentedLog<F, B, H, 
         }
     }
 
-    // After the last frame of a segment: the next one follows a closed one.
+    // Goes on after the last frame of a segment: a closed one is followed by the next segment, and
+    // the open one by the end.
     fn step_after(&self, segment: u64, offset: u64) -> Step
         requires none { let at = place_at segment offset in
             LogReadGoes H.sum_of R.sum_of self.now at (Ok None) }

@@ -1,4 +1,4 @@
--- What a step does to a session but for its snapshots and its replays.
+-- What a step does to a session, except for its snapshots and its replays.
 use Rattle.std.proofs.Common.{◌≡◌, ◌⊎◌, ℕ, ◌≤◌, List, [], length, Bool, true, false}
 use Rattle.std.specs.Prelude.{All, map, Option, None, option_map}
 use Rattle.disk.specs.Disk.{Disk, Life, life_after}
@@ -10,7 +10,7 @@ use Rattle.session.specs.declared.steps.Step.{Step}
 use Rattle.session.specs.declared.steps.Reply.{Reply}
 use Rattle.session.specs.Run.{AllCover, Did, HasSoundWriter, IsSoundSession, NamesFit, replay_in_run, Represents, RunReplay, RunState, SessionState, WriterFits}
 
--- what a session stands for
+-- what a session stands for, except for its snapshots and its replays
 pub record StandsApart (sum : List ℕ → ℕ) (P : ℕ) (session : SessionState) (s : RunState) (d : Disk) : Type 0 where
   pub fits : WriterFits P session.writer s d
   pub phase : session.recovering ≡ s.recovering
@@ -21,13 +21,13 @@ pub record StandsApart (sum : List ℕ → ℕ) (P : ℕ) (session : SessionStat
   pub covered : AllCover sum P s.content s.covers d
   pub only : AllOnly sum P s.content s.otherwise d
 
--- what it needs to take steps
+-- what a session needs to take steps, except for its snapshots and its replays
 pub record IsReadyApart (sum : List ℕ → ℕ) (session : SessionState) (d : Disk) : Type 0 where
   pub writer : HasSoundWriter sum session.writer d
   pub starts : (session.names ≡ []) ⊎ StartsCanBeAwaited d
 
--- one step by a session that stood for this, after which its snapshots tell these contents, and its
--- replays are these
+-- one step by a session that stood for `before`, after which its snapshots have these contents, and
+-- its replays are these
 pub record SteppedApart (sum : List ℕ → ℕ) (P : ℕ) (step : Step) (reply : Reply) (session : SessionState) (old new : Life) (before : RunState) (snapshots : List (Option (List ℕ))) (replays : List (Option RunReplay)) : Type 0 where
   pub moments : List Disk
   pub goes : new ≡ life_after old moments
@@ -42,16 +42,17 @@ abbrev pub left_replays : (cuts : Bool) → List (Option RunReplay) → List (Op
 left_replays false replays = replays
 left_replays true replays = map (λ r. None) replays
 
--- one that makes no snapshot, and leaves the replays or forgets them, whatever the session stood for
+-- a step that makes no snapshot, and leaves the replays or forgets them, whatever the session stood
+-- for
 abbrev pub AlwaysBy : (cuts : Bool) → (List ℕ → ℕ) → Step → Reply → SessionState → SessionState → Life → Life → Type 0
 AlwaysBy cuts sum step reply was now old new = (P : ℕ) (before : RunState) → StandsApart sum P was before old.present → SteppedApart sum P step reply now old new before before.snapshots (left_replays cuts before.replays)
 
--- it may take another then
+-- such a step, after which the session may take another
 pub record StepsBy (cuts : Bool) (sum : List ℕ → ℕ) (step : Step) (reply : Reply) (was now : SessionState) (old new : Life) : Type 0 where
   pub ready : IsReadyApart sum now new.present
   pub always : AlwaysBy cuts sum step reply was now old new
 
--- one that leaves the replays
+-- a step that makes no snapshot and leaves the replays
 abbrev pub AlwaysApart : (List ℕ → ℕ) → Step → Reply → SessionState → SessionState → Life → Life → Type 0
 AlwaysApart sum step reply was now old new = AlwaysBy false sum step reply was now old new
 
@@ -72,7 +73,7 @@ stands_apart sum P session s d stands = record {
   only = stands.only;
 }
 
--- and with them
+-- what a session stands for, with the snapshots and the replays
 pub whole : (sum : List ℕ → ℕ) (P : ℕ) (session : SessionState) (s : RunState) (d : Disk) → s.snapshots ≡ map (option_map (λ t. logical_bytes t d.readable)) session.snapshots → s.replays ≡ map (option_map (replay_in_run d.readable)) session.replays → StandsApart sum P session s d
     → Represents sum P session s d
 whole sum P session s d tells gives stands = record {
@@ -93,7 +94,7 @@ ready_apart sum session d ready = record { writer = ready.writer; starts = ready
 
 -- ---- of a session with other replays
 
--- it stands for what it stood for
+-- a session with other replays stands for what it stood for
 stands_with : (sum : List ℕ → ℕ) (P : ℕ) (session : SessionState) (replays : List (Option ReplayState)) (s : RunState) (d : Disk) → StandsApart sum P session s d → StandsApart sum P (record session { replays = replays }) s d
 stands_with sum P session replays s d stands = record {
   fits = stands.fits;
@@ -106,7 +107,7 @@ stands_with sum P session replays s d stands = record {
   only = stands.only;
 }
 
--- and a step to it was one
+-- a step to a session with other replays was such a step
 pub steps_with : (cuts : Bool) (sum : List ℕ → ℕ) (step : Step) (reply : Reply) (was now : SessionState) (replays : List (Option ReplayState)) (old new : Life) → StepsBy cuts sum step reply was now old new → StepsBy cuts sum step reply was (record now { replays = replays }) old new
 steps_with cuts sum step reply was now replays old new steps = record {
   ready = record { writer = steps.ready.writer; starts = steps.ready.starts };

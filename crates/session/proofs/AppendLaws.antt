@@ -34,11 +34,11 @@ use Rattle.session.proofs.StepLaws.{held, no_moments, turned_here, few_calls, co
 
 -- ---- what is buffered
 
--- bytes that fit
+-- bytes that fit the buffer
 fit : (s : RunState) (w : WriterState) (more : ℕ) → length w.tip ≡ s.buffered → w.capacity ≡ s.capacity → fits_buffer s more ≡ true → length w.tip + more ≤ w.capacity
 fit s w more buffered capacity is = omega (arith, leb-true (s.buffered + more) s.capacity is, buffered, capacity)
 
--- and bytes that don't
+-- bytes that don't fit the buffer
 pass : (s : RunState) (w : WriterState) (more : ℕ) → length w.tip ≡ s.buffered → w.capacity ≡ s.capacity → fits_buffer s more ≡ false → w.capacity < length w.tip + more
 pass s w more buffered capacity is =
     let h : s.capacity < s.buffered + more = grind (arith, nat_tests, is) in omega (arith, h, buffered, capacity)
@@ -47,7 +47,7 @@ pass s w more buffered capacity is =
 pub rest_is : (P full more tip n : ℕ) → full * P + more ≡ n * P + tip → tip < P → tip ≡ more % P
 rest_is P full more tip n same short = sym (mod-eq_of_lt short) ∙ sym (mul-add-mod_self_right n P tip) ∙ ap (λ (k : ℕ). k % P) (sym same) ∙ mul-add-mod_self_right full P more
 
--- of a writer whose content has grown
+-- what is left in the tip of a writer whose content has grown
 pub rest_left : (sum : List ℕ → ℕ) (w v : WriterState) (old new : Life) (bytes : List ℕ) → IsSound sum w old.present → Succeeds sum w old bytes v new → length v.tip < v.page_size → length v.tip ≡ (length w.tip + length bytes) % w.page_size
 rest_left sum w v old new bytes sound goes short =
     let same : v.page_size ≡ w.page_size = goes.same.page_size in
@@ -76,7 +76,7 @@ rest_work false false false some more = refl
 rest_work false true c some more = absurd (false≢true (sym some))
 rest_work false false true some more = absurd (false≢true (sym more))
 
--- what is written leaves it none
+-- a writer all of whose bytes are written leaves a flush no work
 pub written_no_work : (v : WriterState) → length v.tip < v.page_size → kept_len v.flushed ≡ length v.tip → has_work v true ≡ false
 written_no_work v fewer flushed =
     let short : length v.tip % v.page_size ≡ length v.tip = mod-eq_of_lt fewer in
@@ -85,12 +85,12 @@ written_no_work v fewer flushed =
     let same : (length v.tip % v.page_size == kept_len v.flushed) ≡ true = grind (arith, nat_tests, all) in
     no_work (nat_le v.page_size (length v.tip)) (length v.tip % v.page_size == 0) (length v.tip % v.page_size == kept_len v.flushed) below same
 
--- no more of the tip was written than it has
+-- no more bytes of the tip were written than it has
 kept_there : (sum : List ℕ → ℕ) (P full : ℕ) (tip readable : List ℕ) (flushed : Option ActiveChecksum) → TipPage sum P full tip readable flushed → kept_len flushed ≤ length tip
 kept_there sum P full tip readable None page = omega arith
 kept_there sum P full tip readable (Some f) page = page.there
 
--- bytes that were buffered give it some
+-- bytes that were buffered give a flush work
 buffered_work : (sum : List ℕ → ℕ) (w : WriterState) (bytes : List ℕ) (d : Disk) → IsSound sum w d → 0 < length bytes → has_work (record w { tip = w.tip ++ bytes }) true ≡ true
 unfolding IsSound
 buffered_work sum w bytes d sound some =
@@ -131,7 +131,7 @@ start_none false (Pending name) is none = refl
 pub settled_started : (v : WriterState) → IsSettled v → true ≡ nat_eq (start_calls v) 0
 settled_started v settled = sym (start_none (has_work v true) v.sync (written_no_work v settled.short settled.flushed) (ap unstarted_calls settled.clean))
 
--- and waits for none
+-- a settled writer waits for no sync
 pub settled_awaits : (v : WriterState) → IsSettled v → None ≡ pending_in v.sync
 settled_awaits v settled = sym (ap pending_in settled.clean)
 
@@ -148,11 +148,11 @@ needs_calls false (Pending name) = refl
 pub needs_is : (w : WriterState) (P : ℕ) (s : RunState) (d : Disk) → WriterRepresents P w s d → nat_lt 0 (sync_calls w) ≡ needs_sync s
 needs_is w P s d fits = needs_calls (has_work w true) w.sync ∙ rw (fits.written, fits.awaited) refl
 
--- where it has, it may be refused
+-- where a sync has something to do, it may be refused
 pub sync_needed : (w : WriterState) (P : ℕ) (s : RunState) (d : Disk) → WriterRepresents P w s d → (sync_calls w ≡ 0 → ⊥) → needs_sync s ≡ true
 sync_needed w P s d fits some = sym (needs_is w P s d fits) ∙ (elim (cases_lt 0 (sync_calls w)) [ inl more ↦ (let yes : nat_lt 0 (sync_calls w) ≡ true = grind (arith, nat_tests, more) in yes) | inr none ↦ absurd (some (omega (arith, none))) ])
 
--- two calls at most
+-- a sync makes two calls at most
 pub calls_few : (work : Bool) (state : SyncState) → (if work then 1 else 0) + settle_calls state ≤ 2
 calls_few true Clean = lit≤ tt
 calls_few true Dirty = lit≤ tt
@@ -161,7 +161,7 @@ calls_few false Clean = lit≤ tt
 calls_few false Dirty = lit≤ tt
 calls_few false (Pending name) = lit≤ tt
 
--- a wait alone, where all is written
+-- a sync makes the calls of a wait alone, where all is written
 pub calls_written : (work : Bool) (state : SyncState) → true ≡ nat_eq (if work then wait_calls state + 2 else unstarted_calls state) 0 → (if work then 1 else 0) + settle_calls state ≡ wait_calls state
 calls_written true Clean is = absurd (false≢true (sym is))
 calls_written true Dirty is = absurd (false≢true (sym is))
@@ -186,12 +186,12 @@ had_failed_as Clean o d is had = absurd had
 had_failed_as Dirty o d is had = absurd had
 had_failed_as (Pending name) o d is had = subst (λ (o : Option ℕ). AwaitedSyncFailed o d) (sym is) had
 
--- whether all is written then, where nothing was appended, or something
+-- whether all is written after an append, of no bytes or of some
 written_stays : (w v : WriterState) (bytes : List ℕ) (written : Bool) → written ≡ nat_eq (start_calls w) 0 → (bytes ≡ [] → v ≡ w) → (0 < length bytes → nat_eq (start_calls v) 0 ≡ false) → written_after bytes written ≡ nat_eq (start_calls v) 0
 written_stays w v [] written is same some = is ∙ ap (λ (x : WriterState). nat_eq (start_calls x) 0) (sym (same refl))
 written_stays w v (byte ∷ bytes) written is same some = sym (some (omega arith))
 
--- where the bytes were buffered
+-- whether all is written after bytes were buffered
 buffered_written : (sum : List ℕ → ℕ) (w v : WriterState) (bytes : List ℕ) (d : Disk) (written : Bool) → IsSound sum w d → written ≡ nat_eq (start_calls w) 0 → v ≡ record w { tip = w.tip ++ bytes } → written_after bytes written ≡ nat_eq (start_calls v) 0
 buffered_written sum w v bytes d written sound is same =
     written_stays w v bytes written is (buffers_none w v bytes same) (λ some.
@@ -199,7 +199,7 @@ buffered_written sum w v bytes d written sound is same =
 
 -- ---- appends
 
--- what each moment of an append owes
+-- what holds at each moment of an append
 append_through : (sum : List ℕ → ℕ) (was : SessionState) (P : ℕ) (w : WriterState) (bytes : List ℕ) (old new : Life) (result : Result (WriterState × ℕ) Error) (before : RunState) → IsSound sum w old.present
     → Appends sum w bytes old new result → StandsApart sum P (held was (Some w)) before old.present → StaysThrough sum P (before.content ++ bytes) old new
 unfolding IsSound
@@ -207,13 +207,13 @@ append_through sum was P w bytes old new result before sound appends stands =
     subst (λ (n : ℕ). StaysThrough sum n (before.content ++ bytes) old new) stands.fits.page_size
     (subst (λ (l : List ℕ). StaysThrough sum w.page_size (l ++ bytes) old new) (sym stands.fits.content) (appends_stay sum w bytes old new result sound appends))
 
--- what a call owes to the started syncs, in the words of the standing
+-- what a call keeps of the started syncs, in the words of the standing
 pub owed_starts : (sum : List ℕ → ℕ) (P : ℕ) (was : SessionState) (w : WriterState) (old new : Life) (before : RunState) → StandsApart sum P (held was (Some w)) before old.present → OwesStarts sum w old new → CoversThrough sum P before.content old new
 owed_starts sum P was w old new before stands owes =
     subst (λ (n : ℕ). CoversThrough sum n before.content old new) stands.fits.page_size
     (subst (λ (l : List ℕ). CoversThrough sum w.page_size l old new) (sym stands.fits.content) owes.covers)
 
--- so both halves hold at each, and the covers
+-- so both halves hold at each moment of an append, and the covers
 append_halves : (sum : List ℕ → ℕ) (was : SessionState) (P : ℕ) (w : WriterState) (bytes : List ℕ) (old new : Life) (before : RunState) → StandsApart sum P (held was (Some w)) before old.present
     → (through : Moments (Stays sum P (before.content ++ bytes) old.present) old new) → OwesStarts sum w old new → Halves sum P before.content (before.content ++ bytes) before.floor before.covers old new through.moments
 append_halves sum was P w bytes old new before stands through owes =
@@ -262,7 +262,7 @@ needed_offsets sum was P w more life before sound stands =
     ∙ ap (λ (n : ℕ). physical_blob_size w.page_size 0 n) (let is : w.full_pages * w.page_size + (length w.tip + more) ≡ length before.content + more = omega (arith, size) in is)
     ∙ ap (λ (n : ℕ). physical_blob_size n 0 (length before.content + more)) stands.fits.page_size
 
--- an append that passes the greatest number is refused so
+-- an append that passes the greatest `u64` is refused with OffsetOverflow
 append_foretold : (sum : List ℕ → ℕ) (was : SessionState) (P : ℕ) (w : WriterState) (bytes : Vec ℕ Global) (old new : Life) (result : Result (WriterState × ℕ) Error) (reply : Reply) (before : RunState) → IsSound sum w old.present → StandsApart sum P (held was (Some w)) before old.present
     → AppendTold sum w bytes.items old new result → (result ≡ Err OffsetOverflow → reply ≡ Fault OffsetOverflow) → FaultsComeFirst P (Append bytes) reply before
 append_foretold sum was P w bytes old new result reply before sound stands says is =
@@ -319,7 +319,7 @@ append_steps sum was w v bytes n old new sound says = λ P before stands. by_roo
         (offset P before stands, refl) (foretold P before stands)
         (appended_stands sum was P w v bytes.items old new before stands goes says.within buffered written awaited kept covered h.stays)
 
--- an append that doesn't fit waits
+-- an append that doesn't fit waits for the started sync, so that sync may have failed
 pub had_without_room : (awaited : Option ℕ) (d : Disk) (room : Bool) → (room ≡ true → ⊥) → AwaitedSyncFailed awaited d → AwaitedSyncFailed (if room then None else awaited) d
 had_without_room awaited d true never had = absurd (never refl)
 had_without_room awaited d false never had = had

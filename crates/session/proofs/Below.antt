@@ -26,17 +26,18 @@ use Rattle.session.proofs.Apart.{IsReadyApart, left_replays, SteppedApart, Steps
 
 -- ---- of a writer
 
--- the writer that there is is sound
+-- the writer, if there is one, is sound
 pub sound_in : (sum : List ℕ → ℕ) (o : Option WriterState) (w : WriterState) (d : Disk) → o ≡ Some w → HasSoundWriter sum o d → IsSound sum w d
 sound_in sum o w d at sound = subst (λ (x : Option WriterState). HasSoundWriter sum x d) at sound
 
--- and can be read with the cache that fits it
+-- the writer, if there is one, can be read with the cache that fits it
 pub can_in : (o : Option WriterState) (w : WriterState) (cache : CacheState) (d : Disk) → o ≡ Some w → FitsWriter o cache d → CanRead (tail_of w) cache d
 can_in o w cache d at fits = subst (λ (x : Option WriterState). FitsWriter x cache d) at fits
 
 -- ---- what a call of the writer leaves
 
--- what is of its full pages is of those of the writer that goes on
+-- snapshots and replays whose full pages are among the writer's are among those of the writer that
+-- goes on
 pub leaves_on : (sum : List ℕ → ℕ) (o : Option WriterState) (w v : WriterState) (cache after : CacheState) (old new : Life) → o ≡ Some w → IsSameWriter w v → LeavesTails sum w.full_pages cache after old new → LeavesReplays w.page_size w.full_pages old new
     → LeavesOthers w.id cache after → SameSettings cache after → LeavesTaken sum o (Some v) cache after old new
 leaves_on sum o w v cache after old new at same tails replays others settings = record {
@@ -53,7 +54,7 @@ leaves_on sum o w v cache after old new at same tails replays others settings = 
   others = others_on o w v cache after at same.id others settings;
 }
 
--- and of none
+-- the same where the call leaves no writer
 pub leaves_gone : (sum : List ℕ → ℕ) (o now : Option WriterState) (w : WriterState) (cache after : CacheState) (old new : Life) → o ≡ Some w → now ≡ None → LeavesTails sum w.full_pages cache after old new → LeavesReplays w.page_size w.full_pages old new
     → LeavesOthers w.id cache after → SameSettings cache after → LeavesTaken sum o now cache after old new
 leaves_gone sum o now w cache after old new at none tails replays others settings = record {
@@ -68,7 +69,7 @@ leaves_gone sum o now w cache after old new at none tails replays others setting
   others = others_gone o now w cache after at none others settings;
 }
 
--- and of one that stays as it is
+-- the same where the writer stays as it is
 pub leaves_same : (sum : List ℕ → ℕ) (o : Option WriterState) (w : WriterState) (cache after : CacheState) (old new : Life) → o ≡ Some w → LeavesTails sum w.full_pages cache after old new → LeavesAllReplays old new → LeavesOthers w.id cache after → SameSettings cache after
     → LeavesTaken sum o o cache after old new
 leaves_same sum o w cache after old new at tails replays others settings = record {
@@ -91,11 +92,11 @@ leaves_here sum o cache life = record {
   others = others_here o cache;
 }
 
--- the writer is the same
+-- a call that asks nothing of the device, after which the writer is the same
 tried_same : (sum : List ℕ → ℕ) (w v : WriterState) (now : Option WriterState) (cache : CacheState) (life : Life) → now ≡ Some v → v ≡ w → LeavesTaken sum (Some w) now cache cache life life
 tried_same sum w v now cache life is same = subst (λ (x : Option WriterState). LeavesTaken sum (Some w) x cache cache life life) (sym (is ∙ ap Some same)) (leaves_here sum (Some w) cache life)
 
--- nor does an append within the capacity
+-- what an append within the capacity leaves, which asks nothing of the device
 pub leaves_tried : (sum : List ℕ → ℕ) (o now : Option WriterState) (bytes : List ℕ) (cache : CacheState) (life : Life) (reply : Reply) → TriedAppend sum o now bytes reply → LeavesTaken sum o now cache cache life life
 leaves_tried sum None now bytes cache life reply (replied, none) = subst (λ (x : Option WriterState). LeavesTaken sum None x cache cache life life) (sym none) (leaves_here sum None cache life)
 leaves_tried sum (Some w) now bytes cache life (At n) (v, is, tries, over) =
@@ -108,40 +109,40 @@ leaves_tried sum (Some w) now bytes cache life (Fault OutOfMemory) (v, is, tries
 leaves_tried sum (Some w) now bytes cache life (Fault e) (v, is, tries) = absurd tries
 leaves_tried sum (Some w) now bytes cache life reply tried = absurd tried
 
--- one that leaves all of them
+-- a call that leaves all snapshots and replays
 pub leaves_all : (sum : List ℕ → ℕ) (o : Option WriterState) (cache after : CacheState) (old new : Life) → LeavesAllTails sum cache after old new → LeavesAllReplays old new → LeavesRunState sum o o cache after old new
 leaves_all sum o cache after old new tails replays = record {
   snapshots = λ t content below stands. (tails t content stands, below);
   replays = λ r content below gives. (replays sum content r gives, below);
 }
 
--- and the cache
+-- a call that leaves them and the cache
 pub leaves_cache : (sum : List ℕ → ℕ) (o : Option WriterState) (cache : CacheState) (old new : Life) → LeavesAllTails sum cache cache old new → LeavesAllReplays old new → LeavesTaken sum o o cache cache old new
 leaves_cache sum o cache old new tails replays = record { own = leaves_all sum o cache cache old new tails replays; others = others_here o cache }
 
 -- ---- what a step leaves of one snapshot, and of one replay
 
--- it is one still, can be read, and tells what it told
+-- a snapshot that a step leaves is one still, can be read, and has the content that it had
 pub record Left (sum : List ℕ → ℕ) (now : Option WriterState) (after : CacheState) (old new : Disk) (t : Tail) : Type 0 where
   pub snapshot : IsSnapshot sum now t new
   pub can : CanRead t after new
   pub tells : logical_bytes t new.readable ≡ logical_bytes t old.readable
 
--- it is one still, and tells what it told
+-- a replay that a step leaves is one still, and gives what it gave
 pub record LeftReplay (sum : List ℕ → ℕ) (now : Option WriterState) (old new : Disk) (o : Option ReplayState) : Type 0 where
   pub replay : IsReplayIn sum now new o
   pub tells : option_map (replay_in_run new.readable) o ≡ option_map (replay_in_run old.readable) o
 
--- a snapshot that stands
+-- a snapshot that a step leaves, if it wasn't let go
 abbrev pub LeftSnapshot : (List ℕ → ℕ) → Option WriterState → CacheState → Disk → Disk → Option Tail → Type 0
 LeftSnapshot sum now after old new o = IfSome o (λ t. Left sum now after old new t)
 
--- of all
+-- all snapshots and replays are left so
 pub record LeftAll (sum : List ℕ → ℕ) (was : SessionState) (now : Option WriterState) (after : CacheState) (old new : Disk) : Type 0 where
   pub snapshots : All (LeftSnapshot sum now after old new) was.snapshots
   pub replays : All (LeftReplay sum now old new) was.replays
 
--- of one snapshot
+-- one snapshot is left so
 snapshot_left : (sum : List ℕ → ℕ) (was now : Option WriterState) (cache after : CacheState) (old new : Life) (o : Option Tail) → LeavesRunState sum was now cache after old new → IfSome o (λ t. IsSnapshot sum was t old.present) → IfSome o (λ t. CanRead t cache old.present)
     → LeftSnapshot sum now after old.present new.present o
 snapshot_left sum was now cache after old new None leaves is can = tt
@@ -154,7 +155,7 @@ snapshot_same : (sum : List ℕ → ℕ) (writer : Option WriterState) (cache : 
 snapshot_same sum writer cache d None is can = tt
 snapshot_same sum writer cache d (Some t) is can = record { snapshot = is; can = can; tells = refl }
 
--- of one replay
+-- one replay is left so
 replay_left : (sum : List ℕ → ℕ) (was now : Option WriterState) (cache after : CacheState) (old new : Life) (o : Option ReplayState) → LeavesRunState sum was now cache after old new → IsReplayIn sum was old.present o → LeftReplay sum now old.present new.present o
 replay_left sum was now cache after old new None leaves is = record { replay = tt; tells = refl }
 replay_left sum was now cache after old new (Some r) leaves (gives, below) =
@@ -172,7 +173,7 @@ left_by sum was now cache after old new ready fits leaves = record {
   replays = λ k o lt. replay_left sum was.writer now cache after old new (get_or was.replays k o) leaves (ready.replays k o lt);
 }
 
--- by a step that asks nothing of the device
+-- all replays are left so by a step that asks nothing of the device
 pub replays_same : (sum : List ℕ → ℕ) (was : SessionState) (now : Option WriterState) (old new : Life) → IsSoundSession sum was old.present → now ≡ was.writer → new ≡ old → All (LeftReplay sum now old.present new.present) was.replays
 replays_same sum was now old new ready writer life = rw (writer, life) (λ k o lt. record { replay = ready.replays k o lt; tells = refl })
 
@@ -183,7 +184,7 @@ left_same sum was now cache after old new ready fits writer same life = record {
   replays = replays_same sum was now old new ready writer life;
 }
 
--- one of them
+-- what holds of all of a list holds of the one at an index
 pub of_each : {X : Type 0} (Q : X → Type 0) (xs : List X) (i : ℕ) (x : X) → slice_get xs i ≡ Some x → All Q xs → Q x
 of_each Q xs i x at all = subst Q (get_or_from_slice_get xs i x x at) (all i x (slice_get_within xs i x at))
 
@@ -194,7 +195,7 @@ at_offset xs ys i x same within is =
 
 -- ---- a step
 
--- two functions that agree on each
+-- two functions that agree on each element of a list
 pub maps_alike : {X Y : Type 0} (f g : X → Y) (xs : List X) → All (λ x. f x ≡ g x) xs → map f xs ≡ map g xs
 maps_alike f g [] alike = refl
 maps_alike f g (x ∷ xs) alike =
@@ -219,7 +220,7 @@ abbrev pub AlwaysLeaves : (List ℕ → ℕ) → Step → Reply → SessionState
 AlwaysLeaves sum step reply was now old new more replays =
     (P : ℕ) (before : RunState) → Represents sum P was before old.present → SteppedApart sum P step reply now old new before (before.snapshots ++ map (option_map (λ t. logical_bytes t new.present.readable)) more) (replays P before)
 
--- one that leaves the replays as they were
+-- a step that makes these snapshots, and leaves the replays as they were
 abbrev pub AlwaysMakes : (List ℕ → ℕ) → Step → Reply → SessionState → SessionState → Life → Life → (more : List (Option Tail)) → Type 0
 AlwaysMakes sum step reply was now old new more = AlwaysLeaves sum step reply was now old new more (λ P s. s.replays)
 
@@ -228,7 +229,7 @@ pub record HasReplays (sum : List ℕ → ℕ) (was now : SessionState) (old new
   pub ready : All (IsReplayIn sum now.writer new) now.replays
   pub gives : (P : ℕ) (before : RunState) → Represents sum P was before old → replays P before ≡ map (option_map (replay_in_run new.readable)) now.replays
 
--- what is left, or made, is one, can be read, and tells what it told
+-- a snapshot that was left or made is one, can be read, and has its content
 left_is : (sum : List ℕ → ℕ) (now : Option WriterState) (after : CacheState) (old new : Disk) (o : Option Tail) → LeftSnapshot sum now after old new o → IfSome o (λ t. IsSnapshot sum now t new)
 left_is sum now after old new None left = tt
 left_is sum now after old new (Some t) left = left.snapshot
@@ -249,7 +250,7 @@ made_can : (sum : List ℕ → ℕ) (now : Option WriterState) (after : CacheSta
 made_can sum now after new None made = tt
 made_can sum now after new (Some t) made = made.can
 
--- the whole of what it did
+-- the whole of what a step did
 pub framed_by : (sum : List ℕ → ℕ) (step : Step) (reply : Reply) (was now : SessionState) (after : CacheState) (old new : Life) (more : List (Option Tail)) (replays : (P : ℕ) → RunState → List (Option RunReplay)) → now.snapshots ≡ was.snapshots ++ more → (now.recovering ≡ true → now.snapshots ≡ [])
     → IsReadyApart sum now new.present → FitsWriter now.writer after new.present → All (LeftSnapshot sum now.writer after old.present new.present) was.snapshots → HasReplays sum was now old.present new.present replays → All (MadeSnapshot sum now.writer after new.present) more
     → AlwaysLeaves sum step reply was now old new more replays → Steps sum step reply was now old new × CacheFits now after new.present
@@ -290,14 +291,14 @@ same_replays sum was now after old new is left = record {
       stands.replays ∙ sym tells ∙ ap (λ (l : List (Option ReplayState)). map (option_map (replay_in_run new.readable)) l) (sym is);
 }
 
--- of one that leaves the replays
+-- the whole of what a step did that leaves the replays
 pub framed : (sum : List ℕ → ℕ) (step : Step) (reply : Reply) (was now : SessionState) (after : CacheState) (old new : Life) (more : List (Option Tail)) → now.snapshots ≡ was.snapshots ++ more → now.replays ≡ was.replays → (now.recovering ≡ true → now.snapshots ≡ [])
     → IsReadyApart sum now new.present → FitsWriter now.writer after new.present → LeftAll sum was now.writer after old.present new.present → All (MadeSnapshot sum now.writer after new.present) more → AlwaysMakes sum step reply was now old new more
     → Steps sum step reply was now old new × CacheFits now after new.present
 framed sum step reply was now after old new more is kept begun ready fits left made always =
     framed_by sum step reply was now after old new more (λ P s. s.replays) is begun ready fits left.snapshots (same_replays sum was now after old.present new.present kept left) made always
 
--- of one that makes no snapshot, by what it leaves of the replays
+-- the whole of what a step did that makes no snapshot, by what it leaves of the replays
 framed_alone : (cuts : Bool) (sum : List ℕ → ℕ) (step : Step) (reply : Reply) (was now : SessionState) (after : CacheState) (old new : Life) → now.snapshots ≡ was.snapshots → (now.recovering ≡ true → now.snapshots ≡ []) → FitsWriter now.writer after new.present
     → All (LeftSnapshot sum now.writer after old.present new.present) was.snapshots → HasReplays sum was now old.present new.present (λ P s. left_replays cuts s.replays) → StepsBy cuts sum step reply was now old new
     → Steps sum step reply was now old new × CacheFits now after new.present
@@ -307,13 +308,13 @@ framed_alone cuts sum step reply was now after old new is begun fits left has ap
     subst (λ (l : List (Option (List ℕ))). SteppedApart sum P step reply now old new before l (left_replays cuts before.replays)) (sym (append-nil before.snapshots))
     (apart.always P before (stands_apart sum P was before old.present stands)))
 
--- of one that leaves both
+-- the whole of what a step did that leaves both
 pub framed_same : (sum : List ℕ → ℕ) (step : Step) (reply : Reply) (was now : SessionState) (after : CacheState) (old new : Life) → now.snapshots ≡ was.snapshots → now.replays ≡ was.replays → (now.recovering ≡ true → now.snapshots ≡ [])
     → FitsWriter now.writer after new.present → LeftAll sum was now.writer after old.present new.present → StepsApart sum step reply was now old new → Steps sum step reply was now old new × CacheFits now after new.present
 framed_same sum step reply was now after old new is kept begun fits left apart =
     framed_alone false sum step reply was now after old new is begun fits left.snapshots (same_replays sum was now after old.present new.present kept left) apart
 
--- of one that forgets the replays
+-- a step that forgets the replays
 none_left : (sum : List ℕ → ℕ) (writer : Option WriterState) (d : Disk) (os : List (Option ReplayState)) → All (IsReplayIn sum writer d) (map (λ o. None) os)
 none_left sum writer d [] k o lt = absurd (omega (arith, lt))
 none_left sum writer d (p ∷ os) zero o lt = tt

@@ -51,7 +51,7 @@ empty = at_rest []
 abbrev pub unsynced : Disk
 unsynced = and_then (Write 0 ab_page) (WriteAt 0 16 false) empty
 
--- and then it was
+-- and then it was synced
 abbrev pub saved : Disk
 saved = settled_disk (logged SyncAll false unsynced)
 
@@ -70,7 +70,7 @@ empty_durable = record { since = refl; base = refl }
 pub a_moment : IsMoment (life_of empty) (next (next (life_of empty) unsynced) saved) unsynced
 a_moment = (unsynced ∷ [], saved ∷ [], refl, refl)
 
--- of a life that didn't go on there is no other moment than its disk
+-- a life that didn't go on has no other moment than its disk
 pub no_other_moment : IsMoment (life_of empty) (life_of empty) saved → ⊥
 no_other_moment (before, after, goes, is) = by_moments before goes is
   where
@@ -82,29 +82,29 @@ no_other_moment (before, after, goes, is) = by_moments before goes is
 
 -- ---- crashes
 
--- one before the sync may leave nothing of the write, or all of it
+-- a crash before the sync may leave nothing of the write, or all of it
 pub a_crash_before_the_sync : HasCrashed unsynced empty
 a_crash_before_the_sync = record { image = base_is_image unsynced; durable = empty_durable }
 
 pub a_crash_that_left_all : HasCrashed unsynced (at_rest ab_page)
 a_crash_that_left_all = record { image = whole_is_image unsynced ab_page (inr refl); durable = record { since = refl; base = refl } }
 
--- one after it can't leave nothing
+-- a crash after the sync can't leave nothing
 pub no_crash_after_the_sync : HasCrashed saved empty → ⊥
 no_crash_after_the_sync c = let none = c.image.no_shorter in omega (arith, ap length none.1, none.2)
 
--- and what it leaves is durable
+-- what a crash leaves is durable
 pub no_crash_leaves_it_unsynced : HasCrashed unsynced unsynced → ⊥
 no_crash_leaves_it_unsynced c = omega (arith, ap length c.durable.since)
 
--- the first is fair
+-- the crash that left nothing is fair
 pub a_fair_crash : Crashes add_sum 4 true unsynced empty
 a_fair_crash = record {
   crashed = a_crash_before_the_sync;
   free = λ fair. whole_is_distinct add_sum 4 unsynced [] (λ other whole. omega arith) (base_is_whole unsynced.base unsynced.since);
 }
 
--- one that made another text of the same checksum isn't
+-- a crash isn't fair if it made another text of the same checksum
 pub an_unfair_crash : Crashes const_sum 4 false weak_page (at_rest weak_torn)
 an_unfair_crash = record { crashed = record { image = weak_torn_is_image; durable = record { since = refl; base = refl } }; free = λ fair. absurd (cc fair) }
 
@@ -151,7 +151,7 @@ ab_recovered = record {
   log = ([], refl);
 }
 
--- and of an empty blob
+-- the writer that a recovery of an empty blob gives
 abbrev pub empty_writer : WriterState
 empty_writer = record { page_size = 4; id = 0; capacity = 8; full_pages = 0; tip = []; flushed = None; durable = None; sync = Clean }
 
@@ -189,7 +189,7 @@ a_recovery fair = record {
   durable = λ asked. saved_durable;
 }
 
--- and no other content
+-- a recovery of "ab" gives no other content
 pub no_other_recovery : (fair : Bool) (given : List ℕ) → HasRecovered add_sum 4 fair saved given → given ≡ ab
 no_other_recovery fair given r =
     r.content ∙ r.recovers.content ∙ ap (λ (n : ℕ). text add_sum n r.old.present.readable) r.page_size ∙ ap (λ (d : Disk). text add_sum 4 d.readable) r.began
@@ -212,13 +212,13 @@ an_empty_recovery fair = record {
   durable = λ asked. empty_durable;
 }
 
--- where it is fair, all was durable as it began
+-- if a recovery is fair, all was durable as it began
 pub no_fair_recovery : (given : List ℕ) → HasRecovered add_sum 4 true unsynced given → ⊥
 no_fair_recovery given r = omega (arith, ap length (r.durable refl).since)
 
 -- ---- recoveries that are cut short
 
--- one that had done nothing
+-- an attempt that had done nothing
 pub an_attempt_that_did_nothing : (fair : Bool) → Attempts add_sum 4 fair saved saved
 an_attempt_that_did_nothing fair = record {
   old = life_of saved;
@@ -231,7 +231,7 @@ an_attempt_that_did_nothing fair = record {
   durable = λ asked. saved_durable;
 }
 
--- one that had synced what wasn't
+-- an attempt that had synced what wasn't
 pub an_attempt_that_synced : Attempts add_sum 4 false unsynced saved
 an_attempt_that_synced = record {
   old = life_of unsynced;
@@ -244,18 +244,18 @@ an_attempt_that_synced = record {
   durable = λ fair. absurd (cc fair);
 }
 
--- every image of that disk says "ab"
+-- every image of that disk holds "ab"
 pub saved_keeps : AllKeep add_sum 4 ab 2 saved
 saved_keeps = keeps_at_rest add_sum 4 saved refl
 
--- so none comes to an empty one
+-- so no attempt comes to an empty disk
 pub no_attempt_that_lost : (fair : Bool) → Attempts add_sum 4 fair saved empty → ⊥
 no_attempt_that_lost fair a =
     let begun : AllKeep add_sum 4 ab 2 a.old.present = subst (λ (d : Disk). AllKeep add_sum 4 ab 2 d) (sym a.began) saved_keeps in
     let later : AllKeep add_sum 4 ab 2 empty = through_moment (AllKeep add_sum 4 ab 2) a.old a.new empty (a.kept 2 (omega arith) begun) a.moment in
     omega (arith, ap length (later.kept [] (base_is_image empty)))
 
--- nor to one that says a byte more
+-- nor does an attempt come to a disk with a byte more
 abbrev abc_page : List ℕ
 abc_page = 97 ∷ 98 ∷ 99 ∷ 0 ∷ 0 ∷ 3 ∷ 0 ∷ 0 ∷ 1 ∷ 38 ∷ 0 ∷ 0 ∷ 0 ∷ 0 ∷ 0 ∷ 0 ∷ []
 
@@ -277,7 +277,8 @@ ab_comes_back = recovered saved ab (a_recovery true)
 pub nothing_comes_back : ComesBack add_sum 4 true unsynced []
 nothing_comes_back = crashed unsynced [] empty a_fair_crash (recovered empty [] (an_empty_recovery true))
 
--- or all of it, by a recovery that was cut short after its sync, a crash, and another recovery
+-- or all of it comes back, by a recovery that was cut short after its sync, a crash, and another
+-- recovery
 pub all_comes_back : ComesBack add_sum 4 false unsynced ab
 all_comes_back =
     attempted unsynced ab saved an_attempt_that_synced
@@ -297,7 +298,7 @@ begins_not is = omega (arith, ap (λ (l : List ℕ). get_or l 0 0) is)
 pub no_longer_begins : IsPrefixOf ab (97 ∷ []) → ⊥
 no_longer_begins is = omega (arith, ap length is)
 
--- what is at rest says one text
+-- a disk at rest holds one text
 pub rests : (content other text_of : List ℕ) (d : Disk) → d.since ≡ [] → text add_sum 4 d.base ≡ text_of → IsPrefixOf text_of content → AllOnly add_sum 4 content other d
 rests content other text_of d since says begins = record {
   only = λ image is_image free.
@@ -321,15 +322,15 @@ a_lost_floor content other long s = omega (arith, long, ap length (s.kept true [
 pub nothing_is_kept : Survives add_sum 4 ab ab 2 empty → ⊥
 nothing_is_kept s = omega (arith, ap length (s.kept true [] (recovered empty [] (an_empty_recovery true))))
 
--- nor of one
+-- before the sync no floor of one byte is survived
 pub a_byte_not_kept : Survives add_sum 4 ab ab 1 unsynced → ⊥
 a_byte_not_kept s = omega (arith, ap length (s.kept true [] nothing_comes_back))
 
--- what is durable and wasn't appended isn't: a byte too many
+-- a disk doesn't survive with a content that lacks one of its durable bytes
 pub a_byte_too_many : Survives add_sum 4 (97 ∷ []) (97 ∷ []) 0 saved → ⊥
 a_byte_too_many s = elim (s.only ab ab_comes_back) [ inl is ↦ omega (arith, ap length is) | inr is ↦ omega (arith, ap length is) ]
 
--- or another byte
+-- nor with a content that has another byte
 pub another_byte : Survives add_sum 4 (97 ∷ 99 ∷ []) (97 ∷ 99 ∷ []) 0 saved → ⊥
 another_byte s = elim (s.only ab ab_comes_back) [ inl is ↦ omega (arith, ap (λ (l : List ℕ). get_or l 1 0) is) | inr is ↦ omega (arith, ap (λ (l : List ℕ). get_or l 1 0) is) ]
 
@@ -385,8 +386,8 @@ six_come_back fair = recovered durable six (record {
   durable = λ asked. record { since = refl; base = refl };
 })
 
--- whatever a crash tears off the rewrite, and however often, "abcdef" comes back at least, and chance aside nothing but "abcdefg" or
--- a beginning of it
+-- whatever a crash tears off the rewrite, and however often, "abcdef" comes back at least, and
+-- chance aside nothing but "abcdefg" or a prefix of it
 pub rewritten_survives : Survives add_sum 4 seven seven 6 rewritten
 rewritten_survives = survives add_sum 4 seven seven 6 rewritten (omega arith) (through_end (AllKeep add_sum 4 seven 6) before after six_are_kept) all_only
 
@@ -406,21 +407,22 @@ none_survives = survives add_sum 4 [] [] 0 empty (omega arith) (keeps_nothing ad
 pub empty_does_not : LeadsTo add_sum 4 true empty saved → ⊥
 empty_does_not leads = elim (none_survives.only ab (leads ab ab_comes_back)) [ inl is ↦ omega (arith, ap length is) | inr is ↦ omega (arith, ap length is) ]
 
--- of what is synced no less comes back, by fair crashes and recoveries or others
+-- of what is synced nothing less comes back, whether crashes and recoveries are fair or not
 pub no_less_comes_back : (fair : Bool) → ComesBack add_sum 4 fair saved (97 ∷ []) → ⊥
 no_less_comes_back fair comes = omega (arith, ap length (saved_survives.kept fair (97 ∷ []) comes))
 
--- and of an empty blob no more
+-- nothing more comes back of an empty blob
 pub no_more_comes_back : ComesBack add_sum 4 true empty ab → ⊥
 no_more_comes_back comes = elim (none_survives.only ab comes) [ inl is ↦ omega (arith, ap length is) | inr is ↦ omega (arith, ap length is) ]
 
 -- ---- a recovery with no crash before it
 
--- over what isn't durable it isn't fair, nor is one that is cut short
+-- a recovery over what isn't durable isn't fair, whether it answers or is cut short
 pub no_fair_attempt : (m : Disk) → Attempts add_sum 4 true unsynced m → ⊥
 no_fair_attempt m a = omega (arith, ap length (a.durable refl).since)
 
--- but what it gives comes back through a crash that leaves all that is readable, and that is fair where the checksum tells it apart
+-- but what such a recovery gives comes back through a crash that leaves all that is readable; that
+-- crash is fair if no checksum collides in it
 pub it_comes_back_as_left : (sum : List ℕ → ℕ) (P : ℕ) (d : Disk) (given : List ℕ) → HasRecovered sum P false d given → IsDistinct sum P d d.readable → ComesBack sum P true d given
 it_comes_back_as_left sum P d given r free =
     let e : Disk = record d { base = d.readable; since = [] } in

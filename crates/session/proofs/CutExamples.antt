@@ -39,7 +39,7 @@ use Rattle.session.proofs.RefusedExamples.{one_step}
 abbrev pub cut : Disk
 cut = and_then (Resize 16) (ResizeTo 16) durable
 
--- and then it is
+-- and then the cut is durable
 abbrev pub cut_saved : Disk
 cut_saved = settled_disk (logged SyncAll false cut)
 
@@ -49,7 +49,7 @@ abcd = 97 ∷ 98 ∷ 99 ∷ 100 ∷ []
 cut_is_done : HasOperated (Resize 16) (ResizeTo 16) false durable cut
 cut_is_done = record { readable = partial_whole (Resize 16) (abcd_page ++ ef_page); done = λ fine. refl; rest = refl }
 
--- in the midst slots hold "abcd", and there is nothing but "abcdef"
+-- in the midst of the cut the slots hold "abcd", and there is nothing but "abcdef"
 cut_holds : HoldsText add_sum 4 six 4 cut
 cut_holds = through_end (HoldsText add_sum 4 six 4) (life_of durable) (next (life_of durable) cut)
     (resize_holds add_sum 4 six 4 1 (life_of durable) (next (life_of durable) cut) (Ok tt) (cut, refl, cut_is_done) (omega arith) (omega arith) (holds_at_rest add_sum 4 (abcd_page ++ ef_page) 4 durable (omega arith) refl refl (omega arith)))
@@ -79,8 +79,8 @@ abcd_survive = survives add_sum 4 abcd abcd 4 cut_saved (omega arith) (keeps_at_
 abbrev pub six_with : (floor : ℕ) → RunState
 six_with floor = record (fresh 4 8 six) { floor = floor }
 
--- the truncate resizes the blob and syncs it: no more than four bytes of the floor are kept from its start on, and these at each
--- moment; and at its end "abcd" is all that may come back
+-- the truncate resizes the blob and syncs it. From its start on no more than four bytes of the
+-- floor are kept, and these are kept at each moment; at its end "abcd" is all that may come back
 pub a_cut_tells : (floor : ℕ) → floor ≤ 6 → EachStepIsExact add_sum 4 (Truncate 4 ∷ []) (Length 4 ∷ []) durable (cut ∷ cut_saved ∷ []) (six_with floor) (fresh 4 8 abcd)
 a_cut_tells floor few = (
   six_survive six floor few,
@@ -192,7 +192,7 @@ uncut_is_distinct zero page is = subst (λ (l : List ℕ). (s : Slot) → 0 < ve
 uncut_is_distinct (suc zero) page is = subst (λ (l : List ℕ). (s : Slot) → 0 < verified_len add_sum 4 s l → SlotIsDistinct add_sum 4 cut 1 l s (verified_len add_sum 4 s l)) (same_Some ef_page page is) slots_of_ef
 uncut_is_distinct (suc (suc p)) page is = absurd (cc is)
 
--- so a cut that isn't synced leaves bytes that may come back: it isn't told
+-- so a cut that isn't synced leaves bytes that may come back, and it is no exact run
 pub no_cut_without_a_sync : (after : RunState) → EachStepIsExact add_sum 4 (Truncate 4 ∷ []) (Length 4 ∷ []) durable (cut ∷ []) (six_with 6) after → ⊥
 no_cut_without_a_sync after told =
     let s : Survives add_sum 4 abcd abcd 4 cut = ends_with_abcd (cut ∷ []) after told in

@@ -19,13 +19,13 @@ use Rattle.session.specs.Calls.{KeepsAllButReplays, KeepsAllButSnapshots, LetsGo
 use Rattle.session.proofs.Numbered.{numbered-map}
 use Rattle.session.proofs.StepLaws.{answers_away, answers_here, begun_covers, begun_keeps, leaves, only_there, raise_within}
 
--- one is let go, by whether it stands
+-- one of a list is let go, by whether it is there
 abbrev pub LetsGoOf : {A : Type 0} → (index : ℕ) → (was now : List (Option A)) → Reply → Option A → Type 0
 LetsGoOf index was now reply o = elim o [ None ↦ (reply ≡ NoSuch) × (now ≡ was) | Some one ↦ (reply ≡ Done) × (now ≡ set was index None) ]
 
 -- ---- of any step that asks no device, and leaves the content
 
--- where a writer stands for a content, it does whatever else stands
+-- where a writer stands for a content, it does so whatever snapshots and replays there are
 fits_with : (P : ℕ) (o : Option WriterState) (s : RunState) (snapshots : List (Option (List ℕ))) (replays : List (Option RunReplay)) (d : Disk) → WriterFits P o s d → WriterFits P o (record s { snapshots = snapshots; replays = replays }) d
 fits_with P None s snapshots replays d fits = fits
 fits_with P (Some w) s snapshots replays d fits = record {
@@ -40,7 +40,7 @@ fits_with P (Some w) s snapshots replays d fits = record {
   awaited = fits.awaited;
 }
 
--- what it did, by its answer
+-- what a step did that asks no device, by its answer
 did_nothing : (sum : List ℕ → ℕ) (P : ℕ) (step : Step) (reply : Reply) (was : SessionState) (d : Disk) (before after : RunState) → ((content : List ℕ) → content_after step content ≡ content) → Represents sum P was before d → AnswersStep sum P step reply d d before after
     → (raised d after).floor ≤ length after.content → Did sum P step reply d [] before after
 did_nothing sum P step reply was d before after stays stands answer within = record {
@@ -57,7 +57,7 @@ did_nothing sum P step reply was d before after stays stands answer within = rec
 floor_within : (sum : List ℕ → ℕ) (P : ℕ) (was : SessionState) (before : RunState) (d : Disk) → Represents sum P was before d → (raised d before).floor ≤ length before.content
 floor_within sum P was before d stands = raise_within d before.covers before.floor (length before.content) stands.floor stands.within
 
--- one that is turned away
+-- a step that is turned away
 away_takes : (sum : List ℕ → ℕ) (step : Step) (was : SessionState) (cache : CacheState) (life : Life) → ((content : List ℕ) → content_after step content ≡ content) → IsSoundSession sum was life.present → CacheFits was cache life.present
     → ((P : ℕ) (before : RunState) → Represents sum P was before life.present → turned_away step before ≡ Some NoSuch) → Steps sum step NoSuch was was life life × CacheFits was cache life.present
 away_takes sum step was cache life stays ready fits away = (
@@ -76,7 +76,7 @@ away_takes sum step was cache life stays ready fits away = (
 
 -- ---- of a snapshot
 
--- a list that has one let go is empty where it was
+-- a list that has one let go is empty if it was
 set_none : {A : Type 0} (xs : List (Option A)) (index : ℕ) → xs ≡ [] → set xs index None ≡ []
 set_none xs index none = ap (λ (l : List (Option _)). set l index None) none
 

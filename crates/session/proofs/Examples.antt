@@ -1,4 +1,4 @@
--- Examples of what a run says.
+-- Examples of the standing before and after steps, of replies, and of what a run promises.
 use Rattle.std.proofs.Common.{lit<, ◌≡◌, ◌⊎◌, ◌+◌, ◌<◌, ℕ, zero, suc, Vec, List, [], ◌∷◌, ◌++◌, length, length-append, take, drop, refl, sym, ap, subst, ◌∙◌, inl, inr, arith, true, false}
 use Rattle.std.specs.Prelude.{Some, None, if◌then◌else◌}
 use Rattle.std.specs.List.{flat_map}
@@ -42,7 +42,7 @@ six_stand = record {
   replays = [];
 }
 
--- the same, with nothing synced yet, and all of it buffered
+-- `six_stand` with nothing synced yet, and all of it buffered
 abbrev pub none_synced : RunState
 none_synced = record six_stand { floor = 0; buffered = 6; written = false }
 
@@ -66,7 +66,7 @@ a_refused_sync = refl
 pub a_refused_read : RefusesStep (Read 4 3) BlobInsufficientLength durable durable six_stand six_stand
 a_refused_read = refl
 
--- nor does a refused try
+-- a refused try takes nothing either
 pub a_refused_try : (bytes : Vec ℕ Global) → RefusesStep (TryAppend bytes) OutOfMemory durable durable six_stand six_stand
 a_refused_try bytes = refl
 
@@ -74,11 +74,11 @@ a_refused_try bytes = refl
 pub a_closed_session : turned_away Sync (ended six six_stand) ≡ Some Closed
 a_closed_session = refl
 
--- a name that the session was given can be waited for there too
+-- a name that the session was given can be waited for in a closed session too
 pub a_name_in_a_closed_session : turned_away (WaitSync 0) (ended six six_started) ≡ None
 a_name_in_a_closed_session = refl
 
--- another name can't, with a writer either
+-- another name can't, even if there is a writer
 pub no_other_name : turned_away (WaitSync 1) six_started ≡ Some NoSuch
 no_other_name = refl
 
@@ -86,7 +86,7 @@ no_other_name = refl
 pub a_full_buffer : buffered_after 4 six_stand 6 ≡ 8
 a_full_buffer = refl
 
--- seven don't, and one is left after the two pages that are written
+-- seven bytes don't fit, and one is left after the two pages that are written
 pub a_drained_buffer : buffered_after 4 six_stand 7 ≡ 1
 a_drained_buffer = refl
 
@@ -105,7 +105,7 @@ an_idle_sync = refl
 pub a_busy_sync : use_of_step 4 Sync none_synced ≡ Changes 2
 a_busy_sync = refl
 
--- so it isn't refused
+-- so an idle sync isn't refused
 pub no_idle_fault : HasCause 4 Sync six_stand durable durable OutOfMemory → ⊥
 no_idle_fault none = absurd (false≢true none)
 
@@ -124,18 +124,19 @@ a_started_sync = refl
 pub a_sync_at_once : starting 4 AllDone none_synced ≡ after_sync 4 none_synced
 a_sync_at_once = refl
 
--- it is started once
+-- a start with nothing appended since answers the name of the sync that was started
 pub started_once : answer_of_start six_started durable ≡ Named 0
 started_once = refl
 
 pub nothing_to_start : answer_of_start six_stand durable ≡ AllDone
 nothing_to_start = refl
 
--- with a name of its own
+-- a start of something that isn't written gives a new name
 pub started_anew : answer_of_start none_synced durable ≡ Named 0
 started_anew = refl
 
--- then a sync has something to do, and waits; and nothing once it was waited for
+-- once a sync was started a sync has something to do: it waits; after that wait it has nothing to
+-- do
 pub a_sync_that_waits : use_of_step 4 Sync six_started ≡ Changes 1
 a_sync_that_waits = refl
 
@@ -152,7 +153,7 @@ an_idle_start = refl
 pub a_busy_start : use_of_step 4 StartSync none_synced ≡ Changes 3
 a_busy_start = refl
 
--- so does a wait where nothing is awaited
+-- a wait where nothing is awaited asks the device nothing either
 pub an_idle_wait : use_of_step 4 Wait none_synced ≡ Leaves
 an_idle_wait = refl
 
@@ -172,7 +173,7 @@ nothing_awaited bytes is = rw is refl
 pub a_name_awaited : awaited_name 4 (WaitSync 0) six_stand ≡ Some 0
 a_name_awaited = refl
 
--- before it has completed the floor is as it was, and then it is what it covers
+-- before the started sync has completed the floor is as it was, and then it is what the sync covers
 abbrev pending : Disk
 pending = record durable { settled = 1; started = record { covers = 2; bytes = []; failed = false } ∷ [] }
 
@@ -182,14 +183,14 @@ not_yet_a_floor = refl
 pub then_a_floor : (raised (record pending { settled = 2 }) six_started).floor ≡ 6
 then_a_floor = refl
 
--- a wait answers Ok only then
+-- a wait answers Ok only once the sync has completed
 pub no_wait_before : Accepts add_sum 4 Wait Done pending pending six_started (after_wait six_started) → ⊥
 no_wait_before accepts = absurd (false≢true accepts.0)
 
 pub a_wait_done : Accepts add_sum 4 (WaitSync 0) Done pending (record pending { settled = 2 }) six_started six_started
 a_wait_done = (refl, refl)
 
--- a wait is refused where its sync had failed, and not because another had
+-- a wait is refused where its own sync had failed, not because another had
 pub a_wait_of_a_failed_sync : HasCause 4 Wait six_started (record pending { started = record { covers = 2; bytes = []; failed = true } ∷ [] }) pending SyncFailed
 a_wait_of_a_failed_sync = ((0, lit< tt, refl), inr refl)
 
@@ -197,7 +198,7 @@ pub no_fault_of_another : HasCause 4 Wait six_started pending pending SyncFailed
 no_fault_of_another (listed, inl (more, is, failed)) = none_failed SyncFailed pending.log more is failed
 no_fault_of_another (listed, inr had) = absurd (false≢true had)
 
--- there is no memory for a name: then nothing was done
+-- where there is no memory for a name, nothing is done
 pub no_room_for_a_name : RefusesStep StartSync OutOfMemory durable durable six_stand six_stand
 no_room_for_a_name = inr (refl, refl, refl)
 
@@ -218,18 +219,18 @@ two_stand = record six_stand {
 pub a_truncate : truncated 4 2 six_stand ≡ two_stand
 a_truncate = refl
 
--- the same by the steps: six bytes, a sync, and a truncate
+-- `two_stand` by steps: six bytes, a sync, and a truncate
 pub a_truncate_after_a_sync : truncated 4 2 (at_step (Truncate 2) (after_sync 4 (appended 4 six (fresh 4 8 [])))) ≡ two_stand
 a_truncate_after_a_sync = refl
 
--- as it begins the floor is lowered, and what a started sync covers
+-- as a truncate begins, the floor and what a started sync covers are lowered
 pub a_floor_is_lowered : at_step (Truncate 2) six_stand ≡ record six_stand { floor = 2 }
 a_floor_is_lowered = refl
 
 pub a_cover_is_lowered : at_step (Truncate 2) six_started ≡ record six_started { covers = (0, 2) ∷ [] }
 a_cover_is_lowered = refl
 
--- no floor is raised
+-- a truncate past the end raises no floor
 pub no_floor_is_raised : at_step (Truncate 7) six_stand ≡ six_stand
 no_floor_is_raised = refl
 
@@ -237,7 +238,7 @@ no_floor_is_raised = refl
 pub a_sync_begins : at_step Sync six_stand ≡ six_stand
 a_sync_begins = refl
 
--- it answers the size that is left, which isn't what it was asked for where there was less
+-- a truncate answers the size that is left, which isn't what it was asked for where there was less
 pub a_truncate_done : Accepts add_sum 4 (Truncate 2) (Length 2) durable durable six_stand two_stand
 a_truncate_done = (refl, refl)
 
@@ -251,22 +252,23 @@ no_size_before takes = omega (arith, takes.0)
 pub a_cut_cover : (raised (record pending { settled = 2 }) (truncated 4 2 (at_step (Truncate 2) six_started))).floor ≡ 2
 a_cut_cover = refl
 
--- refused, it takes the writer, and leaves the content or the bytes that it was to leave: no more than these is kept
+-- a refused truncate takes the writer, and leaves the content or the bytes that it was to leave: no
+-- more than these is kept
 pub a_refused_truncate : RefusesStep (Truncate 2) WriteFailed durable durable (at_step (Truncate 2) six_stand) (record six_stand { has_writer = false; floor = 2; otherwise = 97 ∷ 98 ∷ [] })
 a_refused_truncate = refl
 
--- it isn't taken once the recovery has ended, and then nothing is lowered
+-- a truncate isn't taken once the recovery has ended, and then nothing is lowered
 pub no_truncate_appending : turned_away (Truncate 2) (record six_stand { recovering = false }) ≡ Some NotRecovering
 no_truncate_appending = refl
 
 pub nothing_lowered : at_step (Truncate 2) (record six_stand { recovering = false }) ≡ record six_stand { recovering = false }
 nothing_lowered = refl
 
--- where there is no writer that is told first
+-- where there is no writer, `Closed` comes before `NotRecovering`
 pub closed_first : turned_away (Truncate 2) (record six_stand { has_writer = false; recovering = false }) ≡ Some Closed
 closed_first = refl
 
--- a cut may ask for eight calls, and a truncate that is none for those of a sync
+-- a truncate that cuts may make eight calls, and one that cuts nothing those of a sync
 pub a_busy_truncate : use_of_step 4 (Truncate 2) six_stand ≡ Changes 8
 a_busy_truncate = refl
 
@@ -282,11 +284,11 @@ a_size_reply = (refl, refl)
 pub a_read_past_the_end : HasCause 4 (Read 4 3) six_stand durable durable BlobInsufficientLength
 a_read_past_the_end = (omega arith, omega arith)
 
--- one within the size doesn't
+-- a read within the size doesn't pass the end
 pub no_end_within : HasCause 4 (Read 4 2) six_stand durable durable BlobInsufficientLength → ⊥
 no_end_within cause = omega (arith, cause.1)
 
--- where a range passes the end, it is answered so
+-- where a range passes the end, no other fault is answered
 pub the_end_is_told : AnswersStep add_sum 4 (Read 4 3) (Fault OutOfMemory) durable durable six_stand six_stand → ⊥
 the_end_is_told answers = let is : Fault OutOfMemory ≡ Fault BlobInsufficientLength = answers.1.1 a_read_past_the_end in cc
 
@@ -294,15 +296,16 @@ the_end_is_told answers = let is : Fault OutOfMemory ≡ Fault BlobInsufficientL
 pub a_try : (bytes : Vec ℕ Global) → length bytes.items ≡ 6 → Accepts add_sum 4 (TryAppend bytes) (At 6) durable durable six_stand (appended 4 bytes.items six_stand)
 a_try bytes long = (le-leb (2 + length bytes.items) 8 (omega (arith, long)), refl, refl)
 
--- those that don't fit change nothing
+-- bytes that don't fit the buffer change nothing
 pub a_try_that_does_not_fit : (bytes : Vec ℕ Global) → length bytes.items ≡ 7 → Accepts add_sum 4 (TryAppend bytes) Nothing durable durable six_stand six_stand
 a_try_that_does_not_fit bytes long = let passes : 8 < 2 + length bytes.items = omega (arith, long) in (grind (arith, nat_tests, passes), refl)
 
--- and those that fit aren't answered so
+-- a try whose bytes fit doesn't answer `Nothing`
 pub no_nothing_that_fits : (bytes : Vec ℕ Global) (after : RunState) → length bytes.items ≡ 6 → Accepts add_sum 4 (TryAppend bytes) Nothing durable durable six_stand after → ⊥
 no_nothing_that_fits bytes after long accepts = absurd (false≢true (sym accepts.0 ∙ le-leb (2 + length bytes.items) 8 (omega (arith, long))))
 
--- no other step is answered so, but a read that asks no device, and a snapshot that writes nothing
+-- no other step answers `Nothing`, except a read that asks no device, and a snapshot that writes
+-- nothing
 pub nothing_is_of_a_try : (sum : List ℕ → ℕ) (P : ℕ) (step : Step) (from to : Disk) (before after : RunState) → Accepts sum P step Nothing from to before after
     → ((bytes : Vec ℕ Global) × (step ≡ TryAppend bytes)) ⊎ (((offset len : ℕ) × (step ≡ TryRead offset len)) ⊎ (step ≡ TrySnapshot))
 nothing_is_of_a_try sum P (TryAppend bytes) from to before after accepts = inl (bytes, refl)
@@ -337,7 +340,7 @@ nothing_is_of_a_try sum P (Truncate n) from to before after accepts = absurd acc
 pub up_to_the_end : (bytes : Vec ℕ Global) → bytes.items ≡ 101 ∷ 102 ∷ [] → Accepts add_sum 4 (ReadUpTo 4 10) (Bytes bytes) durable durable six_stand six_stand
 up_to_the_end bytes is = ((inr (omega arith), is), refl)
 
--- no bytes are read up to anywhere, and none is asked for at the end in vain
+-- zero bytes may be read at any offset
 pub none_up_to_anywhere : HasCause 4 (ReadUpTo 7 0) six_stand durable durable BlobInsufficientLength → ⊥
 none_up_to_anywhere cause = cause.0 refl
 
@@ -352,22 +355,22 @@ a_try_read_asks_nothing = refl
 pub touching_ranges : fit_together ((0, 4) ∷ (4, 4) ∷ (8, 0) ∷ []) ≡ true
 touching_ranges = refl
 
--- but not ranges that overlap, or are out of order
+-- ranges that overlap, or are out of order, can't be read in one call
 pub overlapping_ranges : fit_together ((0, 4) ∷ (3, 4) ∷ []) ≡ false
 overlapping_ranges = refl
 
 pub ranges_out_of_order : fit_together ((4, 4) ∷ (0, 4) ∷ []) ≡ false
 ranges_out_of_order = refl
 
--- also where the end of one passes the greatest offset
+-- neither can ranges of which one ends past the greatest offset
 pub far_ranges : fit_together ((18446744073709551615, 2) ∷ (18446744073709551615, 0) ∷ []) ≡ false
 far_ranges = refl
 
--- nor such as no buffer has room for
+-- nor can ranges for which no buffer has room
 pub long_ranges : fit_together ((0, 9223372036854775808) ∷ (9223372036854775808, 9223372036854775808) ∷ []) ≡ false
 long_ranges = refl
 
--- they are turned away, unless there is no writer
+-- such ranges are turned away with `BadRanges`, or with `Closed` where there is no writer
 pub bad_ranges : (ranges : Vec (ℕ × ℕ) Global) → ranges.items ≡ (0, 4) ∷ (3, 4) ∷ [] → turned_away (ReadRanges ranges) six_stand ≡ Some BadRanges
 bad_ranges ranges is = ap (λ (rs : List (ℕ × ℕ)). if fit_together rs then None else Some BadRanges) is
 
@@ -390,7 +393,7 @@ bytes_of_ranges ranges bytes is are = (
   refl,
 )
 
--- no more ranges needed no device than there are
+-- no reply counts more ranges that needed no device than there are
 pub no_third_range : (ranges : Vec (ℕ × ℕ) Global) (bytes : Vec ℕ Global) → ranges.items ≡ two_ranges → Accepts add_sum 4 (ReadRanges ranges) (Served 3 bytes) durable durable six_stand six_stand → ⊥
 no_third_range ranges bytes is accepts = omega (arith, ap length is, accepts.1)
 
@@ -431,7 +434,7 @@ no_fault_of_a_size OffsetOverflow cause = cause
 no_fault_of_a_size OutOfMemory cause = cause
 no_fault_of_a_size IdsExhausted cause = cause
 
--- so no device fault is answered
+-- so a sync answers no device fault if no call failed
 pub no_fault_of_its_own : HasCause 4 Sync none_synced durable durable SyncFailed → ⊥
 no_fault_of_its_own (listed, inl (more, is, failed)) = none_failed SyncFailed durable.log more is failed
 no_fault_of_its_own (listed, inr had) = absurd had
@@ -440,11 +443,11 @@ no_fault_of_its_own (listed, inr had) = absurd had
 pub no_overflow : HasCause 4 Sync none_synced durable durable OffsetOverflow → ⊥
 no_overflow cause = cause
 
--- a floor is told by the syncs: a refused sync raises none
+-- the floor of a run comes of its syncs: a refused sync raises none
 pub a_floor_of_a_run : (ended six (after_sync 4 none_synced)).floor ≡ 6
 a_floor_of_a_run = refl
 
--- the blob says nothing else
+-- the blob holds nothing else
 six_only : AllOnly add_sum 4 six six durable
 six_only = record {
   only = λ image is_image free.
@@ -472,18 +475,19 @@ no_other_size accepts = omega (arith, accepts.0)
 
 -- ---- snapshots
 
--- with a snapshot, of a writer that appends
+-- `six_stand` with a snapshot, of a writer that appends
 abbrev six_noted : RunState
 six_noted = noted (record six_stand { recovering = false })
 
 pub a_snapshot_tells_the_content : six_noted.snapshots ≡ Some six ∷ []
 a_snapshot_tells_the_content = refl
 
--- another has the next number
+-- another snapshot has the next number
 pub a_second_snapshot : Accepts add_sum 4 TrySnapshot (Taken 1) durable durable six_noted (noted six_noted)
 a_second_snapshot = (omega arith, refl, refl)
 
--- none is made without a write while a full page is buffered, and with one "ef" is left buffered
+-- no snapshot is made without a write while a full page is buffered, and one with a write leaves
+-- "ef" buffered
 pub none_while_a_page_is_buffered : Accepts add_sum 4 TrySnapshot Nothing durable durable none_synced none_synced
 none_while_a_page_is_buffered = (omega arith, refl)
 
@@ -496,7 +500,7 @@ a_snapshot_that_writes = refl
 pub a_snapshot_that_does_not : use_of_step 4 Snapshot six_stand ≡ Leaves
 a_snapshot_that_does_not = refl
 
--- it isn't made in recovery, nor where there is no writer
+-- a snapshot isn't made in recovery, or where there is no writer
 pub no_snapshot_recovering : turned_away Snapshot six_stand ≡ Some NotAppending
 no_snapshot_recovering = refl
 
@@ -513,7 +517,7 @@ an_idle_seal = (refl, refl, refl)
 pub a_seal_that_leaves_the_disk : use_of_step 4 Seal six_noted ≡ Leaves
 a_seal_that_leaves_the_disk = refl
 
--- of what isn't it starts a sync of its own, which covers all
+-- a seal of what isn't written starts a sync of its own, which covers all
 pub a_busy_seal : left_by_seal 4 (Named 0) none_synced ≡ record six_started { has_writer = false; snapshots = Some six ∷ [] }
 a_busy_seal = refl
 
@@ -530,16 +534,16 @@ a_snap_closed bytes is = ((omega arith, is), refl)
 pub a_snap_is_taken : turned_away (Snap 0 3 2) (ended six six_noted) ≡ None
 a_snap_is_taken = refl
 
--- and none of another number
+-- no snapshot has another number
 pub no_such_snapshot : turned_away (Snap 1 3 2) six_noted ≡ Some NoSuch
 no_such_snapshot = refl
 
--- what is appended after it isn't in it
+-- what is appended after a snapshot isn't in it
 pub it_does_not_move : snapshot_at (appended 4 (103 ∷ []) six_noted) 0 ≡ six
 it_does_not_move = refl
 
--- one that was let go is gone, also for a second such step, and the other stands; the next has the
--- next number
+-- a snapshot that was let go is gone, also for a second such step, and the other stays; the next
+-- snapshot has the next number
 abbrev second_left : RunState
 second_left = without_snapshot 0 (noted six_noted)
 
@@ -560,14 +564,14 @@ the_third_snapshot = (omega arith, refl, refl)
 
 -- ---- scans
 
--- a scan of no bytes asks no device, and another one only reads
+-- a scan of no bytes asks no device, and any other scan only reads
 pub a_scan_of_none : (proven : ℕ) (buffer_size : NonZeroUsize) → use_of_step 4 (Scan proven 0 buffer_size) six_stand ≡ Leaves
 a_scan_of_none proven buffer_size = refl
 
 pub a_scan_looks : (proven : ℕ) (buffer_size : NonZeroUsize) → use_of_step 4 (Scan proven 100 buffer_size) six_stand ≡ Looks
 a_scan_looks proven buffer_size = refl
 
--- of the six bytes that the blob tells it counts at most three where it is to look at no more
+-- of the six bytes of the blob a scan counts at most three if it is to count no more
 pub six_are_counted : (buffer_size : NonZeroUsize) → Accepts add_sum 4 (Scan 0 100 buffer_size) (Length 6) durable durable six_stand six_stand
 six_are_counted buffer_size = (refl, refl)
 
@@ -576,15 +580,15 @@ three_are_counted buffer_size = (refl, refl)
 
 -- ---- replays
 
--- of "abcdef", with a buffer of four pages of sixteen bytes: a page is read at once, and four bytes are
--- in full pages
+-- a replay of "abcdef" in pages of four bytes, with a buffer of four pages: a page is read at once,
+-- and four bytes are in full pages
 abbrev six_replayed : RunReplay
 six_replayed = record { content = six; whole = 4; position = 0; hand = 0; batch = 4 }
 
 pub a_replay_begins : (replaying 4 64 six_stand).replays ≡ Some six_replayed ∷ []
 a_replay_begins = refl
 
--- all is written for it, and "ef" stays buffered; nothing is durable by it
+-- all is written before a replay, and "ef" stays buffered; a replay makes nothing durable
 pub a_replay_that_writes : rewritten 4 none_synced ≡ record none_synced { buffered = 2 }
 a_replay_that_writes = refl
 
@@ -601,7 +605,7 @@ three_are_passed = refl
 pub two_are_passed : passed 3 (record six_replayed { hand = 2 }) ≡ record six_replayed { position = 2; hand = 0 }
 two_are_passed = refl
 
--- a fill that has a page at hand says that one byte is, and can't say that none is
+-- an `Ensure` with a page at hand answers that one byte is at hand, and can't answer that none is
 pub one_is_at_hand : HasEnsured six_replayed 1 true (record six_replayed { hand = 4 })
 one_is_at_hand = record {
   fetched = record { stays = refl; more = omega arith; within = omega arith };
@@ -614,11 +618,11 @@ one_is_at_hand = record {
 pub none_is_not_said : (now : RunReplay) → HasEnsured six_replayed 1 false now → ⊥
 none_is_not_said now says = false≢true says.exact
 
--- nor may it fetch the whole blob for one byte
+-- an `Ensure` may not fetch the whole blob for one byte
 pub not_all_is_fetched : HasEnsured six_replayed 1 true (record six_replayed { hand = 6 }) → ⊥
 not_all_is_fetched says = absurd (omega (arith, says.most))
 
--- where all that is left is after the full pages no device is asked
+-- where all that is left is after the full pages, no device is asked
 pub the_rest_is_had : needs_no_device (Some (record six_replayed { position = 4 })) 2 ≡ true
 the_rest_is_had = refl
 
@@ -629,7 +633,7 @@ a_page_is_not = refl
 pub past_the_end : HasCause 4 (Seek 0 7) (replaying 4 64 six_stand) durable durable BlobInsufficientLength
 past_the_end = lit< tt
 
--- a truncate that is called forgets it, and its number isn't given again
+-- a truncate that is called forgets the replay, whose number isn't given again
 pub a_cut_forgets : (at_step (Truncate 2) (replaying 4 64 six_stand)).replays ≡ None ∷ []
 a_cut_forgets = refl
 
@@ -639,7 +643,8 @@ it_is_gone = refl
 pub no_such_replay : turned_away (Take 0 1) six_stand ≡ Some NoSuch
 no_such_replay = refl
 
--- one that was let go is gone, also for a second such step, and the next has the next number
+-- a replay that was let go is gone, also for a second such step, and the next one has the next
+-- number
 abbrev six_dropped : RunState
 six_dropped = without_replay 0 (replaying 4 64 six_stand)
 
@@ -655,7 +660,7 @@ not_twice = refl
 pub the_next_replay : (replaying 4 64 six_dropped).replays ≡ None ∷ Some six_replayed ∷ []
 the_next_replay = refl
 
--- it goes on in a closed session
+-- a replay goes on in a closed session
 pub it_goes_on_closed : turned_away (Ensure 0 1) (ended six (replaying 4 64 six_stand)) ≡ None
 it_goes_on_closed = refl
 

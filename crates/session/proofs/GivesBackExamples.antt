@@ -25,7 +25,7 @@ use Rattle.session.proofs.PromiseExamples.{ab_stands}
 pub it_recovers_so : Recovers add_sum a_cache 8 (life_of saved) (life_of saved) (Ok ab_writer)
 it_recovers_so = ab_recovered
 
--- not with the writer of an empty blob
+-- the recovery doesn't answer with the writer of an empty blob
 pub not_as_an_empty_one : Recovers add_sum a_cache 8 (life_of saved) (life_of saved) (Ok empty_writer) → ⊥
 not_as_an_empty_one is = omega (arith, ap length is.content)
 
@@ -37,22 +37,22 @@ a_session_begins = record { writer = ab_writer; begins = refl; recovers = ab_rec
 pub by_its_answer : BeginsBy add_sum a_cache 8 (life_of saved) (life_of saved) (Ok (session_of ab_writer))
 by_its_answer = a_session_begins
 
--- not without a writer
+-- no session begins without a writer
 pub no_closed_session : IsBegun add_sum a_cache 8 (life_of saved) (life_of saved) closed → ⊥
 no_closed_session is = absurd (cc (ap (λ (s : SessionState). s.writer) is.begins))
 
--- nor with that of an empty blob
+-- nor does one begin with the writer of an empty blob
 pub no_empty_session : IsBegun add_sum a_cache 8 (life_of saved) (life_of saved) (session_of empty_writer) → ⊥
 no_empty_session is =
     let same : empty_writer ≡ is.writer = same_Some empty_writer is.writer (ap (λ (s : SessionState). s.writer) is.begins) in
     let holds : content_of empty_writer ab_page ≡ ab = subst (λ (w : WriterState). content_of w ab_page ≡ ab) (sym same) is.recovers.content in
     omega (arith, ap length holds)
 
--- and an error has a cause
+-- an error has a cause
 pub no_error_of_none : BeginsBy add_sum a_cache 8 (life_of saved) (life_of saved) (Err OffsetOverflow) → ⊥
 no_error_of_none (same, far) = omega (arith, far)
 
--- it gives an id
+-- a session that begins gives an id
 pub an_id_is_given : GivesSessionId (Ok (session_of ab_writer)) a_cache (record a_cache { ids_given = 1 })
 an_id_is_given = refl
 
@@ -71,7 +71,7 @@ it_stands_where_sound = stands_where_sound add_sum ab_writer
 pub it_recovers : RecoversFrom add_sum 4 saved
 it_recovers = λ fair durable. a_recovery fair
 
--- not over bytes that the disk can't have
+-- there is no recovery over bytes that the disk can't have
 pub no_recovery_of_other_bytes : RecoversFrom add_sum 4 (record empty { readable = ab_page }) → ⊥
 no_recovery_of_other_bytes from = let long = (from false unfair).image.no_longer in omega (arith, ap length long.1, long.2)
 
@@ -93,7 +93,7 @@ it_gives_back = record { recovered = it_recovers; floor = it_keeps_the_floor; co
 pub it_does_not_give_back : GivesBack add_sum 4 (record empty { readable = ab_page }) → ⊥
 it_does_not_give_back gives = no_recovery_of_other_bytes gives.recovered
 
--- of what a crash left
+-- what comes back of what a crash left
 pub nothing_was_left : GivesBackLeft add_sum 4 unsynced []
 nothing_was_left = left_back add_sum 4 unsynced empty [] a_crash_before_the_sync refl (λ fair durable. an_empty_recovery fair)
 
@@ -104,7 +104,7 @@ all_was_left gives = omega (arith, ap length (gives.floor (session_of ab_writer)
 pub attempts_of_nothing : AttemptsThrough add_sum 4 (life_of saved) (life_of saved)
 attempts_of_nothing = λ fair durable. through_start (Attempts add_sum 4 fair saved) (life_of saved) (an_attempt_that_did_nothing fair)
 
--- none comes to an empty disk
+-- no attempt comes to an empty disk
 pub no_attempts_to_an_empty_disk : AttemptsThrough add_sum 4 (life_of saved) (next (life_of saved) empty) → ⊥
 no_attempts_to_an_empty_disk attempts = no_attempt_that_lost false (through_end (Attempts add_sum 4 false saved) (life_of saved) (next (life_of saved) empty) (attempts false unfair))
 

@@ -44,11 +44,11 @@ was_read = logged (ReadAt 0 16) false saved
 abbrev pub staged_a : Disk
 staged_a = done_once 10 (0 ∷ 0 ∷ 0 ∷ 0 ∷ 0 ∷ 97 ∷ []) was_read
 
--- then its length: from here on the page says "ab" and "a"
+-- then the second slot has its length: from here on one slot holds "ab" and the other "a"
 abbrev pub published_a : Disk
 published_a = done_once 10 (0 ∷ 1 ∷ []) (settled_disk staged_a)
 
--- then the first slot is emptied, and the page says "a"
+-- then the first slot is emptied, and the page holds "a"
 abbrev pub cleared_ab : Disk
 cleared_ab = done_once 4 (0 ∷ 0 ∷ 0 ∷ 0 ∷ 0 ∷ 0 ∷ []) (settled_disk published_a)
 
@@ -239,7 +239,7 @@ nothing_comes_back_of_it = recovered blank [] (record {
   durable = λ asked. record { since = refl; base = refl };
 })
 
--- and no truncate comes by that, though "a" is there at its end
+-- and no truncate goes so, though "a" is there at its end
 pub no_slot_is_emptied_first : (after : RunState) → EachStepIsExact add_sum 4 (Truncate 1 ∷ []) (Length 1 ∷ []) saved (was_read ∷ blank ∷ a_saved ∷ []) (ab_with 2) after → ⊥
 no_slot_is_emptied_first after told =
     let moments : List Disk = was_read ∷ blank ∷ a_saved ∷ [] in

@@ -25,7 +25,7 @@ last_present : (life : Life) (ds : List Disk) → (life_after life ds).present �
 last_present life [] = refl
 last_present life (d ∷ ds) = last_present (record { present = d; past = life.present ∷ life.past }) ds
 
--- what was told of the first run and of the second is told of both
+-- what holds of the moments of the first run and of the second holds of both
 ran_joins : (sum : List ℕ → ℕ) (P : ℕ) (steps more : List Step) (replies others : List Reply)
     (from : Disk) (moments later : List Disk) (before mid after : RunState)
     → Ran sum P steps replies from moments before mid
@@ -54,7 +54,7 @@ ran_joins sum P (x ∷ xs) more [] others from moments later before mid after no
 
 -- ---- two calls of `run`
 
--- of which the second began with no reply
+-- two calls of `run`, of which the second began with no reply
 pub runs_join : (sum : List ℕ → ℕ) (steps more : List Step) (was mid now : SessionState)
     (old between new : Life) (earlier replies others : List Reply)
     → RunsAlways sum steps was mid old between earlier replies
@@ -89,7 +89,7 @@ runs_join sum steps more was mid now old between new earlier replies others firs
       };
 }
 
--- what each step's call said in the first run and in the second is said in both
+-- what each step's call did in the first run and in the second it did in both
 calls_join : (sum : List ℕ → ℕ) (steps more : List Step) (replies others : List Reply)
     (was mid now : SessionState) (cache held after : CacheState) (old between new : Life)
     → RanCalls sum steps replies was mid cache held old between
@@ -115,7 +115,7 @@ calls_join sum [] more (r ∷ rs) others was mid now cache held after old betwee
 calls_join sum (x ∷ xs) more [] others was mid now cache held after old between new none ran =
     absurd none
 
--- so with what each step's call said
+-- so two runs are one, with what each step's call did
 pub goes_join : (sum : List ℕ → ℕ) (steps more : List Step) (was mid now : SessionState)
     (cache held after : CacheState) (old between new : Life) (earlier replies others : List Reply)
     → RunGoes sum steps was mid cache held old between earlier replies

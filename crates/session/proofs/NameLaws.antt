@@ -12,24 +12,24 @@ use Rattle.std.proofs.lemmas.List.Sorted.{searched, IsNonDecreasingBy-from_all_a
 use Rattle.std.proofs.lemmas.List.Edits.{length-insert, get_or-insert_below, get_or-insert_at, get_or-insert_above}
 use Rattle.session.specs.Calls.{is_given, with_name, IsPlaceOf}
 
--- one that is there is found
+-- a name that is there is found
 has_given : (names : List ℕ) (name i : ℕ) → i < length names → get_or names i 0 ≡ name → is_given names name ≡ true
 has_given [] name i lt is = absurd (omega (arith, lt))
 has_given (n ∷ names) name zero lt is = grind (arith, nat_tests, is)
 has_given (n ∷ names) name (suc i) lt is = grind (arith, nat_tests, has_given names name i (omega (arith, lt)) is)
 
--- one that none of them is isn't
+-- a name that is none of them isn't found
 has_not : (names : List ℕ) (name : ℕ) → ((k : ℕ) → k < length names → get_or names k 0 ≢ name) → is_given names name ≡ false
 has_not [] name none = refl
 has_not (n ∷ names) name none = grind (arith, nat_tests, none 0 (omega arith), has_not names name (λ k lt. none (suc k) (omega (arith, lt))))
 
--- one that is there stays where it is
+-- a name that is there stays where it is
 with_given : (names : List ℕ) (name i : ℕ) → i < length names → get_or names i 0 ≡ name → ((k : ℕ) → k < i → get_or names k 0 ≤ name) → with_name name names ≡ names
 with_given [] name i lt is below = absurd (omega (arith, lt))
 with_given (n ∷ names) name zero lt is below = grind (arith, nat_tests, is)
 with_given (n ∷ names) name (suc i) lt is below = grind (arith, nat_tests, below 0 (omega arith), with_given names name i (omega (arith, lt)) is (λ k less. below (suc k) (omega (arith, less))))
 
--- a new one goes between those below it and those above
+-- a new name goes between those below it and those above
 with_new : (names : List ℕ) (name i : ℕ) → i ≤ length names → ((k : ℕ) → k < i → get_or names k 0 < name) → ((k : ℕ) → i ≤ k → k < length names → name < get_or names k 0) → with_name name names ≡ insert names i name
 with_new [] name zero le below above = refl
 with_new [] name (suc i) le below above = absurd (omega (arith, le))
@@ -37,18 +37,18 @@ with_new (n ∷ names) name zero le below above = grind (arith, nat_tests, above
 with_new (n ∷ names) name (suc i) le below above =
     grind (arith, nat_tests, below 0 (omega arith), with_new names name i (omega (arith, le)) (λ k less. below (suc k) (omega (arith, less))) (λ k more lt. above (suc k) (omega (arith, more)) (omega (arith, lt))))
 
--- then it is given, and so is each that was
+-- then the new name is given, and so is each name that was
 pub given_with : (names : List ℕ) (name asked : ℕ) → is_given (with_name name names) asked ≡ (nat_eq name asked || is_given names asked)
 given_with [] name asked = refl
 given_with (n ∷ names) name asked = grind (arith, nat_tests, given_with names name asked)
 
 -- ---- what a search of them finds
 
--- none is below one before it
+-- no name is below one before it
 in_order : (names : List ℕ) → IsStrictlyIncreasing names → IsNonDecreasing names
 in_order names rise = IsNonDecreasingBy-from_all_adjacent (λ n. n) names (λ k d lt. omega (arith, rise k lt, get_or_default names k d 0 (omega (arith, lt)), get_or_default names (k + 1) d 0 lt))
 
--- they rise with a new one in its place
+-- the names rise with a new one in its place
 rise_with : (names : List ℕ) (name i : ℕ) → IsStrictlyIncreasing names → i ≤ length names → ((k : ℕ) → k < i → get_or names k 0 < name) → ((k : ℕ) → i ≤ k → k < length names → name < get_or names k 0) → IsStrictlyIncreasing (insert names i name)
 rise_with names name i rise le below above k lt =
     let new = insert names i name in
@@ -73,14 +73,14 @@ module _ (names : List ℕ) (rise : IsStrictlyIncreasing names) (name : ℕ) whe
         | inr more ↦ omega (arith, above k more lt, same)
       ]))
 
-  -- one that is there is there once
+  -- a name that is there is there once
   pub there_found : (r : Result ℕ ℕ) → IsBinarySearchResult (λ n. nat_cmp n name) names r → OnOk r (with_name name names ≡ names)
   there_found (Err i) position = tt
   there_found (Ok i) position =
       let (lt, is) = searched names name (Ok i) position (λ i j le lt. order i j 0 le lt) in
       with_given names name i lt is (λ k less. omega (arith, order k i 0 (omega (arith, less)) lt, is))
 
-  -- where one isn't it has its place
+  -- a name that isn't there has its place
   pub place_found : (r : Result ℕ ℕ) → IsBinarySearchResult (λ n. nat_cmp n name) names r → IfErr r (IsPlaceOf names name)
   place_found (Ok i) position = tt
   place_found (Err i) position =

@@ -25,22 +25,22 @@ numbered_there xs i x is = by_case (slice_get xs i) is
     by_case None none = absurd (cc none)
     by_case (Some y) some = ap Some some
 
--- the one at an offset
+-- the element at an offset, if it wasn't forgotten
 numbered_at : {A : Type 0} (xs : List (Option A)) (i : ℕ) (o : Option (Option A)) → slice_get xs i ≡ o → numbered xs i ≡ (elim o [ None ↦ None | Some y ↦ y ])
 numbered_at xs i o is = ap (λ (x : Option (Option _)). elim x [ None ↦ None | Some y ↦ y ]) is
 
 pub stands_at : {A : Type 0} (xs : List (Option A)) (i : ℕ) (x : A) → slice_get xs i ≡ Some (Some x) → numbered xs i ≡ Some x
 stands_at xs i x at = numbered_at xs i (Some (Some x)) at
 
--- put where it was
+-- an element that is put where it was leaves the list as it was
 pub put_back : {X : Type 0} (xs : List X) (i : ℕ) (x : X) → slice_get xs i ≡ Some x → set xs i x ≡ xs
 put_back xs i x is = ap (λ (y : _). set xs i y) (sym (get_or_from_slice_get xs i x x is)) ∙ set-get_or xs i x
 
--- a step of one, by whether it is there
+-- a step of one replay, by whether it is there
 abbrev pub AtOne : (index : ℕ) → (was now : List (Option ReplayState)) → Reply → (same : Type 0) → (goes : ReplayState → ReplayState → Type 0) → Option ReplayState → Type 0
 AtOne index was now reply same goes o = elim o [ None ↦ (reply ≡ NoSuch) × (now ≡ was) × same | Some r ↦ (q : ReplayState) × (now ≡ set was index (Some q)) × goes r q ]
 
--- a step of the one at an offset
+-- a step of the replay at an offset
 pub at_some : (index : ℕ) (was : List (Option ReplayState)) (o now : Option ReplayState) (reply : Reply) (same : Type 0) (goes : ReplayState → ReplayState → Type 0) → slice_get was index ≡ Some o → OfReplay o now reply same goes → AtReplay index was (set was index now) reply same goes
 at_some index was None now reply same goes at (replied, is, stays) =
     let kept : set was index now ≡ was = ap (λ (x : Option ReplayState). set was index x) is ∙ put_back was index None at in
@@ -50,7 +50,7 @@ at_some index was (Some r) now reply same goes at (q, is, went) =
     let F : Option ReplayState → Type 0 = AtOne index was (set was index now) reply same goes in
     subst F (sym (numbered_at was index (Some (Some r)) at)) (q, ap (λ (x : Option ReplayState). set was index x) is, went)
 
--- and where there is none
+-- a step where there is no such replay
 pub at_none : (index : ℕ) (was : List (Option ReplayState)) (same : Type 0) (goes : ReplayState → ReplayState → Type 0) → slice_get was index ≡ None → same → AtReplay index was was NoSuch same goes
 at_none index was same goes at stays =
     let F : Option ReplayState → Type 0 = AtOne index was was NoSuch same goes in

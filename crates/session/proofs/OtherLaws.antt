@@ -25,7 +25,7 @@ NotOf id o = IfSome o (λ t. id ≢ t.id)
 
 -- ---- by what the step did to the session
 
--- one that leaves the snapshots
+-- a step that leaves the snapshots
 pub others_kept : (was now : SessionState) (cache after : CacheState) → now.snapshots ≡ was.snapshots → WriterLeavesOthers was.writer now.writer cache after → LeavesOtherBlobs was now cache after
 others_kept was now cache after same leaves = record {
   reads = λ t d other can. leaves.reads t d other.writer can;
@@ -33,27 +33,27 @@ others_kept was now cache after same leaves = record {
   settings = leaves.settings;
 }
 
--- of the writer
+-- a step of the writer
 pub others_taken : (was now : SessionState) (cache after : CacheState) → KeepsSnapshots was now → WriterLeavesOthers was.writer now.writer cache after → LeavesOtherBlobs was now cache after
 others_taken was now cache after rest leaves = others_kept was now cache after (ap (λ (s : SessionState). s.snapshots) rest) leaves
 
--- that begins a replay
+-- a step that begins a replay
 pub replay_others : (was now : SessionState) (cache after : CacheState) → KeepsButReplays was now → WriterLeavesOthers was.writer now.writer cache after → LeavesOtherBlobs was now cache after
 replay_others was now cache after rest leaves = others_kept was now cache after (ap (λ (s : SessionState). s.snapshots) rest) leaves
 
--- that forgets the replays
+-- a step that forgets the replays
 pub cut_others : (was now : SessionState) (cache after : CacheState) → KeepsUncut was now → WriterLeavesOthers was.writer now.writer cache after → LeavesOtherBlobs was now cache after
 cut_others was now cache after rest leaves = others_kept was now cache after (ap (λ (s : SessionState). s.snapshots) rest) leaves
 
--- one that leaves the writer, too, and the cache
+-- a step that leaves the writer and the cache too
 pub others_idle : (was now : SessionState) (cache : CacheState) → now.snapshots ≡ was.snapshots → now.writer ≡ was.writer → LeavesOtherBlobs was now cache cache
 others_idle was now cache same writer = others_kept was now cache cache same (subst (λ (o : Option WriterState). WriterLeavesOthers was.writer o cache cache) (sym writer) (others_here was.writer cache))
 
--- of a replay
+-- a step of a replay
 pub replayed_others : (was now : SessionState) (cache : CacheState) → KeepsAllButReplays was now → LeavesOtherBlobs was now cache cache
 replayed_others was now cache rest = others_idle was now cache (ap (λ (s : SessionState). s.snapshots) rest) (ap (λ (s : SessionState). s.writer) rest)
 
--- one that makes a snapshot of the writer's blob
+-- a step that makes a snapshot of the writer's blob
 pub others_made : (was now : SessionState) (t : Tail) (cache after : CacheState) → now.snapshots ≡ was.snapshots ++ Some t ∷ [] → ((id : ℕ) → IsNotOf id was.writer → id ≢ t.id) → WriterLeavesOthers was.writer now.writer cache after → LeavesOtherBlobs was now cache after
 others_made was now t cache after is its leaves = record {
   reads = λ u d other can. leaves.reads u d other.writer can;
@@ -64,7 +64,7 @@ others_made was now t cache after is its leaves = record {
   settings = leaves.settings;
 }
 
--- one after another
+-- two steps, one after another
 pub others_then : (was mid now : SessionState) (cache between after : CacheState) → LeavesOtherBlobs was mid cache between → LeavesOtherBlobs mid now between after → LeavesOtherBlobs was now cache after
 others_then was mid now cache between after first second = record {
   reads = λ t d other can. second.reads t d (first.apart t.id other) (first.reads t d other can);
@@ -112,7 +112,7 @@ snapshot_others sum was now cache after old new reply leaves did = by_state was.
     by_state true (Some w) at (replied, stays) = kept stays.0 refl
     by_state false (Some w) at goes = takes w at reply goes
 
--- one for which nothing is written
+-- a try to make a snapshot, for which nothing is written
 pub try_snapshot_others : (was now : SessionState) (cache : CacheState) (reply : Reply) → DidTrySnapshot was now reply → LeavesOtherBlobs was now cache cache
 try_snapshot_others was now cache reply did = by_state was.recovering was.writer refl did
   where
@@ -134,7 +134,7 @@ try_snapshot_others was now cache reply did = by_state was.recovering was.writer
     by_state true (Some w) at (replied, is) = kept is
     by_state false (Some w) at goes = tries w at reply goes
 
--- the end of a writer
+-- a seal, which ends the writer
 pub seal_others : (sum : List ℕ → ℕ) (was now : SessionState) (cache after : CacheState) (old new : Life) (reply : Reply) → WriterLeavesOthers was.writer now.writer cache after → DidSeal sum was now cache after old new reply → LeavesOtherBlobs was now cache after
 seal_others sum was now cache after old new reply leaves did = by_state was.recovering was.writer refl did
   where
@@ -168,11 +168,11 @@ drop_others was now cache index reply did rest = record {
 
 -- ---- how a session begins
 
--- with a writer whose id the cache gave just then
+-- a session begins with a writer whose id the cache gave just then
 pub begun_apart : (w : WriterState) (now : SessionState) (cache : CacheState) → now ≡ session_of w → w.id ≡ cache.ids_given → IsNewTo cache now
 begun_apart w now cache is its id below = subst (λ (s : SessionState). IsOther s id) (sym is) (record { writer = λ same. omega (arith, same, its, below); snapshots = λ k o lt. absurd (omega (arith, lt)) })
 
--- by a crash and a recovery
+-- a session begins by a crash and a recovery
 pub others_anew : (was now : SessionState) (cache after : CacheState) → IsNewTo cache now → LeavesReads cache after → LeavesOthersAnew was now cache after
 others_anew was now cache after apart reads = record { reads = reads; apart = λ id below other. apart id below }
 

@@ -16,20 +16,20 @@ settings_then cache between after first second = record { page_size = second.pag
 
 -- ---- what is left
 
--- by a call of the writer's blob, of one that goes on
+-- by a call of the writer's blob, with a writer that goes on
 pub others_on : (o : Option WriterState) (w v : WriterState) (cache after : CacheState) → o ≡ Some w → v.id ≡ w.id → LeavesOthers w.id cache after → SameSettings cache after → WriterLeavesOthers o (Some v) cache after
 others_on o w v cache after at same others settings =
     subst (λ (x : Option WriterState). WriterLeavesOthers x (Some v) cache after) (sym at) (record { reads = λ t d other can. others t d other can; apart = λ id other is. other (is ∙ same); settings = settings })
 
--- of one that is gone
+-- by a call of the writer's blob that leaves no writer
 pub others_gone : (o now : Option WriterState) (w : WriterState) (cache after : CacheState) → o ≡ Some w → now ≡ None → LeavesOthers w.id cache after → SameSettings cache after → WriterLeavesOthers o now cache after
 others_gone o now w cache after at none others settings =
     subst (λ (x : Option WriterState). WriterLeavesOthers x now cache after) (sym at) (subst (λ (x : Option WriterState). WriterLeavesOthers (Some w) x cache after) (sym none) (record { reads = λ t d other can. others t d other can; apart = λ id other. tt; settings = settings }))
 
--- of one that stays as it is
+-- by a call of the writer's blob, with a writer that stays as it is
 pub others_stay : (o : Option WriterState) (w : WriterState) (cache after : CacheState) → o ≡ Some w → LeavesOthers w.id cache after → SameSettings cache after → WriterLeavesOthers o o cache after
 others_stay o w cache after at others settings = subst (λ (x : Option WriterState). WriterLeavesOthers x x cache after) (sym at) (record { reads = λ t d other can. others t d other can; apart = λ id other. other; settings = settings })
 
--- where the cache is left, and the writer
+-- by a step that leaves the cache and the writer
 pub others_here : (o : Option WriterState) (cache : CacheState) → WriterLeavesOthers o o cache cache
 others_here o cache = record { reads = λ t d other can. can; apart = λ id other. other; settings = settings_same cache }

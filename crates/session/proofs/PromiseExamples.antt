@@ -43,7 +43,7 @@ ab_writer_stands = record {
   awaited = refl;
 }
 
--- not for another content
+-- it stands for no other content
 pub it_stands_for_no_other : WriterRepresents 4 ab_writer (fresh 4 8 (97 ∷ 99 ∷ [])) saved → ⊥
 it_stands_for_no_other fits = omega (arith, ap (λ (l : List ℕ). get_or l 1 0) fits.content)
 
@@ -78,7 +78,7 @@ it_awaits_none fits = absurd (cc fits.awaited)
 pub it_awaits_one : WriterRepresents 4 (record ab_writer { sync = Pending 0 }) (fresh 4 8 ab) saved → ⊥
 it_awaits_one fits = absurd (cc fits.awaited)
 
--- nor for more buffered bytes
+-- it stands for no more buffered bytes than it has
 pub it_buffers_no_more : WriterRepresents 4 ab_writer (record (fresh 4 8 ab) { buffered = 3 }) saved → ⊥
 it_buffers_no_more fits = omega (arith, fits.buffered)
 
@@ -114,15 +114,15 @@ empty_stands = record {
 pub no_floor_before_the_sync : (session : SessionState) → Represents add_sum 4 session (fresh 4 8 ab) unsynced → ⊥
 no_floor_before_the_sync session stands = omega (arith, ap length (stands.kept.kept [] (base_is_image unsynced)))
 
--- nor for a content that the blob doesn't say
+-- no session stands for a content that the blob doesn't hold
 pub no_other_content : (session : SessionState) → Represents add_sum 4 session (record (fresh 4 8 (97 ∷ 99 ∷ [])) { floor = 2 }) saved → ⊥
 no_other_content session stands = omega (arith, ap (λ (l : List ℕ). get_or l 1 0) (stands.kept.kept ab_page (base_is_image saved)))
 
--- nor with a snapshot that it hasn't
+-- no session stands for a snapshot that it hasn't
 pub no_snapshot_more : Represents add_sum 4 (session_of ab_writer) (record (fresh 4 8 ab) { snapshots = None ∷ [] }) saved → ⊥
 no_snapshot_more stands = omega (arith, ap length stands.snapshots)
 
--- nor a replay, or a name
+-- nor for a replay, or a name
 pub no_replay_more : Represents add_sum 4 (session_of ab_writer) (record (fresh 4 8 ab) { replays = None ∷ [] }) saved → ⊥
 no_replay_more stands = omega (arith, ap length stands.replays)
 
@@ -140,11 +140,11 @@ no_cover_past_the_end session stands = absurd (omega (arith, stands.within 0 (0,
 pub no_floor_past_the_end : (session : SessionState) → Represents add_sum 4 session (record (fresh 4 8 ab) { floor = 3 }) saved → ⊥
 no_floor_past_the_end session stands = omega (arith, stands.floor)
 
--- nor once the recovery has ended, where it hasn't
+-- nor for an ended recovery, where its own hasn't ended
 pub it_has_not_ended : Represents add_sum 4 (session_of ab_writer) (record (fresh 4 8 ab) { recovering = false }) saved → ⊥
 it_has_not_ended stands = absurd (false≢true (sym stands.phase))
 
--- nor where the blob says a byte more, though no floor is asked for
+-- nor for a content of which the blob has a byte more, even with no floor
 pub no_byte_more : (session : SessionState) → Represents add_sum 4 session (record (fresh 4 8 (97 ∷ [])) { floor = 0 }) saved → ⊥
 no_byte_more session stands = a_byte_too_many (survives add_sum 4 (97 ∷ []) (97 ∷ []) 0 saved stands.floor stands.kept stands.only)
 
@@ -194,7 +194,7 @@ nothing_yet = survives add_sum 4 ab ab 0 empty (omega arith) (keeps_nothing add_
 pub saved_later : Survives add_sum 4 ab ab 0 saved
 saved_later = survives add_sum 4 ab ab 0 saved (omega arith) (keeps_nothing add_sum 4 ab saved) (rests ab ab ab saved refl refl refl)
 
--- what it tells
+-- the run of an append and a sync is exact
 pub a_run_tells : (bytes : Vec ℕ Global) → bytes.items ≡ ab → EachStepIsExact add_sum 4 (steps_of bytes) replies_of empty moments_of (fresh 4 8 []) (fresh 4 8 ab)
 a_run_tells bytes is = (
   survives add_sum 4 [] [] 0 empty (omega arith) (keeps_nothing add_sum 4 [] empty) (rests [] [] [] empty refl refl refl),
@@ -220,11 +220,11 @@ a_run_tells bytes is = (
 pub no_reply_is_left_out : (steps : List Step) (step : Step) (moments : List Disk) (s after : RunState) → EachStepIsExact add_sum 4 (step ∷ steps) [] empty moments s after → ⊥
 no_reply_is_left_out steps step moments s after tells = tells
 
--- an append that answers another offset
+-- no run has an append that answers another offset
 pub no_other_offset : (bytes : Vec ℕ Global) (moments : List Disk) (after : RunState) → EachStepIsExact add_sum 4 (steps_of bytes) (At 1 ∷ Done ∷ []) empty moments (fresh 4 8 []) after → ⊥
 no_other_offset bytes moments after (first_stood, first, rest, joined, mid, ((n, is), foretold), each, others) = omega (arith, n)
 
--- of joined lists the last moment is that of the second
+-- the last moment of joined lists is that of the second
 pub last_joined : (d : Disk) (ds es : List Disk) → last d (ds ++ es) ≡ last (last d ds) es
 last_joined d [] es = refl
 last_joined d (e ∷ ds) es = last_joined e ds es
@@ -245,7 +245,7 @@ survives_at_the_end bytes from moments after told =
     subst (λ (s : RunState). Survives add_sum 4 s.content s.otherwise (raised D s).floor D) ends sync.7.2 in
     subst (λ (d : Disk). Survives add_sum 4 bytes.items bytes.items (length bytes.items) d) (sym there) at_the_end
 
--- by what was appended
+-- such a run survives at its end, by what was appended
 survives_so : (bytes : Vec ℕ Global) (content : List ℕ) (moments : List Disk) (after : RunState) → bytes.items ≡ content → EachStepIsExact add_sum 4 (steps_of bytes) replies_of empty moments (fresh 4 8 []) after
     → Survives add_sum 4 content content (length content) (last empty moments)
 survives_so bytes content moments after are tells = subst (λ (l : List ℕ). Survives add_sum 4 l l (length l) (last empty moments)) are (survives_at_the_end bytes empty moments after tells)
@@ -254,7 +254,7 @@ survives_so bytes content moments after are tells = subst (λ (l : List ℕ). Su
 pub no_run_without_the_sync : (bytes : Vec ℕ Global) (after : RunState) → bytes.items ≡ ab → EachStepIsExact add_sum 4 (steps_of bytes) replies_of empty (unsynced ∷ []) (fresh 4 8 []) after → ⊥
 no_run_without_the_sync bytes after are tells = a_lost_floor ab ab refl (survives_so bytes ab (unsynced ∷ []) after are tells)
 
--- nor where nothing was written
+-- nor does such a run end where nothing was written
 pub no_run_without_a_write : (bytes : Vec ℕ Global) (after : RunState) → bytes.items ≡ ab → EachStepIsExact add_sum 4 (steps_of bytes) replies_of empty [] (fresh 4 8 []) after → ⊥
 no_run_without_a_write bytes after are tells = nothing_is_kept (survives_so bytes ab [] after are tells)
 
@@ -263,11 +263,11 @@ no_run_without_a_write bytes after are tells = nothing_is_kept (survives_so byte
 pub a_read_tells : (bytes : Vec ℕ Global) → bytes.items ≡ 98 ∷ [] → EachStepIsExact add_sum 4 (Read 1 1 ∷ []) (Bytes bytes ∷ []) saved [] (fresh 4 8 ab) (fresh 4 8 ab)
 a_read_tells bytes is = (saved_survives, [], [], refl, fresh 4 8 ab, (((omega arith, is), refl), (λ over. absurd (omega (arith, over)), λ passes. absurd (omega (arith, passes.1)))), (saved_survives, tt), (refl, refl, saved_survives))
 
--- another slice isn't told
+-- no run has a read that answers another slice
 pub no_wrong_slice : (bytes : Vec ℕ Global) (moments : List Disk) (after : RunState) → bytes.items ≡ 97 ∷ [] → EachStepIsExact add_sum 4 (Read 1 1 ∷ []) (Bytes bytes ∷ []) saved moments (fresh 4 8 ab) after → ⊥
 no_wrong_slice bytes moments after are (first_stood, first, rest, joined, mid, (((within, is), same), foretold), each, others) = omega (arith, ap (λ (l : List ℕ). get_or l 0 0) (sym are ∙ is))
 
--- nor one past the end
+-- no run has a read that answers a slice past the end
 pub no_slice_past_the_end : (bytes : Vec ℕ Global) (moments : List Disk) (after : RunState) → EachStepIsExact add_sum 4 (Read 1 2 ∷ []) (Bytes bytes ∷ []) saved moments (fresh 4 8 ab) after → ⊥
 no_slice_past_the_end bytes moments after (first_stood, first, rest, joined, mid, (((within, is), same), foretold), each, others) = omega (arith, within)
 
@@ -283,7 +283,7 @@ pub same_standing : (a b : RunState) → a.has_writer ≡ b.has_writer → a.rec
     → a.awaited ≡ b.awaited → a.covers ≡ b.covers → a.snapshots ≡ b.snapshots → a.replays ≡ b.replays → a ≡ b
 same_standing a b e1 e2 e3 e4 e5 e6 e7 e8 e9 e10 e11 e12 = rw (e1, e2, e3, e4, e5, e6, e7, e8, e9, e10, e11, e12) refl
 
--- one thing alone can be stood for by the session of an empty blob
+-- the session of an empty blob can stand for one thing alone
 pub it_stood_for : (P : ℕ) (before : RunState) → Represents add_sum P (session_of empty_writer) before empty → (P ≡ 4) × (before ≡ fresh 4 8 [])
 it_stood_for P before stands = (
   sym stands.fits.page_size,
@@ -291,7 +291,7 @@ it_stood_for P before stands = (
       (sym stands.fits.buffered) stands.fits.written stands.fits.awaited (no_covers before.covers stands.names) stands.snapshots stands.replays,
 )
 
--- such a run is told
+-- such a run is exact
 pub it_is_told : (bytes : Vec ℕ Global) → bytes.items ≡ ab → RunIsExact add_sum 4 (steps_of bytes) (session_of ab_writer) (life_of empty) life_then [] replies_of (fresh 4 8 [])
 it_is_told bytes is = record { added = replies_of; adds = refl; moments = moments_of; goes = refl; after = fresh 4 8 ab; tells = a_run_tells bytes is; stands = ab_stands }
 
@@ -302,7 +302,7 @@ a_promise bytes is P before stands =
     subst (λ (n : ℕ). RunIsExact add_sum n (steps_of bytes) (session_of ab_writer) (life_of empty) life_then [] replies_of before) (sym stood.0)
     (subst (λ (s : RunState). RunIsExact add_sum 4 (steps_of bytes) (session_of ab_writer) (life_of empty) life_then [] replies_of s) (sym stood.1) (it_is_told bytes is))
 
--- the moments of a life that a run tells are those that it had
+-- the moments of a life in an exact run are those that the life had
 pub told_by : (d : Disk) (s : RunState) (steps : List Step) (now : SessionState) (replies : List Reply) (moments : List Disk) → RunIsExact add_sum 4 steps now (life_of d) (life_after (life_of d) moments) [] replies s
     → (after : RunState) × EachStepIsExact add_sum 4 steps replies d moments s after
 told_by d s steps now replies moments told =
@@ -311,20 +311,20 @@ told_by d s steps now replies moments told =
       subst (λ (rs : List Reply). EachStepIsExact add_sum 4 steps rs d moments s told.after) (sym told.adds) (subst (λ (ds : List Disk). EachStepIsExact add_sum 4 steps told.added d ds s told.after) same told.tells),
     )
 
--- not without the sync, whatever the session is then
+-- without the sync the promise isn't kept, whatever the session is then
 pub no_promise_without_the_sync : (bytes : Vec ℕ Global) (now : SessionState) → bytes.items ≡ ab → Promises add_sum (steps_of bytes) (session_of empty_writer) now (life_of empty) (life_after (life_of empty) (unsynced ∷ [])) [] replies_of → ⊥
 no_promise_without_the_sync bytes now are promise =
     let told = told_by empty (fresh 4 8 []) (steps_of bytes) now replies_of (unsynced ∷ []) (promise 4 (fresh 4 8 []) empty_stands) in
     no_run_without_the_sync bytes told.0 are told.1
 
--- nor where another byte was appended than the blob says
+-- the promise isn't kept where another byte was appended than the blob holds
 pub no_promise_of_another_byte : (bytes : Vec ℕ Global) (now : SessionState) → bytes.items ≡ 97 ∷ 99 ∷ [] → Promises add_sum (steps_of bytes) (session_of empty_writer) now (life_of empty) life_then [] replies_of → ⊥
 no_promise_of_another_byte bytes now are promise =
     let told = told_by empty (fresh 4 8 []) (steps_of bytes) now replies_of moments_of (promise 4 (fresh 4 8 []) empty_stands) in
     let s : Survives add_sum 4 (97 ∷ 99 ∷ []) (97 ∷ 99 ∷ []) 2 saved = survives_so bytes (97 ∷ 99 ∷ []) moments_of told.0 are told.1 in
     omega (arith, ap (λ (l : List ℕ). get_or l 1 0) (s.kept true ab ab_comes_back))
 
--- or one less
+-- nor where one byte less was appended
 pub no_promise_of_a_byte_less : (bytes : Vec ℕ Global) (now : SessionState) → bytes.items ≡ 97 ∷ [] → Promises add_sum (steps_of bytes) (session_of empty_writer) now (life_of empty) life_then [] replies_of → ⊥
 no_promise_of_a_byte_less bytes now are promise =
     let told = told_by empty (fresh 4 8 []) (steps_of bytes) now replies_of moments_of (promise 4 (fresh 4 8 []) empty_stands) in
@@ -344,12 +344,12 @@ no_other_life now s told =
     let same : life_of empty ≡ life_of saved = told.goes ∙ ap (λ (ds : List Disk). life_after (life_of saved) ds) tells.0 in
     omega (arith, ap (λ (life : Life). length life.present.base) same)
 
--- nor by a session that stands for something else at its end
+-- a run is not exact if the session stands for something else at its end
 pub no_other_session : RunIsExact add_sum 4 [] (session_of empty_writer) (life_of saved) (life_of saved) [] [] (fresh 4 8 ab) → ⊥
 no_other_session told =
     let tells : EachStepIsExact add_sum 4 [] [] saved told.moments (fresh 4 8 ab) told.after = subst (λ (rs : List Reply). EachStepIsExact add_sum 4 [] rs saved told.moments (fresh 4 8 ab) told.after) (sym told.adds) told.tells in
     omega (arith, ap (λ (s : RunState). length s.content) tells.1, ap length told.stands.fits.content)
 
--- nor with a reply less than before
+-- a run is not exact if it has fewer replies than before
 pub no_reply_is_taken_back : (steps : List Step) (now : SessionState) (old new : Life) (before : RunState) → RunIsExact add_sum 4 steps now old new (Done ∷ []) [] before → ⊥
 no_reply_is_taken_back steps now old new before told = absurd (cc told.adds)

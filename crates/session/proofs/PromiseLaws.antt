@@ -49,7 +49,7 @@ through_moment Q old new d through (before, after, goes, is) =
     let each : Each Q before = each_front Q before after (subst (λ (l : List Disk). Each Q l) same through.each) in
     subst Q (sym is) (each_last Q old before through.start each)
 
--- each moment of a life is one
+-- each of the moments by which a life went on is a moment of it
 each_moment : (old new : Life) (before moments : List Disk) → new ≡ life_after (life_after old before) moments → Each (λ d. IsMoment old new d) moments
 each_moment old new before [] goes = tt
 each_moment old new before (d ∷ ds) goes =
@@ -59,7 +59,7 @@ each_moment old new before (d ∷ ds) goes =
 
 -- ---- prefixes
 
--- a beginning of a beginning
+-- a prefix of a prefix
 pub begins_further : (given mid content : List ℕ) → IsPrefixOf given mid → IsPrefixOf mid content → IsPrefixOf given content
 begins_further given mid content first second =
     let few : length given ≤ length mid = omega (arith, ap length first, length-take (length given) mid) in
@@ -74,7 +74,7 @@ begins_either given mid a b first either = elim either [ inl h ↦ inl (begins_f
 durable_image : (d : Disk) (image : List ℕ) → IsDurable d → IsImage d image → image ≡ d.readable
 durable_image d image durable is_image = only_image d image durable.since is_image ∙ durable.base
 
--- and that is chance-free
+-- that image is chance-free (no checksum slot verifies by chance)
 durable_free : (sum : List ℕ → ℕ) (P : ℕ) (d : Disk) → IsDurable d → IsChanceFree sum P d d.readable
 durable_free sum P d durable = subst (λ (l : List ℕ). IsChanceFree sum P d l) durable.base (whole_is_chance_free sum P d d.base (base_is_whole d.base d.since))
 
@@ -93,7 +93,7 @@ floor_of_text sum P content floor d enough image keeps =
 crash_keeps : (sum : List ℕ → ℕ) (P : ℕ) (content : List ℕ) (floor : ℕ) (d e : Disk) → HasCrashed d e → AllKeep sum P content floor d → AllKeep sum P content floor e
 crash_keeps sum P content floor d e c keeps = keeps_settle sum P content floor d e (subst (λ (l : List ℕ). IsImage d l) (sym c.durable.base) c.image) c.durable.since keeps
 
--- so does a recovery at each of its moments
+-- a recovery keeps the floor at each of its moments
 attempt_keeps : (sum : List ℕ → ℕ) (P : ℕ) (fair : Bool) (content : List ℕ) (floor : ℕ) (d m : Disk) → floor ≤ length content → Attempts sum P fair d m → AllKeep sum P content floor d → AllKeep sum P content floor m
 attempt_keeps sum P fair content floor d m enough a keeps =
     let T = text sum P d.readable in
@@ -118,7 +118,7 @@ crash_leaves sum P content other d e c only = record {
   vouched = vouched_at_rest sum P e c.crashed.durable.since;
 }
 
--- so does a recovery at each of its moments
+-- chance aside, a recovery leaves only the contents at each of its moments
 attempt_leaves : (sum : List ℕ → ℕ) (P : ℕ) (content other : List ℕ) (d m : Disk) → Attempts sum P true d m → AllOnly sum P content other d → AllOnly sum P content other m
 attempt_leaves sum P content other d m a only =
     let T = text sum P a.old.present.readable in
@@ -140,7 +140,7 @@ comes_only sum P content other d given only (recovered at out r) =
 comes_only sum P content other d given only (crashed at out e c rest) = comes_only sum P content other e given (crash_leaves sum P content other d e c only) rest
 comes_only sum P content other d given only (attempted at out m a rest) = comes_only sum P content other m given (attempt_leaves sum P content other d m a only) rest
 
--- a moment is survived where every image keeps the floor and says only these contents
+-- a moment is survived if every image keeps the floor and holds only these contents
 pub survives : (sum : List ℕ → ℕ) (P : ℕ) (content other : List ℕ) (floor : ℕ) (d : Disk) → floor ≤ length content → AllKeep sum P content floor d → AllOnly sum P content other d → Survives sum P content other floor d
 survives sum P content other floor d enough keeps only = record {
   kept = λ fair given comes. comes_kept sum P fair content floor d given enough keeps comes;
@@ -149,12 +149,12 @@ survives sum P content other floor d enough keeps only = record {
 
 -- ---- runs
 
--- both halves at each moment
+-- both halves of that, at each moment
 survive_each : (sum : List ℕ → ℕ) (P : ℕ) (content other : List ℕ) (floor : ℕ) (ds : List Disk) → floor ≤ length content → Each (AllKeep sum P content floor) ds → Each (AllOnly sum P content other) ds → Each (Survives sum P content other floor) ds
 survive_each sum P content other floor [] enough kept only = tt
 survive_each sum P content other floor (d ∷ ds) enough kept only = (survives sum P content other floor d enough kept.0 only.0, survive_each sum P content other floor ds enough kept.1 only.1)
 
--- a run tells
+-- a run is exact
 pub ran_tells : (sum : List ℕ → ℕ) (P : ℕ) (steps : List Step) (replies : List Reply) (from : Disk) (moments : List Disk) (s after : RunState) → s.floor ≤ length s.content → Ran sum P steps replies from moments s after
     → EachStepIsExact sum P steps replies from moments s after
 ran_tells sum P [] [] from moments s after enough (none, same, keeps, only) = (none, same, survives sum P s.content s.otherwise s.floor from enough keeps only)
@@ -242,15 +242,16 @@ fresh_stands sum w cache capacity old new recovers within durable =
     })
     refl (λ name. refl) (omega arith) (λ k x lt. absurd (omega (arith, lt))) durable (λ k x lt. absurd (omega (arith, lt))) stays)
 
--- nothing is asked of what isn't fair
+-- `fair` asks nothing of what isn't fair
 pub unfair : {A : Type 0} → false ≡ true → A
 unfair is = absurd (false≢true is)
 
--- what a recovery gave keeps the floor of whatever was stood for as it began
+-- what a recovery gave keeps the floor of whatever a session stood for as the recovery began
 pub recovered_keeps : (sum : List ℕ → ℕ) (P : ℕ) (d : Disk) (given : List ℕ) → HasRecovered sum P false d given → BeginsWithFloor sum P d given
 recovered_keeps sum P d given r = λ was s stands. comes_kept sum P false s.content s.floor d given stands.floor stands.kept (recovered d given r)
 
--- and chance aside, where all was durable, it is a prefix of one of the contents
+-- chance aside, if all was durable as the recovery began, what it gave is a prefix of one of the
+-- contents
 pub recovered_leaves : (sum : List ℕ → ℕ) (P : ℕ) (d : Disk) (given : List ℕ) → HasRecovered sum P true d given → IsPrefixOfEither sum P d given
 recovered_leaves sum P d given r = λ was s stands. comes_only sum P s.content s.otherwise d given stands.only (recovered d given r)
 
@@ -265,7 +266,7 @@ begun sum w now cache capacity old new is recovers within durable = record {
       (fresh_stands sum w cache capacity old new recovers within durable);
 }
 
--- it gave the text
+-- a recovery that answers Ok gave the text
 pub recovers_from : (sum : List ℕ → ℕ) (w : WriterState) (cache : CacheState) (capacity : ℕ) (old new : Life) → IsImage old.present old.present.readable → Recovers sum cache capacity old new (Ok w) → RecoversFrom sum cache.page_size old.present
 recovers_from sum w cache capacity old new image recovers = λ fair durable. record {
   old = old;
@@ -281,7 +282,7 @@ recovers_from sum w cache capacity old new image recovers = λ fair durable. rec
   durable = durable;
 }
 
--- and by what stood as it began
+-- what a recovery gave, by what a session stood for as it began
 pub gives_back : (sum : List ℕ → ℕ) (w : WriterState) (cache : CacheState) (capacity : ℕ) (old new : Life) → IsImage old.present old.present.readable → Recovers sum cache capacity old new (Ok w) → GivesBack sum cache.page_size old.present
 gives_back sum w cache capacity old new image recovers =
     let from : RecoversFrom sum cache.page_size old.present = recovers_from sum w cache capacity old new image recovers in
@@ -291,7 +292,7 @@ gives_back sum w cache capacity old new image recovers =
       content = λ durable. recovered_leaves sum cache.page_size old.present (text sum cache.page_size old.present.readable) (from true (λ fair. durable));
     }
 
--- each of its moments is one that it came to
+-- each moment of a recovery is one of an attempt
 pub attempts_through : (sum : List ℕ → ℕ) (P : ℕ) (old new : Life) → IsImage old.present old.present.readable → KeepsAllFloors sum P old new → LeavesText sum P old new → AttemptsThrough sum P old new
 unfolding Through
 attempts_through sum P old new image kept only = λ fair durable.
@@ -315,14 +316,14 @@ attempts_through sum P old new image kept only = λ fair durable.
 
 -- ---- a crash, and a recovery after it
 
--- what came back keeps the floor
+-- what came back after a crash keeps the floor
 pub crashed_keeps : (sum : List ℕ → ℕ) (P : ℕ) (d e : Disk) (left : List ℕ) → HasCrashed d e → e.readable ≡ left → RecoversFrom sum P e → BeginsWithFloor sum P d (text sum P left)
 crashed_keeps sum P d e left c is from = λ was s stands.
     let comes : ComesBack sum P false d (text sum P e.readable) = crashed d (text sum P e.readable) e (record { crashed = c; free = unfair }) (recovered e (text sum P e.readable) (from false (unfair))) in
     let kept : take s.floor (text sum P e.readable) ≡ take s.floor s.content = comes_kept sum P false s.content s.floor d (text sum P e.readable) stands.floor stands.kept comes in
     subst (λ (l : List ℕ). take s.floor (text sum P l) ≡ take s.floor s.content) is kept
 
--- and chance aside it is a prefix of what stood
+-- chance aside, what came back is a prefix of a content that a session stood for
 pub crashed_leaves : (sum : List ℕ → ℕ) (P : ℕ) (d e : Disk) (left : List ℕ) → HasCrashed d e → e.readable ≡ left → RecoversFrom sum P e → IsDistinct sum P d left → IsPrefixOfEither sum P d (text sum P left)
 crashed_leaves sum P d e left c is from free = λ was s stands.
     let comes : ComesBack sum P true d (text sum P e.readable) =
@@ -330,11 +331,11 @@ crashed_leaves sum P d e left c is from free = λ was s stands.
     let only : IsPrefixOf (text sum P e.readable) s.content ⊎ IsPrefixOf (text sum P e.readable) s.otherwise = comes_only sum P s.content s.otherwise d (text sum P e.readable) stands.only comes in
     subst (λ (l : List ℕ). IsPrefixOf (text sum P l) s.content ⊎ IsPrefixOf (text sum P l) s.otherwise) is only
 
--- by what stood as the crash came
+-- what came back, by what a session stood for as the crash came
 pub left_back : (sum : List ℕ → ℕ) (P : ℕ) (d e : Disk) (left : List ℕ) → HasCrashed d e → e.readable ≡ left → RecoversFrom sum P e → GivesBackLeft sum P d left
 left_back sum P d e left c is from = record { floor = crashed_keeps sum P d e left c is from; content = crashed_leaves sum P d e left c is from }
 
--- what comes back later came through them
+-- what comes back later came through that crash and that recovery
 pub crashed_leads : (sum : List ℕ → ℕ) (P : ℕ) (d : Disk) (left : List ℕ) (old new : Life) → HasCrashed d old.present → old.present.readable ≡ left → AttemptsThrough sum P old new
     → LeadsOn sum P d left new.present
 crashed_leads sum P d left old new c is attempts = λ fair free given comes.

@@ -39,7 +39,7 @@ use Rattle.session.proofs.Apart.{AlwaysApart, IsReadyApart, StandsApart, StepsAp
 
 -- ---- ranges that one call can take
 
--- all were gone over
+-- the loop has gone over all ranges
 order_all : (ranges : List (ℕ × ℕ)) (i end : ℕ) → length ranges ≤ i → in_order_from end (drop i ranges) ≡ in_order_from 0 ranges → in_order_from 0 ranges ≡ true
 order_all ranges i end all order = sym order ∙ ap (λ (rs : List (ℕ × ℕ)). in_order_from end rs) (drop_all i ranges all)
 
@@ -48,7 +48,7 @@ total_all ranges i total all sum =
     let none : sum_by (λ (range : ℕ × ℕ). range.1) (drop i ranges) ≡ 0 = ap (λ (rs : List (ℕ × ℕ)). sum_by (λ range. range.1) rs) (drop_all i ranges all) in
     omega (arith, none, sum)
 
--- then they fit
+-- then the ranges fit in one call
 all_fit : (ranges : List (ℕ × ℕ)) (total : ℕ) → in_order_from 0 ranges ≡ true → total ≡ sum_by (λ range. range.1) ranges → total < 2 ^ 64 → true ≡ fit_together ranges
 all_fit ranges total order is small =
     let few : nat_lt (sum_by (λ (range : ℕ × ℕ). range.1) ranges) (2 ^ 64) ≡ true = le-leb (suc (sum_by (λ (range : ℕ × ℕ). range.1) ranges)) (2 ^ 64) (omega (arith, is, small)) in
@@ -61,7 +61,7 @@ in_order offset (range ∷ ranges) is =
     let parts = and_parts (nat_le offset range.0) (in_order_from (range.0 + range.1) ranges) is in
     (leb-true offset range.0 parts.0, in_order (range.0 + range.1) ranges parts.1)
 
--- once all were gone over
+-- once the loop has gone over all ranges
 pub fit_after : (ranges : List (ℕ × ℕ)) (i end total : ℕ) → length ranges ≤ i → in_order_from end (drop i ranges) ≡ in_order_from 0 ranges → total + sum_by (λ range. range.1) (drop i ranges) ≡ sum_by (λ range. range.1) ranges → total < 2 ^ 64
     → true ≡ fit_together ranges
 fit_after ranges i end total all order sum small = all_fit ranges total (order_all ranges i end all order) (total_all ranges i total all sum) small
@@ -71,7 +71,7 @@ in_order_after ranges i end all order = in_order 0 ranges (order_all ranges i en
 
 -- ---- the first range that can't be read
 
--- there is one alone
+-- there is only one first range that can't be read
 one_first : (size : ℕ) (before before_it after after_it : List (ℕ × ℕ)) (range other : ℕ × ℕ) → before ++ range ∷ after ≡ before_it ++ other ∷ after_it → EndWithin size before → EndWithin size before_it → size < range.0 + range.1 → size < other.0 + other.1 → range ≡ other
 one_first size [] [] after after_it range other is ends ends_it passes passes_it = cc is
 one_first size [] (first ∷ before_it) after after_it range other is ends ends_it passes passes_it =
@@ -86,13 +86,13 @@ one_first size (first ∷ before) (first_it ∷ before_it) after after_it range 
     let rest : before ++ range ∷ after ≡ before_it ++ other ∷ after_it = cc is in
     one_first size before before_it after after_it range other rest (λ k d less. ends (suc k) d (omega (arith, less))) (λ k d less. ends_it (suc k) d (omega (arith, less))) passes passes_it
 
--- so it doesn't pass both the greatest number and only the end
+-- so that range doesn't pass both the greatest `u64` and only the end
 not_both : (size : ℕ) (ranges : List (ℕ × ℕ)) → size < 2 ^ 64 → RangesGo size ranges (Err OffsetOverflow) → RangesGo size ranges (Err BlobInsufficientLength) → ⊥
 not_both size ranges small (before, after, (range, is, ends, goes)) (before_it, after_it, (other, is_it, ends_it, goes_it)) =
     let same = one_first size before before_it after after_it range other (sym is ∙ is_it) ends ends_it (omega (arith, goes, small)) goes_it.1 in
     omega (arith, goes, goes_it.0, ap (λ (r : ℕ × ℕ). r.0 + r.1) same)
 
--- what it decides is told
+-- an overflow of that range is answered
 overflow_told : (sum : List ℕ → ℕ) (w : WriterState) (cache : CacheState) (ranges : List (ℕ × ℕ)) (old new : Life) (reply : Reply) → size_of w < 2 ^ 64 → ReadsRanges sum w cache ranges old new reply → RangesGo (size_of w) ranges (Err OffsetOverflow) → reply ≡ Fault OffsetOverflow
 overflow_told sum w cache ranges old new (Served count bytes) small reads goes = absurd (refused_not (size_of w) ranges OffsetOverflow small goes reads.0)
 overflow_told sum w cache ranges old new (Fault OffsetOverflow) small reads goes = refl
@@ -151,7 +151,7 @@ end_told sum w cache ranges old new NoSuch small reads goes = absurd reads
 
 -- ---- what a read of them says
 
--- it tells what the first that can't be read decides
+-- a read answers the error of the first range that can't be read
 says_by : (sum : List ℕ → ℕ) (w : WriterState) (cache after : CacheState) (ranges : List (ℕ × ℕ)) (old new : Life) (reply : Reply) → size_of w < 2 ^ 64 → ReadsRanges sum w cache ranges old new reply → (reply ≡ Fault InvalidChecksum → ⊥) → CostsRanges sum w cache after ranges old new reply → Looked old new
     → ReadRangesSays sum w cache after ranges old new reply
 says_by sum w cache after ranges old new reply small reads full costs looked = record {
@@ -168,7 +168,7 @@ asks_none : (ranges : List (ℕ × ℕ)) (life : Life) → AsksTogether ranges l
 asks_none [] life = refl
 asks_none (range ∷ ranges) life = inl refl
 
--- so does what is put
+-- nothing is put in the cache either
 costs_nothing : (sum : List ℕ → ℕ) (w : WriterState) (cache : CacheState) (ranges : List (ℕ × ℕ)) (life : Life) (e : Error) → CostsRanges sum w cache cache ranges life life (Fault e)
 costs_nothing sum w cache ranges life e =
     let pages = missing cache (tail_of w) ranges in
@@ -224,7 +224,7 @@ pub served_says : (sum : List ℕ → ℕ) (w : WriterState) (cache after : Cach
 served_says sum w cache after ranges buf old new count bytes small is reads costs looked =
     says_by sum w cache after ranges old new (Served count bytes) small (subst (λ (l : List ℕ). ReadsMany sum (tail_of w) cache ranges l old new (Ok count)) (sym is) reads) (λ other. cc other) costs looked
 
--- or not, and then it says nothing of them
+-- why no bytes were read doesn't depend on the bytes
 no_bytes : (sum : List ℕ → ℕ) (t : Tail) (cache : CacheState) (ranges : List (ℕ × ℕ)) (bytes : List ℕ) (old new : Life) (e : Error) → ReadsMany sum t cache ranges bytes old new (Err e) → ReadsMany sum t cache ranges [] old new (Err e)
 no_bytes sum t cache ranges bytes old new ReadFailed reads = reads
 no_bytes sum t cache ranges bytes old new WriteFailed reads = reads
@@ -242,7 +242,8 @@ fault_says sum w cache after ranges bytes old new e small full reads costs looke
 
 -- ---- a read of ranges as a step
 
--- by the two tests before it
+-- a read of ranges is turned away by two tests: whether there is a writer, and whether the ranges
+-- fit
 turned_none : (a fit : Bool) → a ≡ false → (if a then (if fit then None else Some BadRanges) else Some Closed) ≡ Some Closed
 turned_none false fit none = refl
 turned_none true fit none = absurd (false≢true (sym none))
@@ -302,7 +303,7 @@ ranges_cause sum P w cache ranges before old new OffsetOverflow size full goes =
 ranges_cause sum P w cache ranges before old new OutOfMemory size full goes = tt
 ranges_cause sum P w cache ranges before old new IdsExhausted size full goes = absurd goes.1
 
--- no more are counted than there are
+-- a filter leaves no more elements than there are
 filter_few : {X : Type 0} (p : X → Bool) (xs : List X) → length (filter p xs) ≤ length xs
 filter_few p [] = omega arith
 filter_few p (x ∷ xs) = by_test (p x) (filter_few p xs)
@@ -348,7 +349,7 @@ read_ranges_steps sum was w cache after ranges old new reply fits sound says = �
     taken NoSuch P before stands size full reads = absurd reads
     taken (Missed numbers) P before stands size full reads = absurd reads
 
--- by a session
+-- a read of ranges by a session
 pub read_ranges_takes : (sum : List ℕ → ℕ) (was : SessionState) (cache after : CacheState) (ranges : Vec (ℕ × ℕ) Global) (old new : Life) (reply : Reply) → IsReadyApart sum was old.present → DidReadRanges sum was.writer (fit_together ranges.items) cache after ranges.items old new reply
     → StepsApart sum (ReadRanges ranges) reply was was old new
 read_ranges_takes sum was cache after ranges old new reply ready goes = by_writer was.writer refl (fit_together ranges.items) refl goes
@@ -363,12 +364,12 @@ read_ranges_takes sum was cache after ranges old new reply ready goes = by_write
 
 -- ---- a question for ranges
 
--- numbers that rise from further on
+-- numbers that rise from a later start
 rise_before : (from end : ℕ) (ns : List ℕ) → RiseBelow (from + 1) end ns → RiseBelow from end ns
 rise_before from end [] rise = tt
 rise_before from end (n ∷ ns) rise = (omega (arith, rise.0), rise.1, rise.2)
 
--- those of the missed ranges rise
+-- the numbers of the missed ranges rise
 missed_rise : (cache : CacheState) (t : Tail) (n end : ℕ) (ranges : List (ℕ × ℕ)) → n + length ranges ≤ end → RiseBelow n end (missed_from n cache t ranges)
 missed_rise cache t n end [] enough = tt
 missed_rise cache t n end (range ∷ ranges) enough = by_test (is_served cache t range) (missed_rise cache t (n + 1) end ranges (omega (arith, enough)))
@@ -377,12 +378,12 @@ missed_rise cache t n end (range ∷ ranges) enough = by_test (is_served cache t
     by_test true rise = rise_before n end (missed_from (n + 1) cache t ranges) rise
     by_test false rise = (omega arith, omega (arith, enough), rise)
 
--- and so do all
+-- the numbers of all ranges rise
 all_rise : (n end count : ℕ) → n + count ≤ end → RiseBelow n end (range_with_len n count)
 all_rise n end zero enough = tt
 all_rise n end (suc count) enough = (omega arith, omega (arith, enough), all_rise (n + 1) end count (omega (arith, enough)))
 
--- what is answered of a content
+-- which numbers a question answers, by the content
 numbers_some : (w : WriterState) (cache : CacheState) (ranges : List (ℕ × ℕ)) (content numbers : List ℕ) → size_of w ≡ length content → Misses (tail_of w) ranges cache numbers → NumbersSome content ranges numbers
 numbers_some w cache ranges content numbers size (inl (ends, is)) =
     (subst (λ (ns : List ℕ). RiseBelow 0 (length ranges) ns) (sym is) (missed_rise cache (tail_of w) 0 (length ranges) ranges (omega arith)), inl (subst (λ (n : ℕ). EndWithin n ranges) size ends))
@@ -415,7 +416,7 @@ try_read_ranges_steps sum was w cache ranges life reply fits sound tried = λ P 
     taken NoSuch P before size tried = absurd tried
     taken (Served count bytes) P before size tried = absurd tried
 
--- by a session
+-- a question for ranges by a session
 pub try_read_ranges_takes : (sum : List ℕ → ℕ) (was : SessionState) (cache : CacheState) (ranges : Vec (ℕ × ℕ) Global) (life : Life) (reply : Reply) → IsReadyApart sum was life.present → DidTryReadRanges was.writer (fit_together ranges.items) cache ranges.items reply
     → StepsApart sum (TryReadRanges ranges) reply was was life life
 try_read_ranges_takes sum was cache ranges life reply ready goes = by_writer was.writer refl (fit_together ranges.items) refl goes

@@ -36,7 +36,7 @@ use Rattle.session.proofs.Apart.{AlwaysApart, IsReadyApart, StandsApart, StepsAp
 
 -- ---- at most so many bytes
 
--- those that are there
+-- the bytes that are there
 take_up_to : (xs : List ℕ) (offset len size : ℕ) → size ≡ length xs → take (min len (size - offset)) (drop offset xs) ≡ take len (drop offset xs)
 take_up_to xs offset len size is =
     let rest : length (drop offset xs) ≡ size - offset = length-drop offset xs ∙ ap (λ (n : ℕ). n - offset) (sym is) in
@@ -45,7 +45,7 @@ take_up_to xs offset len size is =
       | inr all ↦ let same : min len (size - offset) ≡ len = omega (arith, all) in ap (λ (n : ℕ). take n (drop offset xs)) same
     ]
 
--- why such a read is refused
+-- why a read of at most so many bytes is refused
 up_to_cause : (sum : List ℕ → ℕ) (P : ℕ) (w : WriterState) (cache : CacheState) (offset len : ℕ) (before : RunState) (old new : Life) (e : Error) → size_of w ≡ length before.content → (e ≡ InvalidChecksum → ⊥)
     → ReadsUpTo sum (tail_of w) cache offset len old new (Err e) → HasCause P (ReadUpTo offset len) before old.present new.present e
 up_to_cause sum P w cache offset len before old new ReadFailed size full goes = ((0, lit< tt, refl), goes)
@@ -58,7 +58,7 @@ up_to_cause sum P w cache offset len before old new OffsetOverflow size full goe
 up_to_cause sum P w cache offset len before old new OutOfMemory size full goes = tt
 up_to_cause sum P w cache offset len before old new IdsExhausted size full goes = absurd goes
 
--- such a read
+-- a read of at most so many bytes
 read_up_to_steps : (sum : List ℕ → ℕ) (was : SessionState) (w : WriterState) (cache after : CacheState) (offset len : ℕ) (old new : Life) (reply : Reply) → IsSound sum w old.present → ReadsUpToRange sum (tail_of w) cache after offset len old new reply
     → AlwaysApart sum (ReadUpTo offset len) reply (held was (Some w)) (held was (Some w)) old new
 unfolding Through
@@ -98,7 +98,7 @@ read_up_to_steps sum was w cache after offset len old new reply sound says = λ 
     taken (Length n) P before stands size reads = absurd reads
     taken Closed P before stands size reads = absurd reads
 
--- by a session
+-- a read of at most so many bytes by a session
 pub read_up_to_takes : (sum : List ℕ → ℕ) (was : SessionState) (cache after : CacheState) (offset len : ℕ) (old new : Life) (reply : Reply) → IsReadyApart sum was old.present → DidReadUpTo sum was.writer cache after offset len old new reply
     → StepsApart sum (ReadUpTo offset len) reply was was old new
 read_up_to_takes sum was cache after offset len old new reply ready goes = by_writer was.writer refl goes
@@ -112,7 +112,7 @@ read_up_to_takes sum was cache after offset len old new reply ready goes = by_wr
 
 -- ---- scans
 
--- why one is refused
+-- why a scan is refused
 scan_cause : (P proven most reach len : ℕ) (buffer_size : NonZeroUsize) (old new : Life) (before : RunState) (e : Error) → ScanAnswers reach len old new (Err e) → IsWithinBlob {A = ℕ} (Err e) → (most ≡ 0 → ⊥)
     → HasCause P (Scan proven most buffer_size) before old.present new.present e
 scan_cause P proven most reach len buffer_size old new before ReadFailed scans within some = ((0, lit< tt, refl), scans.0)
@@ -164,7 +164,7 @@ scan_steps sum was w proven most buffer_size old new reply sound says = λ P bef
     taken NotAppending P before stands counts = absurd counts
     taken (Replaying number) P before stands counts = absurd counts
 
--- by a session
+-- a scan by a session
 pub scan_takes : (sum : List ℕ → ℕ) (was : SessionState) (proven most : ℕ) (buffer_size : NonZeroUsize) (old new : Life) (reply : Reply) → IsReadyApart sum was old.present → DidScan sum was.writer proven most (non_zero_usize_get buffer_size) old new reply
     → StepsApart sum (Scan proven most buffer_size) reply was was old new
 scan_takes sum was proven most buffer_size old new reply ready goes = by_writer was.writer refl goes
@@ -207,7 +207,7 @@ try_read_steps sum was w cache offset len life reply sound can tried = λ P befo
     taken NotAppending P before stands size tried = absurd tried
     taken (Replaying number) P before stands size tried = absurd tried
 
--- by a session
+-- a read of bytes that need no device, by a session
 pub try_read_takes : (sum : List ℕ → ℕ) (was : SessionState) (cache : CacheState) (offset len : ℕ) (life : Life) (reply : Reply) → IsReadyApart sum was life.present → FitsWriter was.writer cache life.present → DidTryRead was.writer cache offset len reply
     → StepsApart sum (TryRead offset len) reply was was life life
 try_read_takes sum was cache offset len life reply ready fits goes = by_writer was.writer refl goes

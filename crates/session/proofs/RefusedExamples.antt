@@ -1,5 +1,5 @@
--- Examples of what is told of a sync that is refused, of one that is started, and of a truncate. Pages have 4 bytes, and the checksum
--- is their sum.
+-- Examples of a sync that is refused, of one that is started, and of a truncate, in exact runs.
+-- Pages have 4 bytes, and the checksum is their sum.
 use Rattle.std.proofs.Common.{◌≡◌, ◌⊎◌, ◌≤◌, ℕ, Vec, List, [], ◌∷◌, ◌++◌, append-nil, length, length-append, refl, sym, ap, subst, ◌∙◌, inl, inr, arith, true, false}
 use Rattle.std.specs.Prelude.{None}
 use Rattle.std.specs.declared.alloc.Global.{Global}
@@ -25,12 +25,12 @@ use Rattle.session.proofs.StepLaws.{keeps_fewer}
 use Rattle.session.proofs.ComesBackExamples.{ab, ab_page, empty, unsynced, saved, life_of, empty_writer, rests, empty_survives, none_survives, nothing_is_kept, ab_comes_back}
 use Rattle.session.proofs.PromiseExamples.{nothing_yet, steps_of, unsynced_only, unsynced_survives, within_a_page}
 
--- where one step is told, its moments are all that there are
+-- in an exact run of one step, its moments are all that there are
 pub one_step : (step : Step) (reply : Reply) (from : Disk) (moments : List Disk) (s after : RunState) (told : EachStepIsExact add_sum 4 (step ∷ []) (reply ∷ []) from moments s after) → last from moments ≡ last from told.1
 one_step step reply from moments s after told =
     ap (λ (l : List Disk). last from l) told.3 ∙ ap (λ (l : List Disk). last from (told.1 ++ l)) told.7.0 ∙ ap (λ (l : List Disk). last from l) (append-nil told.1)
 
--- a disk that has what the unsynced one has, but for its log and its started syncs
+-- a disk that has what the unsynced one has, except for its log and its started syncs
 pub alike : (d : Disk) → d.base ≡ [] → d.since ≡ unsynced.since → Survives add_sum 4 ab ab 0 d × AllOnly add_sum 4 ab ab d
 alike d base since =
     let only : AllOnly add_sum 4 ab ab d = record {
@@ -111,17 +111,17 @@ no_fault_of_its_own after told =
     by_cause (inl (more, is, some)) = none_failed SyncFailed saved.log more is some
     by_cause (inr had) = had
 
--- nor by an error that no sync has
+-- no sync is refused with an error that no sync has
 pub no_overflow_of_a_sync : (moments : List Disk) (after : RunState) → EachStepIsExact add_sum 4 (Sync ∷ []) (Fault OffsetOverflow ∷ []) saved moments (fresh 4 8 ab) after → ⊥
 no_overflow_of_a_sync moments after told = told.5.0.0
 
 -- ---- a sync that is started
 
--- it was started after the write
+-- the sync was started after the write
 abbrev pub started : Disk
 started = starts false unsynced
 
--- and was waited for
+-- the started sync was waited for
 abbrev pub complete : Disk
 complete = logged (WaitSync 0) false (disk_settled_to (1, ab_page) started)
 
@@ -174,11 +174,11 @@ no_wait_in_vain after told =
 
 -- ---- a truncate
 
--- it answers the size that is left
+-- a truncate answers the size that is left
 pub no_size_before : (moments : List Disk) (after : RunState) → EachStepIsExact add_sum 4 (Truncate 1 ∷ []) (Length 2 ∷ []) saved moments (fresh 4 8 ab) after → ⊥
 no_size_before moments after told = omega (arith, told.5.0.0)
 
--- and not before it is done
+-- a truncate doesn't answer before it is done
 pub no_cut_left_undone : (after : RunState) → EachStepIsExact add_sum 4 (Truncate 1 ∷ []) (Length 1 ∷ []) saved [] (fresh 4 8 ab) after → ⊥
 no_cut_left_undone after told =
     let there : saved ≡ last saved told.1 = one_step (Truncate 1) (Length 1) saved [] (fresh 4 8 ab) after told in
@@ -188,7 +188,7 @@ no_cut_left_undone after told =
 
 -- ---- a moment in the midst
 
--- no step is told of a blob that was empty in its midst, though all is there again at its end
+-- no exact step has a blob that was empty in its midst, though all is there again at its end
 pub no_moment_that_lost : (after : RunState) → EachStepIsExact add_sum 4 (Size ∷ []) (Length 2 ∷ []) saved (empty ∷ saved ∷ []) (fresh 4 8 ab) after → ⊥
 no_moment_that_lost after told =
     let all : told.1 ≡ empty ∷ saved ∷ [] = sym (told.3 ∙ ap (λ (l : List Disk). told.1 ++ l) told.7.0 ∙ append-nil told.1) in

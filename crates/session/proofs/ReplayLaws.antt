@@ -58,7 +58,7 @@ use Rattle.session.proofs.SnapshotLaws.{fits_on, looked_stands, same_takes, snap
 abbrev pub with_replays : SessionState → Option WriterState → List (Option ReplayState) → SessionState
 with_replays was writer replays = record was { writer = writer; replays = replays }
 
--- where all is written nothing is to be
+-- where all is written, nothing is to be written before a replay
 idle_of : (work : Bool) (state : SyncState) → true ≡ nat_eq (if work then wait_calls state + 2 else unstarted_calls state) 0 → work ≡ false
 idle_of true Clean is = absurd (false≢true (sym is))
 idle_of true Dirty is = absurd (false≢true (sym is))
@@ -88,7 +88,7 @@ after_by P w v before d true some fits idle dirty =
       awaited = ap (λ (b : Bool). if b then before.awaited else None) starts ∙ sym (ap pending_in (dirty refl));
     }
 
--- the device calls of one
+-- the device calls of the beginning of a replay
 replay_touch : (P : ℕ) (w : WriterState) (before : RunState) (old new : Life) (moments : List Disk) → WriterRepresents P w before old.present → new ≡ life_after old moments → AsksAtMost (replay_calls w) old new → (has_work w true ≡ false → new ≡ old)
     → UsesDevice (if before.written then Leaves else Changes 2) old.present moments
 replay_touch P w before old new moments fits goes few idle = by_written before.written fits.written
@@ -101,7 +101,7 @@ replay_touch P w before old new moments fits goes few idle = by_written before.w
 number_of : (sum : List ℕ → ℕ) (P : ℕ) (was : SessionState) (s : RunState) (d : Disk) → Represents sum P was s d → length was.replays ≡ length s.replays
 number_of sum P was s d stands = sym (ap length stands.replays ∙ length-map was.replays (option_map (replay_in_run d.readable)))
 
--- one that is begun
+-- a replay that is begun
 replay_steps : (sum : List ℕ → ℕ) (was : SessionState) (w v : WriterState) (r : ReplayState) (buffer_size : NonZeroUsize) (old new : Life) → was.writer ≡ Some w → IsSound sum w old.present → ReplayTold sum w (non_zero_usize_get buffer_size) old new (Ok (v, r))
     → AlwaysLeaves sum (Replay buffer_size) (Replaying (length was.replays)) was (with_replays was (Some v) (was.replays ++ Some r ∷ [])) old new [] (λ P s. (replaying P (non_zero_usize_get buffer_size) s).replays)
 unfolding Through
@@ -136,7 +136,7 @@ replay_steps sum was w v r buffer_size old new at sound says = λ P before all.
     stands.phase stands.names stands.floor stands.within (each_end (AllKeep sum P before.content before.floor) old new through.moments h.goes h.kept)
     (each_end (AllCover sum P before.content before.covers) old new through.moments h.goes h.covered) h.stays))
 
--- why one isn't
+-- why a replay isn't begun
 replay_cause : (P : ℕ) (w : WriterState) (buffer_size : NonZeroUsize) (before : RunState) (old new : Life) (e : Error) → (before.written ≡ true → e ≡ SyncFailed → ⊥) → before.awaited ≡ pending_in w.sync → CallCause w.sync old new e
     → HasCause P (Replay buffer_size) before old.present new.present e
 replay_cause P w buffer_size before old new ReadFailed written awaited cause = absurd cause
@@ -171,13 +171,13 @@ replay_refused_steps sum was w buffer_size e old new says = λ P before stands.
         let none : has_work w true ≡ false = idle_of (has_work w true) w.sync (sym written ∙ fits.written) in
         subst (λ (x : Error). BeginsAtOnce w (non_zero_usize_get buffer_size) (Err x)) fault (says.idle none).0
 
--- there is no memory for one in the session's list
+-- there is no memory for a replay in the session's list
 no_room_to_replay : (sum : List ℕ → ℕ) (was : SessionState) (w : WriterState) (buffer_size : NonZeroUsize) (life : Life) → AlwaysApart sum (Replay buffer_size) (Fault OutOfMemory) (held was (Some w)) (held was (Some w)) life life
 no_room_to_replay sum was w buffer_size life = λ P before stands.
     unasked sum P was w (Replay buffer_size) (Fault OutOfMemory) (held was (Some w)) life before before (turned_here before.has_writer stands.fits.has_writer) stands (tt, inr (refl, refl, refl))
     (λ none. absurd none, λ none. absurd none) stands
 
--- the replays with one more, as they are told
+-- the standing's replays with one more
 begun_told : (v : WriterState) (size P : ℕ) (content readable : List ℕ) → logical_bytes (tail_of v) readable ≡ content → v.page_size ≡ P → v.full_pages * v.page_size ≡ length content / v.page_size * v.page_size
     → replay_in_run readable (new_replay (tail_of v) size) ≡ record { content = content; whole = length content / P * P; position = 0; hand = 0; batch = batch_of P size * P }
 begun_told v size P content readable is page whole =
@@ -226,7 +226,7 @@ replay_takes sum was now cache after buffer_size old new reply ready fits writer
     size : ℕ
     size = non_zero_usize_get buffer_size
 
-    -- what stays
+    -- the rest of the session stays
     snapshots : now.snapshots ≡ was.snapshots
     snapshots = ap (λ (s : SessionState). s.snapshots) rest
 
@@ -323,7 +323,7 @@ moved_stands sum P was replays index x s d stands = record {
       awaited = fits.awaited;
     }
 
--- how it goes on, as q, over a disk of which this is readable
+-- a step by which a replay goes on, as q, over a disk with these readable bytes
 record GoesOn (sum : List ℕ → ℕ) (step : Step) (index : ℕ) (was : SessionState) (r q : ReplayState) (old new : Life) (reply : Reply) (moments : List Disk) : Type 0 where
   tail : q.tail ≡ r.tail
   through : (content : List ℕ) → IsReplayOf sum r content old.present → IsReplayOf sum q content new.present
@@ -333,7 +333,7 @@ record GoesOn (sum : List ℕ → ℕ) (step : Step) (index : ℕ) (was : Sessio
 
 module _ (sum : List ℕ → ℕ) (step : Step) (index : ℕ) (was : SessionState) (cache : CacheState) (old new : Life) (ready : IsSoundSession sum was old.present) (fits : CacheFits was cache old.present) (looked : Looked old new) (seen : Moments (SameButLog old.present) old new)
     (away : (s : RunState) → turned_away step s ≡ (if has_replay_at s index then None else Some NoSuch)) (stays : (content : List ℕ) → content_after step content ≡ content) (begins : (s : RunState) → at_step step s ≡ s) where
-  -- the disk is the same but for its log
+  -- the disk is the same except for its log
   readable : new.present.readable ≡ old.present.readable
   readable = ap (λ (x : Disk). x.readable) looked.same
 
@@ -401,7 +401,7 @@ module _ (sum : List ℕ → ℕ) (step : Step) (index : ℕ) (was : SessionStat
             alike = refl;
           })
 
-  -- it goes on
+  -- there is such a replay, and it goes on
   goes_on : (reply : Reply) (r q : ReplayState) → numbered was.replays index ≡ Some r → GoesOn sum step index was r q old new reply seen.moments
       → Steps sum step reply was (record was { replays = set was.replays index (Some q) }) old new × CacheFits (record was { replays = set was.replays index (Some q) }) cache new.present
   goes_on reply r q at goes =
@@ -448,7 +448,7 @@ module _ (sum : List ℕ → ℕ) (step : Step) (index : ℕ) (was : SessionStat
             alike = refl;
           })
 
-  -- one or the other
+  -- there is such a replay, or there is none
   one_takes : (now : SessionState) (reply : Reply) (goes : ReplayState → ReplayState → Type 0) → AtReplay index was.replays now.replays reply (new ≡ old) goes → KeepsAllButReplays was now
       → ((r q : ReplayState) → IsReplayOf sum r (logical_bytes r.tail old.present.readable) old.present → goes r q → GoesOn sum step index was r q old new reply seen.moments) → Steps sum step reply was now old new × CacheFits now cache new.present
   one_takes now reply goes did rest each = by_number (numbered was.replays index) refl did
@@ -480,7 +480,7 @@ can_go_on sum o d (Some r) is = is.0.can
 pub all_can_go_on : (sum : List ℕ → ℕ) (was : SessionState) (d : Disk) → IsSoundSession sum was d → All (λ r. ReplayCanGoOn r d) was.replays
 all_can_go_on sum was d ready = λ k r lt. can_go_on sum was.writer d (get_or was.replays k r) (ready.replays k r lt)
 
--- what is at hand is of what is left
+-- no more bytes are at hand than are left
 hand_within : (sum : List ℕ → ℕ) (q : ReplayState) (content : List ℕ) (d : Disk) → IsReplayOf sum q content d → length q.hand ≤ length content - q.position
 hand_within sum q content d gives =
     let long : length q.hand ≡ min (length q.hand) (length content - q.position) =
@@ -507,7 +507,7 @@ ensure_cause sum P index count t before old new OffsetOverflow full fault = absu
 ensure_cause sum P index count t before old new OutOfMemory full fault = tt
 ensure_cause sum P index count t before old new IdsExhausted full fault = absurd fault
 
--- where so many are had
+-- where so many bytes are had
 had_of : (a b c d : ℕ) → (nat_le a b || nat_le c d) ≡ true → (a ≤ b) ⊎ (c ≤ d)
 had_of a b c d is = by_test (nat_le a b) refl is
   where
@@ -515,7 +515,7 @@ had_of a b c d is = by_test (nat_le a b) refl is
     by_test true is some = let enough : a ≤ b = grind (arith, nat_tests, is) in inl enough
     by_test false isnt some = let past : c ≤ d = grind (arith, nat_tests, some) in inr past
 
--- the device is asked only where they aren't
+-- the device is asked only where the bytes aren't had
 ensure_touched : (P : ℕ) (index count : ℕ) (r : ReplayState) (before : RunState) (old new : Life) (seen : Moments (SameButLog old.present) old new) → (IsHad r count → new ≡ old) → numbered before.replays index ≡ Some (replay_in_run old.present.readable r) → UsesDevice (use_of_step P (Ensure index count) before) old.present seen.moments
 ensure_touched P index count r before old new seen idle here =
     subst (λ (o : Option RunReplay). UsesDevice (if needs_no_device o count then Leaves else Looks) old.present seen.moments) (sym here) (by_test (needs_no_device (Some (replay_in_run old.present.readable r)) count) refl)
@@ -524,7 +524,7 @@ ensure_touched P index count r before old new seen idle here =
     by_test true so = no_moments old new seen.moments seen.goes (idle (had_of count (length r.hand) (r.tail.full_pages * r.tail.page_size) (r.position + length r.hand) so))
     by_test false isnt = seen.each
 
--- how it goes on
+-- how a replay goes on in an `Ensure`
 ensure_goes : (sum : List ℕ → ℕ) (index count : ℕ) (was : SessionState) (old new : Life) (seen : Moments (SameButLog old.present) old new) (r q : ReplayState) → IsReplayOf sum r (logical_bytes r.tail old.present.readable) old.present → (reply : Reply) → EnsureSays sum r q count old new reply
     → GoesOn sum (Ensure index count) index was r q old new reply seen.moments
 ensure_goes sum index count was old new seen r q gives (Answer answer) says = let e = says.ensures in record {
@@ -564,11 +564,11 @@ ensure_takes sum was now cache index count old new reply ready fits looked did r
     one_takes sum (Ensure index count) index was cache old new ready fits looked looked.through (λ s. refl) (λ content. refl) (λ s. refl) now reply (λ r q. EnsureSays sum r q count old new reply) did rest
     (λ r q gives went. ensure_goes sum index count was old new looked.through r q gives reply went)
 
--- one that is put back leaves the standing
+-- a replay that is put back as it was leaves the standing as it was
 moved_back : (index : ℕ) (x : RunReplay) (s : RunState) → numbered s.replays index ≡ Some x → moved index x s ≡ s
 moved_back index x s here = ap (λ (l : List (Option RunReplay)). record s { replays = l }) (put_back s.replays index (Some x) (numbered_there s.replays index x here))
 
--- how it goes on, where no device is asked
+-- how a replay goes on in a `Take`, which asks no device
 take_goes : (sum : List ℕ → ℕ) (index count : ℕ) (was : SessionState) (life : Life) (moments : List Disk) → moments ≡ [] → (r q : ReplayState) → IsReplayOf sum r (logical_bytes r.tail life.present.readable) life.present → (a : Reply) → TakesOf r q count a → ReplaysOn r q
     → GoesOn sum (Take index count) index was r q life life a moments
 take_goes sum index count was life moments none r q gives (Bytes bytes) (takes, is) on = record {
@@ -615,7 +615,7 @@ size_found s index x here = ap (λ (o : Option RunReplay). elim o [ None ↦ 0 |
 replay_has : (sum : List ℕ → ℕ) (r : ReplayState) (d : Disk) → IsReplayOf sum r (logical_bytes r.tail d.readable) d → size_of_tail r.tail ≡ length (logical_bytes r.tail d.readable)
 replay_has sum r d gives = sym (length-told r.tail d.readable gives.tail.there)
 
--- how it goes on where it is refused
+-- how a replay goes on in a `Seek` that is refused
 seek_fails : (sum : List ℕ → ℕ) (index offset : ℕ) (was : SessionState) (life : Life) (moments : List Disk) → moments ≡ [] → (r q : ReplayState) → IsReplayOf sum r (logical_bytes r.tail life.present.readable) life.present → (e : Error) → Seeks r offset q (Err e) → ReplaysOn r q
     → GoesOn sum (Seek index offset) index was r q life life (Fault e) moments
 seek_fails sum index offset was life moments none r q gives BlobInsufficientLength (past, is) on = record {

@@ -26,7 +26,7 @@ greater_floor sum P content a b d first second = elim (cases_lt a b) [
   | inr more ↦ let e : a ≡ max a b = omega arith in subst (λ (n : ℕ). AllKeep sum P content n d) e first
 ]
 
--- one started sync
+-- the floor is raised by one started sync
 raised_once : (sum : List ℕ → ℕ) (P : ℕ) (content : List ℕ) (name cover floor : ℕ) (d : Disk) → WouldKeep sum P content name cover d → AllKeep sum P content floor d → AllKeep sum P content (if is_complete d name then max cover floor else floor) d
 raised_once sum P content name cover floor d would keeps = by_cover (slice_get (coverings d) name) would.named
   where
@@ -41,14 +41,14 @@ raised_once sum P content name cover floor d would keeps = by_cover (slice_get (
     by_cover (Some c) is =
         subst (λ (x : ℕ × List ℕ). AllKeep sum P content (if nat_le x.0 d.settled then max cover floor else floor) d) (sym (same_Some c would.covers is)) (by_test (nat_le would.covers.0 d.settled) refl)
 
--- all of them
+-- the floor is raised by all started syncs
 raised_keeps : (sum : List ℕ → ℕ) (P : ℕ) (content : List ℕ) (covers : List (ℕ × ℕ)) (floor : ℕ) (d : Disk) → AllCover sum P content covers d → AllKeep sum P content floor d → AllKeep sum P content (raised_floor d covers floor) d
 raised_keeps sum P content [] floor d would keeps = keeps
 raised_keeps sum P content (c ∷ covers) floor d would keeps =
     raised_keeps sum P content covers (if is_complete d c.0 then max c.1 floor else floor) d (λ k x lt. would (suc k) x (omega (arith, lt)))
     (raised_once sum P content c.0 c.1 floor d (would 0 c (omega arith)) keeps)
 
--- a writer stands for the same
+-- a writer stands for the content with the floor raised too
 raised_fits : (P : ℕ) (o : Option WriterState) (s : RunState) (d : Disk) → WriterFits P o s d → WriterFits P o (raised d s) d
 raised_fits P None s d fits = fits
 raised_fits P (Some w) s d fits = record {
@@ -121,7 +121,7 @@ runs_none sum was life replies = record {
   runs = λ P before stands. record { moments = []; goes = refl; after = before; ran = (refl, refl, stands.kept, stands.only); stands = stands };
 }
 
--- and one step more
+-- a run and one step more
 pub runs_more : (sum : List ℕ → ℕ) (steps : List Step) (step : Step) (reply : Reply) (was mid now : SessionState) (old between new : Life) (earlier replies more : List Reply)
     → RunsAlways sum steps was mid old between earlier replies → Steps sum step reply mid now between new → more ≡ replies ++ reply ∷ [] → RunsAlways sum (steps ++ step ∷ []) was now old new earlier more
 runs_more sum steps step reply was mid now old between new earlier replies more ran takes is = record {
@@ -145,7 +145,7 @@ runs_more sum steps step reply was mid now old between new earlier replies more 
 
 -- ---- the calls of a run
 
--- one step more
+-- the calls of a run of steps, and of one step more
 calls_more : (sum : List ℕ → ℕ) (steps : List Step) (replies : List Reply) (step : Step) (reply : Reply) (was mid now : SessionState) (cache held after : CacheState) (old between new : Life) → RanCalls sum steps replies was mid cache held old between → IsSessionReady sum mid held between.present
     → DidCall sum step reply mid now held after between new → RanCalls sum (steps ++ step ∷ []) (replies ++ reply ∷ []) was now cache after old new
 calls_more sum [] [] step reply was mid now cache held after old between new (same, kept, stayed) ready did =
@@ -159,12 +159,12 @@ calls_more sum (x ∷ xs) (r ∷ rs) step reply was mid now cache held after old
 calls_more sum [] (r ∷ rs) step reply was mid now cache held after old between new ran ready did = absurd ran
 calls_more sum (x ∷ xs) [] step reply was mid now cache held after old between new ran ready did = absurd ran
 
--- a run of no step
+-- the calls of a run of no step
 pub goes_none : (sum : List ℕ → ℕ) (was : SessionState) (cache : CacheState) (life : Life) (replies : List Reply) → RunGoes sum [] was was cache cache life life replies replies
 unfolding runs_none
 goes_none sum was cache life replies = record { always = runs_none sum was life replies; calls = (refl, refl, refl) }
 
--- and one step more
+-- the calls of a run and of one step more
 pub goes_more : (sum : List ℕ → ℕ) (steps : List Step) (step : Step) (reply : Reply) (was mid now : SessionState) (cache held after : CacheState) (old between new : Life) (earlier replies more : List Reply)
     → RunGoes sum steps was mid cache held old between earlier replies → IsSessionReady sum mid held between.present → Steps sum step reply mid now between new → DidCall sum step reply mid now held after between new → more ≡ replies ++ reply ∷ []
     → RunGoes sum (steps ++ step ∷ []) was now cache after old new earlier more

@@ -36,13 +36,13 @@ closed_takes sum step was now old new reply away none ready replied same_session
   always = closed_steps sum step was now old new reply none away replied same_session same;
 }
 
--- the same of a call that leaves the rest of the session
+-- a step of a session that is closed, by a call that leaves the rest of the session
 closed_rest : (sum : List ℕ → ℕ) (step : Step) (was now : SessionState) (old new : Life) (reply : Reply) → ((before : RunState) → before.has_writer ≡ false → turned_away step before ≡ Some Closed) → was.writer ≡ None → IsReadyApart sum was old.present
     → KeepsRest was now → IsClosed now.writer old new reply → StepsApart sum step reply was now old new
 closed_rest sum step was now old new reply away none ready rest closed =
     closed_takes sum step was now old new reply away none ready closed.replied (rest ∙ ap (λ (o : Option WriterState). held was o) (closed.writer ∙ sym none) ∙ sym (held_same was was.writer refl)) closed.life
 
--- a step of a session with a writer, in the words of that and of the rest
+-- a step of a session with a writer, by what the writer did and what is left of the rest
 pub held_by : (cuts : Bool) (sum : List ℕ → ℕ) (step : Step) (reply : Reply) (was now : SessionState) (w : WriterState) (o : Option WriterState) (old new : Life) → was.writer ≡ Some w → KeepsRest was now → now.writer ≡ o → HasSoundWriter sum o new.present
     → (was.names ≡ []) ⊎ StartsCanBeAwaited new.present → AlwaysBy cuts sum step reply (held was (Some w)) (held was o) old new → StepsBy cuts sum step reply was now old new
 held_by cuts sum step reply was now w o old new at rest is sound starts always =
@@ -53,16 +53,16 @@ held_by cuts sum step reply was now w o old new at rest is sound starts always =
       always = subst (λ (x : SessionState). AlwaysBy cuts sum step reply x (held was o) old new) (sym (held_same was (Some w) at)) always;
     })
 
--- and leaves the replays
+-- such a step that leaves the replays
 pub held_takes : (sum : List ℕ → ℕ) (step : Step) (reply : Reply) (was now : SessionState) (w : WriterState) (o : Option WriterState) (old new : Life) → was.writer ≡ Some w → KeepsRest was now → now.writer ≡ o → HasSoundWriter sum o new.present
     → (was.names ≡ []) ⊎ StartsCanBeAwaited new.present → AlwaysApart sum step reply (held was (Some w)) (held was o) old new → StepsApart sum step reply was now old new
 held_takes sum step reply was now w o old new at rest is sound starts always = held_by false sum step reply was now w o old new at rest is sound starts always
 
--- its writer is sound
+-- the session's writer is sound
 pub sound_of : (sum : List ℕ → ℕ) (was : SessionState) (w : WriterState) (d : Disk) → was.writer ≡ Some w → IsReadyApart sum was d → IsSound sum w d
 sound_of sum was w d at ready = subst (λ (o : Option WriterState). HasSoundWriter sum o d) at ready.writer
 
--- and can be read with the cache that fits it
+-- the session's writer can be read with the cache that fits it
 pub can_of : (was : SessionState) (w : WriterState) (cache : CacheState) (d : Disk) → was.writer ≡ Some w → FitsWriter was.writer cache d → CanRead (tail_of w) cache d
 can_of was w cache d at fits = subst (λ (o : Option WriterState). FitsWriter o cache d) at fits
 
@@ -108,7 +108,7 @@ owned_cause P bytes s from to OffsetOverflow cause = cause
 owned_cause P bytes s from to OutOfMemory cause = cause
 owned_cause P bytes s from to IdsExhausted cause = cause
 
--- so is what it takes
+-- what an append takes is what an append of a buffer takes
 owned_takes : (sum : List ℕ → ℕ) (P : ℕ) (bytes : Vec ℕ Global) (reply : Reply) (s after : RunState) (from to : Disk) → TakesStep sum P (Append bytes) reply from to s after → TakesStep sum P (Owned bytes) reply from to s after
 owned_takes sum P bytes (Fault e) s after from to (cause, refuses) = (owned_cause P bytes s from to e cause, refuses)
 owned_takes sum P bytes (At n) s after from to takes = takes
@@ -224,7 +224,7 @@ synced_takes sum was now cache after old new reply ready rest goes = by_writer w
     by_writer (Some w) at NotAppending goes = absurd goes
     by_writer (Some w) at (Replaying number) goes = absurd goes
 
--- what is read of a session leaves all of it
+-- a step that only reads leaves all of the session
 pub same_rest : (was : SessionState) → KeepsRest was was
 same_rest was = held_same was was.writer refl
 

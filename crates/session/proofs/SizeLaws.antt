@@ -1,4 +1,4 @@
--- What the steps do that read, or tell a size.
+-- What the steps do that read, or answer a size.
 use Rattle.std.proofs.Common.{◌≡◌, ℕ, ◌<◌, List, [], ◌∷◌, length, take, drop, refl, sym, ap, ◌∙◌, subst, arith, Ok, Err, ◌^◌, lit<}
 use Rattle.std.specs.Prelude.{Some, None, Vec}
 use Rattle.std.specs.declared.alloc.Global.{Global}
@@ -105,7 +105,7 @@ costs_none sum t cache offset len life e = record {
   puts = asked_none sum t (missing cache t ((offset, len) ∷ [])) life cache e;
 }
 
--- no room was made for what is to be read
+-- no room was made for the bytes of a read
 pub room_refused : (sum : List ℕ → ℕ) (t : Tail) (cache : CacheState) (offset len size : ℕ) (life : Life) (e : Error) → size ≡ size_of_tail t → size < 2 ^ 64 → RefusesRoom size offset len e → RangeStepGoes sum t cache cache offset len life life (Fault e)
 room_refused sum t cache offset len size life OffsetOverflow is small passes = record {
   reads = record {
@@ -153,7 +153,7 @@ room_refused sum t cache offset len size life SyncFailed is small none = absurd 
 room_refused sum t cache offset len size life InvalidChecksum is small none = absurd none
 room_refused sum t cache offset len size life IdsExhausted is small none = absurd none
 
--- what was read to where there was room for it is told
+-- a read into room for its bytes, as a step
 pub read_says : (sum : List ℕ → ℕ) (t : Tail) (cache after : CacheState) (offset len size : ℕ) (old new : Life) (was buf : List ℕ) (bytes : Vec ℕ Global) → size ≡ size_of_tail t → size < 2 ^ 64 → bytes.items ≡ buf → length was ≡ len
     → ReadIntoGoes sum t cache offset was buf old new (Ok tt) → ReadCosts {A = Unit {0}} sum t (offset, length was) cache after old new (Ok tt) → Looked old new → RangeStepGoes sum t cache after offset len old new (Bytes bytes)
 read_says sum t cache after offset len size old new was buf bytes is small same room into costs looked =
@@ -173,7 +173,7 @@ read_says sum t cache after offset len size old new was buf bytes is small same 
       looked = looked;
     }
 
--- why nothing was read says nothing of the room
+-- why nothing was read doesn't depend on the room
 no_bytes : (sum : List ℕ → ℕ) (t : Tail) (cache : CacheState) (range : ℕ × ℕ) (buf : List ℕ) (old new : Life) (e : Error) → Reads {A = Unit {0}} sum t cache range (λ u. buf) old new (Err e) → Reads {A = Vec ℕ Global} sum t cache range (λ b. b.items) old new (Err e)
 no_bytes sum t cache range buf old new ReadFailed reads = reads
 no_bytes sum t cache range buf old new WriteFailed reads = reads

@@ -77,7 +77,7 @@ pub same_takes : (sum : List ℕ → ℕ) (step : Step) (reply : Reply) (was now
 same_takes sum step reply was now cache after old new ready fits writer stay is apart =
     framed_same sum step reply was now after old new (ap (λ (s : SessionState). s.snapshots) is) (ap (λ (s : SessionState). s.replays) is) (subst (λ (s : SessionState). s.recovering ≡ true → s.snapshots ≡ []) (sym is) ready.begun) writer (left_by sum was now.writer cache after old new ready fits stay.own) apart
 
--- one of a writer that appends, by a session in recovery, or closed
+-- a step that needs a writer that appends, by a session in recovery, or closed
 module _ (sum : List ℕ → ℕ) (step : Step) (was now : SessionState) (old new : Life) (ready : IsSoundSession sum was old.present) (appends : (s : RunState) → turned_away step s ≡ (if s.has_writer then (if s.recovering then Some NotAppending else None) else Some Closed)) where
   closed_apart : (reply : Reply) → was.writer ≡ None → reply ≡ Closed → now ≡ was → new ≡ old → StepsApart sum step reply was now old new
   closed_apart reply none replied is same =
@@ -98,7 +98,7 @@ module _ (sum : List ℕ → ℕ) (step : Step) (was now : SessionState) (old ne
 
 -- ---- snapshots
 
--- a full page is buffered, or none
+-- whether a full page is buffered
 short_of : (w : WriterState) (P : ℕ) (s : RunState) → length w.tip ≡ s.buffered → w.page_size ≡ P → has_work w false ≡ false → nat_lt s.buffered P ≡ true
 short_of w P s buffered size none =
     let below : nat_le w.page_size (length w.tip) ≡ false = sym (or-false (nat_le w.page_size (length w.tip))) ∙ none in
@@ -109,7 +109,7 @@ full_of w P s buffered size some =
     let full : nat_le w.page_size (length w.tip) ≡ true = sym (or-false (nat_le w.page_size (length w.tip))) ∙ some in
     grind (arith, nat_tests, full, buffered, size)
 
--- then something isn't written
+-- if a full page is buffered, something isn't written
 full_unwritten : (w : WriterState) → has_work w false ≡ true → has_work w true ≡ true
 full_unwritten w some =
     full_work (nat_le w.page_size (length w.tip)) (nat_eq (length w.tip % w.page_size) 0) (nat_eq (length w.tip % w.page_size) (Rattle.crash.specs.Built.kept_len w.flushed))
@@ -120,7 +120,7 @@ flushed_short : (P : ℕ) (s : RunState) → nat_lt s.buffered P ≡ true → fl
 flushed_short P s short =
     subst (λ (b : Bool). record s { buffered = if b then s.buffered else s.buffered % P; awaited = if b then s.awaited else None } ≡ s) (sym short) refl
 
--- with a snapshot more it stands for what it stood for
+-- with one snapshot more a session stands for what it stood for
 noted_stands : (sum : List ℕ → ℕ) (P : ℕ) (was : SessionState) (w : WriterState) (t : Tail) (s : RunState) (d : Disk) → StandsApart sum P (held was (Some w)) s d → StandsApart sum P (with_snapshot was (Some w) t) (noted s) d
 noted_stands sum P was w t s d stands = record {
   fits = record {
@@ -151,7 +151,7 @@ stands_held sum P was w s d at stands = subst (λ (x : SessionState). StandsApar
 number_is : (sum : List ℕ → ℕ) (P : ℕ) (was : SessionState) (s : RunState) (d : Disk) → Represents sum P was s d → length was.snapshots ≡ length s.snapshots
 number_is sum P was s d stands = sym (ap length stands.snapshots ∙ length-map was.snapshots (option_map (λ t. logical_bytes t d.readable)))
 
--- and tells the content
+-- a new snapshot has the content
 one_more : (sum : List ℕ → ℕ) (step : Step) (P : ℕ) (reply : Reply) (now : SessionState) (old new : Life) (before : RunState) (t : Tail) → logical_bytes t new.present.readable ≡ before.content
     → SteppedApart sum P step reply now old new before (before.snapshots ++ Some before.content ∷ []) before.replays → SteppedApart sum P step reply now old new before (before.snapshots ++ map (option_map (λ u. logical_bytes u new.present.readable)) (Some t ∷ [])) before.replays
 one_more sum step P reply now old new before t tells stepped_on = subst (λ (l : List ℕ). SteppedApart sum P step reply now old new before (before.snapshots ++ Some l ∷ []) before.replays) (sym tells) stepped_on
@@ -212,7 +212,7 @@ snapshot_steps sum was w v t after old new at phase sound says on = λ P before 
         stands.phase stands.names stands.floor stands.within (each_end (AllKeep sum P before.content before.floor) old new through.moments h.goes h.kept)
         (each_end (AllCover sum P before.content before.covers) old new through.moments h.goes h.covered) h.stays)
 
--- why one is refused
+-- why a snapshot is refused
 snapshot_cause : (P : ℕ) (w : WriterState) (before : RunState) (old new : Life) (e : Error) → (nat_lt before.buffered P ≡ true → e ≡ SyncFailed → ⊥) → before.awaited ≡ pending_in w.sync → CallCause w.sync old new e
     → HasCause P Snapshot before old.present new.present e
 snapshot_cause P w before old new ReadFailed short awaited cause = absurd cause
@@ -328,7 +328,7 @@ try_snapshot_steps sum was w life at phase short = λ P before all.
     (unasked sum P was w TrySnapshot (Taken (length was.snapshots)) (with_snapshot was (Some w) (tail_of w)) life before (noted before) (here before.has_writer before.recovering fits.has_writer (sym stands.phase ∙ phase)) stands
     (less, number_is sum P was before life.present all, refl) (λ none. absurd none, λ none. absurd none) (noted_stands sum P was w (tail_of w) before life.present stands))
 
--- none was made
+-- no snapshot was made
 no_snapshot_steps : (sum : List ℕ → ℕ) (was : SessionState) (w : WriterState) (reply : Reply) (life : Life) → was.recovering ≡ false → ((P : ℕ) (s : RunState) → WriterRepresents P w s life.present → TakesStep sum P TrySnapshot reply life.present life.present s s)
     → AlwaysApart sum TrySnapshot reply (held was (Some w)) (held was (Some w)) life life
 no_snapshot_steps sum was w reply life phase takes = λ P before stands.
@@ -409,7 +409,7 @@ seal_touch w P before old new moments fits goes few idle = by_written before.wri
     by_written true (Some name) is some = few_calls old new moments 1 goes (omega (arith, few, seal_written (has_work w true) w.sync is, wait_one w.sync))
     by_written false awaited is some = few_calls old new moments 3 goes (omega (arith, few, seal_few (has_work w true) w.sync))
 
--- what a seal leaves but for the snapshot
+-- what a seal leaves, except for the snapshot
 left_content : (P : ℕ) (sync : StartedSync) (s : RunState) → (left_by_seal P sync s).snapshots ≡ s.snapshots ++ Some s.content ∷ []
 left_content P AllDone s = refl
 left_content P (Named name) s = refl
@@ -464,7 +464,7 @@ seal_steps sum was w t sync after old new at phase says on = λ P before all.
     (seal_touch w P before old new through.moments fits h.goes says.calls (λ none. (says.idle none).1)) (number_is sum P was before old.present all, answer, refl) (λ none. absurd none, λ none. absurd none)
     (sealed_stands sum P was w t sync old new before through.moments stands starts.3 h))))
 
--- why one isn't
+-- why a writer isn't sealed
 seal_cause : (P : ℕ) (w : WriterState) (before : RunState) (old new : Life) (e : Error) → before.awaited ≡ pending_in w.sync → CallCause w.sync old new e → HasCause P Seal before old.present new.present e
 seal_cause P w before old new ReadFailed awaited cause = absurd cause
 seal_cause P w before old new WriteFailed awaited cause = ((0, lit< tt, refl), cause)
@@ -559,7 +559,7 @@ looked_stands sum P was s d e alike stands =
       only = record { only = λ image is_image free. stands.only.only image (image_alike d e image base since is_image) (chance_free_alike sum P d e image base since free); vouched = vouched_alike sum P d e base since stands.only.vouched };
     }
 
--- why one is refused
+-- why a read of a snapshot is refused
 snap_cause : (sum : List ℕ → ℕ) (P : ℕ) (t : Tail) (cache : CacheState) (index offset len : ℕ) (before : RunState) (old new : Life) (e : Error) → size_of_tail t ≡ length (snapshot_at before index) → (e ≡ InvalidChecksum → ⊥)
     → Reads {A = Vec ℕ Global} sum t cache (offset, len) (λ b. b.items) old new (Err e) → HasCause P (Snap index offset len) before old.present new.present e
 snap_cause sum P t cache index offset len before old new ReadFailed size full goes = ((0, lit< tt, refl), goes)
@@ -584,11 +584,11 @@ snap_taken sum P t cache after index offset len before old new (Fault e) tells s
     ((cause, refl), (λ over. cc (goes.overflow over), λ passes. cc (goes.end passes.0 (omega (arith, size, passes.1)))))
 snap_taken sum P t cache after index offset len before old new r tells size full reads = absurd reads
 
--- the one of a number, as a standing has it
+-- the snapshot of a number, as a standing has it
 found : (sum : List ℕ → ℕ) (P : ℕ) (was : SessionState) (index : ℕ) (before : RunState) (d : Disk) → Represents sum P was before d → numbered before.snapshots index ≡ option_map (λ u. logical_bytes u d.readable) (numbered was.snapshots index)
 found sum P was index before d all = ap (λ (l : List (Option (List ℕ))). numbered l index) all.snapshots ∙ numbered-map (λ (u : Tail). logical_bytes u d.readable) was.snapshots index
 
--- one that there is
+-- a read of a snapshot that is there
 snap_steps : (sum : List ℕ → ℕ) (was : SessionState) (t : Tail) (cache after : CacheState) (index offset len : ℕ) (old new : Life) (reply : Reply) → numbered was.snapshots index ≡ Some t → HasPages t old.present → HasFullPages sum t old.present → RangeStepGoes sum t cache after offset len old new reply
     → AlwaysMakes sum (Snap index offset len) reply was was old new []
 unfolding Through
@@ -628,7 +628,7 @@ snap_steps sum was t cache after index offset len old new reply at there full sa
       alike = refl;
     })
 
--- one that there isn't
+-- a read of a snapshot that isn't there
 no_snap_steps : (sum : List ℕ → ℕ) (was : SessionState) (index offset len : ℕ) (life : Life) → numbered was.snapshots index ≡ None → AlwaysMakes sum (Snap index offset len) NoSuch was was life life []
 no_snap_steps sum was index offset len life none = λ P before all.
     let stands = stands_apart sum P was before life.present all in

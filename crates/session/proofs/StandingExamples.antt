@@ -46,11 +46,11 @@ a_complete_sync_raises_it = refl
 pub a_started_one_does_not : raised_floor started ((0, 2) ∷ []) 0 ≡ 0
 a_started_one_does_not = refl
 
--- it never falls by one
+-- the floor never falls by a started sync
 pub it_does_not_fall : raised_floor complete ((0, 2) ∷ []) 5 ≡ 5
 it_does_not_fall = refl
 
--- a cut lowers it, and what is covered, to what is left
+-- a cut lowers the floor, and what is covered, to what is left
 pub a_cut_lowers_both : lowered 4 (record six_started { floor = 6 }) ≡ record six_started { floor = 4; covers = (0, 4) ∷ [] }
 a_cut_lowers_both = refl
 
@@ -139,7 +139,7 @@ all_are_forgotten = refl
 pub the_first_moves : (moved 0 (record two_at_hand { position = 2; hand = 0 }) with_replays).replays ≡ Some (record two_at_hand { position = 2; hand = 0 }) ∷ None ∷ []
 the_first_moves = refl
 
--- two bytes more are at hand; none is given up, and none past the end
+-- two bytes more are at hand; none is lost, and none past the end comes to hand
 pub two_more : HasFetched two_at_hand (record two_at_hand { hand = 4 })
 two_more = record { stays = refl; more = omega arith; within = omega arith }
 
@@ -203,7 +203,7 @@ none_past_six bytes slices = omega (arith, slices.0)
 pub not_the_next_three : IsSlice six 2 3 (100 ∷ 101 ∷ 102 ∷ []) → ⊥
 not_the_next_three slices = omega (arith, ap (λ (l : List ℕ). get_or l 0 0) slices.1)
 
--- the last byte, where four are asked for; and none, wherever none is
+-- the last byte, where four are asked for; and no byte, where none is asked for
 pub the_last_byte : SlicesUpTo six 5 4 (102 ∷ [])
 the_last_byte = (inr (omega arith), refl)
 
@@ -258,7 +258,7 @@ three_pass_the_end = (omega arith, omega arith)
 pub two_do_not : HasCause 4 (Read 4 2) six_stand durable durable BlobInsufficientLength → ⊥
 two_do_not passes = omega (arith, passes.1)
 
--- so the standing alone tells the fault, before any other
+-- so the standing alone gives the fault, which comes before any other reply
 pub the_end_is_foretold : FaultsComeFirst 4 (Read 4 3) (Fault BlobInsufficientLength) six_stand
 the_end_is_foretold = (λ over. absurd (omega (arith, over)), λ passes. refl)
 
@@ -294,7 +294,7 @@ a_size_is_taken = (refl, refl)
 pub and_answered : AnswersStep add_sum 4 Size (Length 6) durable durable six_stand six_stand
 and_answered = ((refl, refl), (λ over. absurd over, λ passes. absurd passes))
 
--- where there is no writer it is turned away
+-- where there is no writer a step for the size is turned away
 pub or_turned_away : AnswersStep add_sum 4 Size Closed durable durable (ended six six_stand) (ended six six_stand)
 or_turned_away = (refl, refl)
 
@@ -336,7 +336,7 @@ they_stand_behind bytes = refl
 pub a_sync_leaves_it : content_after Sync six ≡ six
 a_sync_leaves_it = refl
 
--- while a truncate goes on a crash may leave its content, and after a refused one too
+-- while a truncate goes on a crash may leave its content, and after a refused truncate too
 pub it_may_be_cut : other_content (Truncate 2) six_stand ≡ ab
 it_may_be_cut = refl
 

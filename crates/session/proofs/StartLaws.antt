@@ -40,13 +40,13 @@ use Rattle.session.proofs.Apart.{AlwaysApart, IsReadyApart, StandsApart, Stepped
 
 -- ---- what the calls owe
 
--- what each moment of a call owes that leaves the content
+-- what holds at each moment of a call that leaves the content
 pub goes_through : (sum : List ℕ → ℕ) (P : ℕ) (was : SessionState) (w v : WriterState) (old new : Life) (before : RunState) → StandsApart sum P (held was (Some w)) before old.present → Succeeds sum w old [] v new → StaysThrough sum P before.content old new
 goes_through sum P was w v old new before stands goes =
     subst (λ (n : ℕ). StaysThrough sum n before.content old new) stands.fits.page_size
     (subst (λ (l : List ℕ). StaysThrough sum w.page_size l old new) (append-nil (content_of w old.present.readable) ∙ sym stands.fits.content) goes.stays)
 
--- also where it is refused
+-- what holds at each moment of such a call that is refused
 pub refused_through : (sum : List ℕ → ℕ) (P : ℕ) (was : SessionState) (w : WriterState) (old new : Life) (e : Error) (before : RunState) → StandsApart sum P (held was (Some w)) before old.present → CallRefuses sum w (content_of w old.present.readable) old new e
     → StaysThrough sum P before.content old new
 refused_through sum P was w old new e before stands refuses =
@@ -55,13 +55,13 @@ refused_through sum P was w old new e before stands refuses =
 
 -- ---- starting a sync
 
--- what it answers
+-- what starting a sync answers
 answer_is : (state : SyncState) (awaited : Option ℕ) → awaited ≡ pending_in state → started_already state ≡ elim awaited [ None ↦ AllDone | Some name ↦ Named name ]
 answer_is Clean awaited is = ap (λ (o : Option ℕ). elim o [ None ↦ AllDone | Some name ↦ Named name ]) (sym is)
 answer_is Dirty awaited is = ap (λ (o : Option ℕ). elim o [ None ↦ AllDone | Some name ↦ Named name ]) (sym is)
 answer_is (Pending name) awaited is = ap (λ (o : Option ℕ). elim o [ None ↦ AllDone | Some name ↦ Named name ]) (sym is)
 
--- no call, or some
+-- whether starting a sync makes a call
 pub no_start : (n : ℕ) → true ≡ nat_eq n 0 → n ≡ 0
 no_start n is = grind (arith, nat_tests, is)
 
@@ -95,7 +95,7 @@ start_touch w P before old new moments fits goes few idle = by_written before.wr
     by_written true is = no_moments old new moments goes (idle (no_start (start_calls w) is))
     by_written false is = few_calls old new moments 3 goes (omega (arith, few, starts_few (has_work w true) w.sync))
 
--- the answer by the standing
+-- what starting a sync answers, by the standing
 start_answer : (sum : List ℕ → ℕ) (w v : WriterState) (sync : StartedSync) (P : ℕ) (before : RunState) (old new : Life) → WriterRepresents P w before old.present → StartTold sum w old new (Ok (v, sync)) → sync ≡ answer_of_start before old.present
 start_answer sum w v sync P before old new fits says = by_written before.written fits.written
   where
@@ -106,7 +106,7 @@ start_answer sum w v sync P before old new fits says = by_written before.written
     by_written true is = second (Ok (v, sync)) (says.idle (no_start (start_calls w) is)).0 ∙ answer_is w.sync before.awaited fits.awaited
     by_written false is = says.fresh (some_start (start_calls w) is)
 
--- what holds of one more
+-- what holds of one element more
 pub all_more : (Q : ℕ × ℕ → Type 0) (c : ℕ × ℕ) (cs : List (ℕ × ℕ)) → Q c → All Q cs → All Q (c ∷ cs)
 all_more Q c cs one more zero d lt = one
 all_more Q c cs one more (suc k) d lt = more k d (omega (arith, lt))
@@ -169,7 +169,7 @@ start_steps sum was w v sync old new sound says = λ P before stands.
     (start_answer sum w v sync P before old new fits says, refl) (λ none. absurd none, λ none. absurd none)
     (started_stands sum P was w v sync old new before through.moments sound stands says h)))
 
--- why one isn't
+-- why a sync isn't started
 start_cause : (P : ℕ) (w : WriterState) (before : RunState) (old new : Life) (e : Error) → before.written ≡ false → before.awaited ≡ pending_in w.sync → CallCause w.sync old new e
     → HasCause P StartSync before old.present new.present e
 start_cause P w before old new ReadFailed some awaited cause = absurd cause
@@ -204,7 +204,7 @@ start_refused_steps sum was w e old new says = λ P before stands.
     unwritten false is = refl
     unwritten true is = absurd (cc (says.idle (no_start (start_calls w) is)).0)
 
--- there is no memory for its name
+-- there is no memory for the name of a sync
 no_room_steps : (sum : List ℕ → ℕ) (was : SessionState) (w : WriterState) (life : Life) → AlwaysApart sum StartSync (Fault OutOfMemory) (held was (Some w)) (held was (Some w)) life life
 no_room_steps sum was w life = λ P before stands.
     unasked sum P was w StartSync (Fault OutOfMemory) (held was (Some w)) life before before (turned_here before.has_writer stands.fits.has_writer) stands (tt, inr (refl, refl, refl)) (λ none. absurd none, λ none. absurd none) stands
@@ -233,13 +233,13 @@ complete name old new u (s, named, well, is) =
     settles true is = let e : c.0 ≤ c.0 = omega arith in grind (arith, nat_tests, e)
     settles false is = grind (arith, nat_tests, is)
 
--- so does one by the writer
+-- a wait by the writer leaves the sync complete too
 complete_by : (state : SyncState) (awaited : Option ℕ) (old new : Life) → awaited ≡ pending_in state → (wait_calls state ≡ 1 → SettlesBy state old new (Ok tt)) → HasCompleted awaited new.present
 complete_by Clean awaited old new is settles = subst (λ (o : Option ℕ). HasCompleted o new.present) (sym is) tt
 complete_by Dirty awaited old new is settles = subst (λ (o : Option ℕ). HasCompleted o new.present) (sym is) tt
 complete_by (Pending name) awaited old new is settles = subst (λ (o : Option ℕ). HasCompleted o new.present) (sym is) (complete name old new tt (settles refl))
 
--- and it isn't refused for a write
+-- a wait isn't refused for a write
 waits_no_write : (state : SyncState) (old new : Life) → is_some (pending_in state) ≡ true → (wait_calls state ≡ 1 → SettlesBy state old new (Err WriteFailed)) → ⊥
 waits_no_write Clean old new some settles = false≢true some
 waits_no_write Dirty old new some settles = false≢true some
@@ -295,7 +295,7 @@ wait_steps sum was w v old new says = λ P before stands.
     stands.phase stands.names stands.floor stands.within (each_end (AllKeep sum P before.content before.floor) old new through.moments h.goes h.kept)
     (each_end (AllCover sum P before.content before.covers) old new through.moments h.goes h.covered) h.stays)
 
--- why one is refused
+-- why a wait is refused
 wait_cause : (P : ℕ) (w : WriterState) (before : RunState) (old new : Life) (e : Error) → is_some before.awaited ≡ true → before.awaited ≡ pending_in w.sync → CallCause w.sync old new e → (e ≡ WriteFailed → ⊥)
     → HasCause P Wait before old.present new.present e
 wait_cause P w before old new ReadFailed some awaited cause wrote = absurd cause
@@ -335,7 +335,7 @@ settle_readable c d = by_test (nat_lt d.settled c.0)
     by_test true = refl
     by_test false = refl
 
--- it is one moment, or none
+-- a wait is one moment, or none
 record IsOneWait (name : ℕ) (old new : Life) : Type 0 where
   moments : List Disk
   goes : new ≡ life_after old moments
@@ -343,7 +343,7 @@ record IsOneWait (name : ℕ) (old new : Life) : Type 0 where
   few : length new.present.log ≤ length old.present.log + 1
   readable : new.present.readable ≡ old.present.readable
 
--- so what holds after it holds at each of its moments
+-- so what holds after a wait holds at each of its moments
 each_wait : (Q : Disk → Type 0) (name : ℕ) (old new : Life) (one : IsOneWait name old new) → Q new.present → Each Q one.moments
 each_wait Q name old new one holds = elim one.one [
   | inl none ↦ subst (λ (l : List Disk). Each Q l) (sym none) tt
@@ -378,7 +378,7 @@ one_wait name old new (Err OutOfMemory) is = record {
 }
 one_wait name old new (Err e) goes = absurd goes
 
--- the session stands for the same after it
+-- the session stands for the same after a wait
 pub waited_fits : (P : ℕ) (o : Option WriterState) (s : RunState) (d e : Disk) → e.readable ≡ d.readable → WriterFits P o s d → WriterFits P o s e
 waited_fits P None s d e same fits = fits
 waited_fits P (Some w) s d e same fits = record {
@@ -435,7 +435,7 @@ named_steps sum was name reply old new answer given stand goes takes = λ P befo
       alike = refl;
     }
 
--- one that it wasn't given
+-- a step that waits for a name that the session wasn't given
 unnamed_steps : (sum : List ℕ → ℕ) (was : SessionState) (name : ℕ) (life : Life) → is_given was.names name ≡ false → AlwaysApart sum (WaitSync name) NoSuch was was life life
 unnamed_steps sum was name life given = λ P before stands. record {
   moments = [];
@@ -455,7 +455,7 @@ unnamed_steps sum was name life given = λ P before stands. record {
   alike = refl;
 }
 
--- why one is refused
+-- why a wait for a name is refused
 named_cause : (P : ℕ) (name : ℕ) (s : RunState) (old new : Life) (e : Error) → WaitGoes name old new (Err e) → HasCause P (WaitSync name) s old.present new.present e
 named_cause P name s old new SyncFailed (failed, why, is) = (
   (0, lit< tt, refl),
@@ -473,7 +473,7 @@ named_cause P name s old new BlobInsufficientLength goes = absurd goes
 named_cause P name s old new OffsetOverflow goes = absurd goes
 named_cause P name s old new IdsExhausted goes = absurd goes
 
--- the writer stays sound after it
+-- the writer stays sound after a wait for a name
 waited_sound : (sum : List ℕ → ℕ) (o : Option WriterState) (name : ℕ) (old new : Life) (answer : Result (Unit {0}) Error) → IsSmall sum → HasSoundWriter sum o old.present → WaitGoes name old new answer → HasSoundWriter sum o new.present
 unfolding IsSound
 waited_sound sum None name old new answer small sound goes = tt
@@ -487,7 +487,7 @@ waited_sound sum (Some w) name old new answer small sound goes =
 pub both_same : (was : SessionState) (o : Option WriterState) (names : List ℕ) → o ≡ was.writer → names ≡ was.names → record was { writer = o; names = names } ≡ was
 both_same was o names writer same = ap (λ (x : Option WriterState). record was { writer = x; names = names }) writer ∙ ap (λ (l : List ℕ). record was { names = l }) same
 
--- and one that has others
+-- the session with another writer and other names
 both_are : (was now : SessionState) (o : Option WriterState) (names : List ℕ) → KeepsSnapshots was now → now.writer ≡ o → now.names ≡ names → now ≡ record was { writer = o; names = names }
 both_are was now o names rest writer same = rest ∙ ap (λ (x : Option WriterState). record was { writer = x; names = now.names }) writer ∙ ap (λ (l : List ℕ). record was { writer = o; names = l }) same
 

@@ -24,7 +24,7 @@ use Rattle.session.proofs.Apart.{AlwaysApart, StandsApart, SteppedApart}
 abbrev pub held : SessionState → Option WriterState → SessionState
 held was writer = record was { writer = writer }
 
--- it is the session where that is its writer
+-- a session with the writer that it has is the session
 pub held_same : (was : SessionState) (o : Option WriterState) → was.writer ≡ o → was ≡ held was o
 held_same was o is = rw (sym is) refl
 
@@ -86,7 +86,7 @@ answers_here sum P step reply from to s after here takes foretells =
     ])
     (sym here) (takes, foretells)
 
--- the others are
+-- a step that is turned away leaves the standing as it was
 pub answers_away : (sum : List ℕ → ℕ) (P : ℕ) (step : Step) (reply : Reply) (from to : Disk) (s : RunState) → turned_away step s ≡ Some reply → AnswersStep sum P step reply from to s s
 answers_away sum P step reply from to s away =
     subst
@@ -116,7 +116,7 @@ leaves Leaves d = refl
 leaves Looks d = tt
 leaves (Changes most) d = omega arith
 
--- and make so many calls
+-- and a step may make so many calls
 pub few_calls : (old new : Life) (moments : List Disk) (most : ℕ) → new ≡ life_after old moments → length new.present.log ≤ length old.present.log + most → UsesDevice (Changes most) old.present moments
 few_calls old new moments most goes few = subst (λ (d : Disk). length d.log ≤ length old.present.log + most) (ap (λ (life : Life). life.present) goes ∙ last_is old moments) few
 
@@ -132,11 +132,11 @@ raise_within d (c ∷ covers) floor n enough within =
 
 -- ---- what stands as a step begins
 
--- fewer bytes are kept too
+-- if so many bytes are kept, fewer are kept too
 pub keeps_fewer : (sum : List ℕ → ℕ) (P : ℕ) (content : List ℕ) (fewer floor : ℕ) (d : Disk) → fewer ≤ floor → AllKeep sum P content floor d → AllKeep sum P content fewer d
 keeps_fewer sum P content fewer floor d less keeps = keeps_less sum P content floor fewer d less keeps
 
--- and covered
+-- if so many bytes are covered, fewer are covered too
 pub would_fewer : (sum : List ℕ → ℕ) (P : ℕ) (content : List ℕ) (name fewer cover : ℕ) (d : Disk) → fewer ≤ cover → WouldKeep sum P content name cover d → WouldKeep sum P content name fewer d
 would_fewer sum P content name fewer cover d less would = record { covers = would.covers; named = would.named; keeps = keeps_fewer sum P content fewer cover _ less would.keeps }
 
@@ -149,7 +149,7 @@ all_lowered Q R n (c ∷ cs) turned all = both (all_lowered Q R n cs turned (λ 
     both more zero x lt = turned c (all 0 c (omega arith))
     both more (suc k) x lt = more k x (omega (arith, lt))
 
--- a step never begins with more
+-- a step never begins with more bytes kept than stood before
 lowered_keeps : (sum : List ℕ → ℕ) (P n : ℕ) (s : RunState) (d : Disk) → AllKeep sum P s.content s.floor d → AllKeep sum P s.content (lowered n s).floor d
 lowered_keeps sum P n s d keeps = keeps_fewer sum P s.content (min n s.floor) s.floor d (omega arith) keeps
 
@@ -209,11 +209,11 @@ would_longer sum P content longer name cover d starts enough would = record { co
 pub cover_longer : (sum : List ℕ → ℕ) (P : ℕ) (content longer : List ℕ) (covers : List (ℕ × ℕ)) (d : Disk) → content ≡ take (length content) longer → All (λ c. c.1 ≤ length content) covers → AllCover sum P content covers d → AllCover sum P longer covers d
 cover_longer sum P content longer covers d starts within covered = λ k x lt. would_longer sum P content longer _ _ d starts (within k x lt) (covered k x lt)
 
--- what a call owes to each
+-- a call keeps what each started sync covers
 pub cover_stays : (sum : List ℕ → ℕ) (P : ℕ) (content : List ℕ) (covers : List (ℕ × ℕ)) (d e : Disk) → All (λ c. c.1 ≤ length content) covers → CoversStay sum P content d e → AllCover sum P content covers d → AllCover sum P content covers e
 cover_stays sum P content covers d e within stay covered = λ k x lt. stay _ _ (within k x lt) (covered k x lt)
 
--- at each moment of a call, and what holds at its end
+-- both halves at each moment of a call, and what holds at its end
 pub record Halves (sum : List ℕ → ℕ) (P : ℕ) (content longer : List ℕ) (floor : ℕ) (covers : List (ℕ × ℕ)) (old new : Life) (moments : List Disk) : Type 0 where
   pub goes : new ≡ life_after old moments
   pub kept : Each (AllKeep sum P content floor) (old.present ∷ moments)
@@ -221,7 +221,7 @@ pub record Halves (sum : List ℕ → ℕ) (P : ℕ) (content longer : List ℕ)
   pub only : Each (AllOnly sum P content longer) (old.present ∷ moments)
   pub stays : Stays sum P longer old.present new.present
 
--- from what each moment owes
+-- both halves, by what holds at each moment
 pub halves : (sum : List ℕ → ℕ) (P : ℕ) (content longer : List ℕ) (floor : ℕ) (covers : List (ℕ × ℕ)) (old new : Life) → content ≡ take (length content) longer → length content ≤ length longer → floor ≤ length content
     → All (λ c. c.1 ≤ length content) covers → (through : Moments (Stays sum P longer old.present) old new) → CoversThrough sum P content old new → AllKeep sum P content floor old.present → AllCover sum P content covers old.present
     → Halves sum P content longer floor covers old new through.moments
@@ -243,7 +243,7 @@ halves sum P content longer floor covers old new starts more enough within throu
 pub each_end : (Q : Disk → Type 0) (old new : Life) (ds : List Disk) → new ≡ life_after old ds → Each Q (old.present ∷ ds) → Q new.present
 each_end Q old new ds goes each = subst (λ (life : Life). Q life.present) (sym goes) (each_last Q old ds each.0 each.1)
 
--- a content is a beginning of itself
+-- a content is a prefix of itself
 pub itself : (content : List ℕ) → content ≡ take (length content) content
 itself content = sym (take-length content)
 
@@ -254,7 +254,7 @@ pub raised_within : (sum : List ℕ → ℕ) (P : ℕ) (now : SessionState) (old
     → (raised (last old.present moments) after).floor ≤ length after.content
 raised_within sum P now old new after moments goes stands = raise_within (last old.present moments) after.covers after.floor (length after.content) stands.floor stands.within
 
--- a step by a session with a writer, from what each moment says and the answer
+-- a step by a session with a writer, by what holds at each moment and the answer
 pub stepped_by : (sum : List ℕ → ℕ) (P : ℕ) (step : Step) (reply : Reply) (now : SessionState) (old new : Life) (before after : RunState) (moments : List Disk) → before.has_writer ≡ true → turned_away step before ≡ None
     → new ≡ life_after old moments → Each (AllKeep sum P before.content (at_step step before).floor) (old.present ∷ moments) → Each (AllCover sum P before.content (at_step step before).covers) (old.present ∷ moments)
     → Each (AllOnly sum P before.content (content_after step before.content)) (old.present ∷ moments) → UsesDevice (use_of_step P step before) old.present moments → TakesStep sum P step reply old.present new.present before after → FaultsComeFirst P step reply before
@@ -277,14 +277,14 @@ stepped_by sum P step reply now old new before after moments has here goes kept 
   alike = refl;
 }
 
--- from both halves
+-- such a step, by both halves
 pub stepped : (sum : List ℕ → ℕ) (P : ℕ) (step : Step) (reply : Reply) (now : SessionState) (old new : Life) (before after : RunState) (moments : List Disk) → before.has_writer ≡ true → turned_away step before ≡ None
     → Halves sum P before.content (content_after step before.content) (at_step step before).floor (at_step step before).covers old new moments → UsesDevice (use_of_step P step before) old.present moments → TakesStep sum P step reply old.present new.present before after
     → FaultsComeFirst P step reply before → StandsApart sum P now after new.present → SteppedApart sum P step reply now old new before after.snapshots after.replays
 stepped sum P step reply now old new before after moments has here h touches takes foretells stands =
     stepped_by sum P step reply now old new before after moments has here h.goes h.kept h.covered h.only touches takes foretells stands
 
--- of either content the one that a step may leave, where that of its writer stays
+-- of the two contents that a step may leave, the first, where the writer's stays
 pub only_there : (sum : List ℕ → ℕ) (P : ℕ) (o : Option WriterState) (before : RunState) (d e : Disk) → WriterFits P o before d → AllOnly sum P before.content before.otherwise e
     → AllOnly sum P before.content (if before.has_writer then before.content else before.otherwise) e
 only_there sum P None before d e fits only = subst (λ (b : Bool). AllOnly sum P before.content (if b then before.content else before.otherwise) e) (sym fits) only
@@ -348,13 +348,13 @@ unasked sum P was w step reply now life before after here stands takes foretells
       alike = refl;
     }
 
--- the same, over a blob that stayed
+-- such a step, over a blob that stayed as it was
 pub unasked_over : (sum : List ℕ → ℕ) (P : ℕ) (was : SessionState) (w : WriterState) (step : Step) (reply : Reply) (now : SessionState) (old new : Life) (before after : RunState) → new ≡ old → turned_away step before ≡ None
     → StandsApart sum P (held was (Some w)) before old.present → TakesStep sum P step reply old.present old.present before after → FaultsComeFirst P step reply before → StandsApart sum P now after old.present → SteppedApart sum P step reply now old new before after.snapshots after.replays
 unasked_over sum P was w step reply now old new before after same here stands takes foretells stands_after =
     subst (λ (life : Life). SteppedApart sum P step reply now old life before after.snapshots after.replays) (sym same) (unasked sum P was w step reply now old before after here stands takes foretells stands_after)
 
--- what a session with this writer stands for, once its call was done, or had not taken it
+-- what a session with this writer stands for, once its call was done, or didn't take it
 pub stands_now : (sum : List ℕ → ℕ) (P : ℕ) (was : SessionState) (v : WriterState) (old new : Life) (after : RunState) → WriterRepresents P v after new.present → was.recovering ≡ after.recovering → NamesFit was.names after.covers
     → after.floor ≤ length after.content → All (λ c. c.1 ≤ length after.content) after.covers → AllKeep sum P after.content after.floor new.present → AllCover sum P after.content after.covers new.present
     → Stays sum P after.content old.present new.present → StandsApart sum P (held was (Some v)) after new.present
@@ -369,7 +369,7 @@ stands_now sum P was v old new after fits phase names enough within kept covered
   only = record { only = λ image is_image free. inl (stays.only image is_image free); vouched = stays.vouched };
 }
 
--- and without one, once it was refused
+-- what a session without a writer stands for, once its call was refused
 pub stands_ended : (sum : List ℕ → ℕ) (P : ℕ) (was : SessionState) (w : WriterState) (old new : Life) (before : RunState) (longer : List ℕ) (moments : List Disk) → StandsApart sum P (held was (Some w)) before old.present
     → Halves sum P before.content longer before.floor before.covers old new moments → StandsApart sum P (held was None) (ended longer before) new.present
 stands_ended sum P was w old new before longer moments stands h = record {

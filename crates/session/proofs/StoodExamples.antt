@@ -59,15 +59,15 @@ it_stands_with_a_cover = record {
     covered zero c lt = it_would_keep 2 (omega arith)
     covered (suc k) c lt = absurd (omega (arith, lt))
 
--- not before the wait for what it covers
+-- no session stands for a floor of what the sync covers before the wait
 pub no_floor_before_the_wait : (session : SessionState) → Represents add_sum 4 session (record ab_started { floor = 2 }) started → ⊥
 no_floor_before_the_wait session stands = omega (arith, ap length (stands.kept.kept [] (base_is_image started)))
 
--- nor for more than it covers
+-- no session stands for more than the sync covers
 pub no_cover_of_more : (session : SessionState) → Represents add_sum 4 session (record ab_started { covers = (0, 3) ∷ [] }) started → ⊥
 no_cover_of_more session stands = absurd (omega (arith, stands.within 0 (0, 3) (omega arith)))
 
--- nor where the session wasn't given the name
+-- nor for a name that the session wasn't given
 pub no_cover_without_a_name : Represents add_sum 4 (record waiting { names = [] }) ab_started started → ⊥
 no_cover_without_a_name stands = absurd (false≢true (stands.names 0))
 
@@ -82,11 +82,11 @@ it_waits_for P before stands = (
       stands.fits.awaited refl stands.snapshots stands.replays,
 )
 
--- once it was waited for, what it covers is durable, and the writer waits for nothing
+-- once the sync was waited for, what it covers is durable, and the writer waits for nothing
 abbrev pub has_waited : SessionState
 has_waited = record waiting { writer = Some (record ab_waits { sync = Clean }) }
 
--- what it would have kept it would still keep
+-- what the sync would have kept, it would still keep
 still_covered : (name cover : ℕ) → cover ≤ 2 → WouldKeep add_sum 4 ab name cover started → WouldKeep add_sum 4 ab name cover complete
 still_covered zero cover few would = record { covers = (1, ab_page); named = refl; keeps = keeps_fewer add_sum 4 ab cover 2 (disk_settled_to (1, ab_page) complete) few (keeps_at_rest add_sum 4 (disk_settled_to (1, ab_page) complete) refl) }
 still_covered (suc name) cover few would = absurd (cc would.named)
@@ -125,7 +125,7 @@ a_wait_is_told floor covers stands =
       };
     }
 
--- a wait for it is done: that is promised, whatever the floor was
+-- a wait for that sync keeps the promise, whatever the floor was
 pub a_promise_of_a_wait : Promises add_sum (Wait ∷ []) waiting has_waited (life_of started) (life_after (life_of started) (complete ∷ [])) [] (Done ∷ [])
 a_promise_of_a_wait P before stands =
     let stood = it_waits_for P before stands in
@@ -134,7 +134,7 @@ a_promise_of_a_wait P before stands =
     subst (λ (n : ℕ). RunIsExact add_sum n (Wait ∷ []) has_waited (life_of started) (life_after (life_of started) (complete ∷ [])) [] (Done ∷ []) before) (sym stood.0)
     (subst (λ (s : RunState). RunIsExact add_sum 4 (Wait ∷ []) has_waited (life_of started) (life_after (life_of started) (complete ∷ [])) [] (Done ∷ []) s) (sym stood.1) (a_wait_is_told before.floor before.covers so))
 
--- not where nothing became durable
+-- the promise isn't kept where nothing became durable
 pub no_promise_of_a_wait_in_vain : (now : SessionState) → Promises add_sum (Wait ∷ []) waiting now (life_of started) (life_of started) [] (Done ∷ []) → ⊥
 no_promise_of_a_wait_in_vain now promise =
     let told = told_by started ab_started (Wait ∷ []) now (Done ∷ []) [] (promise 4 ab_started it_stands_with_a_cover) in
@@ -166,7 +166,7 @@ it_stands_with_a_snapshot = record {
   replays = refl;
 }
 
--- not of "abcdefg", nor where it was let go
+-- it stands for no snapshot of "abcdefg", and for none where it was let go
 pub no_other_snapshot : Represents add_sum 4 with_a_snapshot (record (six_noted 6) { snapshots = Some seven ∷ [] }) durable → ⊥
 no_other_snapshot stands = absurd (cc stands.snapshots)
 
@@ -180,7 +180,7 @@ noted_for P before stands = (
       (no_covers before.covers stands.names) stands.snapshots stands.replays,
 )
 
--- two bytes of it are read, of its page and of those in memory: "de"
+-- two bytes of the snapshot are read, one of its page and one in memory: "de"
 a_snap_is_told : (bytes : Vec ℕ Global) (floor : ℕ) → bytes.items ≡ 100 ∷ 101 ∷ [] → Represents add_sum 4 with_a_snapshot (six_noted floor) durable → RunIsExact add_sum 4 (Snap 0 3 2 ∷ []) with_a_snapshot (life_of durable) (life_of durable) [] (Bytes bytes ∷ []) (six_noted floor)
 a_snap_is_told bytes floor is stands =
     let all = six_survive six floor stands.floor in
@@ -202,7 +202,7 @@ a_promise_of_a_snap bytes is P before stands =
     subst (λ (n : ℕ). RunIsExact add_sum n (Snap 0 3 2 ∷ []) with_a_snapshot (life_of durable) (life_of durable) [] (Bytes bytes ∷ []) before) (sym stood.0)
     (subst (λ (s : RunState). RunIsExact add_sum 4 (Snap 0 3 2 ∷ []) with_a_snapshot (life_of durable) (life_of durable) [] (Bytes bytes ∷ []) s) (sym stood.1) (a_snap_is_told bytes before.floor is so))
 
--- not of the bytes after them
+-- a read of the bytes after them keeps no promise
 pub no_promise_of_another_snap : (bytes : Vec ℕ Global) (now : SessionState) → bytes.items ≡ 101 ∷ 102 ∷ [] → Promises add_sum (Snap 0 3 2 ∷ []) with_a_snapshot now (life_of durable) (life_of durable) [] (Bytes bytes ∷ []) → ⊥
 no_promise_of_another_snap bytes now are promise =
     let told = told_by durable (six_noted 6) (Snap 0 3 2 ∷ []) now (Bytes bytes ∷ []) [] (promise 4 (six_noted 6) it_stands_with_a_snapshot) in

@@ -23,7 +23,7 @@ use Rattle.session.proofs.AppendLaws.{rest_left, settled_started, settled_awaits
 
 -- ---- syncs
 
--- what each moment of a sync owes
+-- what holds at each moment of a sync
 sync_through : (sum : List ℕ → ℕ) (was : SessionState) (P : ℕ) (w : WriterState) (old new : Life) (result : Result WriterState Error) (before : RunState) → Syncs sum w old new result → StandsApart sum P (held was (Some w)) before old.present
     → StaysThrough sum P before.content old new
 sync_through sum was P w old new result before syncs stands =
@@ -36,7 +36,7 @@ pub left_buffered : (sum : List ℕ → ℕ) (was : SessionState) (P : ℕ) (w v
 left_buffered sum was P w v old new before sound stands goes short =
     rest_left sum w v old new [] sound goes short ∙ ap (λ (k : ℕ). k % w.page_size) (omega (arith, stands.fits.buffered)) ∙ ap (λ (k : ℕ). before.buffered % k) stands.fits.page_size
 
--- so both halves hold at each, where the content stays, and the covers
+-- so both halves hold at each moment, where the content stays, and the covers
 pub same_halves : (sum : List ℕ → ℕ) (was : SessionState) (P : ℕ) (w : WriterState) (old new : Life) (before : RunState) → StandsApart sum P (held was (Some w)) before old.present
     → (through : Moments (Stays sum P before.content old.present) old new) → CoversThrough sum P before.content old new → Halves sum P before.content before.content before.floor before.covers old new through.moments
 same_halves sum was P w old new before stands through covering =

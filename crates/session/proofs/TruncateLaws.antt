@@ -38,11 +38,11 @@ use Rattle.session.proofs.Apart.{AlwaysApart, AlwaysBy, StepsBy, IsReadyApart, S
 
 -- ---- the first bytes
 
--- they are a beginning
+-- the first bytes are a prefix
 pub first_bytes : (n : ℕ) (content : List ℕ) → take n content ≡ take (length (take n content)) content
 first_bytes n content = sym (take-length (take n content)) ∙ take-take (length (take n content)) n content (omega (arith, length-take n content))
 
--- what is kept of a content is kept of them, and no more than they have
+-- what is kept of a content is kept of its first bytes, and no more than they have
 keeps_first : (sum : List ℕ → ℕ) (P n : ℕ) (content : List ℕ) (floor : ℕ) (d : Disk) → floor ≤ length content → AllKeep sum P content floor d → AllKeep sum P (take n content) (min n floor) d
 keeps_first sum P n content floor d within keeps =
     keeps_shorter sum P (take n content) content (min n floor) d (first_bytes n content) (omega (arith, within, length-take n content)) (keeps_fewer sum P content (min n floor) floor d (omega arith) keeps)
@@ -54,17 +54,17 @@ would_first sum P n content name cover d within would = record {
   keeps = keeps_first sum P n content cover _ within would.keeps;
 }
 
--- the lowered covers, within them
+-- the lowered covers are within the first bytes
 lowered_within : (n : ℕ) (s : RunState) → All (λ c. c.1 ≤ length s.content) s.covers → All (λ c. c.1 ≤ length (take n s.content)) (lowered n s).covers
 lowered_within n s within = all_lowered (λ c. c.1 ≤ length s.content) (λ c. c.1 ≤ length (take n s.content)) n s.covers (λ c few. omega (arith, few, length-take n s.content)) within
 
--- cover what they covered
+-- the lowered covers cover of the first bytes what they covered of the content
 lowered_first : (sum : List ℕ → ℕ) (P n : ℕ) (s : RunState) (d : Disk) → All (λ c. c.1 ≤ length s.content) s.covers → AllCover sum P s.content s.covers d → AllCover sum P (take n s.content) (lowered n s).covers d
 lowered_first sum P n s d within covered =
     all_lowered (λ c. (c.1 ≤ length s.content) × WouldKeep sum P s.content c.0 c.1 d) (λ c. WouldKeep sum P (take n s.content) c.0 c.1 d) n s.covers (λ c both. would_first sum P n s.content c.0 c.1 d both.0 both.1)
     (λ k x lt. (within k x lt, covered k x lt))
 
--- and have the names that they had
+-- the lowered covers have the names that they had
 lowered_any : (n asked : ℕ) (covers : List (ℕ × ℕ)) → list_any (λ (c : ℕ × ℕ). nat_eq c.0 asked) (map (λ (c : ℕ × ℕ). (c.0, min n c.1)) covers) ≡ list_any (λ (c : ℕ × ℕ). nat_eq c.0 asked) covers
 lowered_any n asked [] = refl
 lowered_any n asked (c ∷ cs) = rw (lowered_any n asked cs) refl
@@ -74,7 +74,7 @@ lowered_names n names s fits = λ asked. fits asked ∙ sym (lowered_any n asked
 
 -- ---- each moment
 
--- what each moment of a truncate says, by the content and what stands lowered
+-- what holds at each moment of a truncate, by the content and the lowered standing
 record CutHalves (sum : List ℕ → ℕ) (P n : ℕ) (s : RunState) (old new : Life) (moments : List Disk) : Type 0 where
   goes : new ≡ life_after old moments
   kept : Each (AllKeep sum P s.content (lowered n s).floor) (old.present ∷ moments)
@@ -106,7 +106,7 @@ cut_halves sum P n s old new enough within keeps covered floors covering through
       only = (through.start, through.each);
     }
 
--- from what the call says, in the words of the standing
+-- what a crash leaves at each moment, by what the call promises, in the words of the standing
 says_only : (sum : List ℕ → ℕ) (P : ℕ) (was : SessionState) (w : WriterState) (n : ℕ) (old new : Life) (s : RunState) → StandsApart sum P (held was (Some w)) s old.present
     → LeavesOnly sum w.page_size (content_of w old.present.readable) (take n (content_of w old.present.readable)) old new → LeavesOnly sum P s.content (take n s.content) old new
 says_only sum P was w n old new s stands only =
@@ -138,7 +138,7 @@ rewrite_few : (whole : Bool) → (if whole then 0 else 4) ≤ 4
 rewrite_few true = lit≤ tt
 rewrite_few false = lit≤ tt
 
--- six at most cut
+-- a cut makes six calls at most
 shorten_few : (P size n : ℕ) → shorten_calls P size n ≤ 6
 shorten_few P size n = omega (arith, resize_few (div_ceil n P == div_ceil size P), rewrite_few (n % P == 0))
 
@@ -153,7 +153,7 @@ truncate_few w n size is = by_test (nat_lt n size) (nat_lt n (size_of w)) (ap (�
 
 -- ---- one step
 
--- the standing as it begins
+-- the standing as a truncate begins
 lowers : (n : ℕ) (s : RunState) → s.has_writer ≡ true → s.recovering ≡ true → at_step (Truncate n) s ≡ forgetting (lowered n s)
 lowers n s has phase = by_phase s.has_writer s.recovering has phase
   where
@@ -170,7 +170,7 @@ not_turned n s has phase = by_phase s.has_writer s.recovering has phase
     by_phase false b one two = absurd (false≢true one)
     by_phase true false one two = absurd (false≢true two)
 
--- by what each moment says
+-- a truncate, by what holds at each moment
 cut_steps : (sum : List ℕ → ℕ) (P n : ℕ) (was : SessionState) (w : WriterState) (reply : Reply) (now : SessionState) (old new : Life) (before after : RunState) (moments : List Disk) → was.recovering ≡ true → IsSound sum w old.present
     → StandsApart sum P (held was (Some w)) before old.present → CutHalves sum P n before old new moments → length new.present.log ≤ length old.present.log + truncate_calls w n
     → ((s : RunState) → s ≡ forgetting (lowered n before) → at_step (Truncate n) before ≡ s → TakesStep sum P (Truncate n) reply old.present new.present before after)
@@ -225,7 +225,7 @@ truncate_steps sum was w v n cache after old new recovering sound says = λ P be
     cut_steps sum P n was w (Length (size_of v)) (held was (Some v)) old new before (truncated P n (forgetting (lowered n before))) through.moments recovering sound stands h says.costs.calls
     (λ s lower begins. subst (λ (x : RunState). (size_of v ≡ min n (length x.content)) × (truncated P n (forgetting (lowered n before)) ≡ truncated P n x)) (sym (begins ∙ lower)) (is.size ∙ ap (λ (k : ℕ). min n k) size, refl)) after_it
 
--- why one is refused
+-- why a truncate is refused
 truncate_cause : (sum : List ℕ → ℕ) (P n : ℕ) (w : WriterState) (before : RunState) (old new : Life) (e : Error) → IsSound sum w old.present → before.awaited ≡ pending_in w.sync → TruncateCause sum n w old new e
     → HasCause P (Truncate n) before old.present new.present e
 truncate_cause sum P n w before old new ReadFailed sound awaited cause = ((0, lit< tt, refl), cause)
@@ -258,7 +258,7 @@ truncate_refused_steps sum was w n e cache after old new recovering sound says =
     cut_steps sum P n was w (Fault e) (held was None) old new before (ended (take n before.content) (forgetting (lowered n before))) through.moments recovering sound stands h says.costs.calls
     (λ s lower begins. (cause, subst (λ (x : RunState). ended (take n before.content) (forgetting (lowered n before)) ≡ ended (take n x.content) x) (sym (begins ∙ lower)) refl)) after_it
 
--- where the recovery has ended it is turned away
+-- where the recovery has ended a truncate is turned away
 turned_steps : (sum : List ℕ → ℕ) (was : SessionState) (w : WriterState) (n : ℕ) (life : Life) → was.recovering ≡ false → AlwaysApart sum (Truncate n) NotRecovering (held was (Some w)) (held was (Some w)) life life
 turned_steps sum was w n life ends = λ P before stands.
     let has = stands.fits.has_writer in
@@ -333,12 +333,12 @@ truncated_closed sum was now n old new reply ready at rest closed =
     closed_takes sum (Truncate n) was now old new reply (λ before none. closed_turned n before none) at ready closed.replied
     (rest ∙ ap (λ (o : Option WriterState). held was o) (closed.writer ∙ sym at) ∙ sym (held_same was was.writer refl)) closed.life
 
--- by one in recovery
+-- a truncate by a session in recovery
 pub truncated_cut : (sum : List ℕ → ℕ) (was now : SessionState) (w : WriterState) (n : ℕ) (cache after : CacheState) (old new : Life) (reply : Reply) → IsReadyApart sum was old.present → was.recovering ≡ true → was.writer ≡ Some w → KeepsRest was now → TruncatesWriter sum w now.writer n cache after old new reply
     → StepsBy true sum (Truncate n) reply was now old new
 truncated_cut sum was now w n cache after old new reply ready phase at rest cuts = cuts_takes sum was now w n cache after old new reply at phase (sound_of sum was w old.present at ready) rest cuts
 
--- and by one whose recovery has ended
+-- a truncate by a session whose recovery has ended
 pub truncated_turned : (sum : List ℕ → ℕ) (was now : SessionState) (w : WriterState) (n : ℕ) (cache after : CacheState) (old new : Life) (reply : Reply) → IsReadyApart sum was old.present → was.recovering ≡ false → was.writer ≡ Some w → KeepsRest was now → DidTruncate sum false (Some w) now.writer n cache after old new reply
     → StepsApart sum (Truncate n) reply was now old new
 truncated_turned sum was now w n cache after old new reply ready phase at rest (replied, is, same, held) =

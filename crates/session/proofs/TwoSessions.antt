@@ -18,7 +18,7 @@ use Rattle.session.proofs.ComesBackExamples.{empty}
 pub closed_has_none : (id : ℕ) → IsOther closed id
 closed_has_none id = record { writer = tt; snapshots = λ k o lt. absurd (omega (arith, lt)) }
 
--- the steps of one: the other may take some next
+-- after the steps of one session, the other may take some
 reads_writer : (o : Option WriterState) (was now : SessionState) (cache after : CacheState) (d : Disk) → IfSome o (λ w. IsOther was w.id) → LeavesOtherBlobs was now cache after → FitsWriter o cache d → FitsWriter o after d
 reads_writer None was now cache after d apart leaves fits = tt
 reads_writer (Some w) was now cache after d apart leaves fits = leaves.reads (tail_of w) d apart fits
@@ -36,7 +36,7 @@ still_fits was now other cache after d apart leaves fits = record {
 pub still_ready : (sum : List ℕ → ℕ) (was now other : SessionState) (cache after : CacheState) (d : Disk) → AreApart was other → LeavesOtherBlobs was now cache after → IsFresh after → IsSessionReady sum other cache d → IsSessionReady sum other after d
 still_ready sum was now other cache after d apart leaves fresh ready = record { steps = ready.steps; cached = still_fits was now other cache after d apart leaves ready.cached; fresh = fresh }
 
--- and it is still apart
+-- after the steps of one session, the other is still apart from it
 apart_writer : (o : Option WriterState) (was now : SessionState) (cache after : CacheState) → LeavesOtherBlobs was now cache after → IfSome o (λ w. IsOther was w.id) → IfSome o (λ w. IsOther now w.id)
 apart_writer None was now cache after leaves apart = tt
 apart_writer (Some w) was now cache after leaves apart = leaves.apart w.id apart
@@ -51,7 +51,7 @@ still_apart was now other cache after apart leaves = record {
   snapshots = λ k o lt. apart_snapshot (get_or other.snapshots k o) was now cache after leaves (apart.snapshots k o lt);
 }
 
--- each of the two from the other
+-- each of two sessions from the other
 module _ (a b : SessionState) (apart : AreApart a b) where
   -- a part of the second is not of the blob of this id
   writer_not : (o : Option WriterState) (id : ℕ) → IfSome o (λ w. IsOther a w.id) → ((v : ℕ) → IsOther a v → v ≢ id) → IsNotOf id o
@@ -109,23 +109,23 @@ can_read_none = record { there = lit≤ tt; page_size = refl; given = lit< tt; c
 can_read_one : CanRead one_page two_given sevens
 can_read_one = record { there = lit≤ tt; page_size = refl; given = lit< tt; cached = λ page bytes lt held. absurd (cc held) }
 
--- make the cache anew
+-- steps may not make the cache anew
 no_new_cache : LeavesOtherBlobs closed closed two_given (empty_cache 4 10) → ⊥
 no_new_cache leaves = omega (arith, (leaves.reads no_page empty (closed_has_none 0) can_read_none).given)
 
 no_cache_anew : LeavesOthersAnew closed closed two_given (empty_cache 4 10) → ⊥
 no_cache_anew leaves = omega (arith, (leaves.reads no_page empty can_read_none).given)
 
--- put a page under the id of another blob
+-- steps may not put a page under the id of another blob
 no_page_of_another : LeavesOtherBlobs closed closed two_given (record two_given { pages = ((1, 0), 0 ∷ 0 ∷ 0 ∷ 0 ∷ []) ∷ [] }) → ⊥
 no_page_of_another leaves =
     let put : 0 ∷ 0 ∷ 0 ∷ 0 ∷ [] ≡ 7 ∷ 7 ∷ 7 ∷ 7 ∷ [] = (leaves.reads one_page sevens (closed_has_none 1) can_read_one).cached 0 (0 ∷ 0 ∷ 0 ∷ 0 ∷ []) (lit< tt) refl in
     absurd (cc put)
 
--- take a snapshot of another blob
+-- steps may not take a snapshot of another blob
 no_snapshot_of_another : LeavesOtherBlobs closed (record closed { snapshots = Some one_page ∷ [] }) two_given two_given → ⊥
 no_snapshot_of_another leaves = (leaves.apart 1 (closed_has_none 1)).snapshots 0 None (lit< tt) refl
 
--- two of one blob
+-- two sessions may not be of one blob
 no_session_twice : AreApart (record closed { snapshots = Some one_page ∷ [] }) (record closed { snapshots = Some one_page ∷ [] }) → ⊥
 no_session_twice apart = (apart.snapshots 0 None (lit< tt)).snapshots 0 None (lit< tt) refl

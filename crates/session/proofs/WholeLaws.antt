@@ -25,20 +25,20 @@ use Rattle.session.proofs.TruncateLaws.{truncated_closed, truncated_cut, truncat
 
 -- ---- steps that a writer takes in either phase
 
--- one that leaves the names
+-- a step that leaves the names
 rest_of : (was now : SessionState) → KeepsSnapshots was now → now.names ≡ was.names → KeepsRest was now
 rest_of was now rest names = rest ∙ ap (λ (l : List ℕ). record was { writer = now.writer; names = l }) names
 
--- one that only looks
+-- a step that only looks at the writer
 same_of : (was now : SessionState) → KeepsSnapshots was now → LeavesWriterState was.writer now.writer was.names now.names → now ≡ was
 same_of was now rest stay = rest ∙ both_same was now.writer now.names stay.writer stay.given
 
 module _ (sum : List ℕ → ℕ) (was now : SessionState) (cache after : CacheState) (old new : Life) (reply : Reply) (ready : IsReadyApart sum was old.present) (fits : FitsWriter was.writer cache old.present) (rest : KeepsSnapshots was now) where
-  -- the session is as it was
+  -- a step that leaves the session as it was
   looks : (step : Step) → LeavesWriterState was.writer now.writer was.names now.names → StepsApart sum step reply was was old new → StepsApart sum step reply was now old new
   looks step stay steps = subst (λ (s : SessionState). StepsApart sum step reply was s old new) (sym (same_of was now rest stay)) steps
 
-  -- and so is the disk
+  -- a step that leaves the session and the disk as they were
   leaves : (step : Step) → new ≡ old → StepsApart sum step reply was now old old → StepsApart sum step reply was now old new
   leaves step same steps = subst (λ (life : Life). StepsApart sum step reply was now old life) (sym same) steps
 
@@ -74,7 +74,7 @@ module _ (sum : List ℕ → ℕ) (was now : SessionState) (cache after : CacheS
   taken_apart (DropSnapshot index) taken = absurd taken
   taken_apart (DropReplay index) taken = absurd taken
 
--- what it says
+-- what the call of such a step did
 pub taken_call : (sum : List ℕ → ℕ) (step : Step) (was now : SessionState) (cache after : CacheState) (old new : Life) (reply : Reply) → TakenBy sum step was.writer now.writer was.names now.names cache after old new reply → KeepsSnapshots was now
     → DidCall sum step reply was now cache after old new
 taken_call sum (Append bytes) was now cache after old new reply taken rest = (taken, rest)
@@ -154,7 +154,7 @@ cut_takes sum was now cache after n old new reply ready fits goes rest writer tu
     begun : now.recovering ≡ true → now.snapshots ≡ []
     begun is = same ∙ ready.begun (sym (ap (λ (s : SessionState). s.recovering) rest) ∙ is)
 
-    -- the session but for its replays
+    -- the session except for its replays
     steps : (cuts : Bool) → StepsBy cuts sum (Truncate n) reply was (record was { writer = now.writer }) old new → StepsBy cuts sum (Truncate n) reply was now old new
     steps cuts is = subst (λ (s : SessionState). StepsBy cuts sum (Truncate n) reply was s old new) (sym rest) (steps_with cuts sum (Truncate n) reply was (record was { writer = now.writer }) _ old new is)
 

@@ -27,7 +27,7 @@ use Rattle.session.proofs.AppendLaws.{wait_one}
 
 -- ---- whatever the call
 
--- a writer that goes on
+-- a writer that goes on, whatever the call
 goes_on : (sum : List ℕ → ℕ) (w now : WriterState) (more : List ℕ) (old new : Life) → Holds sum w old more now new → IsSound sum now new.present → StaysThrough sum w.page_size (content w old.present.readable ++ more) old new
     → Succeeds sum w old more now new
 goes_on sum w now more old new holds sound stays = record {
@@ -41,7 +41,7 @@ goes_on sum w now more old new holds sound stays = record {
   waits = holds.waits;
 }
 
--- or was refused
+-- a writer whose call was refused, whatever the call
 refuses : (sum : List ℕ → ℕ) (w : WriterState) (content : List ℕ) (old new : Life) (e : Error) → IsRefused w old new e → StaysThrough sum w.page_size content old new → Fails sum w content old new e
 refuses sum w content old new e refused stays = record { cause = refused.cause; stays = stays; log = refused.log }
 
@@ -49,11 +49,11 @@ module _ (sum : List ℕ → ℕ) (w : WriterState) (old new : Life) where
   abbrev pub held : List ℕ
   held = content w old.present.readable
 
-  -- the same, of one that appended nothing
+  -- a writer that goes on, of a call that appended nothing
   goes_same : (now : WriterState) → Holds sum w old [] now new → IsSound sum now new.present → StaysThrough sum w.page_size held old new → Succeeds sum w old [] now new
   goes_same now holds sound stays = goes_on sum w now [] old new holds sound (stays_nil sum w.page_size held old new stays)
 
-  -- a wait, which has no cache
+  -- a wait, which uses no cache
   pub wait_told : IsSound sum w old.present → (result : Result WriterState Error) → WaitSays sum w old new result → WaitTold sum w old new result
   wait_told sound result says = record {
     waits = by_answer result says.goes;
@@ -70,7 +70,7 @@ module _ (sum : List ℕ → ℕ) (w : WriterState) (old new : Life) where
       by_answer (Ok now) is = (goes_same now is.holds (is.sound sound) stays, is.state)
       by_answer (Err e) refused = refuses sum w held old new e refused stays
 
-  -- reads go on after it, with whichever cache
+  -- after a wait, reads go on, with whichever cache
   pub wait_reads : (now : WriterState) → HasWaited sum w old new now → (cache : CacheState) → CanRead (tail_of w) cache old.present → CanRead (tail_of now) cache new.present
   wait_reads now is cache can =
       let same : content now new.present.readable ≡ held = is.holds.content ∙ append-nil held in

@@ -22,12 +22,12 @@ use Rattle.paged_read.specs.Tail.{Tail}
 use Rattle.paged_read.specs.Replay.{ReplayState}
 use Rattle.paged.specs.Caches.{tail_of}
 
--- what each call of a writer owes to the started syncs, whatever it answers
+-- what each call of a writer keeps of the started syncs, whatever it answers
 pub record OwesStarts (sum : List ℕ → ℕ) (w : WriterState) (old new : Life) : Type 0 where
   pub covers : CoversThrough sum w.page_size (content_of w old.present.readable) old new
   pub starts : StartsCanBeAwaited new.present
 
--- what an append says of its answer
+-- the answer of an append
 pub record AppendTold (sum : List ℕ → ℕ) (w : WriterState) (bytes : List ℕ) (old new : Life)
     (result : Result (WriterState × ℕ) Error) : Type 0 where
   pub appends : Appends sum w bytes old new result
@@ -41,7 +41,7 @@ pub record AppendTold (sum : List ℕ → ℕ) (w : WriterState) (bytes : List �
   pub calls : AsksAtMost 3 old new
   pub owes : OwesStarts sum w old new
 
--- what a sync says of its answer
+-- the answer of a sync
 pub record SyncTold (sum : List ℕ → ℕ) (w : WriterState) (old new : Life)
     (result : Result WriterState Error) : Type 0 where
   pub syncs : Syncs sum w old new result
@@ -50,7 +50,7 @@ pub record SyncTold (sum : List ℕ → ℕ) (w : WriterState) (old new : Life)
   pub idle : sync_calls w ≡ 0 → (result ≡ Ok w) × (new ≡ old)
   pub owes : OwesStarts sum w old new
 
--- what starting a sync says of its answer
+-- the answer of starting a sync
 pub record StartTold (sum : List ℕ → ℕ) (w : WriterState) (old new : Life)
     (result : Result (WriterState × StartedSync) Error) : Type 0 where
   pub starts_sync : StartsSync sum w old new result
@@ -60,7 +60,7 @@ pub record StartTold (sum : List ℕ → ℕ) (w : WriterState) (old new : Life)
   pub fresh : 0 < start_calls w → IfOk result (λ r. r.1 ≡ Named (length old.present.started))
   pub owes : OwesStarts sum w old new
 
--- what a wait says of its answer
+-- the answer of a wait
 pub record WaitTold (sum : List ℕ → ℕ) (w : WriterState) (old new : Life)
     (result : Result WriterState Error) : Type 0 where
   pub waits : WaitsForSync sum w old new result
@@ -69,7 +69,7 @@ pub record WaitTold (sum : List ℕ → ℕ) (w : WriterState) (old new : Life)
   pub idle : wait_calls w.sync ≡ 0 → (result ≡ Ok w) × (new ≡ old)
   pub owes : OwesStarts sum w old new
 
--- what a snapshot says of its answer
+-- the answer of a snapshot
 pub record SnapshotTold (sum : List ℕ → ℕ) (w : WriterState) (old new : Life)
     (result : Result (WriterState × Tail) Error) : Type 0 where
   pub makes : MakesSnapshot sum w old new result
@@ -79,7 +79,7 @@ pub record SnapshotTold (sum : List ℕ → ℕ) (w : WriterState) (old new : Li
   pub dirty : has_work w false ≡ true → IfOk result (λ r. r.0.sync ≡ Dirty)
   pub owes : OwesStarts sum w old new
 
--- what sealing a writer says of its answer
+-- the answer of sealing a writer
 pub record SealTold (sum : List ℕ → ℕ) (w : WriterState) (old new : Life)
     (result : Result (Tail × StartedSync) Error) : Type 0 where
   pub seals : SealsWriter sum w old new result
@@ -88,7 +88,7 @@ pub record SealTold (sum : List ℕ → ℕ) (w : WriterState) (old new : Life)
   pub idle : seal_calls w ≡ 0 → (result ≡ Ok (tail_of w, AllDone)) × (new ≡ old)
   pub owes : OwesStarts sum w old new
 
--- what the beginning of a replay, with a buffer of this size, says of its answer
+-- the answer of the beginning of a replay, with a buffer of this size
 pub record ReplayTold (sum : List ℕ → ℕ) (w : WriterState) (buffer_size : ℕ) (old new : Life)
     (result : Result (WriterState × ReplayState) Error) : Type 0 where
   pub begins : BeginsReplay sum w buffer_size old new result

@@ -56,29 +56,30 @@ use Rattle.session.specs.Run.{RunState, SessionState, Did, Represents, IsSoundSe
 use Rattle.session.specs.Run.{IsSessionReady, RunsAlways, fit_together, numbered}
 use Rattle.session.specs.Others.{WriterLeavesOthers}
 
--- what a call of the writer leaves of the session but the writer
+-- a call of the writer leaves the session as it was, except the writer
 abbrev pub KeepsRest : SessionState → SessionState → Type 0
 KeepsRest was now = now ≡ record was { writer = now.writer }
 
--- what a call of the writer leaves of the session, except the writer and the replays
+-- a call of the writer leaves the session as it was, except the writer and the replays
 abbrev pub KeepsButReplays : SessionState → SessionState → Type 0
 KeepsButReplays was now = now ≡ record was { writer = now.writer; replays = now.replays }
 
--- what a truncate leaves of the session, except the writer: it forgets the replays if it is called
+-- a truncate leaves the session as it was, except the writer; if there is a writer in recovery, the
+-- replays are forgotten
 abbrev pub KeepsUncut : SessionState → SessionState → Type 0
 KeepsUncut was now =
     let cuts = was.recovering && is_some was.writer in
     let left = if cuts then map (λ r. None) was.replays else was.replays in
     now ≡ record was { writer = now.writer; replays = left }
 
--- what a call that takes the writer says: what it answers, and whatever that is, what it owes and
--- costs
+-- the contract of a call that takes the writer: what it answers; and whatever that is, what holds
+-- at each of its moments, and what it costs
 pub record Says (Goes Owed Costs : Type 0) : Type 0 where
   pub goes : Goes
   pub owes : Owed
   pub costs : Costs
 
--- a session with no writer
+-- a step that needs a writer, in a session with none: the reply is `Closed`, and nothing is done
 pub record IsClosed (now : Option WriterState) (old new : Life) (reply : Reply) : Type 0 where
   pub replied : reply ≡ Closed
   pub writer : now ≡ None
@@ -92,7 +93,7 @@ AppendSays sum w bytes cache after old new result =
     Says (AppendGoes sum w bytes old new result) (Owes sum w all cache after old new)
     (AppendCosts w bytes cache after old new result)
 
--- by a session with this writer, or none
+-- an append by a session with this writer, or none
 abbrev pub DidAppend : (List ℕ → ℕ) → Option WriterState → Option WriterState → List ℕ
     → (cache after : CacheState) → Life → Life → Reply → Type 0
 DidAppend sum None now bytes cache after old new reply =
@@ -104,8 +105,8 @@ DidAppend sum (Some w) now bytes cache after old new (Fault e) =
     (now ≡ None) × AppendSays sum w bytes cache after old new (Err e)
 DidAppend sum (Some w) now bytes cache after old new _ = ⊥
 
--- an append within the capacity, which keeps the writer: it has buffered the bytes, which is an
--- append, or is as it was
+-- a try to append within the capacity, by a session with this writer, or none: a writer that took
+-- the bytes has buffered them, and else it is as it was
 abbrev pub TriedAppend : (List ℕ → ℕ) → Option WriterState → Option WriterState → List ℕ → Reply
     → Type 0
 TriedAppend sum None now bytes reply = (reply ≡ Closed) × (now ≡ None)
@@ -172,7 +173,7 @@ StartSays sum w cache after old new result =
     Says (StartSyncGoes sum w old new result) (Owes sum w all cache after old new)
     (StartSyncCosts w cache after old new result)
 
--- by a session with this writer and these names
+-- a start of a sync by a session with this writer, or none, and these names
 abbrev pub DidStartSync : (List ℕ → ℕ) → (was now : Option WriterState) → (names more : List ℕ)
     → (cache after : CacheState) → Life → Life → Reply → Type 0
 DidStartSync sum None now names more cache after old new reply =
@@ -185,7 +186,7 @@ DidStartSync sum (Some w) now names more cache after old new (Fault e) =
     ⊎ NamesHadNoRoom e w now names more cache after old new
 DidStartSync sum (Some w) now names more cache after old new _ = ⊥
 
--- a wait, which has no cache
+-- a wait for the sync that the writer started last, which uses no cache
 abbrev pub WaitSays : (List ℕ → ℕ) → WriterState → Life → Life → Result WriterState Error → Type 0
 WaitSays sum w old new result =
     Says (WaitForSyncGoes sum w old new result) (OwesWaiting sum w old new)
@@ -206,7 +207,7 @@ DidWaitFor true name old new (Fault e) = WaitGoes name old new (Err e)
 DidWaitFor true name old new _ = ⊥
 DidWaitFor false name old new reply = (reply ≡ NoSuch) × (new ≡ old)
 
--- whether it was
+-- whether the session was given this name
 abbrev pub is_given : List ℕ → (name : ℕ) → Bool
 is_given names name = list_any (λ n. nat_eq n name) names
 
@@ -227,7 +228,7 @@ TruncateSays sum w n cache after old new result =
     Says (TruncateGoes sum n w cache after old new result)
     (OwesCutting sum n w cache after old new) (TruncateCosts n w cache after old new result)
 
--- by a session with a writer in recovery
+-- a truncate to n bytes by a session with a writer in recovery
 abbrev pub TruncatesWriter : (List ℕ → ℕ) → WriterState → Option WriterState → (n : ℕ)
     → (cache after : CacheState) → Life → Life → Reply → Type 0
 TruncatesWriter sum w now n cache after old new (Length m) =
@@ -252,7 +253,8 @@ abbrev pub Sized : Option WriterState → Reply → Type 0
 Sized None reply = reply ≡ Closed
 Sized (Some w) reply = reply ≡ Length (size_of w)
 
--- what a read says of its answer: which bytes, and what it asks of the device and puts in the cache
+-- the contract of a read: which bytes it answers, and what it asks of the device and puts in the
+-- cache
 pub record ReadSays (sum : List ℕ → ℕ) (t : Tail) (cache after : CacheState) (offset len : ℕ)
     (old new : Life) (result : Result (Vec ℕ Global) Error) : Type 0 where
   pub goes : ReadGoes {A = Vec ℕ Global} sum t cache (offset, len) (λ bytes. bytes.items) old new
@@ -282,7 +284,7 @@ DidRead sum None cache after offset len old new reply =
 DidRead sum (Some w) cache after offset len old new reply =
     RangeStepGoes sum (tail_of w) cache after offset len old new reply
 
--- what a read of at most so many bytes says of its answer
+-- the contract of a read of at most so many bytes: which it answers, and what the read costs
 pub record ReadUpToSays (sum : List ℕ → ℕ) (t : Tail) (cache after : CacheState) (offset len : ℕ)
     (old new : Life) (result : Result (Vec ℕ Global × ℕ) Error) : Type 0 where
   pub goes : ReadUpToGoes sum t cache offset len old new result
@@ -310,8 +312,9 @@ DidReadUpTo sum None cache after offset len old new reply =
 DidReadUpTo sum (Some w) cache after offset len old new reply =
     ReadsUpToRange sum (tail_of w) cache after offset len old new reply
 
--- the bytes, where they are within the size and the cache holds the pages of those below the tip;
--- there is no memory for bytes within the size; or they can't be had without the device
+-- the reply to a read that asks no device: the bytes, if they are within the size and the cache
+-- holds the pages of those below the tip; else `Nothing`; or, for bytes within the size,
+-- OutOfMemory
 abbrev pub TriedBytes : WriterState → CacheState → (offset len : ℕ) → Reply → Type 0
 TriedBytes w cache offset len (Bytes bytes) =
     TryReadGoes (tail_of w) (offset, len) cache bytes.items true
@@ -335,7 +338,7 @@ ReadsRanges sum w cache ranges old new (Fault e) =
     ReadsMany sum (tail_of w) cache ranges [] old new (Err e)
 ReadsRanges sum w cache ranges old new _ = ⊥
 
--- what it asks of the device and puts in the cache
+-- what a read of ranges asks of the device and puts in the cache
 abbrev pub CostsRanges : (List ℕ → ℕ) → WriterState → (cache after : CacheState) → List (ℕ × ℕ)
     → Life → Life → Reply → Type 0
 CostsRanges sum w cache after ranges old new (Served count bytes) =
@@ -344,7 +347,7 @@ CostsRanges sum w cache after ranges old new (Fault e) =
     ReadManyCosts {A = ℕ} sum (tail_of w) ranges cache after old new (Err e)
 CostsRanges sum w cache after ranges old new _ = ⊥
 
--- what a read of ranges that one call can take says of its answer
+-- the contract of a read of ranges that one call can take
 pub record ReadRangesSays (sum : List ℕ → ℕ) (w : WriterState) (cache after : CacheState)
     (ranges : List (ℕ × ℕ)) (old new : Life) (reply : Reply) : Type 0 where
   pub reads : ReadsRanges sum w cache ranges old new reply
@@ -379,8 +382,8 @@ DidTryReadRanges None fit cache ranges reply = reply ≡ Closed
 DidTryReadRanges (Some w) false cache ranges reply = reply ≡ BadRanges
 DidTryReadRanges (Some w) true cache ranges reply = TriedRanges w cache ranges reply
 
--- what a scan of the first most bytes says of its answer, where so many count as told: how many it
--- counts, and in which pieces it reads
+-- the contract of a scan of the first `most` bytes, of which the first `proven` bytes count as
+-- proven: how many the scan counts, and in which pieces it reads
 pub record ScanSays (sum : List ℕ → ℕ) (w : WriterState) (proven most buffer_size : ℕ)
     (old new : Life) (result : Result ℕ Error) : Type 0 where
   pub goes : ScanFirstGoes sum w proven most old new result
@@ -437,7 +440,7 @@ abbrev pub HadNoRoomFor : Error → SessionState → SessionState → (cache aft
 HadNoRoomFor e was now cache after old new =
     (e ≡ OutOfMemory) × (now ≡ was) × (new ≡ old) × (after ≡ cache)
 
--- by a session with a writer that appends
+-- a snapshot by a session with a writer that appends
 abbrev pub TakesSnapshot : (List ℕ → ℕ) → WriterState → (was now : SessionState)
     → (cache after : CacheState) → Life → Life → Reply → Type 0
 TakesSnapshot sum w was now cache after old new (Taken index) =
@@ -449,7 +452,7 @@ TakesSnapshot sum w was now cache after old new (Fault e) =
     ⊎ HadNoRoomFor e was now cache after old new
 TakesSnapshot sum w was now cache after old new _ = ⊥
 
--- one for which nothing is written
+-- a try to make a snapshot for which nothing is written: `Nothing` if a full page is buffered
 abbrev pub TakesTriedSnapshot : WriterState → (was now : SessionState) → Reply → Type 0
 TakesTriedSnapshot w was now (Taken index) =
     (length w.tip < w.page_size) × (index ≡ length was.snapshots)
@@ -458,7 +461,7 @@ TakesTriedSnapshot w was now Nothing = (w.page_size ≤ length w.tip) × (now �
 TakesTriedSnapshot w was now (Fault e) = (e ≡ OutOfMemory) × (now ≡ was)
 TakesTriedSnapshot w was now _ = ⊥
 
--- the end of a writer
+-- a seal, which ends the writer
 abbrev pub SealSays : (List ℕ → ℕ) → WriterState → (cache after : CacheState) → Life → Life
     → Result (Tail × StartedSync) Error → Type 0
 SealSays sum w cache after old new result =
@@ -474,7 +477,7 @@ sealed_with was t sync = record was {
   snapshots = was.snapshots ++ Some t ∷ [];
 }
 
--- of one that appends, by its session
+-- a seal by a session with a writer that appends
 abbrev pub SealsSession : (List ℕ → ℕ) → WriterState → (was now : SessionState)
     → (cache after : CacheState) → Life → Life → Reply → Type 0
 SealsSession sum w was now cache after old new (Sealed index sync) =
@@ -485,15 +488,15 @@ SealsSession sum w was now cache after old new (Fault e) =
     ⊎ HadNoRoomFor e was now cache after old new
 SealsSession sum w was now cache after old new _ = ⊥
 
--- a step of a writer that appends, by whether the session is in recovery, and its writer: where it
--- is turned away, this is so
+-- a step that needs a writer that appends, by whether the session is in recovery, and its writer.
+-- If there is no such writer, the step is turned away, and then `turned` holds
 abbrev pub IfAppending : (recovering : Bool) → Option WriterState → Reply → (turned : Type 0)
     → (WriterState → Type 0) → Type 0
 IfAppending recovering None reply turned goes = (reply ≡ Closed) × turned
 IfAppending true (Some w) reply turned goes = (reply ≡ NotAppending) × turned
 IfAppending false (Some w) reply turned goes = goes w
 
--- each of the three that there are
+-- the three such steps: a snapshot, a try to make one, and a seal
 abbrev pub DidSnapshot : (List ℕ → ℕ) → (was now : SessionState) → (cache after : CacheState)
     → Life → Life → Reply → Type 0
 DidSnapshot sum was now cache after old new reply =
@@ -513,7 +516,7 @@ DidSeal sum was now cache after old new reply =
     IfAppending was.recovering was.writer reply turned (λ w.
     SealsSession sum w was now cache after old new reply)
 
--- a read of the snapshot of this number, if it stands
+-- a read of the snapshot of this number, if the session has it
 abbrev pub DidSnap : (List ℕ → ℕ) → Option Tail → (cache after : CacheState) → (offset len : ℕ)
     → Life → Life → Reply → Type 0
 DidSnap sum None cache after offset len old new reply =
@@ -541,7 +544,7 @@ pub record HadNoRoomForReplay (e : Error) (w : WriterState) (now : Option Writer
   pub cached : after ≡ cache
   pub life : new ≡ old
 
--- by a session with this writer and these replays
+-- the beginning of a replay by a session with this writer, or none, and these replays
 abbrev pub TakesReplay : (List ℕ → ℕ) → (was now : Option WriterState)
     → (replays more : List (Option ReplayState)) → (buffer_size : ℕ) → (cache after : CacheState)
     → Life → Life → Reply → Type 0
@@ -556,20 +559,21 @@ TakesReplay sum (Some w) now replays more buffer_size cache after old new (Fault
     ⊎ HadNoRoomForReplay e w now replays more cache after old new
 TakesReplay sum (Some w) now replays more buffer_size cache after old new _ = ⊥
 
--- what each step of a replay does to it: it goes on as q
+-- a step that asks the replay r for so many bytes at hand, by its reply: the replay goes on as q
 abbrev pub EnsuresOf : (List ℕ → ℕ) → (r q : ReplayState) → (count : ℕ) → Life → Life → Reply
     → Type 0
 EnsuresOf sum r q count old new (Answer answer) = Ensures sum r count q old new (Ok answer)
 EnsuresOf sum r q count old new (Fault e) = Ensures sum r count q old new (Err e)
 EnsuresOf sum r q count old new _ = ⊥
 
--- what a step that asks for so many bytes at hand says of it
+-- all of such a step: if the bytes were at hand, the device isn't asked
 pub record EnsureSays (sum : List ℕ → ℕ) (r q : ReplayState) (count : ℕ) (old new : Life)
     (reply : Reply) : Type 0 where
   pub ensures : EnsuresOf sum r q count old new reply
   pub idle : IsHad r count → new ≡ old
   pub through : ReplaysThrough r q old new
 
+-- a step that takes so many of r's bytes at hand, or all of them if there are fewer
 abbrev pub TakesOf : (r q : ReplayState) → (count : ℕ) → Reply → Type 0
 TakesOf r q count (Bytes bytes) =
     (bytes.items ≡ take (min count (length r.hand)) r.hand)
@@ -577,23 +581,25 @@ TakesOf r q count (Bytes bytes) =
 TakesOf r q count (Fault e) = (e ≡ OutOfMemory) × (q ≡ r)
 TakesOf r q count _ = ⊥
 
+-- a step that moves r to this logical offset
 abbrev pub SeeksOf : (r q : ReplayState) → (offset : ℕ) → Reply → Type 0
 SeeksOf r q offset Done = Seeks r offset q (Ok tt)
 SeeksOf r q offset (Fault e) = Seeks r offset q (Err e)
 SeeksOf r q offset _ = ⊥
 
--- a replay that stands can go on
+-- the replay, if it wasn't let go or forgotten, can go on
 abbrev pub ReplayCanGoOn : Option ReplayState → Disk → Type 0
 ReplayCanGoOn None d = Unit {0}
 ReplayCanGoOn (Some r) d = CanReplay r d
 
--- a step of one replay, which goes on so, or of one that was let go, or forgotten
+-- a step of a replay, which goes on as `goes` has it; if it was let go or forgotten, the reply is
+-- `NoSuch`, and `same` holds
 abbrev pub OfReplay : (was now : Option ReplayState) → Reply → (same : Type 0)
     → (goes : ReplayState → ReplayState → Type 0) → Type 0
 OfReplay None now reply same goes = (reply ≡ NoSuch) × (now ≡ None) × same
 OfReplay (Some r) now reply same goes = (q : ReplayState) × (now ≡ Some q) × goes r q
 
--- a step of the one of this number, if there is one
+-- a step of the replay of this number, if there is one
 abbrev pub AtReplay : (index : ℕ) → (was now : List (Option ReplayState)) → Reply → (same : Type 0)
     → (goes : ReplayState → ReplayState → Type 0) → Type 0
 AtReplay index was now reply same goes = elim (numbered was index) [
@@ -601,24 +607,25 @@ AtReplay index was now reply same goes = elim (numbered was index) [
   | Some r ↦ (q : ReplayState) × (now ≡ slice_set was index (Some q)) × goes r q
 ]
 
--- what is of this number is let go, if it stands, and nothing else is
+-- the snapshot or the replay of this number is let go, if there is one, and no other
 abbrev pub LetsGo : {A : Type 0} → (index : ℕ) → (was now : List (Option A)) → Reply → Type 0
 LetsGo index was now reply = elim (numbered was index) [
   | None ↦ (reply ≡ NoSuch) × (now ≡ was)
   | Some one ↦ (reply ≡ Done) × (now ≡ slice_set was index None)
 ]
 
--- all else of the session stays
+-- the session stays as it was, except the snapshots
 abbrev pub KeepsAllButSnapshots : SessionState → SessionState → Type 0
 KeepsAllButSnapshots was now = now ≡ record was { snapshots = now.snapshots }
 
+-- the session stays as it was, except the replays
 abbrev pub KeepsAllButReplays : SessionState → SessionState → Type 0
 KeepsAllButReplays was now = now ≡ record was { replays = now.replays }
 
 -- ---- a step of a session
 
--- what a call of a session's writer leaves of its own blob: each snapshot and each replay of its
--- full pages stands as it stood, and is of them still
+-- what a call of a session's writer leaves of its own blob: each snapshot and each replay whose
+-- full pages are among the writer's gives what it gave, and its pages are still among them
 pub record LeavesRunState (sum : List ℕ → ℕ) (was now : Option WriterState)
     (cache after : CacheState) (old new : Life) : Type 0 where
   pub snapshots : (t : Tail) (content : List ℕ) → IsBelow was t
@@ -634,7 +641,7 @@ pub record LeavesTaken (sum : List ℕ → ℕ) (was now : Option WriterState) (
   pub own : LeavesRunState sum was now cache after old new
   pub others : WriterLeavesOthers was now cache after
 
--- a step that a writer takes in recovery, and when it appends
+-- a step that a writer takes in either phase: in recovery, and when it appends
 abbrev pub IsOfEither : Step → Type 0
 IsOfEither (WaitSync name) = ⊥
 IsOfEither Begin = ⊥
@@ -651,12 +658,12 @@ IsOfEither (DropSnapshot index) = ⊥
 IsOfEither (DropReplay index) = ⊥
 IsOfEither step = Unit {0}
 
--- what only looks at a writer
+-- a step that only looks at the writer leaves it, and the names
 pub record LeavesWriterState (was now : Option WriterState) (names more : List ℕ) : Type 0 where
   pub writer : now ≡ was
   pub given : more ≡ names
 
--- such a step, by a session with this writer and these names
+-- a step of either phase, by a session with this writer, or none, and these names
 abbrev pub TakenBy : (List ℕ → ℕ) → Step → (was now : Option WriterState) → (names more : List ℕ)
     → (cache after : CacheState) → Life → Life → Reply → Type 0
 TakenBy sum (Append bytes) was now names more cache after old new reply =
@@ -694,11 +701,11 @@ TakenBy sum (Scan proven most buffer_size) was now names more cache after old ne
     × LeavesWriterState was now names more × (after ≡ cache)
 TakenBy sum step was now names more cache after old new reply = ⊥
 
--- what a step of the writer leaves of the session but the writer and the names
+-- a step of the writer leaves the session as it was, except the writer and the names
 abbrev pub KeepsSnapshots : SessionState → SessionState → Type 0
 KeepsSnapshots was now = now ≡ record was { writer = now.writer; names = now.names }
 
--- one step by a session that stood for this
+-- one step by a session that stood for `before` as the step began
 pub record Stepped (sum : List ℕ → ℕ) (P : ℕ) (step : Step) (reply : Reply)
     (session : SessionState) (old new : Life) (before : RunState) : Type 0 where
   pub moments : List Disk
@@ -714,15 +721,15 @@ StepsAlways sum step reply was now old new =
     (P : ℕ) (before : RunState) → Represents sum P was before old.present
     → Stepped sum P step reply now old new before
 
--- one step, whatever the session stood for; it may take another then
+-- one step, whatever the session stood for; after the step the session may take another
 pub record Steps (sum : List ℕ → ℕ) (step : Step) (reply : Reply) (was now : SessionState)
     (old new : Life) : Type 0 where
   pub ready : IsSoundSession sum now new.present
   pub always : StepsAlways sum step reply was now old new
 
--- ---- what each step of a run says
+-- ---- what the call of each step promises
 
--- one step: what the call that it makes answers, owes and costs
+-- one step: what its call answers, what holds at each moment of the call, and what the call costs
 abbrev pub DidCall : (List ℕ → ℕ) → Step → Reply → (was now : SessionState)
     → (cache after : CacheState) → Life → Life → Type 0
 DidCall sum (WaitSync name) reply was now cache after old new =
@@ -776,8 +783,8 @@ RanCalls sum (step ∷ steps) (reply ∷ replies) was now cache after old new =
 RanCalls sum [] (reply ∷ replies) was now cache after old new = ⊥
 RanCalls sum (step ∷ steps) [] was now cache after old new = ⊥
 
--- a run: what came of it, whatever the session stood for when it began, and what each step's call
--- said
+-- a run: what came of the steps, whatever the session stood for when the run began, and what each
+-- step's call did
 pub record RunGoes (sum : List ℕ → ℕ) (steps : List Step) (was now : SessionState)
     (cache after : CacheState) (old new : Life) (earlier replies : List Reply) : Type 0 where
   pub always : RunsAlways sum steps was now old new earlier replies

@@ -9,7 +9,7 @@ abbrev pub writer_in : {B H : Type 0} → WriterPhase B H → Option WriterState
 writer_in (Recovery writer) = writer
 writer_in (Appending writer) = writer
 
--- its recovery hasn't ended
+-- the writer's recovery hasn't ended
 abbrev pub is_in_recovery : {B H : Type 0} → WriterPhase B H → Bool
 is_in_recovery (Recovery writer) = true
 is_in_recovery (Appending writer) = false

@@ -29,25 +29,25 @@ use Rattle.session.specs.Others.{IsNewTo}
 
 -- ---- the way back
 
--- a disk of this life, since it was so
+-- d is the disk at a moment between these two states of a life, or at one of them
 abbrev pub IsMoment : Life → Life → Disk → Type 0
 IsMoment old new d =
     (before after : List Disk) × (new ≡ life_after (life_after old before) after)
     × (d ≡ (life_after old before).present)
 
--- a crash: a new life begins with something that it may leave, all of it durable
+-- a crash of d: a new life begins with an image of d (what a crash may leave), all of it durable
 pub record HasCrashed (d e : Disk) : Type 0 where
   pub image : IsImage d e.readable
   pub durable : IsDurable e
 
--- a crash: a new life begins with an image of the one before, all of it durable; if it is to be
--- fair no checksum collides in the image
+-- a crash of d; if it is to be fair, which is to leave chance aside, no checksum collides in the
+-- image that it left
 pub record Crashes (sum : List ℕ → ℕ) (P : ℕ) (fair : Bool) (d e : Disk) : Type 0 where
   pub crashed : HasCrashed d e
   pub free : fair ≡ true → IsDistinct sum P d e.readable
 
--- a recovery began over d and came to the moment m: it was cut short there, or that is what its
--- answer left, an error too. Where it is fair, all of d was durable.
+-- a recovery began over d and came to the moment m: it was cut short there, or m is what it left
+-- when it answered, Ok or with an error. Where it is fair, all of d was durable.
 pub record Attempts (sum : List ℕ → ℕ) (P : ℕ) (fair : Bool) (d m : Disk) : Type 0 where
   pub old : Life
   pub new : Life
@@ -89,13 +89,13 @@ abbrev pub LeadsTo : (List ℕ → ℕ) → (P : ℕ) → (fair : Bool) → Disk
 LeadsTo sum P fair d m =
     (given : List ℕ) → ComesBack sum P fair m given → ComesBack sum P fair d given
 
--- the content is one's beginning
+-- the given bytes are a prefix of the content
 abbrev pub IsPrefixOf : List ℕ → List ℕ → Type 0
 IsPrefixOf given content = given ≡ take (length given) content
 
--- whatever comes back begins with the content's first floor bytes; and where each crash left what
--- is distinct, and each recovery began with all durable, as after a crash, it is a prefix of the
--- content, or of the other
+-- whatever comes back begins with the content's first `floor` bytes, its durable prefix. If no
+-- checksum collided in what each crash left, and each recovery began with all durable, as after a
+-- crash, then what comes back is a prefix of the content, or of the other
 pub record Survives (sum : List ℕ → ℕ) (P : ℕ) (content other : List ℕ) (floor : ℕ)
     (d : Disk) : Type 0 where
   pub kept : (fair : Bool) (given : List ℕ) → ComesBack sum P fair d given
@@ -124,8 +124,8 @@ EachStepIsExact sum P (step ∷ steps) (reply ∷ replies) from moments s after 
 EachStepIsExact sum P [] (reply ∷ replies) from moments s after = ⊥
 EachStepIsExact sum P (step ∷ steps) [] from moments s after = ⊥
 
--- a run, told moment by moment; the session stands at its end for what the replies say, so another
--- run may follow
+-- a run, moment by moment. At its end the session stands for what the replies say, so another run
+-- may follow
 pub record RunIsExact (sum : List ℕ → ℕ) (P : ℕ) (steps : List Step) (now : SessionState)
     (old new : Life) (earlier replies : List Reply) (before : RunState) : Type 0 where
   pub added : List Reply
@@ -136,7 +136,7 @@ pub record RunIsExact (sum : List ℕ → ℕ) (P : ℕ) (steps : List Step) (no
   pub tells : EachStepIsExact sum P steps added old.present moments before after
   pub stands : Represents sum P now after new.present
 
--- the promise of a run: so it is told whatever the session stood for when it began
+-- the promise of a run: it is exact, whatever the session stood for when it began
 abbrev pub Promises : (List ℕ → ℕ) → List Step → SessionState → SessionState → Life → Life
     → List Reply → List Reply → Type 0
 Promises sum steps was now old new earlier replies =
@@ -154,8 +154,8 @@ abbrev pub session_of : WriterState → SessionState
 session_of w =
     record { writer = Some w; recovering = true; names = []; snapshots = []; replays = [] }
 
--- what a session stands for that has begun with this content, all of it durable, and a buffer of so
--- many bytes
+-- what a session stands for that has begun with this content, all of it durable, and with a buffer
+-- of `capacity` bytes
 abbrev pub fresh : (P capacity : ℕ) → List ℕ → RunState
 fresh P capacity content = record {
   has_writer = true;
@@ -172,8 +172,8 @@ fresh P capacity content = record {
   replays = [];
 }
 
--- a recovery of these bytes at its end: the session that it gave stands for their text, all of it
--- durable
+-- a recovery at its end: the session that it gave stands for the text of the bytes that were
+-- readable (what a recovery keeps of them), all of it durable
 pub record IsBegun (sum : List ℕ → ℕ) (cache : CacheState) (capacity : ℕ) (old new : Life)
     (now : SessionState) : Type 0 where
   pub writer : WriterState
@@ -189,12 +189,14 @@ abbrev pub BeginsBy : (List ℕ → ℕ) → CacheState → (capacity : ℕ) →
 BeginsBy sum cache capacity old new (Ok now) = IsBegun sum cache capacity old new now
 BeginsBy sum cache capacity old new (Err e) = Recovers sum cache capacity old new (Err e)
 
--- the cache once a session has begun; where none has, an id may have been given or not
+-- the cache once a session has begun, with one id more given; if none has begun, an id may have
+-- been given or not
 abbrev pub GivesSessionId : Result SessionState Error → CacheState → CacheState → Type 0
 GivesSessionId (Ok now) old new = new ≡ record old { ids_given = old.ids_given + 1 }
 GivesSessionId (Err e) old new = (new ≡ old) ⊎ (new ≡ record old { ids_given = old.ids_given + 1 })
 
--- whatever a recovery answers, each moment of it is one that it came to
+-- whatever a recovery answers, each of its moments is one of an attempt over the disk that it began
+-- with
 abbrev pub AttemptsThrough : (List ℕ → ℕ) → (P : ℕ) → Life → Life → Type 0
 AttemptsThrough sum P old new =
     (fair : Bool) → (fair ≡ true → IsDurable old.present)
@@ -206,7 +208,7 @@ RecoversFrom sum P d =
     (fair : Bool) → (fair ≡ true → IsDurable d)
     → HasRecovered sum P fair d (text sum P d.readable)
 
--- whatever was stood for over this disk, this content keeps its floor
+-- whatever a session stood for over this disk, this content keeps that floor (durable prefix)
 abbrev pub BeginsWithFloor : (List ℕ → ℕ) → (P : ℕ) → Disk → List ℕ → Type 0
 BeginsWithFloor sum P d given =
     (was : SessionState) (s : RunState) → Represents sum P was s d
@@ -218,23 +220,25 @@ IsPrefixOfEither sum P d given =
     (was : SessionState) (s : RunState) → Represents sum P was s d
     → IsPrefixOf given s.content ⊎ IsPrefixOf given s.otherwise
 
--- what a recovery gave back, by what stood over d as it began
+-- what a recovery gave back, by what a session stood for over d as the recovery began
 pub record GivesBack (sum : List ℕ → ℕ) (P : ℕ) (d : Disk) : Type 0 where
   pub recovered : RecoversFrom sum P d
   pub floor : BeginsWithFloor sum P d (text sum P d.readable)
   pub content : IsDurable d → IsPrefixOfEither sum P d (text sum P d.readable)
 
--- what a recovery gave back of what a crash left, by what stood over d as that came
+-- what a recovery gave back of what a crash left, by what a session stood for over d as the crash
+-- came
 pub record GivesBackLeft (sum : List ℕ → ℕ) (P : ℕ) (d : Disk) (left : List ℕ) : Type 0 where
   pub floor : BeginsWithFloor sum P d (text sum P left)
   pub content : IsDistinct sum P d left → IsPrefixOfEither sum P d (text sum P left)
 
--- what comes back later from a recovery of what a crash left came through that crash
+-- what comes back from m comes back from d through a crash of d that left these bytes
 abbrev pub LeadsOn : (List ℕ → ℕ) → (P : ℕ) → (d : Disk) → (left : List ℕ) → Disk → Type 0
 LeadsOn sum P d left m =
     (fair : Bool) → (fair ≡ true → IsDistinct sum P d left) → LeadsTo sum P fair d m
 
--- what a session stands for with this writer, where every image keeps so much of its content
+-- what a session stands for with this writer, where every image (what a crash may leave) keeps the
+-- first `floor` bytes of the writer's content
 abbrev pub opened : WriterState → (floor : ℕ) → List ℕ → RunState
 opened w floor readable = record {
   has_writer = true;
@@ -251,7 +255,8 @@ opened w floor readable = record {
   replays = [];
 }
 
--- over each blob on which the writer is sound
+-- a session that begins with this writer stands for its content, over each blob on which the writer
+-- is sound (its invariant holds)
 abbrev pub RepresentsWhereSound : (List ℕ → ℕ) → WriterState → Type 0
 RepresentsWhereSound sum w =
     (d : Disk) (floor : ℕ) → IsSound sum w d → HoldsWithin w
@@ -261,15 +266,15 @@ RepresentsWhereSound sum w =
 
 -- ---- how a session begins, in a record each
 
--- a recovery of what a crash left was refused, for this
+-- a recovery of what a crash left was refused with this error
 abbrev pub RefusesLeft : (List ℕ → ℕ) → CacheState → (capacity : ℕ) → Life → (left : List ℕ)
     → Error → Life → Type 0
 RefusesLeft sum cache capacity old left e new =
     (mid : Life) × HasCrashed old.present mid.present × (mid.present.readable ≡ left)
     × Recovers sum cache capacity mid new (Err e)
 
--- what a recovery answers: the session that begins, by the answer; and what came back, by what
--- stood as the call began
+-- what a recovery answers: the session that begins, by the answer; and what came back, by what a
+-- session stood for as the call began
 pub record BeginGoes (sum : List ℕ → ℕ) (cache after : CacheState) (capacity : ℕ) (old new : Life)
     (result : Result SessionState Error) : Type 0 where
   pub begins : BeginsBy sum cache capacity old new result
@@ -279,7 +284,7 @@ pub record BeginGoes (sum : List ℕ → ℕ) (cache after : CacheState) (capaci
   pub apart : IfOk result (IsNewTo cache)
   pub gives : OnOk result (GivesBack sum cache.page_size old.present)
 
--- at each of its moments, and at every answer
+-- what holds at each moment of a recovery, whatever it answers
 pub record OwesBeginning (sum : List ℕ → ℕ) (P : ℕ) (cache after : CacheState) (old new : Life)
     : Type 0 where
   pub attempts : AttemptsThrough sum P old new
@@ -296,8 +301,8 @@ pub record CrashGoes (sum : List ℕ → ℕ) (was now : SessionState) (cache af
       let s = fresh P (adjusted capacity P) (text sum P left) in
       OnOk result (Represents sum P now s (life_of new).present)
   pub steps : OnOk result (IsSoundSession sum now (life_of new).present)
-  -- it begins with the floor that stood as the crash came, and chance aside it is a prefix of what
-  -- stood
+  -- what came back begins with the floor (durable prefix) of the moment of the crash; and chance
+  -- aside (no checksum collides) it is a prefix of a content of that moment
   pub gives : OnOk result (GivesBackLeft sum cache.page_size (life_of old).present left)
   -- the crash was refused, and nothing changed; or the recovery was, and the session is closed
   pub refused : IfErr result (λ e.

@@ -48,8 +48,8 @@ use Rattle.session.specs.declared.steps.Reply.TheVariants.{Replaying}
 
 -- ---- what a session stands for
 
--- a replay: the bytes that it goes over, how many of them are in full pages, where it stands, how
--- many from there on are at hand, and how many are read at once
+-- a replay: the bytes that it goes over, how many of them are in full pages, the logical offset at
+-- which it stands, how many bytes from there on are at hand, and how many are read at once
 pub record RunReplay : Type 0 where
   pub content : List ℕ
   pub whole : ℕ
@@ -62,11 +62,11 @@ pub record RunState : Type 0 where
   -- the recovery hasn't ended
   pub recovering : Bool
   pub content : List ℕ
-  -- how much of the content every crash keeps
+  -- the durable prefix: how many bytes of the content every crash keeps
   pub floor : ℕ
   -- the content that a refused step would have left: the content itself while there is a writer
   pub otherwise : List ℕ
-  -- the bytes of the buffer, and how many it holds
+  -- how many bytes the buffer has room for, and how many it holds
   pub capacity : ℕ
   pub buffered : ℕ
   -- nothing was appended since the last sync, started sync or recovery that answered Ok
@@ -76,7 +76,7 @@ pub record RunState : Type 0 where
   -- the names of started syncs, the newest first, and how much of the content every crash keeps
   -- once each has completed
   pub covers : List (ℕ × ℕ)
-  -- what each snapshot tells, the oldest first; none in the place of one that was let go
+  -- the bytes of each snapshot, the oldest first; none in the place of one that was let go
   pub snapshots : List (Option (List ℕ))
   -- the replays, the oldest first; none in the place of one that was let go, or forgotten
   pub replays : List (Option RunReplay)
@@ -85,16 +85,17 @@ pub record RunState : Type 0 where
 abbrev pub fits_buffer : RunState → ℕ → Bool
 fits_buffer s more = nat_le (s.buffered + more) s.capacity
 
--- how many are buffered then: where they don't fit, whole pages of P bytes are written
+-- how many bytes are buffered after so many more: if they don't fit, whole pages of P bytes are
+-- written
 abbrev pub buffered_after : (P : ℕ) → RunState → ℕ → ℕ
 buffered_after P s more = if fits_buffer s more then s.buffered + more else (s.buffered + more) % P
 
--- whether all is written then
+-- whether all is written after an append of these bytes
 abbrev pub written_after : List ℕ → Bool → Bool
 written_after [] written = written
 written_after (byte ∷ bytes) written = false
 
--- the started sync that is awaited then: where they don't fit it was waited for
+-- the started sync that is awaited after so many bytes more: if they don't fit, it was waited for
 abbrev pub awaited_after : RunState → ℕ → Option ℕ
 awaited_after s more = if fits_buffer s more then s.awaited else None
 
@@ -145,8 +146,8 @@ truncated P n s =
 abbrev pub noted : RunState → RunState
 noted s = record s { snapshots = s.snapshots ++ Some s.content ∷ [] }
 
--- the standing with its full pages written, in pages of P bytes; if there was one, a started sync
--- was waited for
+-- the standing with its full pages written, in pages of P bytes; if a full page was buffered, the
+-- started sync was waited for
 abbrev pub flushed : (P : ℕ) → RunState → RunState
 flushed P s = record s {
   buffered = if nat_lt s.buffered P then s.buffered else s.buffered % P;
@@ -158,7 +159,7 @@ abbrev pub left_by_seal : (P : ℕ) → StartedSync → RunState → RunState
 left_by_seal P sync s = record (noted (starting P sync s)) { has_writer = false }
 
 -- the standing with all of the content written, in pages of P bytes, without a sync; if something
--- wasn't written, a started sync was waited for
+-- wasn't written, the started sync was waited for
 abbrev pub rewritten : (P : ℕ) → RunState → RunState
 rewritten P s = record s {
   buffered = s.buffered % P;
@@ -220,15 +221,15 @@ raised d s = record s { floor = raised_floor d s.covers s.floor }
 abbrev pub ended : List ℕ → RunState → RunState
 ended otherwise s = record s { has_writer = false; otherwise = otherwise }
 
--- of the content no more than its first n bytes is kept, nor will be by a started sync
+-- the floor and what each started sync covers, cut to the first n bytes of the content
 abbrev pub lowered : (n : ℕ) → RunState → RunState
 lowered n s = record s {
   floor = min n s.floor;
   covers = map (λ c. (c.0, min n c.1)) s.covers;
 }
 
--- the standing as a step begins: where bytes are asked to be cut, they aren't kept from then on,
--- and the replays are forgotten
+-- the standing as a step begins: bytes that a truncate is to cut aren't kept from then on, and the
+-- replays are forgotten
 abbrev pub at_step : Step → RunState → RunState
 at_step (Truncate n) s = if s.has_writer && s.recovering then forgetting (lowered n s) else s
 at_step step s = s
@@ -239,7 +240,8 @@ at_step step s = s
 abbrev pub has_name : RunState → ℕ → Bool
 has_name s name = list_any (λ c. nat_eq c.0 name) s.covers
 
--- the one of this number: none where there is none, or it was let go, or forgotten
+-- the snapshot or the replay of this number: none if the number wasn't given, or if what it names
+-- was let go or forgotten
 abbrev pub numbered : {A : Type 0} → List (Option A) → (index : ℕ) → Option A
 numbered all index = elim (slice_get all index) [ None ↦ None | Some one ↦ one ]
 
@@ -247,7 +249,7 @@ numbered all index = elim (slice_get all index) [ None ↦ None | Some one ↦ o
 abbrev pub has_snapshot_at : RunState → ℕ → Bool
 has_snapshot_at s index = is_some (numbered s.snapshots index)
 
--- what it tells
+-- the bytes of the snapshot of this number; none of them if there is no such snapshot
 abbrev pub snapshot_at : RunState → ℕ → List ℕ
 snapshot_at s index = elim (numbered s.snapshots index) [ None ↦ [] | Some content ↦ content ]
 
@@ -255,7 +257,7 @@ snapshot_at s index = elim (numbered s.snapshots index) [ None ↦ [] | Some con
 abbrev pub has_replay_at : RunState → ℕ → Bool
 has_replay_at s index = is_some (numbered s.replays index)
 
--- how many bytes it goes over
+-- how many bytes the replay of this number goes over; 0 if there is no such replay
 abbrev pub replay_size : RunState → ℕ → ℕ
 replay_size s index =
     elim (numbered s.replays index) [ None ↦ 0 | Some r ↦ length r.content ]
@@ -272,7 +274,7 @@ in_order_from offset (range ∷ ranges) =
 abbrev pub fit_together : List (ℕ × ℕ) → Bool
 fit_together ranges = in_order_from 0 ranges && nat_lt (sum_by (λ range. range.1) ranges) (2 ^ 64)
 
--- the reply to a step of a writer that appends, where there is none
+-- the reply to a step that needs a writer that appends, where there is no such writer
 abbrev pub unless_appending : RunState → Option Reply
 unless_appending s =
     if s.has_writer then (if s.recovering then Some NotAppending else None) else Some Closed
@@ -310,8 +312,8 @@ abbrev pub IsSlice : List ℕ → (offset len : ℕ) → List ℕ → Type 0
 IsSlice content offset len bytes =
     (offset + len ≤ length content) × (bytes ≡ take len (drop offset content))
 
--- the bytes of a content from an offset on, as many as there are and at most so many. No byte may
--- be asked for anywhere, and some only before the end
+-- the bytes of a content from an offset on, as many as there are and at most so many. A read of
+-- zero bytes may be at any offset, and any other only before the end
 abbrev pub SlicesUpTo : List ℕ → (offset len : ℕ) → List ℕ → Type 0
 SlicesUpTo content offset len bytes =
     ((len ≡ 0) ⊎ (offset < length content)) × (bytes ≡ take len (drop offset content))
@@ -327,7 +329,7 @@ abbrev pub RiseBelow : (from end : ℕ) → List ℕ → Type 0
 RiseBelow from end [] = Unit {0}
 RiseBelow from end (n ∷ ns) = (from ≤ n) × (n < end) × RiseBelow (n + 1) end ns
 
--- the numbers of some of these ranges, rising; of all where one isn't within the content
+-- the numbers of some of these ranges, rising; of all ranges where one isn't within the content
 abbrev pub NumbersSome : List ℕ → (ranges : List (ℕ × ℕ)) → List ℕ → Type 0
 NumbersSome content ranges numbers =
     RiseBelow 0 (length ranges) numbers
@@ -339,8 +341,8 @@ pub record HasFetched (was now : RunReplay) : Type 0 where
   pub more : was.hand ≤ now.hand
   pub within : now.hand ≤ length now.content - now.position
 
--- whether so many bytes are at hand: if not, all are that are left. Not more are fetched than are
--- asked for, except for the rest of a batch
+-- whether so many bytes are at hand; if not, all the bytes that are left are at hand. No more bytes
+-- are fetched than are asked for, except for the rest of a batch
 pub record HasEnsured (was : RunReplay) (count : ℕ) (answer : Bool) (now : RunReplay) :
     Type 0 where
   pub fetched : HasFetched was now
@@ -349,7 +351,7 @@ pub record HasEnsured (was : RunReplay) (count : ℕ) (answer : Bool) (now : Run
   pub rest : answer ≡ false → now.position + now.hand ≡ length now.content
   pub most : now.hand ≤ max was.hand (count + was.batch)
 
--- a replay without the first so many of the bytes at hand, or without all
+-- a replay that has passed so many of its bytes at hand, or all of them if it has fewer
 abbrev pub passed : (count : ℕ) → RunReplay → RunReplay
 passed count r = record r {
   position = r.position + min count r.hand;
@@ -364,17 +366,18 @@ answer_of_start s from =
     then elim s.awaited [ None ↦ AllDone | Some name ↦ Named name ]
     else Named (length from.started)
 
--- what sealing answers: where all is written, that all is durable, and else a new one
+-- what sealing answers: where all is written, `Done`, since all is durable then, and else a new
+-- started sync
 abbrev pub sealed_by : RunState → Disk → StartedSync
 sealed_by s from = if s.written then AllDone else Named (length from.started)
 
--- this started sync has completed, if it is one
+-- the started sync of this name has completed, if there is a name
 abbrev pub HasCompleted : Option ℕ → Disk → Type 0
 HasCompleted None d = Unit {0}
 HasCompleted (Some name) d = is_complete d name ≡ true
 
 -- the reply to an accepted step, and the standing that it leaves, in pages of P bytes. A scan
--- answers how many bytes the text of the blob has, as far as it was to look.
+-- answers how many bytes the text of the blob has (what a recovery keeps), and at most `most`.
 abbrev pub Accepts : (List ℕ → ℕ) → (P : ℕ) → Step → Reply → (from to : Disk) → RunState
     → RunState → Type 0
 Accepts sum P (Append bytes) (At n) from to s after =
@@ -442,19 +445,20 @@ Accepts sum P step reply from to s after = ⊥
 pub record StepFaults : Type 1 where
   -- those of the device calls that it may make
   pub device : List Error
-  -- OffsetOverflow: an offset, or the blob that the new size needs, passes the greatest number
+  -- OffsetOverflow: an offset, or the blob that the new size needs, passes the greatest `u64`
   pub overflow : Type 0
-  -- BlobInsufficientLength: a range or an offset passes the end, and no greatest number; or some
-  -- bytes are asked for where there is none
+  -- BlobInsufficientLength: a range or an offset passes the end, but not the greatest `u64`; or
+  -- some bytes are asked for where there is none
   pub end : Type 0
   -- OutOfMemory: the step may ask for memory
   pub memory : Type 0
 
--- a step that answers none; each line of the table has what its step adds
+-- a step that answers no error; each line of the table has the errors that its step adds
 abbrev pub no_faults : StepFaults
 no_faults = record { device = []; overflow = ⊥; end = ⊥; memory = ⊥ }
 
--- the table, in pages of P bytes; of ranges the first that can't be read decides
+-- the table of the errors of each step, in pages of P bytes; for ranges, the first that can't be
+-- read decides
 abbrev pub faults : (P : ℕ) → Step → RunState → StepFaults
 faults P (Append bytes) s = record no_faults {
   device = WriteFailed ∷ SyncFailed ∷ [];
@@ -605,7 +609,8 @@ TakesStep sum P step (Fault e) from to s after =
     HasCause P step s from to e × RefusesStep step e from to (at_step step s) after
 TakesStep sum P step reply from to s after = Accepts sum P step reply from to (at_step step s) after
 
--- a fault that the standing alone tells comes before any other reply
+-- OffsetOverflow and BlobInsufficientLength follow from the standing alone, so either comes before
+-- any other reply
 abbrev pub FaultsComeFirst : (P : ℕ) → Step → Reply → RunState → Type 0
 FaultsComeFirst P step reply s =
     ((faults P step s).overflow → reply ≡ Fault OffsetOverflow)
@@ -631,7 +636,7 @@ abbrev pub needs_no_device : Option RunReplay → (count : ℕ) → Bool
 needs_no_device None count = true
 needs_no_device (Some r) count = nat_le count r.hand || nat_le r.whole (r.position + r.hand)
 
--- a wait for a started sync, if one is awaited
+-- a wait makes one call if a started sync is awaited, and else none
 abbrev pub use_of_wait : Option ℕ → DeviceUse
 use_of_wait None = Leaves
 use_of_wait (Some name) = Changes 1
@@ -676,7 +681,7 @@ UsesDevice Leaves from moments = moments ≡ []
 UsesDevice Looks from moments = Each (SameButLog from) moments
 UsesDevice (Changes most) from moments = length (last from moments).log ≤ length from.log + most
 
--- the other content that a step may leave
+-- the other content that a crash in a step may leave
 abbrev pub other_content : Step → RunState → List ℕ
 other_content step s = if s.has_writer then content_after step s.content else s.otherwise
 
@@ -696,9 +701,9 @@ pub record Did (sum : List ℕ → ℕ) (P : ℕ) (step : Step) (reply : Reply) 
   pub only : Each (AllOnly sum P before.content (other_content step before)) (from ∷ moments)
   pub within : (raised (last from moments) after).floor ≤ length after.content
 
--- a list of steps, through the moments of the run, from one standing to another: after each, what a
--- completed sync covers is a floor; and what stands between two steps, or where none is left, is
--- kept
+-- a list of steps, through the moments of the run, from one standing to another: after each step,
+-- what a completed sync covers is a floor; and the standing between two steps, or where no step is
+-- left, is kept
 abbrev pub Ran : (List ℕ → ℕ) → (P : ℕ) → List Step → List Reply → Disk → List Disk → RunState
     → RunState → Type 0
 Ran sum P [] [] from moments s after =
@@ -724,7 +729,7 @@ pub record SessionState : Type 0 where
   pub snapshots : List (Option Tail)
   pub replays : List (Option ReplayState)
 
--- how many of its snapshots, or of its replays, are kept
+-- how many of a session's snapshots, or of its replays, are kept
 abbrev pub count_open : {A : Type 0} → List (Option A) → ℕ
 count_open all = length (filter is_some all)
 
@@ -751,12 +756,12 @@ abbrev pub WriterFits : (P : ℕ) → Option WriterState → RunState → Disk �
 WriterFits P None s d = s.has_writer ≡ false
 WriterFits P (Some w) s d = WriterRepresents P w s d
 
--- the session has the names that the standing tells
+-- the names of a session are those of the standing's started syncs
 abbrev pub NamesFit : List ℕ → (covers : List (ℕ × ℕ)) → Type 0
 NamesFit names covers =
     (name : ℕ) → list_any (λ n. nat_eq n name) names ≡ list_any (λ c. nat_eq c.0 name) covers
 
--- a replay as a standing tells it, over a disk of which this is readable
+-- a replay as a standing has it, over a disk with these readable bytes
 abbrev pub replay_in_run : (readable : List ℕ) → ReplayState → RunReplay
 replay_in_run readable r = record {
   content = logical_bytes r.tail readable;
@@ -766,9 +771,11 @@ replay_in_run readable r = record {
   batch = r.batch * r.tail.page_size;
 }
 
--- what a session stands for over this disk, in pages of P bytes: every image keeps the floor, and
--- would keep what a started sync covers once that completed; and chance aside it has as its text a
--- prefix of one of the two contents. Each snapshot and each replay tells what it told.
+-- what a session stands for over this disk, in pages of P bytes. Every image (what a crash may
+-- leave) keeps the floor (the durable prefix), and would keep what a started sync covers once that
+-- sync completed. Chance aside (no checksum collides), an image's text, which is what a recovery
+-- keeps, is a prefix of one of the two contents. Each snapshot and each replay has the bytes that
+-- the standing has for it.
 pub record Represents (sum : List ℕ → ℕ) (P : ℕ) (session : SessionState) (s : RunState)
     (d : Disk) : Type 0 where
   pub fits : WriterFits P session.writer s d
@@ -792,14 +799,16 @@ abbrev pub IsBelow : Option WriterState → Tail → Type 0
 IsBelow None t = Unit {0}
 IsBelow (Some w) t = (t.page_size ≡ w.page_size) × (t.full_pages ≤ w.full_pages)
 
--- a session's snapshot: its pages are in the blob and full, and the writer never writes them again
+-- a session's snapshot: its pages are in the blob, each is a full page, and all are among the full
+-- pages of the writer, which never writes them again
 pub record IsSnapshot (sum : List ℕ → ℕ) (writer : Option WriterState) (t : Tail)
     (d : Disk) : Type 0 where
   pub there : HasPages t d
   pub full : HasFullPages sum t d
   pub below : IsBelow writer t
 
--- a replay that stands gives what it tells, in pages that the writer never writes again
+-- a replay, if it wasn't let go or forgotten, gives its bytes from pages that the writer never
+-- writes again
 abbrev pub IsReplayIn : (List ℕ → ℕ) → Option WriterState → Disk → Option ReplayState → Type 0
 IsReplayIn sum writer d None = Unit {0}
 IsReplayIn sum writer d (Some r) =
@@ -815,13 +824,13 @@ pub record IsSoundSession (sum : List ℕ → ℕ) (session : SessionState) (d :
   pub begun : session.recovering ≡ true → session.snapshots ≡ []
   pub replays : All (IsReplayIn sum session.writer d) session.replays
 
--- the cache fits the writer, if there is one: it gave its id, and what it holds of its pages is
--- theirs
+-- the cache fits the writer, if there is one: the cache gave the writer's id, and what the cache
+-- holds of the writer's pages is what they hold
 abbrev pub FitsWriter : Option WriterState → CacheState → Disk → Type 0
 FitsWriter None cache d = Unit {0}
 FitsWriter (Some w) cache d = CanRead (tail_of w) cache d
 
--- the cache fits the session: its writer, and each snapshot that stands, can be read with it
+-- the cache fits the session: the writer, and each snapshot that wasn't let go, can be read with it
 pub record CacheFits (session : SessionState) (cache : CacheState) (d : Disk) : Type 0 where
   pub writer : FitsWriter session.writer cache d
   pub snapshots : All (λ o. IfSome o (λ t. CanRead t cache d)) session.snapshots
@@ -839,7 +848,7 @@ abbrev pub KeepsCache : Option WriterState → Option WriterState → Type 0
 KeepsCache was now =
     (cache : CacheState) (d : Disk) → FitsWriter was cache d → FitsWriter now cache d
 
--- over another disk
+-- where a cache fitted a writer, or none, over one disk, it fits another over another disk
 abbrev pub FitsOn : Option WriterState → Option WriterState → Disk → Disk → Type 0
 FitsOn was now from to =
     (cache : CacheState) → FitsWriter was cache from → FitsWriter now cache to

@@ -14,7 +14,7 @@ use Rattle.page.specs.Geometry.{adjusted}
 
 -- a recovery within a limit that begins a session, by its answer: if one begins, no more was to go
 -- than is allowed. If more would go, the answer is that number, and the blob was only looked at.
--- After an error too, unless no more was to go
+-- After an error the blob was only looked at, unless no more was to go than is allowed
 abbrev pub BeginsWithin : (List ℕ → ℕ) → CacheState → (capacity allowed : ℕ) → Life → Life
     → Result SessionState Refusal → Type 0
 BeginsWithin sum cache capacity allowed old new (Ok now) =
@@ -26,13 +26,13 @@ BeginsWithin sum cache capacity allowed old new (Err (Failed e)) =
     (Looked old new ⊎ MayGo sum cache.page_size allowed old.present.readable)
     × BeginsBy sum cache capacity old new (Err e)
 
--- the cache after it: where more would go than is allowed, it gave no id
+-- the cache after a recovery within a limit: it gave no id if more would go than is allowed
 abbrev pub GivesSessionIdWithin : Result SessionState Refusal → CacheState → CacheState → Type 0
 GivesSessionIdWithin (Ok now) old new = GivesSessionId (Ok now) old new
 GivesSessionIdWithin (Err (WouldCut cut)) old new = new ≡ old
 GivesSessionIdWithin (Err (Failed e)) old new = GivesSessionId (Err e) old new
 
--- all that a recovery within a limit answers, as `BeginGoes` has it of one without
+-- all that a recovery within a limit answers, as `BeginGoes` has it for a recovery without one
 pub record BeginWithinGoes (sum : List ℕ → ℕ) (cache after : CacheState) (capacity allowed : ℕ)
     (old new : Life) (result : Result SessionState Refusal) : Type 0 where
   pub begins : BeginsWithin sum cache capacity allowed old new result

@@ -8,7 +8,7 @@ use crate::steps::Reply;
 
 impl<B, H> Session<B, H> {
     /// How many snapshots the session keeps: those that it made, except for those that were let go.
-    /// It goes through the numbers that were given.
+    /// The call goes through every number that was given.
     pub fn open_snapshots(&self) -> usize
         ensures { result ≡ count_open self.now.snapshots }
     {
@@ -16,7 +16,7 @@ impl<B, H> Session<B, H> {
     }
 
     /// How many replays the session keeps: those that it began, except for those that were let go
-    /// or that a truncate forgot. It goes through the numbers that were given.
+    /// or that a truncate forgot. The call goes through every number that was given.
     pub fn open_replays(&self) -> usize
         ensures { result ≡ count_open self.now.replays }
     {

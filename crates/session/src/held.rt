@@ -48,7 +48,7 @@ impl<B, H, Phase> Held<B, H, Phase> {
         }
     }
 
-    /// How many logical bytes the writer has.
+    /// How many logical bytes the writer has; `None` where there is no writer.
     pub(crate) fn size(&self) -> Option<u64>
         ensures { result ≡ option_map size_of self.now }
     {
@@ -209,7 +209,7 @@ impl<B: Blob, H: Sum, Phase> Held<B, H, Phase> {
         }
     }
 
-    // Room for the name is made first: refused there, nothing is started and the writer stays.
+    // Room for the name is made first. If it is refused, no sync is started and the writer stays.
     fn start_sync(&mut self, names: &mut Names, blob: &mut B, cache: &mut CacheRef) -> Reply
         requires sound { HasSoundWriter H.sum_of self.old (B.life blob.old).present }
         requires cached { FitsWriter self.old cache.old (B.life blob.old).present }
@@ -289,8 +289,8 @@ impl<B: Blob, H: Sum> Held<B, H, Recovering> {
     }
 }
 
-/// Appends a buffer of these bytes. Where there is no memory for one the bytes are appended from
-/// where they stand, so that an append tells an overflow before that.
+/// Copies these bytes into a buffer and appends that. If there is no memory for the buffer, it
+/// appends the bytes themselves, so that `OffsetOverflow` comes before `OutOfMemory`.
 fn append_copy<B: Blob, H: Sum, Phase>(
     alloc: Global,
     writer: Writer<B, H, Phase>,

@@ -59,7 +59,8 @@ impl Names {
         self.place(name).is_ok()
     }
 
-    // Where the name is, or else where it goes. Each look halves what is left.
+    // `Ok` with the place of the name, or `Err` with the place where it goes. Each look halves what
+    // is left.
     fn place(&self, name: u64) -> Result<usize, usize>
         ensures given { is_ok result ≡ is_given self.now.items name }
         ensures there { OnOk result (with_name name self.now.items ≡ self.now.items) }

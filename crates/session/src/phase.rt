@@ -5,8 +5,8 @@ use paged::{Append, Recovering};
 /// A session's writer, or none, in the phase that it is in.
 #[derive(Drop)]
 pub(crate) enum WriterPhase<B, H> {
-    /// Its recovery hasn't ended.
+    /// The writer's recovery hasn't ended.
     Recovery(Held<B, H, Recovering>),
-    /// It appends.
+    /// The recovery has ended: the writer appends.
     Appending(Held<B, H, Append>),
 }

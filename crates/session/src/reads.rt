@@ -198,7 +198,7 @@ impl<B: Blob, H: Sum, Phase> Held<B, H, Phase> {
         }
     }
 
-    // All are missed where one can't be read, and then no room is made for the bytes.
+    // If one range passes the end, all ranges are missed, and no room is made for the bytes.
     fn missed(
         &self,
         writer: &Writer<B, H, Phase>,
@@ -259,7 +259,7 @@ fn ends_within(size: u64, offset: u64, len: usize) -> bool
     }
 }
 
-// How many bytes the ranges have together, where one call can take them.
+// How many bytes the ranges have together; `None` where one call can't take them.
 fn len_together(ranges: &[(u64, usize)]) -> Option<usize>
     ensures fit { is_some result ≡ fit_together ranges.now }
     ensures in_order { IfSome result (λ len. AreInOrder ranges.now) }
@@ -281,7 +281,7 @@ fn len_together(ranges: &[(u64, usize)]) -> Option<usize>
     Some(total)
 }
 
-// The numbers below this one.
+// The numbers from 0 up to `count`, without `count`.
 fn all_below(alloc: Global, count: usize) -> Result<Vec<usize>, Error>
     ensures items { IfOk result (λ all. all.items ≡ range_with_len 0 count) }
     ensures err { IsOkUnless result Error.OutOfMemory }

@@ -20,16 +20,16 @@ use std::alloc::Global;
 use std::num::NonZeroUsize;
 
 impl<B: Blob, H: Sum> Session<B, H> {
-    /// Recovers a blob of `size` physical bytes, whatever they are, and begins a session on it: its
-    /// content is the text of the bytes, all of it durable. It may be called at once after a call
-    /// that was refused. The buffer has `capacity` bytes, taken up to a multiple of the page size,
-    /// and at least two pages; each read has at most as many pages as fit `buffer_size` bytes, and
-    /// at least one.
+    /// Recovers a blob of `size` physical bytes, whatever they are, and begins a session on it. The
+    /// session's content is the text of the bytes, which is what a recovery keeps, all of it
+    /// durable. The caller may recover at once after a call that was refused. The buffer has
+    /// `capacity` bytes, taken up to a multiple of the page size, and at least two pages; each read
+    /// has at most as many pages as fit `buffer_size` bytes, and at least one.
     ///
     /// `OffsetOverflow` where that capacity passes `usize`: then nothing changed. `ReadFailed`,
-    /// `WriteFailed`, `ResizeFailed` and `SyncFailed` where the device failed, `OutOfMemory`;
-    /// `IdsExhausted` where the cache has no id left. After an error the blob may be recovered
-    /// again.
+    /// `WriteFailed`, `ResizeFailed` and `SyncFailed` where the device failed. `OutOfMemory` where
+    /// memory was refused. `IdsExhausted` where the cache has no id left. After an error the blob
+    /// may be recovered again.
     pub fn recover(
         alloc: Global,
         blob: &mut B,
@@ -44,7 +44,7 @@ impl<B: Blob, H: Sum> Session<B, H> {
         ensures ready { let new = (B.life blob.new).present in IsFresh cache.old
             → IfOk result (λ session. IsSessionReady H.sum_of session cache.new new) }
 
-        // At each moment since the call began, and at every answer.
+        // What holds at each moment of the call, whatever it answers.
         ensures owes { let old = B.life blob.old in let new = B.life blob.new in
             OwesBeginning H.sum_of cache.old.page_size cache.old cache.new old new }
         ensures costs { let old = B.life blob.old in let new = B.life blob.new in
@@ -56,11 +56,11 @@ impl<B: Blob, H: Sum> Session<B, H> {
 
     /// Recovers a blob and begins a session on it, as [`Session::recover`] does, unless more than
     /// `allowed` physical bytes at its end would go: those that the recovery cuts, and where the
-    /// last page of the text is torn, those of that page ([`paged::Survey::at_stake`]). Its text is
-    /// summed once.
+    /// last page of the text is torn, those of that page ([`paged::Survey::at_stake`]). The
+    /// checksums of the text are computed once.
     ///
-    /// `WouldCut` where more would go, with the number: then the blob was only looked at. Else the
-    /// errors are those of [`Session::recover`].
+    /// `WouldCut` where more would go, with how many bytes: then the blob was only looked at. Every
+    /// other error is one of [`Session::recover`], in `Failed`.
     pub fn recover_within(
         alloc: Global,
         blob: &mut B,
@@ -76,7 +76,7 @@ impl<B: Blob, H: Sum> Session<B, H> {
         ensures ready { let new = (B.life blob.new).present in IsFresh cache.old
             → IfOk result (λ session. IsSessionReady H.sum_of session cache.new new) }
 
-        // At each moment since the call began, and at every answer.
+        // What holds at each moment of the call, whatever it answers.
         ensures owes { let old = B.life blob.old in let new = B.life blob.new in
             OwesBeginning H.sum_of cache.old.page_size cache.old cache.new old new }
         ensures costs { let old = B.life blob.old in let new = B.life blob.new in
@@ -97,11 +97,11 @@ impl<B: Blob, H: Sum> Session<B, H> {
 
 impl<H: Sum> Session<MemBlob, H> {
     /// Crashes the session's blob, which begins a new life with what is left: the durable bytes,
-    /// and of the operations that aren't durable, in order, those bytes of a write for which there
-    /// is a true flag, and each resize whose flag is true. There is one flag for each byte of a
-    /// write and one for a resize. A missing flag is false. The session is closed.
+    /// and what true flags keep of the operations that aren't durable. These operations take flags
+    /// in order, a write one for each of its bytes and a resize one. A missing flag is false. The
+    /// session is closed.
     ///
-    /// `OutOfMemory`, and then nothing changed.
+    /// The only error is `OutOfMemory`: then nothing changed.
     pub fn crash(&mut self, blob: &mut MemBlob, keep: &[bool]) -> Result<(), Error>
         ensures crashed { let old = life_of blob.old in
             OnOk result (HasCrashed old.present (life_of blob.new).present) }
@@ -119,8 +119,8 @@ impl<H: Sum> Session<MemBlob, H> {
     /// Crashes the session's blob, recovers what the flags leave of it, and begins the session
     /// anew.
     ///
-    /// The errors are those of [`Session::crash`], with which nothing changed, and those of
-    /// [`Session::recover`], with which the session is closed.
+    /// The errors are those of [`Session::crash`] and of [`Session::recover`]. If the crash was
+    /// refused, nothing changed. If the recovery was refused, the session is closed.
     pub fn crash_and_recover(
         &mut self,
         blob: &mut MemBlob,
@@ -138,7 +138,7 @@ impl<H: Sum> Session<MemBlob, H> {
         ensures fresh { IsFresh cache.old → IsFresh cache.new }
         ensures others_anew { LeavesOthersAnew self.old self.new cache.old cache.new }
 
-        // Whatever it answers, what comes back later came through that crash.
+        // What comes back later came through this crash, whatever the call answers.
         ensures later { let old = (life_of blob.old).present in
             let left = torn keep.now old.since old.base in
             LeadsOn H.sum_of cache.old.page_size old left (life_of blob.new).present }

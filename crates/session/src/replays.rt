@@ -21,7 +21,7 @@ use std::alloc::Global;
 use std::num::NonZeroUsize;
 
 impl<B: Blob, H: Sum, Phase> Held<B, H, Phase> {
-    // Room for the replay is made first: refused there, nothing is done and the writer stays.
+    // Room for the replay is made first. If it is refused, nothing is done and the writer stays.
     fn replay(
         &mut self,
         replays: &mut Vec<Option<Replay<B, H>>>,
@@ -78,7 +78,7 @@ impl<B, H> Session<B, H> {
 }
 
 impl<B: Blob, H: Sum> Session<B, H> {
-    /// Begins a replay of the writer's blob, in its phase.
+    /// Begins a replay of the writer's blob, in the phase that the writer is in.
     pub(crate) fn replay(
         &mut self,
         blob: &mut B,
@@ -107,7 +107,7 @@ impl<B: Blob, H: Sum> Session<B, H> {
         }
     }
 
-    // After the back of the writer, which may be gone.
+    // The replay goes on without the writer, which may be gone.
     pub(crate) fn ensure(&mut self, blob: &mut B, index: usize, count: usize) -> Reply
         requires can { let old = (B.life blob.old).present in
             All (λ o. ReplayCanGoOn o old) self.old.replays }

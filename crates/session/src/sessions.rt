@@ -33,10 +33,10 @@ use std::marker::Model;
 /// A writer that steps are taken on, or none, the names of the syncs that it started, and the
 /// snapshots and the replays that were made of it.
 ///
-/// A step whose call takes the writer and is refused closes the session, and so does a seal. Its
-/// names stay, its snapshots and its replays: what was started can be waited for, the snapshots be
-/// read, and the replays go on. A truncate forgets the replays. What isn't let go is kept until the
-/// session is dropped.
+/// A step whose call takes the writer and is refused closes the session, and so does a seal. A
+/// closed session keeps its names, its snapshots and its replays: a caller can still wait for the
+/// started syncs, read the snapshots, and go on with the replays. A truncate forgets the replays.
+/// What isn't let go is kept until the session is dropped.
 #[derive(Drop)]
 pub struct Session<B, H> {
     pub(crate) alloc: Global,
@@ -160,7 +160,7 @@ impl<B: Blob, H: Sum> Session<B, H> {
         }
     }
 
-    // After the back of the writer, which may be gone.
+    // The device is asked, not the writer, which may be gone.
     fn wait_sync(&self, blob: &mut B, name: u64) -> Reply
         ensures goes { let given = is_given self.now.names name in
             DidWaitFor given name (B.life blob.old) (B.life blob.new) result }
@@ -197,7 +197,7 @@ impl<B: Blob, H: Sum> Session<B, H> {
         Reply::Done
     }
 
-    // Where it is called, no replay is left after it.
+    // A writer in recovery is cut, and then no replay is left, even if the cut is refused.
     fn truncate(&mut self, blob: &mut B, cache: &mut CacheRef, size: u64) -> Reply
         requires sound { HasSoundWriter H.sum_of self.old.writer (B.life blob.old).present }
         requires cached { FitsWriter self.old.writer cache.old (B.life blob.old).present }
@@ -223,24 +223,27 @@ impl<B: Blob, H: Sum> Session<B, H> {
 }
 
 /// Takes the steps in order over the session's blob, and adds one reply a step to `replies`. The
-/// session's writer, if it has one, is sound over the blob, the cache is the one that it was made
-/// with, and both stay so.
+/// session's writer, if it has one, is sound over the blob (its invariant holds), the cache is the
+/// one that it was made with, and both stay so.
 ///
-/// An append, a sync, a start of one, a wait of the writer, a truncate, a snapshot or a replay that
-/// is refused ends the writer, as a seal does at every answer; each step after it that needs one
-/// replies `Closed`. But a start, a snapshot, a replay or a seal for whose name or number there is
-/// no memory changes nothing. A try, a read, of the writer or of a snapshot, a scan, or a wait for
-/// a name that is refused leaves the session as it was, and so does a try that can't be met without
-/// the device. A replay that is refused what it was asked for stands where it stood.
+/// A seal ends the writer, at every answer. Each of these ends it if it is refused: an append, a
+/// sync, a start of a sync, a wait of the writer, a truncate, a snapshot, and the beginning of a
+/// replay. Each later step that needs a writer replies `Closed`. A start, a snapshot, a replay or a
+/// seal for whose name or number there is no memory changes nothing.
 ///
-/// A snapshot tells for good what was appended before it, also where the session is closed. What it
-/// tells is durable only by a sync or a seal, and a crash ends it. A replay gives, in order, what
-/// was appended before it, until a truncate is called, which forgets it, or a crash. Each keeps its
-/// memory until it is let go, or the session is dropped. Letting one go asks no device, and changes
-/// nothing else: not the content, and no other snapshot or replay.
+/// These leave the session as it was if they are refused: a try, a read of the writer or of a
+/// snapshot, a scan, and a wait for a name. So does a try that replies `Nothing`. A replay of which
+/// a step is refused stays at its logical offset.
 ///
-/// Room for all the replies is made first. `OutOfMemory` where it is refused: then no step was
-/// taken.
+/// A snapshot gives for good what was appended before it, even once the session is closed. Those
+/// bytes are durable only by a sync, or by a started one that has completed, such as a seal's. A
+/// crash ends the snapshot. A replay gives, in order, what was appended before it, until a truncate
+/// forgets it or a crash ends it. Each keeps its memory until it is let go, or the session is
+/// dropped. Letting one go asks no device, and changes nothing else: not the content, and no other
+/// snapshot or replay.
+///
+/// Room for all the replies is made first. The only error is `OutOfMemory`, where that room is
+/// refused: then no step was taken.
 pub fn run<B: Blob, H: Sum>(
     session: &mut Session<B, H>,
     blob: &mut B,
@@ -253,20 +256,20 @@ pub fn run<B: Blob, H: Sum>(
     ensures ready { let new = (B.life blob.new).present in
         IsSessionReady H.sum_of session.new cache.new new }
 
-    // Whatever the session stood for before, at each moment of each step; and of each step what
-    // the call that it makes says: which bytes, how many device calls, what is put in the cache.
+    // What holds at each moment of each step, whatever the session stood for before. For each step
+    // also what its call promises: which bytes, how many device calls, what is put in the cache.
     ensures runs { let old = B.life blob.old in let new = B.life blob.new in
         OnOk result (RunGoes H.sum_of steps.now session.old session.new cache.old cache.new
         old new replies.old.items replies.new.items) }
 
-    // Whatever comes back from any of these moments after crashes and recoveries keeps what stood
-    // then.
+    // What crashes and recoveries bring back from any of these moments keeps the floor (the durable
+    // prefix) that the content had at that moment.
     ensures promises { let old = B.life blob.old in let new = B.life blob.new in
         OnOk result (Promises H.sum_of steps.now session.old session.new old new
         replies.old.items replies.new.items) }
 
-    // What can be read of another blob on the cache, such as that of a second session, can be read
-    // on, and it stays another one.
+    // What can be read of another blob on the cache, such as a second session's, can be read on.
+    // The session's writer and its snapshots are still of none of those blobs.
     ensures others { LeavesOtherBlobs session.old session.new cache.old cache.new }
     ensures refused { let old = B.life blob.old in let new = B.life blob.new in
         IfErr result (λ e. TookNone e session.old session.new cache.old cache.new old new

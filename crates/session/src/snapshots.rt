@@ -18,7 +18,7 @@ use disk::{Blob, Error, StartedSync};
 use page::Sum;
 
 impl<B: Blob, H: Sum> Session<B, H> {
-    // Room for the snapshot is made first: refused there, nothing is done and the writer stays.
+    // Room for the snapshot is made first. If it is refused, nothing is done and the writer stays.
     pub(crate) fn snapshot(&mut self, blob: &mut B, cache: &mut CacheRef) -> Reply
         requires sound { HasSoundWriter H.sum_of self.old.writer (B.life blob.old).present }
         requires cached { FitsWriter self.old.writer cache.old (B.life blob.old).present }
@@ -112,7 +112,7 @@ impl<B: Blob, H: Sum> Session<B, H> {
         }
     }
 
-    // After the back of the writer, which may be gone.
+    // The snapshot is read without the writer, which may be gone.
     pub(crate) fn snap(
         &self,
         blob: &mut B,

@@ -14,7 +14,7 @@ returns-then-bytes-end-clause-found g c =
     let short : length held < frame_len held = omega (arith, says, c.if-bytes-end.true, ap length same) in
     sym (record_of-short g.R.Sum.sum_of held short)
 
--- what is found of the frame at the front is so of it all
+-- whether the frame at the front is a record, by its parts
 judged : (g : Over) (c : After-is_record_of g) → c.is_record_of.result ≡ is_record g.R.Sum.sum_of c.args.framed.now
 judged g c =
     let sum = g.R.Sum.sum_of in

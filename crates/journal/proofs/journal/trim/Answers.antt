@@ -70,7 +70,7 @@ kept : (g : Over) (c : After-truncate g) → c.in_ok-found.end ≡ length (whole
 kept g c whole =
     subst (λ (n : ℕ). KeepsFloorsWithin n g.H.Sum.sum_of c.args.recovery.page_size (g.B.Blob.life c.args.blob.now) (g.B.Blob.life c.truncate.new.blob)) whole c.truncate.ensures.owes.floors
 
--- and what it leaves
+-- what the cut leaves
 only : (g : Over) (c : After-truncate g) → c.in_ok-found.end ≡ length (whole_frames (content c.args.recovery (g.B.Blob.life c.args.blob.now).present.readable)) → let held = content c.args.recovery (g.B.Blob.life c.args.blob.now).present.readable in
     LeavesOnly g.H.Sum.sum_of c.args.recovery.page_size held (whole_frames held) (g.B.Blob.life c.args.blob.now) (g.B.Blob.life c.truncate.new.blob)
 only g c whole =

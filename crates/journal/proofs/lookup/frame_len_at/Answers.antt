@@ -36,7 +36,7 @@ returns-in-Err-clause-measures g c =
     view_refused g.H.Sum.sum_of (tail_at c.args.view.page_size c.args.view.id c.args.view.tip.now) c.args.cache.now c.args.offset _ (λ (u : Unit {0}). c.read_into.new.buf) (g.B.Blob.life c.args.blob.now) (g.B.Blob.life c.read_into.new.blob) c.in-Err.error
     c.in-Err.ensures.goes.answers c.requires.opened (omega (arith, c.requires.within, front)) (omega (arith, c.requires.fits, front))
 
--- what it asked for
+-- what the read of the length asked for
 costs : (g : Over) (c : After-read_into g) → RangeCosts (tail_at c.args.view.page_size c.args.view.id c.args.view.tip.now) (c.args.offset, min 2 c.args.rest) c.args.cache.now c.read_into.new.cache (g.B.Blob.life c.args.blob.now) (g.B.Blob.life c.read_into.new.blob)
 costs g c =
     let t = tail_at c.args.view.page_size c.args.view.id c.args.view.tip.now in

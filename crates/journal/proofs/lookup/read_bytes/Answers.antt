@@ -10,7 +10,7 @@ use Rattle.journal.proofs.lookup.read_bytes.Given.{Over}
 use Rattle.journal.proofs.lookup.read_bytes.Goals as goal
 use Rattle.journal.proofs.lookup.read_bytes.Goals.{After-read_into}
 
--- the read
+-- what the read leaves
 views : (g : Over) (c : After-read_into g) → ViewLeaves g.H.Sum.sum_of (tail_at c.args.view.page_size c.args.view.id c.args.view.tip.now) c.args.cache.now c.read_into.new.cache (g.B.Blob.life c.args.blob.now) (g.B.Blob.life c.read_into.new.blob)
 views g c =
     read_views g.H.Sum.sum_of (tail_at c.args.view.page_size c.args.view.id c.args.view.tip.now) c.args.cache.now c.read_into.new.cache (g.B.Blob.life c.args.blob.now) (g.B.Blob.life c.read_into.new.blob) c.requires.opened c.read_into.ensures.leaves
@@ -38,7 +38,7 @@ returns-in-Err-clause-reads g c =
     view_refused g.H.Sum.sum_of (tail_at c.args.view.page_size c.args.view.id c.args.view.tip.now) c.args.cache.now c.args.offset (length c.deref_mut.result.now) (λ (u : Unit {0}). c.read_into.new.buf) (g.B.Blob.life c.args.blob.now) (g.B.Blob.life c.read_into.new.blob) c.in-Err.error
     c.in-Err.ensures.goes.answers c.requires.opened (omega (arith, many, c.requires.within)) (omega (arith, many, c.requires.fits))
 
--- what it asked for
+-- what the read asked for
 costs : (g : Over) (c : After-read_into g) → length c.deref_mut.result.now ≡ c.args.len → RangeCosts (tail_at c.args.view.page_size c.args.view.id c.args.view.tip.now) (c.args.offset, c.args.len) c.args.cache.now c.read_into.new.cache (g.B.Blob.life c.args.blob.now) (g.B.Blob.life c.read_into.new.blob)
 costs g c many =
     let t = tail_at c.args.view.page_size c.args.view.id c.args.view.tip.now in

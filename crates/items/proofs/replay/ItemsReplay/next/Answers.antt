@@ -38,11 +38,11 @@ left g c =
     let goes = c.ensure.ensures in
     only_reads_on g.H.Sum.sum_of (g.B.Blob.life c.args.blob.now) (g.B.Blob.life c.ensure.new.blob) goes.leaves.looked goes.leaves.tails goes.leaves.replays
 
--- it gives what it gave
+-- the replay gives what it gave
 gives : (g : Over) (c : After-ensure g) → IsReplayOf g.H.Sum.sum_of c.ensure.new.self (bytes_along (inside g c) (g.B.Blob.life c.args.blob.now)) (g.B.Blob.life c.ensure.new.blob).present
 gives g c = c.ensure.ensures.goes.replays g.H.Sum.sum_of (bytes_along (inside g c) (g.B.Blob.life c.args.blob.now)) (was g c).gives
 
--- where it stands as it stood
+-- where the replay stands as it stood
 still : (g : Over) (c : After-ensure g) → c.ensure.new.self.tail ≡ c.self.inside.replay.tail → c.ensure.new.self.position ≡ c.self.inside.replay.position
     → IsItemsReplay g.H.Sum.sum_of (record { replay = c.ensure.new.self; size = non_zero_usize_get c.self.inside.size }) (g.B.Blob.life c.ensure.new.blob)
     × (items_left (record { replay = c.ensure.new.self; size = non_zero_usize_get c.self.inside.size }) (g.B.Blob.life c.ensure.new.blob) ≡ items_left (inside g c) (g.B.Blob.life c.args.blob.now))
@@ -130,7 +130,7 @@ returns-in_err-item-clause-leaves g c = left g (goal.at.returns-in_err-item-clau
 
 -- ---- the item
 
--- it is given, and the replay goes on after it
+-- the item is given, and the replay goes on after it
 given : (g : Over) (c : goal.In_ok-item g) → IsItemsReplay g.H.Sum.sum_of (record { replay = c.copy_to_bytes.new.self; size = non_zero_usize_get c.self.inside.size }) (g.B.Blob.life c.ensure.new.blob)
     × (items_left (record { replay = c.self.inside.replay; size = non_zero_usize_get c.self.inside.size }) (g.B.Blob.life c.args.blob.now)
     ≡ c.in_ok-item.item ∷ items_left (record { replay = c.copy_to_bytes.new.self; size = non_zero_usize_get c.self.inside.size }) (g.B.Blob.life c.ensure.new.blob))

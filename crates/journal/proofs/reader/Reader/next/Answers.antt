@@ -37,7 +37,7 @@ pub returns-clause-leaves : goal.returns-clause-leaves
 returns-clause-leaves g c =
     looks_leave g.H.Sum.sum_of g.R.Sum.sum_of c.args.self.now c.args.cache.now c.find_record.new.cache (g.B.Blob.life c.args.blob.now) (g.B.Blob.life c.find_record.new.blob) (looks g (goal.at.returns-clause-leaves g c).After-find_record)
 
--- what they asked for
+-- what these reads asked for
 costs : (g : Over) (c : After-find_record g)
     → let old = g.B.Blob.life c.args.blob.now in
     let t = c.args.self.now.tail in
