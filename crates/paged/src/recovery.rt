@@ -323,8 +323,8 @@ impl<B: Blob, H: Sum> Writer<B, H> {
 /// is cut, as by [`Recovery::truncate`], and all that is left is durable. Each read has at most as
 /// many pages as fit `buffer_size` bytes, and at least one.
 ///
-/// Errors are those of [`Recovery::open`]. After an error what the blob holds has the same text,
-/// and the cache may have given an id.
+/// Errors are those of [`Recovery::open`]. After an error everything that was durable still is, and
+/// the cache may have given an id.
 pub fn recover<B: Blob, H: Sum>(
     alloc: Global,
     blob: &mut B,

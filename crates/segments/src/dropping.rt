@@ -22,7 +22,8 @@ impl<F: Folder<B> + Drop, B: Blob + Drop, H: Sum, R: Sum> SegmentedLog<F, B, H, 
     /// `NoSegment` where there is no such segment yet: the open one is never dropped. Nothing is
     /// done then. `Closed` where a call of the manifest failed before, `Layer` where the device or
     /// memory failed, `System` where the folder refused a call. After these errors the open segment
-    /// is as it was; open the log again to drop segments or to rotate.
+    /// is as it was, and the drop may be tried again. If it answers `Closed` then, open the log
+    /// again to drop segments or to rotate.
     #[tactic(auto, using(crate::proofs::DropSurvival::drop_still, crate::proofs::DropSurvival::drop_tries))]
     pub fn drop_before(&mut self, segment: u64) -> Result<(), Error>
         requires log { IsLog H.sum_of R.sum_of self.old }

@@ -25,7 +25,9 @@ impl<F: Folder<B> + Drop, B: Blob + Drop, H: Sum, R: Sum> SegmentedLog<F, B, H, 
     /// `Unlisted` where a segment after the open one has bytes, or where a segment has bytes and
     /// there is no manifest: the manifest may be an old one, or be lost. `Missing` where the open
     /// segment isn't there. `System` where the system refuses a file, and `Layer` where the device
-    /// or memory failed. After an error, what was committed still is.
+    /// or memory failed. After an error the blobs are gone, so no clause says what their files hold:
+    /// each recovery of a journal on the way keeps what was committed (`leaves` of
+    /// [`journal::Journal::recover`]).
     #[tactic(auto, using(crate::proofs::Beginning::parts_open))]
     pub fn open(alloc: Global, folder: F, options: Options) -> Result<Self, Error>
         ensures log { IfOk result (λ log. IsLog H.sum_of R.sum_of log) }

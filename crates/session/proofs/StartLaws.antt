@@ -38,7 +38,7 @@ use Rattle.session.proofs.NameLaws.{given_with}
 use Rattle.session.proofs.SessionLaws.{closed_takes, held_takes, sound_of, same_rest}
 use Rattle.session.proofs.Apart.{AlwaysApart, IsReadyApart, StandsApart, SteppedApart, StepsApart}
 
--- ---- what the calls owe
+-- ---- what the calls guarantee
 
 -- what holds at each moment of a call that leaves the content
 pub goes_through : (sum : List ℕ → ℕ) (P : ℕ) (was : SessionState) (w v : WriterState) (old new : Life) (before : RunState) → StandsApart sum P (held was (Some w)) before old.present → Succeeds sum w old [] v new → StaysThrough sum P before.content old new
