@@ -247,35 +247,46 @@ const WITH_WRITER: [&str; 4] = ["pagedd", "serve", "serve-log", "append"];
 
 /// The command line.
 pub fn command<'a>(alloc: Global) -> Result<Command<'a>, AllocError> {
-    let top = Command::new(alloc, "pagedd")
+    let options = options_of(alloc, &ROWS, "pagedd")?;
+    let commands = all_commands(alloc)?;
+    Command::new(alloc, "pagedd")
         .about(
             "serves a paged blob over a file, or a log in a folder, to one client, and looks at them",
         )
         .version(VERSION)
         .after_help(STATUSES)
-        .args_conflicts_with_subcommands(true);
-    let mut top = with_options(alloc, top, &ROWS, "pagedd")?;
-    for (name, about) in COMMANDS {
-        let command = Command::new(alloc, name).about(about);
-        top = top.subcommand(with_options(alloc, command, &ROWS, name)?)?;
-    }
-    Ok(top)
+        .args_conflicts_with_subcommands(true)
+        .args(options)?
+        .subcommands(commands)
 }
 
-// The command with its options, which are those of the rows that name it.
+// All commands, each with its options.
+fn all_commands<'a>(alloc: Global) -> Result<Vec<Command<'a>>, AllocError> {
+    let mut commands = Vec::new(alloc);
+    for (name, about) in COMMANDS {
+        commands.push(with_options(alloc, name, about)?)?;
+    }
+    Ok(commands)
+}
+
 fn with_options<'a>(
     alloc: Global,
-    command: Command<'a>,
-    rows: &[Row],
-    name: &str,
+    name: &'a str,
+    about: &'a str,
 ) -> Result<Command<'a>, AllocError> {
-    let mut command = command;
+    let options = options_of(alloc, &ROWS, name)?;
+    Command::new(alloc, name).about(about).args(options)
+}
+
+// The options of the command with this name, which are those of the rows that name it.
+fn options_of<'a>(alloc: Global, rows: &[Row], name: &str) -> Result<Vec<Arg<'a>>, AllocError> {
+    let mut options = Vec::new(alloc);
     for row in rows {
         if row.commands.iter().any(|other| *other == name) {
-            command = command.arg(option_of(alloc, *row))?;
+            options.push(option_of(alloc, *row))?;
         }
     }
-    Ok(command)
+    Ok(options)
 }
 
 // The option of a row.

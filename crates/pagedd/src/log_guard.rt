@@ -1,9 +1,6 @@
 // A look at a log before it is opened: nothing of it goes before that is said, and is set aside.
-ghost use Rattle.segments.specs.Log.{IsLog};
-
-use crate::log_files::{copy_of, manifest_in, options_of, segment_in};
+use crate::log_files::{copy_of, manifest_in, open_log, segment_in};
 use crate::log_refusing::refuse_log;
-use crate::log_told::LogCopy;
 use crate::look::{Look, looked, read};
 use crate::opening::{allow, open};
 use crate::request::Request;
@@ -11,7 +8,7 @@ use crate::status::Status;
 use disk::VecBlob;
 use file::FileBlob;
 use page::Sum;
-use segments::Error;
+use segments::{Error, FolderCopy};
 use std::io::ErrorKind;
 
 /// What an opening gives up of the manifest and of the open segment.
@@ -47,17 +44,11 @@ pub fn guard_log<H: Sum>(rt: &HostRuntime, request: &Request) -> Result<GivenUp,
 // be made.
 fn open_number<H: Sum>(rt: &HostRuntime, request: &Request) -> Result<Option<u64>, Status> {
     let folder = copy_of(rt, request.file)?;
-    match LogCopy::<H>::open(rt.alloc(), folder, options_of(request)) {
-        Ok(log) => Ok(Some(last_of::<H>(log))),
+    match open_log::<FolderCopy, VecBlob, H>(rt.alloc(), request, folder) {
+        Ok(log) => Ok(Some(log.last_segment())),
         Err(error) if !request.read_only && is_not_found(&error) => Ok(None),
         Err(error) => Err(refuse_log(rt, request, &error)),
     }
-}
-
-fn last_of<H: Sum>(log: LogCopy<H>) -> u64
-    requires log { IsLog H.sum_of H.sum_of log }
-{
-    log.last_segment()
 }
 
 fn is_not_found(error: &Error) -> bool {
@@ -91,7 +82,7 @@ fn guard_file<H: Sum>(
     let allowed = if request.read_only {
         allow::<VecBlob, H>(rt, &part, &mut copy)?
     } else {
-        allow::<FileBlob, H>(rt, &part, &mut open(rt, path)?)?
+        allow::<FileBlob, H>(rt, &part, &mut *open(rt, path)?)?
     };
     given_up.cut = given_up.cut.saturating_add(look.survey.outlook.cut);
     given_up.bytes = given_up.bytes.saturating_add(allowed.bytes);

@@ -3,7 +3,7 @@ ghost use Rattle.segments.specs.Log.{IsLog};
 
 use crate::ending::{fail, fail_stop, or_end};
 use crate::log_answer::{Refusal, write_refusal};
-use crate::log_files::{copy_of, is_folder, options_of};
+use crate::log_files::{copy_of, is_folder, open_log};
 use crate::log_guard::{GivenUp, guard_log};
 use crate::log_hello::{Hello, greet, greet_refused, read_opening, tell_opening};
 use crate::log_refusing::refuse_log;
@@ -11,9 +11,9 @@ use crate::log_request::{LogRequest, read_request};
 use crate::log_status::{status_of, status_of_flaw};
 use crate::log_taking::{Client, take_request};
 use crate::request::Request;
-use crate::serving::{PIECE, flushed, tell_stop};
+use crate::serving::{flushed, tell_stop};
 use crate::status::Status;
-use crate::streams::{Input, Output};
+use crate::streams::Streams;
 use disk::{Blob, VecBlob};
 use file::FileBlob;
 use page::Sum;
@@ -82,8 +82,8 @@ fn serve_folder<F: Folder<B> + Drop, B: Blob + Cause + Drop, H: Sum>(
     given_up: &GivenUp,
     folder: F,
 ) -> Result<Status, Status> {
-    match SegmentedLog::<F, B, H, H>::open(rt.alloc(), folder, options_of(request)) {
-        Ok(log) => serve_opened(rt, request, given_up, log),
+    match open_log::<F, B, H>(rt.alloc(), request, folder) {
+        Ok(mut log) => serve_opened(rt, request, given_up, &mut *log),
         Err(error) => Err(refuse(rt, request, &error)),
     }
 }
@@ -102,12 +102,12 @@ fn serve_opened<F: Folder<B> + Drop, B: Blob + Cause + Drop, H: Sum>(
     rt: &HostRuntime,
     request: &Request,
     given_up: &GivenUp,
-    log: SegmentedLog<F, B, H, H>,
+    log: &mut SegmentedLog<F, B, H, H>,
 ) -> Result<Status, Status>
-    requires log { IsLog H.sum_of H.sum_of log }
+    requires log { IsLog H.sum_of H.sum_of log.old }
 {
-    let mut log = log;
-    serve_streams(rt, request, given_up, &mut log)
+    let mut streams = or_end(rt, Streams::of(rt))?;
+    serve_streams(rt, request, given_up, log, &mut streams)
 }
 
 fn serve_streams<F: Folder<B> + Drop, B: Blob + Cause + Drop, H: Sum>(
@@ -115,27 +115,21 @@ fn serve_streams<F: Folder<B> + Drop, B: Blob + Cause + Drop, H: Sum>(
     request: &Request,
     given_up: &GivenUp,
     log: &mut SegmentedLog<F, B, H, H>,
+    streams: &mut Streams,
 ) -> Result<Status, Status>
     requires log { IsLog H.sum_of H.sum_of log.old }
 {
-    let mut input = or_end(
-        rt,
-        BufReader::with_capacity(rt.alloc(), PIECE, Input::of(rt)),
-    )?;
-    let mut out = or_end(
-        rt,
-        BufWriter::with_capacity(rt.alloc(), PIECE, Output::of(rt)),
-    )?;
     let mut client = Client {
         version: Version::Two,
         read_only: request.read_only,
         lost: None,
     };
     let hello = hello_of(request, given_up, log.len().unwrap_or(u64::MAX));
-    let served = serve_client(rt.alloc(), &hello, &mut client, log, &mut input, &mut out);
-    match flushed(served, &mut out) {
+    let Streams { input, out } = streams;
+    let served = serve_client(rt.alloc(), &hello, &mut client, log, input, out);
+    match flushed(served, &mut streams.out) {
         Ok(()) => end(rt, request, &client),
-        Err(stop) => Err(tell_stop(rt, request, stop, input.get_ref(), out.get_ref())),
+        Err(stop) => Err(tell_stop(rt, request, stop, streams)),
     }
 }
 
@@ -208,11 +202,11 @@ fn serve_requests<F: Folder<B> + Drop, B: Blob + Cause + Drop, H: Sum, R: Read, 
 {
     for number in 1..u64::MAX {
         let request = match next_request(alloc, client.version, number, input, out) {
-            Ok(Some(LogRequest::Close)) | Ok(None) => return Ok(()),
             Ok(Some(request)) => request,
+            Ok(None) => return Ok(()),
             Err(stop) => return Err(tell_flaw(alloc, client.version, stop, out)),
         };
-        take_request(alloc, client, log, request, out)?;
+        take_request(alloc, client, log, &request, out)?;
     }
     Err(Stop::Failed)
 }

@@ -3,7 +3,7 @@ ghost use Rattle.segments.specs.Log.{IsLog};
 
 use crate::log_answer::{Refusal, write_answer, write_found, write_places, write_refusal};
 use crate::log_records::{Records, length_of, split_record};
-use crate::log_request::LogRequest;
+use crate::log_request::{LogRequest, LogTask};
 use crate::log_status::{AT_END, CLOSED, NO_RECORDS, READ_ONLY, refusal_of};
 use disk::Blob;
 use journal::MOST_BYTES;
@@ -27,32 +27,27 @@ pub fn take_request<F: Folder<B> + Drop, B: Blob + Cause + Drop, H: Sum, W: Writ
     alloc: Global,
     client: &mut Client,
     log: &mut SegmentedLog<F, B, H, H>,
-    request: LogRequest,
+    request: &LogRequest,
     out: &mut W,
 ) -> Result<(), Stop>
     requires log { IsLog H.sum_of H.sum_of log.old }
     ensures log { IsLog H.sum_of H.sum_of log.new }
 {
-    if client.read_only && request.is_change() {
+    if client.read_only && request.task.is_change() {
         return refuse(alloc, client, out, READ_ONLY);
     }
-    match request {
-        LogRequest::Append(bytes) => take_append(alloc, client, log, bytes.as_slice(), out),
-        LogRequest::AppendTooLong => refuse(alloc, client, out, NO_RECORDS),
-        LogRequest::Records(fields) => {
-            take_records(alloc, client, log, fields.as_slice(), false, out)
-        }
-        LogRequest::RecordsSync(fields) => {
-            take_records(alloc, client, log, fields.as_slice(), true, out)
-        }
-        LogRequest::Sync => take_sync(alloc, client, log, out, false),
-        LogRequest::SyncSize => take_sync(alloc, client, log, out, true),
-        LogRequest::Size => take_size(alloc, client, log, out),
-        LogRequest::Read(place) => take_read(alloc, client, log, place, out),
-        LogRequest::Next(place) => take_next(alloc, client, log, place, out),
-        LogRequest::DropBefore(segment) => take_drop(alloc, client, log, segment, out),
-        LogRequest::Flush => write_flushed(out),
-        LogRequest::Close => Ok(()),
+    let bytes = request.bytes.as_slice();
+    match request.task {
+        LogTask::Append => take_append(alloc, client, log, bytes, out),
+        LogTask::AppendTooLong => refuse(alloc, client, out, NO_RECORDS),
+        LogTask::Records { syncs } => take_records(alloc, client, log, bytes, syncs, out),
+        LogTask::Sync => take_sync(alloc, client, log, out, false),
+        LogTask::SyncSize => take_sync(alloc, client, log, out, true),
+        LogTask::Size => take_size(alloc, client, log, out),
+        LogTask::Read(place) => take_read(alloc, client, log, place, out),
+        LogTask::Next(place) => take_next(alloc, client, log, place, out),
+        LogTask::DropBefore(segment) => take_drop(alloc, client, log, segment, out),
+        LogTask::Flush => write_flushed(out),
     }
 }
 
@@ -182,19 +177,19 @@ fn append_records<F: Folder<B> + Drop, B: Blob + Cause + Drop, H: Sum>(
     Ok(())
 }
 
-// Commits, and tells how many records there are where `tells` asks.
+// Commits, and tells how many records there are where `counts` asks.
 fn take_sync<F: Folder<B> + Drop, B: Blob + Cause + Drop, H: Sum, W: Write>(
     alloc: Global,
     client: &mut Client,
     log: &mut SegmentedLog<F, B, H, H>,
     out: &mut W,
-    tells: bool,
+    counts: bool,
 ) -> Result<(), Stop>
     requires log { IsLog H.sum_of H.sum_of log.old }
     ensures log { IsLog H.sum_of H.sum_of log.new }
 {
     match log.commit() {
-        Ok(()) if tells => write_answer(out, &[log.len().unwrap_or(u64::MAX)], &[]),
+        Ok(()) if counts => write_answer(out, &[log.len().unwrap_or(u64::MAX)], &[]),
         Ok(()) => write_answer(out, &[], &[]),
         Err(error) => refuse_closed(alloc, client, out, error, 0, failure_of(log)),
     }

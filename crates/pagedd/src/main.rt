@@ -87,7 +87,7 @@ fn perform<H: Sum>(
         Task::ServeLog => serve_log::<H>(rt, request),
         Task::Serve { create } => serve::<H>(rt, request, create),
         Task::Append { each_line } => append::<H>(rt, request, each_line),
-        Task::Tell(told) => tell_of::<H>(rt, request, told, &mut read(rt, request.file)?),
+        Task::Tell(told) => tell_of::<H>(rt, request, told, &mut *read(rt, request.file)?),
         Task::Salvage { out } => salvage::<H>(rt, request, set_aside, out),
         Task::Version => {
             or_end(rt, println!(rt; "pagedd {VERSION}"))?;
@@ -159,15 +159,18 @@ fn run(rt: &HostRuntime) -> Result<Status, Status> {
     put_command_first(&mut words);
     match command(rt.alloc())?.try_get_matches_from(words.as_slice()) {
         Ok(matches) => perform_matched(rt, &matches),
-        Err(error) => {
-            or_end(rt, error.print(rt))?;
-            Ok(if error.use_stderr() {
-                Status::Failed
-            } else {
-                Status::Done
-            })
-        }
+        Err(error) => explain(rt, &error),
     }
+}
+
+// Prints what clap has to say in the place of matches: help, or why there are none.
+fn explain(rt: &HostRuntime, error: &clap::Error) -> Result<Status, Status> {
+    or_end(rt, error.print(rt))?;
+    Ok(if error.use_stderr() {
+        Status::Failed
+    } else {
+        Status::Done
+    })
 }
 
 fn main(rt: HostRuntime) -> ExitCode {

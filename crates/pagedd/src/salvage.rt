@@ -1,4 +1,6 @@
 // Putting all that verifies into a new file.
+ghost use Rattle.cache.specs.Pages.{IsFresh};
+
 use crate::ending::{fail, or_end, tell};
 use crate::look::{looked, read};
 use crate::opening::{fail_blob, open};
@@ -12,6 +14,7 @@ use disk::{Blob, Error, VecBlob};
 use file::FileBlob;
 use page::Sum;
 use paged::Writer;
+use std::alloc::Global;
 use std::fs::File;
 use std::{fs, io};
 
@@ -149,27 +152,34 @@ fn fill<H: Sum>(
     }
 }
 
-// Appends the content to a new blob, and syncs it.
+// Makes a new blob one with this content.
 fn keep<H: Sum>(
     rt: &HostRuntime,
     request: &Request,
     blob: &mut FileBlob,
     content: &[u8],
 ) -> Result<(), Error> {
-    let mut cache = CacheRef::new(rt.alloc(), request.shape.page_size, request.cache)?;
+    let cache = CacheRef::new(rt.alloc(), request.shape.page_size, request.cache)?;
+    let mut cache = Box::new(rt.alloc(), cache)?;
+    write::<H>(rt.alloc(), request, blob, &mut cache, content)
+}
+
+// Appends the content to a new blob, and syncs it.
+fn write<H: Sum>(
+    alloc: Global,
+    request: &Request,
+    blob: &mut FileBlob,
+    cache: &mut CacheRef,
+    content: &[u8],
+) -> Result<(), Error>
+    requires fresh { IsFresh cache.old }
+{
     let size = blob.len();
-    let capacity = request.buffer.get();
-    let recovery = paged::recover::<_, H>(
-        rt.alloc(),
-        blob,
-        size,
-        capacity,
-        &mut cache,
-        request.buffer,
-    )?;
+    let buffer = request.buffer;
+    let recovery = paged::recover::<_, H>(alloc, blob, size, buffer.get(), cache, buffer)?;
     let writer: Writer<FileBlob, H> = Writer::from(recovery);
-    let (writer, _) = writer.append(blob, &mut cache, content)?;
-    writer.sync(blob, &mut cache)?;
+    let (writer, _) = writer.append(blob, cache, content)?;
+    writer.sync(blob, cache)?;
     Ok(())
 }
 
