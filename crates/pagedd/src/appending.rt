@@ -28,7 +28,7 @@ struct Pieces {
 }
 
 impl Pieces {
-    /// Of the running program.
+    /// The input of the running program.
     fn of(rt: &HostRuntime) -> Result<Self, AllocError> {
         Ok(Pieces {
             input: Input::of(rt),
@@ -67,7 +67,7 @@ pub fn append<H: Sum>(
     append_to::<H>(rt, request, each_line, &mut blob)
 }
 
-// Appends it to an opened file.
+// Appends standard input to an opened file.
 fn append_to<H: Sum>(
     rt: &HostRuntime,
     request: &Request,
@@ -95,8 +95,8 @@ fn append_to<H: Sum>(
     }
 }
 
-// Begins a session on a blob that nobody opened. Where something of it would go, it is looked at
-// more closely before anything is changed.
+// Begins a session on a blob that nobody opened. Where a recovery gives up some of it, the blob is
+// looked at more closely before anything is changed.
 fn begin<B: Blob + InMemory, H: Sum>(
     rt: &HostRuntime,
     request: &Request,
@@ -114,7 +114,7 @@ fn begin<B: Blob + InMemory, H: Sum>(
     Ok(begin_within::<B, H>(rt.alloc(), request, blob, allowed))
 }
 
-// Begins a session of which so many bytes may go.
+// Begins a session, whose recovery may give up so many bytes.
 fn begin_within<B: Blob, H: Sum>(
     alloc: Global,
     request: &Request,
@@ -190,7 +190,7 @@ fn append_piece<B: Blob, H: Sum>(
     Ok(())
 }
 
-// Makes all that was appended durable.
+// Makes all that was appended durable, and counts it in `synced`.
 fn sync<B: Blob, H: Sum>(
     alloc: Global,
     appender: &mut Appender<B, H>,

@@ -48,7 +48,7 @@ const COMMANDS: [(&str, &str); 8] = [
     ("version", "prints the version"),
 ];
 
-/// What follows an option's name. A word that has none stands on the command line by itself.
+/// What follows an option's name. A word without a name stands on the command line by itself.
 #[derive(Clone, Copy)]
 enum Takes {
     /// The option has no name, and is one word.
@@ -61,7 +61,7 @@ enum Takes {
     Number,
     /// A number of bytes or pages, at least one.
     Size,
-    /// The same, and as great as a number may be.
+    /// A number of bytes, at least one, and as great as a number may be.
     Length,
     /// The content bytes of a page.
     PageSize,
@@ -242,7 +242,7 @@ const WITH_PAGES: [&str; 8] = [
     "salvage",
 ];
 
-/// The commands that may write to it.
+/// The commands that may write to a file or a folder.
 const WITH_WRITER: [&str; 4] = ["pagedd", "serve", "serve-log", "append"];
 
 /// The command line.

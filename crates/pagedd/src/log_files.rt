@@ -34,8 +34,8 @@ pub fn segment_in(alloc: Global, folder: &str, number: u64) -> Result<String, Al
     format!(in alloc; "{folder}/{number:020}.segment")
 }
 
-/// A copy of the folder: each file is read into memory, and none changes. Where there is no memory
-/// a line says so.
+/// A copy of the folder: each file is read into memory as it is opened, and none changes. Where
+/// the copy can't be made, a line says why.
 pub fn copy_of(rt: &HostRuntime, folder: &str) -> Result<FolderCopy, Status> {
     match FolderCopy::new(rt, folder) {
         Ok(copy) => Ok(copy),

@@ -15,11 +15,11 @@ const LEGEND: &str = "# whole, ! damaged, ? missing, - not read, + open";
 /// Which segments are drawn, and how.
 #[derive(Clone, Copy)]
 pub struct Drawn {
-    /// The first one.
+    /// The number of the first segment.
     pub from: u64,
-    /// The one before which the drawing ends.
+    /// The number of the segment before which the drawing ends.
     pub to: u64,
-    /// A line for each, with what was kept of it.
+    /// Whether each segment has a line, with what the manifest keeps of it, in place of a mark.
     pub long: bool,
 }
 

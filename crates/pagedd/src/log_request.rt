@@ -17,9 +17,9 @@ pub enum LogTask {
     Records { syncs: bool },
     /// To commit.
     Sync,
-    /// To commit, and to tell how many records there are.
+    /// To commit, and to answer how many records there are.
     SyncSize,
-    /// To tell how many records there are.
+    /// To answer how many records there are.
     Size,
     /// The frame at a place.
     Read(Place),
@@ -32,7 +32,7 @@ pub enum LogTask {
 }
 
 impl LogTask {
-    /// Whether a client that may only read is refused it.
+    /// Whether the task is refused where the log is served for reading alone.
     pub fn is_change(self) -> bool {
         match self {
             LogTask::Append
@@ -79,8 +79,8 @@ pub fn read_request<R: BufRead>(
     read_body(alloc, version, input, kind, len as usize)
 }
 
-// Reads what stands after the kind of a request: so many bytes. A wrong length is told before they
-// are awaited.
+// Reads what stands after the kind of a request: so many bytes. A wrong length is reported before
+// these bytes are awaited.
 fn read_body<R: BufRead>(
     alloc: Global,
     version: Version,
@@ -120,7 +120,7 @@ fn is_known(version: Version, kind: u8) -> bool {
     }
 }
 
-// Whether a request of this kind has bytes, as many as its frame holds.
+// Whether a request of this kind has bytes in the place of fields, as many as its frame holds.
 fn has_bytes(kind: u8) -> bool {
     matches!(kind, 1 | 17 | 18)
 }

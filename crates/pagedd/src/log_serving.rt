@@ -60,7 +60,8 @@ fn make_folder(rt: &HostRuntime, request: &Request) -> Result<(), Status> {
     }
 }
 
-// Makes the folder's name durable, each time: whoever made it may have ended before that was done.
+// Makes the folder's name durable, each time: a program that made the folder may have ended before
+// it did so.
 fn keep_name(rt: &HostRuntime, folder: &str) -> Result<(), Status> {
     match sync_above(rt, folder) {
         Ok(()) => Ok(()),
@@ -133,7 +134,7 @@ fn serve_streams<F: Folder<B> + Drop, B: Blob + Cause + Drop, H: Sum>(
     }
 }
 
-// What a client of version 2 is told of a log with so many records.
+// The hello to a client of version 2, of a log with so many records.
 fn hello_of<'a>(request: &'a Request, given_up: &'a GivenUp, records: u64) -> Hello<'a> {
     Hello {
         read_only: request.read_only,
@@ -149,7 +150,7 @@ fn hello_of<'a>(request: &'a Request, given_up: &'a GivenUp, records: u64) -> He
     }
 }
 
-// How the program ends whose requests were all answered.
+// How the program ends after all requests were answered.
 fn end(rt: &HostRuntime, request: &Request, client: &Client) -> Result<Status, Status> {
     match &client.lost {
         None => Ok(Status::Done),
@@ -211,8 +212,8 @@ fn serve_requests<F: Folder<B> + Drop, B: Blob + Cause + Drop, H: Sum, R: Read, 
     Err(Stop::Failed)
 }
 
-// The request of this number. Where it hasn't come whole, what was answered is out before the rest
-// of it is waited for.
+// Reads the request of this number. Where it hasn't come whole, all answers are sent before the
+// rest of it is awaited.
 fn next_request<R: Read, W: Write + Drop>(
     alloc: Global,
     version: Version,
@@ -237,7 +238,7 @@ fn holds_frame(bytes: &[u8]) -> bool {
     }
 }
 
-// Tells a client of version 2 what is no request, and answers why the session stops.
+// Answers to a client of version 2 why its bytes are no request. Returns why the session stops.
 fn tell_flaw<W: Write>(alloc: Global, version: Version, stop: Stop, out: &mut W) -> Stop {
     match (version, stop) {
         (Version::Two, Stop::Malformed(_, flaw)) => {

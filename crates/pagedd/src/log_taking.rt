@@ -1,4 +1,4 @@
-// Requests are taken as calls of a log, and answered.
+// Taking each request as a call of the log, and answering it.
 ghost use Rattle.segments.specs.Log.{IsLog};
 
 use crate::log_answer::{Refusal, write_answer, write_found, write_places, write_refusal};
@@ -13,7 +13,7 @@ use segments::{Error, Folder, Place, SegmentedLog};
 use std::alloc::Global;
 use std::io::{self, Write};
 
-/// Whom a log is served to, and how.
+/// The client to whom a log is served, and how.
 #[derive(Drop)]
 pub struct Client {
     pub version: Version,
@@ -56,7 +56,8 @@ fn refuse<W: Write>(alloc: Global, client: &Client, out: &mut W, status: u8) -> 
     write_refusal(alloc, client.version, out, Refusal::plain(status))
 }
 
-// Why a file of the log failed, if one did. The open segment's tells it before the manifest does.
+// Why a file of the log failed, if one did. The file of the open segment is asked first, then the
+// manifest.
 fn failure_of<F: Folder<B> + Drop, B: Blob + Cause + Drop, H: Sum>(
     log: &SegmentedLog<F, B, H, H>,
 ) -> Option<&io::Error> {
@@ -66,7 +67,7 @@ fn failure_of<F: Folder<B> + Drop, B: Blob + Cause + Drop, H: Sum>(
     }
 }
 
-// Answers a request that closed the log, once so many of its records were appended.
+// Answers a request whose error closed the log after so many of its records were appended.
 fn refuse_closed<W: Write>(
     alloc: Global,
     client: &mut Client,
@@ -83,7 +84,7 @@ fn refuse_closed<W: Write>(
     Ok(())
 }
 
-// Answers a request after an error that left the log as it was, or closed its manifest alone.
+// Answers a request after an error that left the log as it was, or that closed its manifest alone.
 fn refuse_kept<W: Write>(
     alloc: Global,
     client: &Client,
@@ -97,7 +98,7 @@ fn refuse_kept<W: Write>(
     write_refusal(alloc, client.version, out, refusal)
 }
 
-// Answers a request of which the log can't tell anything, since it is closed.
+// Answers a request that can't be met since the log is closed.
 fn refuse_lost<W: Write>(alloc: Global, client: &Client, out: &mut W) -> Result<(), Stop> {
     refuse_kept(alloc, client, out, &Error::Closed, true, None)
 }
@@ -127,7 +128,8 @@ fn take_append<F: Folder<B> + Drop, B: Blob + Cause + Drop, H: Sum, W: Write>(
     }
 }
 
-// Appends records, and commits where `syncs` asks. None is appended where the fields tell none.
+// Appends records, and commits where `syncs` asks. Nothing is appended where the fields are no
+// records.
 fn take_records<F: Folder<B> + Drop, B: Blob + Cause + Drop, H: Sum, W: Write>(
     alloc: Global,
     client: &mut Client,
@@ -177,7 +179,7 @@ fn append_records<F: Folder<B> + Drop, B: Blob + Cause + Drop, H: Sum>(
     Ok(())
 }
 
-// Commits, and tells how many records there are where `counts` asks.
+// Commits, and answers how many records there are where `counts` asks.
 fn take_sync<F: Folder<B> + Drop, B: Blob + Cause + Drop, H: Sum, W: Write>(
     alloc: Global,
     client: &mut Client,

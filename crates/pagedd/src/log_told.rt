@@ -1,4 +1,4 @@
-// Telling of the log in a folder, by a copy of it.
+// Reporting about the log in a folder, by a copy of it.
 ghost use Rattle.segments.specs.Log.{IsLog};
 
 use crate::log_cat::cat_log;
@@ -15,7 +15,7 @@ use segments::{Error, FolderCopy, SegmentedLog};
 /// A log over a copy of its folder.
 pub type LogCopy<H> = SegmentedLog<FolderCopy, VecBlob, H, H>;
 
-/// Tells what is asked of the log in a folder: all of it, where its records are to be written.
+/// Reports what is asked about the log in a folder. `cat` writes all its records.
 pub fn tell_log<H: Sum>(rt: &HostRuntime, request: &Request, told: Told) -> Result<Status, Status> {
     let folder = copy_of(rt, request.file)?;
     match open_log::<FolderCopy, VecBlob, H>(rt.alloc(), request, folder) {
@@ -39,7 +39,7 @@ fn tell_opened<H: Sum>(
     }
 }
 
-// Tells why a log can't be opened.
+// Reports why a log can't be opened.
 fn tell_unopened(
     rt: &HostRuntime,
     request: &Request,

@@ -17,8 +17,8 @@ const ROW: usize = 64;
 const LEGEND: &str =
     "# full, + partial, ~ with a bad slot, ! no value, . empty, < less than a page";
 
-/// Draws the pages of a file from one to before another: a mark for each, or where `long` a line for
-/// each, with what its slots say. What is left after the last page counts as one more.
+/// Draws the pages of a file from page `from` to before page `to`: a mark for each, or where `long`
+/// a line for each, with what its slots say. A part of a page at the end counts as a page.
 pub fn map<H: Sum>(
     rt: &HostRuntime,
     request: &Request,

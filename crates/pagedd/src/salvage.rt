@@ -18,12 +18,12 @@ use std::alloc::Global;
 use std::fs::File;
 use std::{fs, io};
 
-/// So many pages of a file that may have had more are named.
+/// At most so many pages that may have had more are named for a file.
 const MOST: usize = 20;
 
-/// Puts the values of all pages of a file that have one, and then those of what was set aside of it,
-/// into a new blob `out`, and makes it durable. Standard error says what is missing. The file is
-/// whole where nothing is.
+/// Puts the values of all pages of a file that have one, and then those of the files that were set
+/// aside of it, into a new blob `out`, and makes it durable. Standard error says what is missing.
+/// The file is whole where nothing is missing.
 pub fn salvage<H: Sum>(
     rt: &HostRuntime,
     request: &Request,
@@ -38,7 +38,7 @@ pub fn salvage<H: Sum>(
     salvage_of::<H>(rt, request, &mut blob, set_aside, out)
 }
 
-// Does it for a file that was read.
+// Salvages a file that was read.
 fn salvage_of<H: Sum>(
     rt: &HostRuntime,
     request: &Request,
@@ -104,7 +104,7 @@ fn named_twice<'a>(file: &'a str, set_aside: &[&'a str]) -> Option<&'a str> {
     None
 }
 
-// Says that nothing verifies.
+// Says that no page of a file verifies, and why that may be.
 fn refuse<H: Sum>(
     rt: &HostRuntime,
     request: &Request,
@@ -152,7 +152,7 @@ fn fill<H: Sum>(
     }
 }
 
-// Makes a new blob one with this content.
+// Makes a file that was opened a blob with this content.
 fn keep<H: Sum>(
     rt: &HostRuntime,
     request: &Request,

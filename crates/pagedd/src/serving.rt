@@ -55,8 +55,8 @@ fn serve_client<B: Blob + Cause + InMemory, H: Sum>(
     }
 }
 
-// Serves a blob. Where nothing of it would go, as of a file in order, its pages are gone through
-// once. Else it is looked at more closely before anything is changed.
+// Serves a blob. Where a recovery gives up none of it, as for a file in order, its pages are gone
+// through once. Otherwise the blob is looked at more closely before anything is changed.
 fn serve_streams<B: Blob + Cause + InMemory, H: Sum>(
     rt: &HostRuntime,
     request: &Request,
@@ -98,7 +98,7 @@ pub fn tell_stop(rt: &HostRuntime, request: &Request, stop: Stop, streams: &Stre
     }
 }
 
-/// How a session ends whose last answers are sent now.
+/// Sends the last answers of a session, and answers how it ends.
 pub fn flushed<W: Write>(served: Result<(), Stop>, out: &mut W) -> Result<(), Stop> {
     let sent = out.flush();
     served?;

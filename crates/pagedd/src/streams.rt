@@ -1,4 +1,4 @@
-// Standard input and output, which keep why they failed.
+// Standard input and output, each of which keeps why it failed last.
 use std::io::{self, BufReader, BufWriter, Read, Stdin, Stdout, Write};
 
 /// So many bytes of requests are taken by one call of the system, and so many of answers are given.
@@ -12,7 +12,7 @@ pub struct Input {
 }
 
 impl Input {
-    /// Of the running program.
+    /// Standard input of the running program.
     pub fn of(rt: &HostRuntime) -> Self {
         Input {
             stdin: rt.stdin(),
@@ -50,7 +50,7 @@ pub struct Output {
 }
 
 impl Output {
-    /// Of the running program.
+    /// Standard output of the running program.
     pub fn of(rt: &HostRuntime) -> Self {
         Output {
             stdout: rt.stdout(),
@@ -92,7 +92,7 @@ pub struct Streams {
 }
 
 impl Streams {
-    /// Of the running program.
+    /// Those of the running program.
     pub fn of(rt: &HostRuntime) -> io::Result<Box<Self>> {
         let input = BufReader::with_capacity(rt.alloc(), PIECE, Input::of(rt))?;
         let out = BufWriter::with_capacity(rt.alloc(), PIECE, Output::of(rt))?;
