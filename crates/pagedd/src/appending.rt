@@ -1,5 +1,5 @@
 // Appending the program's input to a file.
-ghost use Rattle.std.specs.Prelude.{IfOk};
+ghost use Rattle.std.specs.Prelude.{◌≡◌, IfOk};
 ghost use Rattle.session.specs.Run.{IsSessionReady};
 
 use crate::ending::{fail, fail_stop};
@@ -16,7 +16,6 @@ use protocol::Stop;
 use session::{Reply, Session, Step, run};
 use std::alloc::{AllocError, Global};
 use std::io::{ErrorKind, Read};
-use std::slice;
 
 /// So many bytes of the input are appended at once.
 const PIECE: usize = 1 << 16;
@@ -29,7 +28,7 @@ struct Pieces {
 }
 
 impl Pieces {
-    /// Of the running program.
+    /// The input of the running program.
     fn of(rt: &HostRuntime) -> Result<Self, AllocError> {
         Ok(Pieces {
             input: Input::of(rt),
@@ -50,6 +49,13 @@ impl Pieces {
     }
 }
 
+/// A session on a blob, and the cache of its pages.
+#[derive(Drop)]
+struct Appender<B, H> {
+    session: Session<B, H>,
+    cache: CacheRef,
+}
+
 /// Appends standard input to a file as it comes, and makes it durable at the end, and where
 /// `each_line` asks after each line too.
 pub fn append<H: Sum>(
@@ -61,7 +67,7 @@ pub fn append<H: Sum>(
     append_to::<H>(rt, request, each_line, &mut blob)
 }
 
-// Appends it to an opened file.
+// Appends standard input to an opened file.
 fn append_to<H: Sum>(
     rt: &HostRuntime,
     request: &Request,
@@ -69,19 +75,18 @@ fn append_to<H: Sum>(
     blob: &mut FileBlob,
 ) -> Result<Status, Status> {
     let mut pieces = Pieces::of(rt)?;
-    let (mut session, mut cache) = match begin::<FileBlob, H>(rt, request, blob)? {
+    let mut appender = match begin::<FileBlob, H>(rt, request, blob)? {
         Ok(begun) => begun,
         Err(stop) => return Err(tell_refused(rt, request, blob, stop)),
     };
-    let start = session.size().unwrap_or(0);
+    let start = appender.session.size().unwrap_or(0);
     let mut synced = start;
     let appended = append_input::<FileBlob, H>(
         rt.alloc(),
         &mut pieces,
         each_line,
-        &mut session,
+        &mut appender,
         blob,
-        &mut cache,
         &mut synced,
     );
     match appended {
@@ -90,15 +95,16 @@ fn append_to<H: Sum>(
     }
 }
 
-// Begins a session on a blob that nobody opened. Where something of it would go, it is looked at
-// more closely before anything is changed.
+// Begins a session on a blob that nobody opened. Where a recovery gives up some of it, the blob is
+// looked at more closely before anything is changed.
 fn begin<B: Blob + InMemory, H: Sum>(
     rt: &HostRuntime,
     request: &Request,
     blob: &mut B,
-) -> Result<Result<(Session<B, H>, CacheRef), Stop>, Status>
+) -> Result<Result<Box<Appender<B, H>>, Stop>, Status>
     ensures ready { let new = (B.life blob.new).present in
-        IfOk result (λ begun. IfOk begun (λ r. IsSessionReady H.sum_of r.0 r.1 new)) }
+        IfOk result (λ begun. IfOk begun (λ b.
+        IsSessionReady H.sum_of b.value.session b.value.cache new)) }
 {
     let begun = begin_within::<B, H>(rt.alloc(), request, blob, 0);
     let Err(Stop::WouldCut(_)) = begun else {
@@ -108,15 +114,15 @@ fn begin<B: Blob + InMemory, H: Sum>(
     Ok(begin_within::<B, H>(rt.alloc(), request, blob, allowed))
 }
 
-// Begins a session of which so many bytes may go.
+// Begins a session, whose recovery may give up so many bytes.
 fn begin_within<B: Blob, H: Sum>(
     alloc: Global,
     request: &Request,
     blob: &mut B,
     allowed: u64,
-) -> Result<(Session<B, H>, CacheRef), Stop>
+) -> Result<Box<Appender<B, H>>, Stop>
     ensures ready { let new = (B.life blob.new).present in
-        IfOk result (λ r. IsSessionReady H.sum_of r.0 r.1 new) }
+        IfOk result (λ b. IsSessionReady H.sum_of b.value.session b.value.cache new) }
 {
     let buffer = request.buffer;
     let mut cache = CacheRef::new(alloc, request.shape.page_size, request.cache)?;
@@ -130,7 +136,14 @@ fn begin_within<B: Blob, H: Sum>(
         buffer,
         allowed,
     )?;
-    Ok((session, cache))
+    Ok(in_box(alloc, Appender { session, cache })?)
+}
+
+// Puts an appender in a box: to let a box go is one call, also for the proof.
+fn in_box<B, H>(alloc: Global, appender: Appender<B, H>) -> Result<Box<Appender<B, H>>, Error>
+    ensures same { IfOk result (λ b. b.value ≡ appender) }
+{
+    Ok(Box::new(alloc, appender)?)
 }
 
 // Appends the input piece by piece. `synced` is how much of the content is durable.
@@ -138,22 +151,21 @@ fn append_input<B: Blob, H: Sum>(
     alloc: Global,
     pieces: &mut Pieces,
     each_line: bool,
-    session: &mut Session<B, H>,
+    appender: &mut Appender<B, H>,
     blob: &mut B,
-    cache: &mut CacheRef,
     synced: &mut u64,
 ) -> Result<(), Error>
     requires ready { let old = (B.life blob.old).present in
-        IsSessionReady H.sum_of session.old cache.old old }
+        IsSessionReady H.sum_of appender.old.session appender.old.cache old }
 {
     for _ in 0..u64::MAX {
         let bytes = pieces.next();
         if bytes.is_empty() {
             break;
         }
-        append_piece(alloc, bytes, each_line, session, blob, cache, synced)?;
+        append_piece(alloc, bytes, each_line, appender, blob, synced)?;
     }
-    sync(alloc, session, blob, cache, synced)
+    sync(alloc, appender, blob, synced)
 }
 
 // Appends a piece, and syncs where a line ends in it and `each_line` asks.
@@ -161,57 +173,56 @@ fn append_piece<B: Blob, H: Sum>(
     alloc: Global,
     bytes: &[u8],
     each_line: bool,
-    session: &mut Session<B, H>,
+    appender: &mut Appender<B, H>,
     blob: &mut B,
-    cache: &mut CacheRef,
     synced: &mut u64,
 ) -> Result<(), Error>
     requires ready { let old = (B.life blob.old).present in
-        IsSessionReady H.sum_of session.old cache.old old }
+        IsSessionReady H.sum_of appender.old.session appender.old.cache old }
     ensures ready { let new = (B.life blob.new).present in
-        IsSessionReady H.sum_of session.new cache.new new }
+        IsSessionReady H.sum_of appender.new.session appender.new.cache new }
 {
     let step = Step::Append(Vec::from_slice(alloc, bytes)?);
-    take(alloc, session, blob, cache, step)?;
+    take(alloc, appender, blob, step)?;
     if each_line && bytes.contains(&b'\n') {
-        return sync(alloc, session, blob, cache, synced);
+        return sync(alloc, appender, blob, synced);
     }
     Ok(())
 }
 
-// Makes all that was appended durable.
+// Makes all that was appended durable, and counts it in `synced`.
 fn sync<B: Blob, H: Sum>(
     alloc: Global,
-    session: &mut Session<B, H>,
+    appender: &mut Appender<B, H>,
     blob: &mut B,
-    cache: &mut CacheRef,
     synced: &mut u64,
 ) -> Result<(), Error>
     requires ready { let old = (B.life blob.old).present in
-        IsSessionReady H.sum_of session.old cache.old old }
+        IsSessionReady H.sum_of appender.old.session appender.old.cache old }
     ensures ready { let new = (B.life blob.new).present in
-        IsSessionReady H.sum_of session.new cache.new new }
+        IsSessionReady H.sum_of appender.new.session appender.new.cache new }
 {
-    take(alloc, session, blob, cache, Step::Sync)?;
-    *synced = session.size().unwrap_or(*synced);
+    take(alloc, appender, blob, Step::Sync)?;
+    *synced = appender.session.size().unwrap_or(*synced);
     Ok(())
 }
 
 // Takes a step.
 fn take<B: Blob, H: Sum>(
     alloc: Global,
-    session: &mut Session<B, H>,
+    appender: &mut Appender<B, H>,
     blob: &mut B,
-    cache: &mut CacheRef,
     step: Step,
 ) -> Result<(), Error>
     requires ready { let old = (B.life blob.old).present in
-        IsSessionReady H.sum_of session.old cache.old old }
+        IsSessionReady H.sum_of appender.old.session appender.old.cache old }
     ensures ready { let new = (B.life blob.new).present in
-        IsSessionReady H.sum_of session.new cache.new new }
+        IsSessionReady H.sum_of appender.new.session appender.new.cache new }
 {
+    let steps = vec![in alloc; step]?;
     let mut replies = Vec::new(alloc);
-    run(session, blob, cache, slice::from_ref(&step), &mut replies)?;
+    let Appender { session, cache } = appender;
+    run(session, blob, cache, &steps, &mut replies)?;
     match replies.first() {
         Some(Reply::Fault(error)) => Err(*error),
         _ => Ok(()),

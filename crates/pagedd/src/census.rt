@@ -5,7 +5,7 @@ use crate::status::Status;
 use page::Sum;
 use paged::physical_page_size;
 
-/// So many pages of a kind are named.
+/// At most so many pages of a kind are named.
 const MOST: usize = 20;
 
 /// The first pages of a kind by their numbers, and how many there are of it.
@@ -30,13 +30,13 @@ impl Numbers {
         self.count = self.count.saturating_add(1);
     }
 
-    /// The first pages.
+    /// The numbers of the first pages.
     pub fn first(&self) -> &[u64] {
         let count = self.count.min(MOST as u64) as usize;
         self.named.get(..count).unwrap_or_default()
     }
 
-    /// How many aren't named.
+    /// How many pages aren't named.
     pub fn others(&self) -> u64 {
         self.count.saturating_sub(MOST as u64)
     }
@@ -52,7 +52,7 @@ pub struct Census {
 }
 
 impl Census {
-    /// The pages that aren't whole of the file of these bytes, of which this look was taken.
+    /// The pages that aren't whole in a file of these bytes, at which `look` was taken.
     pub fn of<H: Sum>(rt: &HostRuntime, bytes: &[u8], look: &Look) -> Result<Self, Status> {
         let size = physical_page_size(look.shape.page_size) as usize;
         let count = bytes.len() / size;
@@ -77,7 +77,7 @@ impl Census {
         }
     }
 
-    /// Whether there are none.
+    /// Whether all pages are whole.
     pub fn is_empty(&self) -> bool {
         self.bad_pages.count == 0 && self.bad_slots.count == 0
     }

@@ -1,4 +1,4 @@
-// Telling what a file holds.
+// Reporting what a file holds.
 use crate::census::{Census, Numbers};
 use crate::ending::or_end;
 use crate::look::{Look, looked};
@@ -12,8 +12,8 @@ use page::Sum;
 use paged::Verdict;
 use std::io;
 
-/// Tells what a recovery would make of a file, and which of its pages aren't whole. It is whole where
-/// nothing would be cut, each page has a value, and no slot is bad.
+/// Reports what a recovery would make of a file, and which of its pages aren't whole. The file is
+/// whole where nothing would be cut, each page has a value, and no slot is bad.
 pub fn check<H: Sum>(
     rt: &HostRuntime,
     request: &Request,
@@ -76,7 +76,7 @@ fn tell_outlook(rt: &HostRuntime, request: &Request, causes: &Causes) -> io::Res
     }
 }
 
-// What the bytes may be that are set aside.
+// What the bytes that are set aside may be.
 fn tell_keep(rt: &HostRuntime, look: &Look) -> io::Result<()> {
     println!(rt;
         "this is either a write that a crash tore, and then nothing that was synced is lost, or what \
@@ -86,7 +86,7 @@ fn tell_keep(rt: &HostRuntime, look: &Look) -> io::Result<()> {
     )
 }
 
-// Tells the first pages of a kind, with what their slots say, and how many others there are.
+// Prints the first pages of a kind, with what their slots say, and how many others there are.
 fn tell_pages<H: Sum>(
     rt: &HostRuntime,
     bytes: &[u8],
@@ -105,7 +105,7 @@ fn tell_pages<H: Sum>(
     }
 }
 
-// Tells what follows the last page.
+// Prints how many bytes follow the last page, if any do.
 fn tell_tail(rt: &HostRuntime, look: &Look) -> io::Result<()> {
     match look.tail_len() {
         0 => Ok(()),

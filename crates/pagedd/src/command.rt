@@ -48,7 +48,7 @@ const COMMANDS: [(&str, &str); 8] = [
     ("version", "prints the version"),
 ];
 
-/// What follows an option's name. A word that has none stands on the command line by itself.
+/// What follows an option's name. A word without a name stands on the command line by itself.
 #[derive(Clone, Copy)]
 enum Takes {
     /// The option has no name, and is one word.
@@ -61,7 +61,7 @@ enum Takes {
     Number,
     /// A number of bytes or pages, at least one.
     Size,
-    /// The same, and as great as a number may be.
+    /// A number of bytes, at least one, and as great as a number may be.
     Length,
     /// The content bytes of a page.
     PageSize,
@@ -242,40 +242,51 @@ const WITH_PAGES: [&str; 8] = [
     "salvage",
 ];
 
-/// The commands that may write to it.
+/// The commands that may write to a file or a folder.
 const WITH_WRITER: [&str; 4] = ["pagedd", "serve", "serve-log", "append"];
 
 /// The command line.
 pub fn command<'a>(alloc: Global) -> Result<Command<'a>, AllocError> {
-    let top = Command::new(alloc, "pagedd")
+    let options = options_of(alloc, &ROWS, "pagedd")?;
+    let commands = all_commands(alloc)?;
+    Command::new(alloc, "pagedd")
         .about(
             "serves a paged blob over a file, or a log in a folder, to one client, and looks at them",
         )
         .version(VERSION)
         .after_help(STATUSES)
-        .args_conflicts_with_subcommands(true);
-    let mut top = with_options(alloc, top, &ROWS, "pagedd")?;
-    for (name, about) in COMMANDS {
-        let command = Command::new(alloc, name).about(about);
-        top = top.subcommand(with_options(alloc, command, &ROWS, name)?)?;
-    }
-    Ok(top)
+        .args_conflicts_with_subcommands(true)
+        .args(options)?
+        .subcommands(commands)
 }
 
-// The command with its options, which are those of the rows that name it.
+// All commands, each with its options.
+fn all_commands<'a>(alloc: Global) -> Result<Vec<Command<'a>>, AllocError> {
+    let mut commands = Vec::new(alloc);
+    for (name, about) in COMMANDS {
+        commands.push(with_options(alloc, name, about)?)?;
+    }
+    Ok(commands)
+}
+
 fn with_options<'a>(
     alloc: Global,
-    command: Command<'a>,
-    rows: &[Row],
-    name: &str,
+    name: &'a str,
+    about: &'a str,
 ) -> Result<Command<'a>, AllocError> {
-    let mut command = command;
+    let options = options_of(alloc, &ROWS, name)?;
+    Command::new(alloc, name).about(about).args(options)
+}
+
+// The options of the command with this name, which are those of the rows that name it.
+fn options_of<'a>(alloc: Global, rows: &[Row], name: &str) -> Result<Vec<Arg<'a>>, AllocError> {
+    let mut options = Vec::new(alloc);
     for row in rows {
         if row.commands.iter().any(|other| *other == name) {
-            command = command.arg(option_of(alloc, *row))?;
+            options.push(option_of(alloc, *row))?;
         }
     }
-    Ok(command)
+    Ok(options)
 }
 
 // The option of a row.

@@ -5,7 +5,8 @@ use protocol::Stop;
 use std::fmt;
 use std::io::{self, ErrorKind};
 
-/// Says a line on standard error. Where that fails, nobody can be told, and it changes nothing else.
+/// Prints a line on standard error. Where that fails, nothing else changes: there is no other place
+/// to report it.
 pub fn tell<E: fmt::Display + Drop>(rt: &HostRuntime, words: E) {
     let _ = eprintln!(rt; "pagedd: {words}");
 }
@@ -29,8 +30,8 @@ pub fn fail_stop(rt: &HostRuntime, path: &str, stop: Stop) -> Status {
     Status::from(stop)
 }
 
-/// What standard output, or a buffer for a stream, answered. After an error of standard output a
-/// line says why, except where it was closed by its reader.
+/// The value that a call of standard output returned, or that of a buffer for a stream. After an
+/// error of standard output a line says why, except where its reader closed it.
 pub fn or_end<T>(rt: &HostRuntime, answer: io::Result<T>) -> Result<T, Status> {
     match answer {
         Ok(value) => Ok(value),
@@ -38,8 +39,8 @@ pub fn or_end<T>(rt: &HostRuntime, answer: io::Result<T>) -> Result<T, Status> {
     }
 }
 
-/// Says in a line why standard output failed, except where it was closed by its reader, and answers
-/// the status.
+/// Says in a line why standard output failed, except where its reader closed it, and answers the
+/// status.
 pub fn fail_output(rt: &HostRuntime, error: &io::Error) -> Status {
     match error.kind() {
         ErrorKind::BrokenPipe => Status::Unread,

@@ -23,7 +23,7 @@ pub struct Refusal<'a> {
 }
 
 impl Refusal<'_> {
-    /// One of a request that can't be met as it stands.
+    /// That of a request that can't be met as it stands.
     pub fn plain(status: u8) -> Self {
         Refusal {
             status,
@@ -51,7 +51,8 @@ pub fn write_numbers<W: Write>(out: &mut W, numbers: &[u64]) -> Result<(), Stop>
     Ok(())
 }
 
-/// Writes the answer to a read: where the frame ends, whether it is a record, and its bytes.
+/// Writes the answer to a read: the offset at which the frame ends, whether it is a record, and the
+/// bytes of the record.
 pub fn write_found<W: Write>(out: &mut W, end: u64, bytes: Option<&[u8]>) -> Result<(), Stop> {
     let record = bytes.unwrap_or_default();
     write_head(out, 0, record.len().saturating_add(9))?;
@@ -61,7 +62,7 @@ pub fn write_found<W: Write>(out: &mut W, end: u64, bytes: Option<&[u8]>) -> Res
     Ok(())
 }
 
-/// Writes the answer to an append of records: where each stands.
+/// Writes the answer to an append of records: the place of each.
 pub fn write_places<W: Write>(out: &mut W, places: &[Place]) -> Result<(), Stop> {
     write_head(out, 0, places.len().saturating_mul(16))?;
     for place in places {
@@ -80,7 +81,7 @@ pub fn write_head<W: Write>(out: &mut W, status: u8, len: usize) -> Result<(), S
     Ok(())
 }
 
-/// Writes a refusal: in version 1 its status, in version 2 all of it.
+/// Writes a refusal: in version 1 its status alone, in version 2 all its fields.
 pub fn write_refusal<W: Write>(
     alloc: Global,
     version: Version,

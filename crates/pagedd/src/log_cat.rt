@@ -27,7 +27,8 @@ pub fn cat_log<H: Sum>(
     Ok(Status::of_file(are_read && keeps_all))
 }
 
-// Whether a recovery gives up nothing of the manifest and of the open segment. Else lines say so.
+// Whether a recovery gives up nothing of the manifest and of the open segment. A line names each
+// of these two files of which it gives up something.
 fn keeps_all<H: Sum>(rt: &HostRuntime, request: &Request, last: u64) -> Result<bool, Status> {
     let manifest = manifest_in(rt.alloc(), request.file)?;
     let open = segment_in(rt.alloc(), request.file, last)?;

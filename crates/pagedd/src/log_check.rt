@@ -1,4 +1,4 @@
-// Telling what the folder of a log holds.
+// Reporting what the folder of a log holds.
 use crate::ending::or_end;
 use crate::log_files::{copy_of, manifest_in, segment_in};
 use crate::log_parts::{Kept, Part};
@@ -11,9 +11,9 @@ use page::Sum;
 use segments::Error;
 use std::io;
 
-/// Tells what a log has, and which of its files aren't whole. It is whole where each closed segment
-/// holds what it held when it was closed, and a recovery of the manifest and of the open segment
-/// gives up nothing.
+/// Reports what a log has, and which of its files aren't whole. The log is whole where each closed
+/// segment holds what it held when it was closed, and a recovery of the manifest and of the open
+/// segment gives up nothing.
 pub fn check_log<H: Sum>(
     rt: &HostRuntime,
     request: &Request,
@@ -56,7 +56,7 @@ fn tell_heading(rt: &HostRuntime, request: &Request, first: u64, last: u64) -> i
     )
 }
 
-// Tells of a file that an opening recovers.
+// Prints the state of a file that an opening recovers.
 fn tell_part(rt: &HostRuntime, what: &str, part: &Part, path: &str) -> io::Result<()> {
     if part.is_whole {
         println!(rt; "{what}: {part}")
@@ -76,7 +76,7 @@ fn tell_open(
     tell_part(rt, "its file", part, path)
 }
 
-// Tells of each closed segment, and answers whether all are whole.
+// Prints the state of each closed segment, and answers whether all are whole.
 fn check_closed<H: Sum>(
     rt: &HostRuntime,
     request: &Request,
@@ -106,7 +106,7 @@ fn check_closed<H: Sum>(
     Ok(are_whole)
 }
 
-/// Tells why a log can't be opened. Where the status is 1, standard error says it too.
+/// Prints why a log can't be opened. Where the status is 1, standard error says it too.
 pub fn check_unopened(
     rt: &HostRuntime,
     request: &Request,
@@ -130,7 +130,7 @@ pub fn check_unopened(
     }
 }
 
-// Tells with which page size and checksum the manifest can be read, if there are such.
+// Prints with which page size and checksum the manifest can be read, if there are such.
 fn tell_manifest(rt: &HostRuntime, request: &Request) -> Result<(), Status> {
     let path = manifest_in(rt.alloc(), request.file)?;
     let told = match fit_of(rt, request, path.as_str())? {

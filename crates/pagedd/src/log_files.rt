@@ -1,8 +1,13 @@
-// The folder of a log, and its files by their names.
+// The folder of a log, its files by their names, and the log itself.
+ghost use Rattle.std.specs.Prelude.{IfOk};
+ghost use Rattle.segments.specs.Log.{IsLog};
+
 use crate::ending::fail;
 use crate::request::Request;
 use crate::status::Status;
-use segments::{FolderCopy, Options};
+use disk::Blob;
+use page::Sum;
+use segments::{Error, Folder, FolderCopy, Options, SegmentedLog};
 use std::alloc::{AllocError, Global};
 use std::fs;
 
@@ -29,8 +34,8 @@ pub fn segment_in(alloc: Global, folder: &str, number: u64) -> Result<String, Al
     format!(in alloc; "{folder}/{number:020}.segment")
 }
 
-/// A copy of the folder: each file is read into memory, and none changes. Where there is no memory
-/// a line says so.
+/// A copy of the folder: each file is read into memory as it is opened, and none changes. Where
+/// the copy can't be made, a line says why.
 pub fn copy_of(rt: &HostRuntime, folder: &str) -> Result<FolderCopy, Status> {
     match FolderCopy::new(rt, folder) {
         Ok(copy) => Ok(copy),
@@ -38,8 +43,8 @@ pub fn copy_of(rt: &HostRuntime, folder: &str) -> Result<FolderCopy, Status> {
     }
 }
 
-/// How the log is kept.
-pub fn options_of(request: &Request) -> Options {
+// How the log is kept.
+fn options_of(request: &Request) -> Options {
     Options {
         page_size: request.shape.page_size,
         capacity: request.buffer.get(),
@@ -47,4 +52,17 @@ pub fn options_of(request: &Request) -> Options {
         buffer_size: request.buffer,
         segment_size: request.segment_size,
     }
+}
+
+/// Opens the log of a folder, and puts it in a box. A log is owned outside of one only here, since
+/// letting such a log go costs the proof much.
+pub fn open_log<F: Folder<B> + Drop, B: Blob + Drop, H: Sum>(
+    alloc: Global,
+    request: &Request,
+    folder: F,
+) -> Result<Box<SegmentedLog<F, B, H, H>>, Error>
+    ensures log { IfOk result (λ log. IsLog H.sum_of H.sum_of log.value) }
+{
+    let log = SegmentedLog::<F, B, H, H>::open(alloc, folder, options_of(request))?;
+    Ok(Box::new(alloc, log)?)
 }

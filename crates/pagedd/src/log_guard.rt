@@ -1,9 +1,7 @@
-// A look at a log before it is opened: nothing of it goes before that is said, and is set aside.
-ghost use Rattle.segments.specs.Log.{IsLog};
-
-use crate::log_files::{copy_of, manifest_in, options_of, segment_in};
+// A look at a log before it is opened. Before the opening cuts any of it, a line on standard error
+// says what goes, and a copy of what may have been synced is set aside.
+use crate::log_files::{copy_of, manifest_in, open_log, segment_in};
 use crate::log_refusing::refuse_log;
-use crate::log_told::LogCopy;
 use crate::look::{Look, looked, read};
 use crate::opening::{allow, open};
 use crate::request::Request;
@@ -11,7 +9,7 @@ use crate::status::Status;
 use disk::VecBlob;
 use file::FileBlob;
 use page::Sum;
-use segments::Error;
+use segments::{Error, FolderCopy};
 use std::io::ErrorKind;
 
 /// What an opening gives up of the manifest and of the open segment.
@@ -19,14 +17,14 @@ use std::io::ErrorKind;
 pub struct GivenUp {
     /// How many bytes it cuts.
     pub cut: u64,
-    /// How many bytes go: those, and those of a torn last page.
+    /// How many bytes go: those that it cuts, and those of a torn last page.
     pub bytes: u64,
-    /// The name of the copy that was made of them, if one was; that of the open segment's, where
-    /// both were.
+    /// The name of the copy that was made of these bytes, if one was. Where the manifest and the
+    /// open segment each have a copy, that of the segment.
     pub copy: Option<String>,
 }
 
-/// What an opening of a log gives up, unless the log is refused. A copy of it is set aside, and a
+/// What an opening of a log gives up, unless the log is refused. A copy of that is set aside, and a
 /// line on standard error says what goes. For reading alone the line says what isn't served.
 pub fn guard_log<H: Sum>(rt: &HostRuntime, request: &Request) -> Result<GivenUp, Status> {
     let mut given_up = GivenUp {
@@ -47,17 +45,11 @@ pub fn guard_log<H: Sum>(rt: &HostRuntime, request: &Request) -> Result<GivenUp,
 // be made.
 fn open_number<H: Sum>(rt: &HostRuntime, request: &Request) -> Result<Option<u64>, Status> {
     let folder = copy_of(rt, request.file)?;
-    match LogCopy::<H>::open(rt.alloc(), folder, options_of(request)) {
-        Ok(log) => Ok(Some(last_of::<H>(log))),
+    match open_log::<FolderCopy, VecBlob, H>(rt.alloc(), request, folder) {
+        Ok(log) => Ok(Some(log.last_segment())),
         Err(error) if !request.read_only && is_not_found(&error) => Ok(None),
         Err(error) => Err(refuse_log(rt, request, &error)),
     }
-}
-
-fn last_of<H: Sum>(log: LogCopy<H>) -> u64
-    requires log { IsLog H.sum_of H.sum_of log }
-{
-    log.last_segment()
 }
 
 fn is_not_found(error: &Error) -> bool {
@@ -67,14 +59,15 @@ fn is_not_found(error: &Error) -> bool {
     }
 }
 
-// Whether a crash may have left a file so, of which nothing is committed yet, as of the segment
-// that follows one that was closed. The page size is right, since the manifest was read with it.
+// Whether a crash may have left a file so. It may have left one of which nothing is committed yet,
+// as the segment that follows one that was closed: so a file of which nothing would be kept isn't
+// refused. The page size is right, since the manifest was read with it.
 fn may_be_torn(request: &Request, look: &Look) -> bool {
     let survey = look.survey;
     survey.beyond == 0 || survey.outlook.cut <= request.cut_limit
 }
 
-// Adds what a recovery of a file gives up.
+// Adds to `given_up` what a recovery of this file gives up.
 fn guard_file<H: Sum>(
     rt: &HostRuntime,
     request: &Request,
@@ -91,7 +84,7 @@ fn guard_file<H: Sum>(
     let allowed = if request.read_only {
         allow::<VecBlob, H>(rt, &part, &mut copy)?
     } else {
-        allow::<FileBlob, H>(rt, &part, &mut open(rt, path)?)?
+        allow::<FileBlob, H>(rt, &part, &mut *open(rt, path)?)?
     };
     given_up.cut = given_up.cut.saturating_add(look.survey.outlook.cut);
     given_up.bytes = given_up.bytes.saturating_add(allowed.bytes);

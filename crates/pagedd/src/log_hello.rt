@@ -1,4 +1,4 @@
-// How a session over a log begins: what a client begins with, and what it is answered.
+// How a session over a log begins: what the client sends first, and the answer to it.
 use crate::log_answer::{MOST_PAYLOAD, write_answer, write_head, write_numbers};
 use crate::log_input::{Unread, read_front};
 use crate::log_records::MOST_RECORDS;
@@ -16,7 +16,7 @@ const OFFER: u8 = 2;
 // How many bytes of the hello stand after its status, except for those of its texts.
 const FIXED: usize = 82;
 
-/// What a client of version 2 is told of the log.
+/// What the hello to a client of version 2 states of the log.
 #[derive(Clone, Copy)]
 pub struct Hello<'a> {
     pub read_only: bool,
@@ -26,11 +26,11 @@ pub struct Hello<'a> {
     pub page_size: u64,
     /// How many bytes the opening cut.
     pub cut: u64,
-    /// How many bytes it gave up.
+    /// How many bytes the opening gave up: those that it cut, and those of a torn last page.
     pub given_up: u64,
     /// The checksum's name.
     pub checksum: &'a str,
-    /// The name of the copy of what it gave up; no byte where none was made.
+    /// The name of the copy of what the opening gave up. Empty where no copy was made.
     pub copy: &'a str,
 }
 
@@ -41,7 +41,7 @@ pub enum Opening {
     End,
     /// Version 1, and no other.
     Single,
-    /// An offer of versions. This is the highest of them that is known, if there is one.
+    /// An offer of versions, with the highest of them that is known, if there is one.
     Offer(Option<Version>),
     /// A byte with which no version begins.
     Other(u8),
@@ -98,8 +98,8 @@ fn read_byte<R: Read>(input: &mut R) -> Result<u8, Unread> {
     Ok(byte)
 }
 
-/// Answers what a client begins with, where that is an offer: version 2 with its hello. Returns the
-/// version to go on with; none where the client asks for nothing.
+/// Writes the answer to an offer of versions: for version 2 the hello. Any other opening has no
+/// answer. Returns the version to go on with, or none where the client asks for nothing.
 pub fn tell_opening<W: Write>(
     opening: Opening,
     hello: &Hello<'_>,
@@ -144,7 +144,7 @@ fn write_hello<W: Write>(out: &mut W, hello: &Hello<'_>) -> Result<(), Stop> {
     write_text(out, hello.copy)
 }
 
-// Writes a text, after how many bytes it has.
+// Writes how many bytes a text has, and then the text.
 fn write_text<W: Write>(out: &mut W, text: &str) -> Result<(), Stop> {
     out.write_all(&(text.len() as u64).to_le_bytes())?;
     out.write_all(text.as_bytes())?;

@@ -61,8 +61,8 @@ pub fn read_number<R: Read>(input: &mut R) -> Result<u64, Unread> {
     Ok(u64::from_le_bytes(bytes))
 }
 
-/// Reads so many bytes, and not fewer. The number is the client's word, so memory is taken only as
-/// the bytes come.
+/// Reads so many bytes, and not fewer. The client chose the number, so memory is taken only as the
+/// bytes come.
 pub fn read_bytes<R: BufRead>(
     alloc: Global,
     input: &mut R,
@@ -79,8 +79,7 @@ pub fn read_bytes<R: BufRead>(
     Err(Unread::Failed)
 }
 
-// Takes what has come, at most so many bytes, after those that are there, and waits only where
-// nothing has.
+// Adds to `bytes` what has come, at most `most` bytes. Waits only where nothing has come.
 fn read_piece<R: BufRead>(input: &mut R, most: usize, bytes: &mut Vec<u8>) -> Result<(), Unread> {
     let come = match input.fill_buf() {
         Ok(come) => come,

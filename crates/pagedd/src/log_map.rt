@@ -4,13 +4,10 @@ use crate::log_files::copy_of;
 use crate::log_parts::Kept;
 use crate::log_report::print_log_map;
 use crate::log_told::LogCopy;
+use crate::map::draw;
 use crate::request::Request;
 use crate::status::Status;
 use page::Sum;
-use std::{io, str};
-
-/// So many marks make a line.
-const ROW: usize = 64;
 
 /// What the marks mean.
 const LEGEND: &str = "# whole, ! damaged, ? missing, - not read, + open";
@@ -18,11 +15,11 @@ const LEGEND: &str = "# whole, ! damaged, ? missing, - not read, + open";
 /// Which segments are drawn, and how.
 #[derive(Clone, Copy)]
 pub struct Drawn {
-    /// The first one.
+    /// The number of the first segment.
     pub from: u64,
-    /// The one before which the drawing ends.
+    /// The number of the segment before which the drawing ends.
     pub to: u64,
-    /// A line for each, with what was kept of it.
+    /// Whether each segment has a line, with what the manifest keeps of it, in place of a mark.
     pub long: bool,
 }
 
@@ -53,7 +50,7 @@ pub fn map_log<H: Sum>(
     if request.json {
         print_log_map(rt, request, first, end, marks.as_str())?;
     } else {
-        or_end(rt, draw(rt, first, marks.as_str()))?;
+        or_end(rt, draw(rt, LEGEND, first, marks.as_str()))?;
     }
     Ok(Status::Done)
 }
@@ -75,18 +72,6 @@ fn marks_of<H: Sum>(
         marks.push(mark)?;
     }
     Ok(marks)
-}
-
-// Draws rows of marks, each after the number of its first segment.
-fn draw(rt: &HostRuntime, first: u64, marks: &str) -> io::Result<()> {
-    println!(rt; "{LEGEND}")?;
-    let mut number = first;
-    for row in marks.as_bytes().chunks(ROW) {
-        let row = str::from_utf8(row).unwrap_or_default();
-        println!(rt; "{number:>10} {row}")?;
-        number = number.saturating_add(ROW as u64);
-    }
-    Ok(())
 }
 
 // Draws a line for each segment.

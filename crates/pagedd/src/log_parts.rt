@@ -1,4 +1,4 @@
-// How the files of a log are.
+// The states of a log's files.
 use crate::census::Census;
 use crate::look::{looked, read};
 use crate::request::Request;
@@ -9,12 +9,12 @@ use segments::{Asked, Closed, Folder, FolderCopy};
 use std::fmt;
 use std::io::ErrorKind;
 
-/// How the file of a closed segment is.
+/// The state of a closed segment's file.
 #[derive(Clone, Copy, PartialEq, Eq)]
 pub enum Kept {
     /// It holds what it held when it was closed.
     Whole,
-    /// It doesn't.
+    /// It holds something else.
     Damaged,
     /// It isn't there.
     Missing,
@@ -23,7 +23,8 @@ pub enum Kept {
 }
 
 impl Kept {
-    /// That of a closed segment, of which this was kept. Its file is read whole.
+    /// The state of the file of a closed segment, of which the manifest keeps `closed`. The file is
+    /// read whole.
     pub fn of(folder: &mut FolderCopy, number: u64, closed: &Closed) -> Self {
         match folder.read(Asked::Segment(number)) {
             Ok(blob) => {
@@ -38,7 +39,7 @@ impl Kept {
         }
     }
 
-    /// One word for it.
+    /// One word for the state.
     pub fn name(self) -> &'static str {
         match self {
             Kept::Whole => "whole",
@@ -48,7 +49,7 @@ impl Kept {
         }
     }
 
-    /// One mark for it.
+    /// One mark for the state.
     pub fn mark(self) -> char {
         match self {
             Kept::Whole => '#',
@@ -71,10 +72,10 @@ impl Kept {
     }
 }
 
-/// How a file is that an opening recovers: the manifest, or the open segment.
+/// The state of a file that an opening recovers: the manifest, or the open segment.
 #[derive(Clone, Copy)]
 pub struct Part {
-    /// How many bytes it has.
+    /// How many bytes the file has.
     pub bytes: u64,
     /// How many bytes of content a recovery would keep.
     pub kept: u64,
@@ -87,7 +88,8 @@ pub struct Part {
 }
 
 impl Part {
-    /// How the file at this path is. Where it can't be read, or for want of memory, a line says so.
+    /// The state of the file at this path. Where it can't be read, or for want of memory, a line
+    /// says so.
     pub fn of<H: Sum>(rt: &HostRuntime, request: &Request, path: &str) -> Result<Self, Status> {
         let mut blob = read(rt, path)?;
         let part = request.about(path);
@@ -103,7 +105,7 @@ impl Part {
         })
     }
 
-    /// Whether a recovery would give up nothing of it.
+    /// Whether a recovery would give up nothing of the file.
     pub fn keeps_all(&self) -> bool {
         self.cut == 0 && !self.torn
     }

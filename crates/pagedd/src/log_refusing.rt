@@ -26,8 +26,8 @@ impl fmt::Display for Why<'_> {
 const NO_LOG: &str =
     "there is no log in it, or its first file isn't there: 'pagedd serve-log' begins one";
 
-/// Says in a line why a log isn't opened, and what can be done, and answers the status. Nothing was
-/// changed.
+/// Says on standard error why a log isn't opened and what can be done, and answers the status.
+/// Nothing was changed.
 pub fn refuse_log(rt: &HostRuntime, request: &Request, error: &Error) -> Status {
     let folder = request.file;
     let why = Why(error);

@@ -66,7 +66,7 @@ pub fn print_closed(
     or_end(rt, printed)
 }
 
-/// Prints what stands behind them.
+/// Prints what stands behind the closed segments.
 pub fn print_ending(
     rt: &HostRuntime,
     last: u64,

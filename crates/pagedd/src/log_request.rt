@@ -7,21 +7,19 @@ use std::alloc::Global;
 use std::io::BufRead;
 
 /// What a client asks of a log.
-#[derive(Drop)]
-pub enum LogRequest {
-    /// To append these bytes as a record.
-    Append(Vec<u8>),
+#[derive(Clone, Copy)]
+pub enum LogTask {
+    /// To append the bytes of the request as a record.
+    Append,
     /// To append a record that is longer than one may be.
     AppendTooLong,
-    /// To append the records that these bytes tell.
-    Records(Vec<u8>),
-    /// To append them, and to commit.
-    RecordsSync(Vec<u8>),
+    /// To append the records that the bytes of the request hold, and where `syncs`, to commit.
+    Records { syncs: bool },
     /// To commit.
     Sync,
-    /// To commit, and to tell how many records there are.
+    /// To commit, and to answer how many records there are.
     SyncSize,
-    /// To tell how many records there are.
+    /// To answer how many records there are.
     Size,
     /// The frame at a place.
     Read(Place),
@@ -31,31 +29,32 @@ pub enum LogRequest {
     DropBefore(u64),
     /// To send all answers.
     Flush,
-    /// The end.
-    Close,
 }
 
-impl LogRequest {
-    /// Whether a client that may only read is refused it.
-    pub fn is_change(&self) -> bool {
+impl LogTask {
+    /// Whether the task is refused where the log is served for reading alone.
+    pub fn is_change(self) -> bool {
         match self {
-            LogRequest::Append(_)
-            | LogRequest::AppendTooLong
-            | LogRequest::Records(_)
-            | LogRequest::RecordsSync(_)
-            | LogRequest::Sync
-            | LogRequest::SyncSize
-            | LogRequest::DropBefore(_) => true,
-            LogRequest::Size
-            | LogRequest::Read(_)
-            | LogRequest::Next(_)
-            | LogRequest::Flush
-            | LogRequest::Close => false,
+            LogTask::Append
+            | LogTask::AppendTooLong
+            | LogTask::Records { .. }
+            | LogTask::Sync
+            | LogTask::SyncSize
+            | LogTask::DropBefore(_) => true,
+            LogTask::Size | LogTask::Read(_) | LogTask::Next(_) | LogTask::Flush => false,
         }
     }
 }
 
-/// Reads a request; none at the end of the input.
+/// A request of a client.
+#[derive(Drop)]
+pub struct LogRequest {
+    pub task: LogTask,
+    /// What is to be appended. Empty for any other task.
+    pub bytes: Vec<u8>,
+}
+
+/// Reads a request; none at the end of the input, or where the client closes.
 pub fn read_request<R: BufRead>(
     alloc: Global,
     version: Version,
@@ -77,37 +76,39 @@ pub fn read_request<R: BufRead>(
         return Err(Unread::Malformed(Flaw::Cut));
     }
     let [kind] = kind;
-    Ok(Some(read_body(alloc, version, input, kind, len as usize)?))
+    read_body(alloc, version, input, kind, len as usize)
 }
 
-// Reads what stands after the kind of a request: so many bytes. A wrong length is told before they
-// are awaited.
+// Reads what stands after the kind of a request: so many bytes. A wrong length is reported before
+// these bytes are awaited.
 fn read_body<R: BufRead>(
     alloc: Global,
     version: Version,
     input: &mut R,
     kind: u8,
     len: usize,
-) -> Result<LogRequest, Unread> {
+) -> Result<Option<LogRequest>, Unread> {
     if !is_known(version, kind) {
         return Err(Unread::Malformed(Flaw::Kind(kind)));
     }
     if has_bytes(kind) {
-        return read_of_bytes(alloc, input, kind, len);
+        return Ok(Some(read_of_bytes(alloc, input, kind, len)?));
     }
     if len != fields_len(kind) {
         return Err(Unread::Malformed(Flaw::Length));
     }
-    match kind {
-        2 => Ok(LogRequest::Sync),
-        5 => Ok(LogRequest::Size),
-        6 => Ok(LogRequest::Read(read_place(input)?)),
-        7 => Ok(LogRequest::Next(read_place(input)?)),
-        21 => Ok(LogRequest::SyncSize),
-        25 => Ok(LogRequest::Flush),
-        27 => Ok(LogRequest::DropBefore(read_number(input)?)),
-        _ => Ok(LogRequest::Close),
-    }
+    let task = match kind {
+        2 => LogTask::Sync,
+        5 => LogTask::Size,
+        6 => LogTask::Read(read_place(input)?),
+        7 => LogTask::Next(read_place(input)?),
+        21 => LogTask::SyncSize,
+        25 => LogTask::Flush,
+        27 => LogTask::DropBefore(read_number(input)?),
+        _ => return Ok(None),
+    };
+    let bytes = Vec::new(alloc);
+    Ok(Some(LogRequest { task, bytes }))
 }
 
 // Whether there is a kind of this number.
@@ -119,7 +120,7 @@ fn is_known(version: Version, kind: u8) -> bool {
     }
 }
 
-// Whether a request of this kind has bytes, as many as its frame holds.
+// Whether a request of this kind has bytes in the place of fields, as many as its frame holds.
 fn has_bytes(kind: u8) -> bool {
     matches!(kind, 1 | 17 | 18)
 }
@@ -142,14 +143,19 @@ fn read_of_bytes<R: BufRead>(
 ) -> Result<LogRequest, Unread> {
     if kind == 1 && len > MOST_BYTES {
         skip_bytes(input, len)?;
-        return Ok(LogRequest::AppendTooLong);
+        let bytes = Vec::new(alloc);
+        return Ok(LogRequest {
+            task: LogTask::AppendTooLong,
+            bytes,
+        });
     }
     let bytes = read_bytes(alloc, input, len)?;
-    match kind {
-        1 => Ok(LogRequest::Append(bytes)),
-        17 => Ok(LogRequest::Records(bytes)),
-        _ => Ok(LogRequest::RecordsSync(bytes)),
-    }
+    let task = match kind {
+        1 => LogTask::Append,
+        17 => LogTask::Records { syncs: false },
+        _ => LogTask::Records { syncs: true },
+    };
+    Ok(LogRequest { task, bytes })
 }
 
 // Reads a place: the number of a segment, and an offset.

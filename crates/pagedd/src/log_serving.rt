@@ -3,7 +3,7 @@ ghost use Rattle.segments.specs.Log.{IsLog};
 
 use crate::ending::{fail, fail_stop, or_end};
 use crate::log_answer::{Refusal, write_refusal};
-use crate::log_files::{copy_of, is_folder, options_of};
+use crate::log_files::{copy_of, is_folder, open_log};
 use crate::log_guard::{GivenUp, guard_log};
 use crate::log_hello::{Hello, greet, greet_refused, read_opening, tell_opening};
 use crate::log_refusing::refuse_log;
@@ -11,9 +11,9 @@ use crate::log_request::{LogRequest, read_request};
 use crate::log_status::{status_of, status_of_flaw};
 use crate::log_taking::{Client, take_request};
 use crate::request::Request;
-use crate::serving::{PIECE, flushed, tell_stop};
+use crate::serving::{flushed, tell_stop};
 use crate::status::Status;
-use crate::streams::{Input, Output};
+use crate::streams::Streams;
 use disk::{Blob, VecBlob};
 use file::FileBlob;
 use page::Sum;
@@ -60,7 +60,8 @@ fn make_folder(rt: &HostRuntime, request: &Request) -> Result<(), Status> {
     }
 }
 
-// Makes the folder's name durable, each time: whoever made it may have ended before that was done.
+// Makes the folder's name durable, each time: a program that made the folder may have ended before
+// it did so.
 fn keep_name(rt: &HostRuntime, folder: &str) -> Result<(), Status> {
     match sync_above(rt, folder) {
         Ok(()) => Ok(()),
@@ -82,8 +83,8 @@ fn serve_folder<F: Folder<B> + Drop, B: Blob + Cause + Drop, H: Sum>(
     given_up: &GivenUp,
     folder: F,
 ) -> Result<Status, Status> {
-    match SegmentedLog::<F, B, H, H>::open(rt.alloc(), folder, options_of(request)) {
-        Ok(log) => serve_opened(rt, request, given_up, log),
+    match open_log::<F, B, H>(rt.alloc(), request, folder) {
+        Ok(mut log) => serve_opened(rt, request, given_up, &mut *log),
         Err(error) => Err(refuse(rt, request, &error)),
     }
 }
@@ -102,12 +103,12 @@ fn serve_opened<F: Folder<B> + Drop, B: Blob + Cause + Drop, H: Sum>(
     rt: &HostRuntime,
     request: &Request,
     given_up: &GivenUp,
-    log: SegmentedLog<F, B, H, H>,
+    log: &mut SegmentedLog<F, B, H, H>,
 ) -> Result<Status, Status>
-    requires log { IsLog H.sum_of H.sum_of log }
+    requires log { IsLog H.sum_of H.sum_of log.old }
 {
-    let mut log = log;
-    serve_streams(rt, request, given_up, &mut log)
+    let mut streams = or_end(rt, Streams::of(rt))?;
+    serve_streams(rt, request, given_up, log, &mut streams)
 }
 
 fn serve_streams<F: Folder<B> + Drop, B: Blob + Cause + Drop, H: Sum>(
@@ -115,31 +116,25 @@ fn serve_streams<F: Folder<B> + Drop, B: Blob + Cause + Drop, H: Sum>(
     request: &Request,
     given_up: &GivenUp,
     log: &mut SegmentedLog<F, B, H, H>,
+    streams: &mut Streams,
 ) -> Result<Status, Status>
     requires log { IsLog H.sum_of H.sum_of log.old }
 {
-    let mut input = or_end(
-        rt,
-        BufReader::with_capacity(rt.alloc(), PIECE, Input::of(rt)),
-    )?;
-    let mut out = or_end(
-        rt,
-        BufWriter::with_capacity(rt.alloc(), PIECE, Output::of(rt)),
-    )?;
     let mut client = Client {
         version: Version::Two,
         read_only: request.read_only,
         lost: None,
     };
     let hello = hello_of(request, given_up, log.len().unwrap_or(u64::MAX));
-    let served = serve_client(rt.alloc(), &hello, &mut client, log, &mut input, &mut out);
-    match flushed(served, &mut out) {
+    let Streams { input, out } = streams;
+    let served = serve_client(rt.alloc(), &hello, &mut client, log, input, out);
+    match flushed(served, &mut streams.out) {
         Ok(()) => end(rt, request, &client),
-        Err(stop) => Err(tell_stop(rt, request, stop, input.get_ref(), out.get_ref())),
+        Err(stop) => Err(tell_stop(rt, request, stop, streams)),
     }
 }
 
-// What a client of version 2 is told of a log with so many records.
+// The hello to a client of version 2, of a log with so many records.
 fn hello_of<'a>(request: &'a Request, given_up: &'a GivenUp, records: u64) -> Hello<'a> {
     Hello {
         read_only: request.read_only,
@@ -155,7 +150,7 @@ fn hello_of<'a>(request: &'a Request, given_up: &'a GivenUp, records: u64) -> He
     }
 }
 
-// How the program ends whose requests were all answered.
+// How the program ends after all requests were answered.
 fn end(rt: &HostRuntime, request: &Request, client: &Client) -> Result<Status, Status> {
     match &client.lost {
         None => Ok(Status::Done),
@@ -208,17 +203,17 @@ fn serve_requests<F: Folder<B> + Drop, B: Blob + Cause + Drop, H: Sum, R: Read, 
 {
     for number in 1..u64::MAX {
         let request = match next_request(alloc, client.version, number, input, out) {
-            Ok(Some(LogRequest::Close)) | Ok(None) => return Ok(()),
             Ok(Some(request)) => request,
+            Ok(None) => return Ok(()),
             Err(stop) => return Err(tell_flaw(alloc, client.version, stop, out)),
         };
-        take_request(alloc, client, log, request, out)?;
+        take_request(alloc, client, log, &request, out)?;
     }
     Err(Stop::Failed)
 }
 
-// The request of this number. Where it hasn't come whole, what was answered is out before the rest
-// of it is waited for.
+// Reads the request of this number. Where it hasn't come whole, all answers are sent before the
+// rest of it is awaited.
 fn next_request<R: Read, W: Write + Drop>(
     alloc: Global,
     version: Version,
@@ -243,7 +238,7 @@ fn holds_frame(bytes: &[u8]) -> bool {
     }
 }
 
-// Tells a client of version 2 what is no request, and answers why the session stops.
+// Answers to a client of version 2 why its bytes are no request. Returns why the session stops.
 fn tell_flaw<W: Write>(alloc: Global, version: Version, stop: Stop, out: &mut W) -> Stop {
     match (version, stop) {
         (Version::Two, Stop::Malformed(_, flaw)) => {

@@ -1,4 +1,4 @@
-// What a client is told of an error of the log.
+// The statuses of refusals, and how an error of the log is answered to a client.
 use crate::log_answer::Refusal;
 use protocol::Flaw;
 use segments::Error;
@@ -22,8 +22,9 @@ pub const NO_VERSION: u8 = 24;
 // The last status of a call of a file that failed.
 const LAST_OF_FILE: u8 = 4;
 
-/// The refusal of a request after an error of the log, that closed it or didn't, once so many
-/// records of the request were appended. `failure` is why a file of the log failed, if one did.
+/// The refusal of a request after an error of the log, once `taken` records of the request were
+/// appended. `is_closing` says whether the error closed the log, and `failure` why a file of the
+/// log failed, if one did.
 pub fn refusal_of<'a>(
     error: &'a Error,
     is_closing: bool,
@@ -64,8 +65,8 @@ pub fn status_of_flaw(flaw: Flaw) -> u8 {
     }
 }
 
-// What a client may do next: 0 ask for something else, 1 ask again, 2 open anew, 3 give up what
-// wasn't committed, since nobody knows what of it is durable.
+// What a client may do next: 0 is to ask for something else, 1 to ask again, 2 to open anew, 3 to
+// give up what wasn't committed, since nobody knows what of it is durable.
 fn advice_after(error: &Error, is_closing: bool) -> u8 {
     match error {
         Error::Layer(disk::Error::SyncFailed) => 3,

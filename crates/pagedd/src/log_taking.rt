@@ -1,9 +1,9 @@
-// Requests are taken as calls of a log, and answered.
+// Taking each request as a call of the log, and answering it.
 ghost use Rattle.segments.specs.Log.{IsLog};
 
 use crate::log_answer::{Refusal, write_answer, write_found, write_places, write_refusal};
 use crate::log_records::{Records, length_of, split_record};
-use crate::log_request::LogRequest;
+use crate::log_request::{LogRequest, LogTask};
 use crate::log_status::{AT_END, CLOSED, NO_RECORDS, READ_ONLY, refusal_of};
 use disk::Blob;
 use journal::MOST_BYTES;
@@ -13,7 +13,7 @@ use segments::{Error, Folder, Place, SegmentedLog};
 use std::alloc::Global;
 use std::io::{self, Write};
 
-/// Whom a log is served to, and how.
+/// The client to whom a log is served, and how.
 #[derive(Drop)]
 pub struct Client {
     pub version: Version,
@@ -27,32 +27,27 @@ pub fn take_request<F: Folder<B> + Drop, B: Blob + Cause + Drop, H: Sum, W: Writ
     alloc: Global,
     client: &mut Client,
     log: &mut SegmentedLog<F, B, H, H>,
-    request: LogRequest,
+    request: &LogRequest,
     out: &mut W,
 ) -> Result<(), Stop>
     requires log { IsLog H.sum_of H.sum_of log.old }
     ensures log { IsLog H.sum_of H.sum_of log.new }
 {
-    if client.read_only && request.is_change() {
+    if client.read_only && request.task.is_change() {
         return refuse(alloc, client, out, READ_ONLY);
     }
-    match request {
-        LogRequest::Append(bytes) => take_append(alloc, client, log, bytes.as_slice(), out),
-        LogRequest::AppendTooLong => refuse(alloc, client, out, NO_RECORDS),
-        LogRequest::Records(fields) => {
-            take_records(alloc, client, log, fields.as_slice(), false, out)
-        }
-        LogRequest::RecordsSync(fields) => {
-            take_records(alloc, client, log, fields.as_slice(), true, out)
-        }
-        LogRequest::Sync => take_sync(alloc, client, log, out, false),
-        LogRequest::SyncSize => take_sync(alloc, client, log, out, true),
-        LogRequest::Size => take_size(alloc, client, log, out),
-        LogRequest::Read(place) => take_read(alloc, client, log, place, out),
-        LogRequest::Next(place) => take_next(alloc, client, log, place, out),
-        LogRequest::DropBefore(segment) => take_drop(alloc, client, log, segment, out),
-        LogRequest::Flush => write_flushed(out),
-        LogRequest::Close => Ok(()),
+    let bytes = request.bytes.as_slice();
+    match request.task {
+        LogTask::Append => take_append(alloc, client, log, bytes, out),
+        LogTask::AppendTooLong => refuse(alloc, client, out, NO_RECORDS),
+        LogTask::Records { syncs } => take_records(alloc, client, log, bytes, syncs, out),
+        LogTask::Sync => take_sync(alloc, client, log, out, false),
+        LogTask::SyncSize => take_sync(alloc, client, log, out, true),
+        LogTask::Size => take_size(alloc, client, log, out),
+        LogTask::Read(place) => take_read(alloc, client, log, place, out),
+        LogTask::Next(place) => take_next(alloc, client, log, place, out),
+        LogTask::DropBefore(segment) => take_drop(alloc, client, log, segment, out),
+        LogTask::Flush => write_flushed(out),
     }
 }
 
@@ -61,7 +56,8 @@ fn refuse<W: Write>(alloc: Global, client: &Client, out: &mut W, status: u8) -> 
     write_refusal(alloc, client.version, out, Refusal::plain(status))
 }
 
-// Why a file of the log failed, if one did. The open segment's tells it before the manifest does.
+// Why a file of the log failed, if one did. The file of the open segment is asked first, then the
+// manifest.
 fn failure_of<F: Folder<B> + Drop, B: Blob + Cause + Drop, H: Sum>(
     log: &SegmentedLog<F, B, H, H>,
 ) -> Option<&io::Error> {
@@ -71,7 +67,7 @@ fn failure_of<F: Folder<B> + Drop, B: Blob + Cause + Drop, H: Sum>(
     }
 }
 
-// Answers a request that closed the log, once so many of its records were appended.
+// Answers a request whose error closed the log after so many of its records were appended.
 fn refuse_closed<W: Write>(
     alloc: Global,
     client: &mut Client,
@@ -88,7 +84,7 @@ fn refuse_closed<W: Write>(
     Ok(())
 }
 
-// Answers a request after an error that left the log as it was, or closed its manifest alone.
+// Answers a request after an error that left the log as it was, or that closed its manifest alone.
 fn refuse_kept<W: Write>(
     alloc: Global,
     client: &Client,
@@ -102,7 +98,7 @@ fn refuse_kept<W: Write>(
     write_refusal(alloc, client.version, out, refusal)
 }
 
-// Answers a request of which the log can't tell anything, since it is closed.
+// Answers a request that can't be met since the log is closed.
 fn refuse_lost<W: Write>(alloc: Global, client: &Client, out: &mut W) -> Result<(), Stop> {
     refuse_kept(alloc, client, out, &Error::Closed, true, None)
 }
@@ -132,7 +128,8 @@ fn take_append<F: Folder<B> + Drop, B: Blob + Cause + Drop, H: Sum, W: Write>(
     }
 }
 
-// Appends records, and commits where `syncs` asks. None is appended where the fields tell none.
+// Appends records, and commits where `syncs` asks. Nothing is appended where the fields are no
+// records.
 fn take_records<F: Folder<B> + Drop, B: Blob + Cause + Drop, H: Sum, W: Write>(
     alloc: Global,
     client: &mut Client,
@@ -182,19 +179,19 @@ fn append_records<F: Folder<B> + Drop, B: Blob + Cause + Drop, H: Sum>(
     Ok(())
 }
 
-// Commits, and tells how many records there are where `tells` asks.
+// Commits, and answers how many records there are where `counts` asks.
 fn take_sync<F: Folder<B> + Drop, B: Blob + Cause + Drop, H: Sum, W: Write>(
     alloc: Global,
     client: &mut Client,
     log: &mut SegmentedLog<F, B, H, H>,
     out: &mut W,
-    tells: bool,
+    counts: bool,
 ) -> Result<(), Stop>
     requires log { IsLog H.sum_of H.sum_of log.old }
     ensures log { IsLog H.sum_of H.sum_of log.new }
 {
     match log.commit() {
-        Ok(()) if tells => write_answer(out, &[log.len().unwrap_or(u64::MAX)], &[]),
+        Ok(()) if counts => write_answer(out, &[log.len().unwrap_or(u64::MAX)], &[]),
         Ok(()) => write_answer(out, &[], &[]),
         Err(error) => refuse_closed(alloc, client, out, error, 0, failure_of(log)),
     }

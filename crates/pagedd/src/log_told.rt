@@ -1,9 +1,9 @@
-// Telling of the log in a folder, by a copy of it.
+// Reporting about the log in a folder, by a copy of it.
 ghost use Rattle.segments.specs.Log.{IsLog};
 
 use crate::log_cat::cat_log;
 use crate::log_check::{check_log, check_unopened};
-use crate::log_files::{copy_of, options_of};
+use crate::log_files::{copy_of, open_log};
 use crate::log_map::{Drawn, map_log};
 use crate::log_refusing::refuse_log;
 use crate::request::{Request, Told};
@@ -15,29 +15,16 @@ use segments::{Error, FolderCopy, SegmentedLog};
 /// A log over a copy of its folder.
 pub type LogCopy<H> = SegmentedLog<FolderCopy, VecBlob, H, H>;
 
-/// Tells what is asked of the log in a folder: all of it, where its records are to be written.
+/// Reports what is asked about the log in a folder. `cat` writes all its records.
 pub fn tell_log<H: Sum>(rt: &HostRuntime, request: &Request, told: Told) -> Result<Status, Status> {
     let folder = copy_of(rt, request.file)?;
-    match LogCopy::<H>::open(rt.alloc(), folder, options_of(request)) {
-        Ok(log) => tell_opened::<H>(rt, request, told, log),
+    match open_log::<FolderCopy, VecBlob, H>(rt.alloc(), request, folder) {
+        Ok(mut log) => tell_opened::<H>(rt, request, told, &mut log),
         Err(error) => tell_unopened(rt, request, told, &error),
     }
 }
 
-// Letting a log go costs the proof much, so nothing else is done here.
 fn tell_opened<H: Sum>(
-    rt: &HostRuntime,
-    request: &Request,
-    told: Told,
-    log: LogCopy<H>,
-) -> Result<Status, Status>
-    requires log { IsLog H.sum_of H.sum_of log }
-{
-    let mut log = log;
-    tell_of_log::<H>(rt, request, told, &mut log)
-}
-
-fn tell_of_log<H: Sum>(
     rt: &HostRuntime,
     request: &Request,
     told: Told,
@@ -52,7 +39,7 @@ fn tell_of_log<H: Sum>(
     }
 }
 
-// Tells why a log can't be opened.
+// Reports why a log can't be opened.
 fn tell_unopened(
     rt: &HostRuntime,
     request: &Request,

@@ -16,15 +16,15 @@ pub struct Look {
     pub shape: Shape,
     /// How many bytes the file has.
     pub size: u64,
-    /// The last page of the text, where its other slot fails.
+    /// The last page of the text, which is what a recovery keeps. Only where its other slot fails.
     torn: Option<Page>,
-    /// The page after those of the text, if there is one.
+    /// The page after those of the text, if the file has one.
     next: Option<Page>,
 }
 
 /// A blob whose bytes stand in memory.
 pub trait InMemory {
-    /// All of them.
+    /// All its bytes.
     fn image(&self) -> &[u8];
 }
 
@@ -41,14 +41,14 @@ impl InMemory for VecBlob {
 }
 
 /// Reads a file into memory. Where that fails, a line says why.
-pub fn read(rt: &HostRuntime, path: &str) -> Result<VecBlob, Status> {
+pub fn read(rt: &HostRuntime, path: &str) -> Result<Box<VecBlob>, Status> {
     match file::read(rt, path) {
-        Ok(blob) => Ok(blob),
+        Ok(blob) => Ok(Box::new(rt.alloc(), blob)?),
         Err(error) => Err(fail(rt, path, error)),
     }
 }
 
-/// Looks at a blob that nobody opened. Where there is no memory for that, a line says so.
+/// Looks at a blob that nobody opened. Where that fails, as for want of memory, a line says why.
 pub fn looked<B: Blob + InMemory, H: Sum>(
     rt: &HostRuntime,
     request: &Request,
@@ -80,7 +80,8 @@ impl Look {
         }
     }
 
-    /// What to do with the file, where so many bytes may go.
+    /// What to do with the file, where at most `cut_limit` bytes may go although a page among them
+    /// has a value.
     pub fn verdict(&self, cut_limit: u64) -> Verdict {
         self.survey.verdict(self.shape.page_size, cut_limit)
     }
@@ -90,7 +91,7 @@ impl Look {
         self.size / physical_page_size(self.shape.page_size)
     }
 
-    /// How many bytes follow them, which are less than a page.
+    /// How many bytes follow the whole pages: less than a page.
     pub fn tail_len(&self) -> u64 {
         self.size % physical_page_size(self.shape.page_size)
     }
@@ -105,7 +106,8 @@ impl Look {
         self.survey.set_aside_len(self.shape.page_size)
     }
 
-    /// How many bytes at the end go in a recovery: those that it cuts, and those of a torn last page.
+    /// How many bytes at the end go in a recovery: those that it cuts, and those of a torn last
+    /// page.
     pub fn at_stake(&self) -> u64 {
         self.survey.at_stake(self.shape.page_size)
     }

@@ -1,18 +1,19 @@
 //! Serves a paged blob over a file, or a log in a folder, to a program in any language, appends to
 //! such files, and looks at them.
 //!
-//! `pagedd serve FILE`: requests come on standard input, answers go to standard output, in frames of
-//! bytes that `docs/PROTOCOL.md` describes. Before anything is cut the file is looked at. What goes
-//! and may have been synced is set aside, and a line on standard error says what goes. What a crash
-//! doesn't leave is refused.
+//! `pagedd serve FILE`: requests come on standard input, answers go to standard output, in frames
+//! of bytes that `docs/PROTOCOL.md` describes. Before anything is cut, the program looks at the
+//! file. It sets aside a copy of what goes and may have been synced, and a line on standard error
+//! says what goes. A file that a crash doesn't leave so is refused, except with `--cut`.
 //!
-//! `pagedd serve-log FOLDER` serves a log of records in the same way, as `docs/LOG_PROTOCOL.md` says.
+//! `pagedd serve-log FOLDER` serves a log of records in the same way, as `docs/LOG_PROTOCOL.md`
+//! describes.
 //!
 //! `append` takes standard input as content. `check`, `map`, `cat` and `salvage` read a file and
-//! change nothing of it; the first three do so for the folder of a log too.
+//! change nothing of it. The first three do so for the folder of a log too.
 //!
-//! [`Status`](status::Status) lists the exit statuses. Where the status is neither 0 nor 141, standard
-//! error says why; for `check`, its own output does.
+//! [`Status`](status::Status) lists the exit statuses. Where the status is neither 0 nor 141,
+//! standard error says why. For `check` its own output says why.
 #![tactic(auto)]
 
 mod appending;
@@ -74,7 +75,7 @@ use disk::VecBlob;
 use page::{AddSum, Sum};
 use std::process::ExitCode;
 
-// Does what is asked for, with this checksum function.
+// Performs a request with this checksum function.
 fn perform<H: Sum>(
     rt: &HostRuntime,
     request: &Request,
@@ -87,7 +88,7 @@ fn perform<H: Sum>(
         Task::ServeLog => serve_log::<H>(rt, request),
         Task::Serve { create } => serve::<H>(rt, request, create),
         Task::Append { each_line } => append::<H>(rt, request, each_line),
-        Task::Tell(told) => tell_of::<H>(rt, request, told, &mut read(rt, request.file)?),
+        Task::Tell(told) => tell_of::<H>(rt, request, told, &mut *read(rt, request.file)?),
         Task::Salvage { out } => salvage::<H>(rt, request, set_aside, out),
         Task::Version => {
             or_end(rt, println!(rt; "pagedd {VERSION}"))?;
@@ -96,7 +97,7 @@ fn perform<H: Sum>(
     }
 }
 
-// Does what is asked for of the folder of a log.
+// Performs a request whose file is a folder, as that of a log.
 fn perform_on_folder<H: Sum>(rt: &HostRuntime, request: &Request) -> Result<Status, Status> {
     let folder = request.file;
     match request.task {
@@ -126,7 +127,7 @@ fn perform_on_folder<H: Sum>(rt: &HostRuntime, request: &Request) -> Result<Stat
     }
 }
 
-// Tells what is asked of a file that was read.
+// Reports what is asked about a file that was read.
 fn tell_of<H: Sum>(
     rt: &HostRuntime,
     request: &Request,
@@ -159,15 +160,18 @@ fn run(rt: &HostRuntime) -> Result<Status, Status> {
     put_command_first(&mut words);
     match command(rt.alloc())?.try_get_matches_from(words.as_slice()) {
         Ok(matches) => perform_matched(rt, &matches),
-        Err(error) => {
-            or_end(rt, error.print(rt))?;
-            Ok(if error.use_stderr() {
-                Status::Failed
-            } else {
-                Status::Done
-            })
-        }
+        Err(error) => explain(rt, &error),
     }
+}
+
+// Prints what clap has to say in the place of matches: help, or why there are none.
+fn explain(rt: &HostRuntime, error: &clap::Error) -> Result<Status, Status> {
+    or_end(rt, error.print(rt))?;
+    Ok(if error.use_stderr() {
+        Status::Failed
+    } else {
+        Status::Done
+    })
 }
 
 fn main(rt: HostRuntime) -> ExitCode {

@@ -17,8 +17,8 @@ const ROW: usize = 64;
 const LEGEND: &str =
     "# full, + partial, ~ with a bad slot, ! no value, . empty, < less than a page";
 
-/// Draws the pages of a file from one to before another: a mark for each, or where `long` a line for
-/// each, with what its slots say. What is left after the last page counts as one more.
+/// Draws the pages of a file from page `from` to before page `to`: a mark for each, or where `long`
+/// a line for each, with what its slots say. A part of a page at the end counts as a page.
 pub fn map<H: Sum>(
     rt: &HostRuntime,
     request: &Request,
@@ -45,7 +45,7 @@ pub fn map<H: Sum>(
     if request.json {
         print_map(rt, request, first, end, &marks, bytes.len() % size)?;
     } else {
-        or_end(rt, draw(rt, first, &marks))?;
+        or_end(rt, draw(rt, LEGEND, first as u64, &marks))?;
     }
     Ok(Status::Done)
 }
@@ -71,14 +71,14 @@ fn marks_of<H: Sum>(
     Ok(marks)
 }
 
-// Draws rows of marks, each after the number of its first page.
-fn draw(rt: &HostRuntime, first: usize, marks: &str) -> io::Result<()> {
-    println!(rt; "{LEGEND}")?;
+/// Draws rows of marks under a legend, each row after the number of its first page or segment.
+pub fn draw(rt: &HostRuntime, legend: &str, first: u64, marks: &str) -> io::Result<()> {
+    println!(rt; "{legend}")?;
     let mut number = first;
     for row in marks.as_bytes().chunks(ROW) {
         let row = str::from_utf8(row).unwrap_or_default();
         println!(rt; "{number:>10} {row}")?;
-        number = number.saturating_add(ROW);
+        number = number.saturating_add(ROW as u64);
     }
     Ok(())
 }

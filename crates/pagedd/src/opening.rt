@@ -1,4 +1,5 @@
-// Opening a file for a writer: nothing of it goes before that is said, and is set aside.
+// Opening a file for a writer. Before a recovery cuts any of it, a line on standard error says what
+// goes, and a copy of what may have been synced is set aside.
 use crate::ending::{fail, tell};
 use crate::look::{InMemory, Look, looked};
 use crate::refusing::refuse;
@@ -10,9 +11,9 @@ use page::Sum;
 use paged::Verdict;
 
 /// Opens a file, or makes it. Where that fails, a line says why.
-pub fn open(rt: &HostRuntime, path: &str) -> Result<FileBlob, Status> {
+pub fn open(rt: &HostRuntime, path: &str) -> Result<Box<FileBlob>, Status> {
     match file::open(rt, path) {
-        Ok(blob) => Ok(blob),
+        Ok(blob) => Ok(Box::new(rt.alloc(), blob)?),
         Err(error) => Err(fail(rt, path, error)),
     }
 }
@@ -25,18 +26,19 @@ pub fn fail_blob(rt: &HostRuntime, path: &str, blob: &FileBlob, error: Error) ->
     }
 }
 
-/// What may go in a recovery.
+/// What a recovery may give up.
 #[derive(Drop)]
 pub struct Allowed {
-    /// How many bytes at the end.
+    /// How many bytes at the end of the file.
     pub bytes: u64,
     /// The name of the copy that was made of them, if one was.
     pub copy: Option<String>,
 }
 
-/// What may go at the end of a blob, where a recovery would give up some of it, unless the file is
-/// refused. A copy of it is set aside, and a line on standard error says what goes. For reading
-/// alone nothing is set aside, and the line says what isn't served.
+/// What a recovery may give up at the end of a blob, where it would give up something, unless the
+/// file is refused. A copy of that is set aside, except of whole pages of zeros, and a line on
+/// standard error says what goes. For reading alone nothing is set aside, and the line says what
+/// isn't served.
 pub fn allow<B: Blob + InMemory, H: Sum>(
     rt: &HostRuntime,
     request: &Request,

@@ -58,7 +58,7 @@ pub struct Page {
 }
 
 impl Page {
-    /// What these bytes hold, which are a whole page. Each slot that isn't empty is summed once.
+    /// What a whole page of these bytes holds. Each slot that isn't empty is summed once.
     pub fn of<H: Sum>(bytes: &[u8]) -> Self {
         let slots = slots_of::<H>(bytes);
         let (len, beside) = match slots {
@@ -80,7 +80,7 @@ impl Page {
         }
     }
 
-    /// What the page of this number holds, of these bytes; `None` where it isn't there.
+    /// What the page of this number holds in a file of these bytes. `None` where it isn't there.
     pub fn at<H: Sum>(bytes: &[u8], page_size: NonZeroU16, number: u64) -> Option<Self> {
         let size = physical_page_size(page_size);
         let start = number.saturating_mul(size) as usize;
@@ -88,7 +88,7 @@ impl Page {
         Some(Page::of::<H>(page))
     }
 
-    /// Why it has no value, in a few words.
+    /// Why the page has no value, in a few words.
     pub fn why(&self) -> &'static str {
         match self.slots {
             _ if self.len > 0 => "which has a value",
@@ -99,8 +99,8 @@ impl Page {
         }
     }
 
-    /// One mark for it: `#` full, `+` partial, `~` with a bad slot beside its value, `.` empty, `!`
-    /// without a value.
+    /// One mark for the page: `#` full, `+` partial, `~` with a bad slot beside its value, `.`
+    /// empty, `!` without a value.
     pub fn mark(&self, page_size: NonZeroU16) -> char {
         if self.bad.is_some() {
             '~'
@@ -135,7 +135,7 @@ pub fn says_full(bytes: &[u8], page_size: NonZeroU16) -> bool {
     len1 == full && len2 == 0 && crc2 == 0 || len2 == full && len1 == 0 && crc1 == 0
 }
 
-// What the slots of these bytes say, which are a whole page.
+// What the two slots of a whole page of these bytes say.
 fn slots_of<H: Sum>(bytes: &[u8]) -> [SlotState; 2] {
     let Some((payload, footer)) = bytes.split_last_chunk::<12>() else {
         return [SlotState::Empty; 2];
@@ -147,7 +147,7 @@ fn slots_of<H: Sum>(bytes: &[u8]) -> [SlotState; 2] {
     ]
 }
 
-/// What its slots say.
+/// What the slots of the page say.
 impl fmt::Display for Page {
     fn fmt<W: fmt::Write>(&self, f: &mut fmt::Formatter<W>) -> fmt::Result {
         if self.blank {
@@ -182,7 +182,8 @@ impl fmt::Display for Pages {
 /// So many pages make one line of progress.
 const STEP: usize = 1 << 16;
 
-/// Tells a terminal how many pages of a large file were gone through.
+/// Says on standard error, where that is a terminal, how many pages of a large file were gone
+/// through.
 pub fn tell_progress(rt: &HostRuntime, done: usize, count: usize) -> Result<(), Status> {
     if count < STEP || done % STEP != 0 || !rt.stderr().is_terminal() {
         return Ok(());

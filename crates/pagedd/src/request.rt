@@ -30,7 +30,7 @@ pub struct Shape {
     pub checksum: Checksum,
 }
 
-/// The options that ask for it.
+/// The options that ask for this shape.
 impl fmt::Display for Shape {
     fn fmt<W: fmt::Write>(&self, f: &mut fmt::Formatter<W>) -> fmt::Result {
         let name = self.checksum.name();
@@ -47,7 +47,7 @@ pub enum Task<'a> {
     ServeLog,
     /// Append the program's input to it, with a sync after each line, if `each_line`.
     Append { each_line: bool },
-    /// Read it into memory, and tell this of it.
+    /// Read it into memory, and report this about it.
     Tell(Told),
     /// Put all that verifies into a new file of this name.
     Salvage { out: &'a str },
@@ -55,14 +55,15 @@ pub enum Task<'a> {
     Version,
 }
 
-/// What can be told of a file.
+/// What can be reported about a file, or about a log.
 #[derive(Clone, Copy)]
 pub enum Told {
     /// What a recovery would make of it.
     Check,
-    /// Its pages from one to before another, drawn; of each what its slots say, where `long` asks.
+    /// Its pages from `from` to before `to`, drawn. For a log, its segments. Where `long` asks, a
+    /// line for each, with what is known of it.
     Map { from: u64, to: u64, long: bool },
-    /// So many content bytes from an offset on.
+    /// Its content from the byte `from` on, at most `len` bytes. For a log, all its records.
     Cat { from: u64, len: u64 },
 }
 
@@ -75,7 +76,7 @@ pub struct Request<'a> {
     pub buffer: NonZeroUsize,
     pub cache: NonZeroUsize,
     pub read_only: bool,
-    /// A file is cut whatever the survey says.
+    /// A file is cut whatever its survey finds.
     pub cut: bool,
     pub cut_limit: u64,
     /// From how many content bytes on a segment of a log is closed.
@@ -107,7 +108,7 @@ impl<'a> Request<'a> {
 }
 
 impl Request<'_> {
-    /// The same about another file.
+    /// This request about another file.
     pub fn about<'b>(&'b self, file: &'b str) -> Request<'b> {
         Request { file, ..*self }
     }

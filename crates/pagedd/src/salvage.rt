@@ -1,4 +1,6 @@
 // Putting all that verifies into a new file.
+ghost use Rattle.cache.specs.Pages.{IsFresh};
+
 use crate::ending::{fail, or_end, tell};
 use crate::look::{looked, read};
 use crate::opening::{fail_blob, open};
@@ -12,15 +14,16 @@ use disk::{Blob, Error, VecBlob};
 use file::FileBlob;
 use page::Sum;
 use paged::Writer;
+use std::alloc::Global;
 use std::fs::File;
 use std::{fs, io};
 
-/// So many pages of a file that may have had more are named.
+/// At most so many pages that may have had more are named for a file.
 const MOST: usize = 20;
 
-/// Puts the values of all pages of a file that have one, and then those of what was set aside of it,
-/// into a new blob `out`, and makes it durable. Standard error says what is missing. The file is
-/// whole where nothing is.
+/// Puts the values of all pages of a file that have one, and then those of the files that were set
+/// aside of it, into a new blob `out`, and makes it durable. Standard error says what is missing.
+/// The file is whole where nothing is missing.
 pub fn salvage<H: Sum>(
     rt: &HostRuntime,
     request: &Request,
@@ -35,7 +38,7 @@ pub fn salvage<H: Sum>(
     salvage_of::<H>(rt, request, &mut blob, set_aside, out)
 }
 
-// Does it for a file that was read.
+// Salvages a file that was read.
 fn salvage_of<H: Sum>(
     rt: &HostRuntime,
     request: &Request,
@@ -101,7 +104,7 @@ fn named_twice<'a>(file: &'a str, set_aside: &[&'a str]) -> Option<&'a str> {
     None
 }
 
-// Says that nothing verifies.
+// Says that no page of a file verifies, and why that may be.
 fn refuse<H: Sum>(
     rt: &HostRuntime,
     request: &Request,
@@ -149,27 +152,34 @@ fn fill<H: Sum>(
     }
 }
 
-// Appends the content to a new blob, and syncs it.
+// Makes a file that was opened a blob with this content.
 fn keep<H: Sum>(
     rt: &HostRuntime,
     request: &Request,
     blob: &mut FileBlob,
     content: &[u8],
 ) -> Result<(), Error> {
-    let mut cache = CacheRef::new(rt.alloc(), request.shape.page_size, request.cache)?;
+    let cache = CacheRef::new(rt.alloc(), request.shape.page_size, request.cache)?;
+    let mut cache = Box::new(rt.alloc(), cache)?;
+    write::<H>(rt.alloc(), request, blob, &mut cache, content)
+}
+
+// Appends the content to a new blob, and syncs it.
+fn write<H: Sum>(
+    alloc: Global,
+    request: &Request,
+    blob: &mut FileBlob,
+    cache: &mut CacheRef,
+    content: &[u8],
+) -> Result<(), Error>
+    requires fresh { IsFresh cache.old }
+{
     let size = blob.len();
-    let capacity = request.buffer.get();
-    let recovery = paged::recover::<_, H>(
-        rt.alloc(),
-        blob,
-        size,
-        capacity,
-        &mut cache,
-        request.buffer,
-    )?;
+    let buffer = request.buffer;
+    let recovery = paged::recover::<_, H>(alloc, blob, size, buffer.get(), cache, buffer)?;
     let writer: Writer<FileBlob, H> = Writer::from(recovery);
-    let (writer, _) = writer.append(blob, &mut cache, content)?;
-    writer.sync(blob, &mut cache)?;
+    let (writer, _) = writer.append(blob, cache, content)?;
+    writer.sync(blob, cache)?;
     Ok(())
 }
 

@@ -11,7 +11,7 @@ use std::fmt;
 #[derive(Drop)]
 pub struct Content {
     pub bytes: Vec<u8>,
-    /// Where each begins.
+    /// The offset at which each value begins.
     begins: Vec<usize>,
 }
 
@@ -29,8 +29,9 @@ impl Content {
         self.bytes.extend_from_slice(value)
     }
 
-    // Where the value of a page begins that begins with this one. So it is of a torn page, which a
-    // recovery kept and of which it set a copy aside; more may have been appended to it since.
+    // The offset of the first value that begins with this one, if there is one. It is the value of
+    // a torn page: the recovery kept the page and set a copy of it aside, and more may have been
+    // appended to the page since.
     fn place_of(&self, value: &[u8]) -> Option<usize> {
         let begins_with = |at: usize| {
             let rest = self.bytes.get(at..).unwrap_or_default();
@@ -58,8 +59,8 @@ pub struct Salvaged {
     pub tail: usize,
 }
 
-/// Content that is missing at an offset of what was salvaged, from a page to another: so many bytes
-/// of full pages.
+/// Content that is missing at an offset of what was salvaged: what the pages from a first to a last
+/// one lack. The missing bytes are counted as if each of these pages were full.
 #[derive(Clone, Copy)]
 pub struct Gap {
     first: usize,
@@ -71,7 +72,7 @@ pub struct Gap {
 }
 
 impl Gap {
-    // Before the first page.
+    // No gap yet, before the first page.
     fn none(offset: usize) -> Self {
         Gap {
             first: 0,

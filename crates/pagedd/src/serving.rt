@@ -4,29 +4,26 @@ use crate::look::{InMemory, read};
 use crate::opening::{allow, open};
 use crate::request::Request;
 use crate::status::Status;
-use crate::streams::{Input, Output};
+use crate::streams::Streams;
 use crate::words::tell_unknown;
 use disk::{Blob, VecBlob};
 use file::FileBlob;
 use page::Sum;
 use protocol::{Cause, Setting, Stop, serve_file};
 use std::fs;
-use std::io::{BufReader, BufWriter, Write};
-
-/// So many bytes of requests are taken by one call of the system, and so many of answers are given.
-pub const PIECE: usize = 1 << 16;
+use std::io::Write;
 
 /// Serves a file, or for reading alone a copy of it in memory. A file that is missing is made where
 /// `create` asks.
 pub fn serve<H: Sum>(rt: &HostRuntime, request: &Request, create: bool) -> Result<Status, Status> {
     let file = request.file;
     if request.read_only {
-        return serve_blob::<VecBlob, H>(rt, request, &mut read(rt, file)?);
+        return serve_blob::<VecBlob, H>(rt, request, &mut *read(rt, file)?);
     }
     if !create && !fs::exists(rt, file).unwrap_or(true) {
         return Ok(tell_unknown(rt, file)?);
     }
-    serve_blob::<FileBlob, H>(rt, request, &mut open(rt, file)?)
+    serve_blob::<FileBlob, H>(rt, request, &mut *open(rt, file)?)
 }
 
 // Serves a blob that nobody opened.
@@ -35,35 +32,38 @@ fn serve_blob<B: Blob + Cause + InMemory, H: Sum>(
     request: &Request,
     blob: &mut B,
 ) -> Result<Status, Status> {
-    let mut input = or_end(
-        rt,
-        BufReader::with_capacity(rt.alloc(), PIECE, Input::of(rt)),
-    )?;
-    let mut out = or_end(
-        rt,
-        BufWriter::with_capacity(rt.alloc(), PIECE, Output::of(rt)),
-    )?;
-    let served = serve_streams::<B, H>(rt, request, blob, &mut input, &mut out)?;
-    let ended = flushed(served, &mut out);
+    let mut streams = or_end(rt, Streams::of(rt))?;
+    serve_client::<B, H>(rt, request, blob, &mut streams)
+}
+
+// Serves it to the client at these streams.
+fn serve_client<B: Blob + Cause + InMemory, H: Sum>(
+    rt: &HostRuntime,
+    request: &Request,
+    blob: &mut B,
+    streams: &mut Streams,
+) -> Result<Status, Status> {
+    let served = serve_streams::<B, H>(rt, request, blob, streams)?;
+    let ended = flushed(served, &mut streams.out);
     // Why the file failed says more than the answer that a request got.
     if let Some(error) = blob.cause() {
         return Err(fail(rt, request.file, error));
     }
     match ended {
         Ok(()) => Ok(Status::Done),
-        Err(stop) => Err(tell_stop(rt, request, stop, input.get_ref(), out.get_ref())),
+        Err(stop) => Err(tell_stop(rt, request, stop, streams)),
     }
 }
 
-// Serves a blob. Where nothing of it would go, as of a file in order, its pages are gone through
-// once. Else it is looked at more closely before anything is changed.
+// Serves a blob. Where a recovery gives up none of it, as for a file in order, its pages are gone
+// through once. Otherwise the blob is looked at more closely before anything is changed.
 fn serve_streams<B: Blob + Cause + InMemory, H: Sum>(
     rt: &HostRuntime,
     request: &Request,
     blob: &mut B,
-    input: &mut BufReader<Input>,
-    out: &mut BufWriter<Output>,
+    streams: &mut Streams,
 ) -> Result<Result<(), Stop>, Status> {
+    let Streams { input, out } = streams;
     let mut setting = Setting {
         page_size: request.shape.page_size,
         capacity: request.buffer.get(),
@@ -88,23 +88,17 @@ fn serve_streams<B: Blob + Cause + InMemory, H: Sum>(
 }
 
 /// Says in a line why a session ended.
-pub fn tell_stop(
-    rt: &HostRuntime,
-    request: &Request,
-    stop: Stop,
-    input: &Input,
-    output: &Output,
-) -> Status {
-    if let Some(error) = output.failure() {
+pub fn tell_stop(rt: &HostRuntime, request: &Request, stop: Stop, streams: &Streams) -> Status {
+    if let Some(error) = streams.out.get_ref().failure() {
         return fail_output(rt, error);
     }
-    match input.failure() {
+    match streams.input.get_ref().failure() {
         Some(error) if stop == Stop::Failed => fail(rt, "standard input", error),
         _ => fail_stop(rt, request.file, stop),
     }
 }
 
-/// How a session ends whose last answers are sent now.
+/// Sends the last answers of a session, and answers how it ends.
 pub fn flushed<W: Write>(served: Result<(), Stop>, out: &mut W) -> Result<(), Stop> {
     let sent = out.flush();
     served?;

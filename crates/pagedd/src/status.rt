@@ -15,14 +15,15 @@ pub enum Status {
     Failed,
     /// 1: memory was refused.
     OutOfMemory,
-    /// 2: the input of `serve` isn't requests.
+    /// 2: the input of `serve` or `serve-log` isn't requests.
     Malformed,
-    /// 3: the file isn't whole. `serve` and `append` refuse it, and change nothing. `check` found a
-    /// cut, a page without a value, a bad slot or a part of a page. `cat` and `salvage` couldn't
-    /// give all that the file may hold.
+    /// 3: the file or the log isn't whole. `serve`, `serve-log` and `append` refuse it, and change
+    /// nothing. `check` found a cut, a page without a value, a bad slot, a part of a page, or a
+    /// segment that isn't as it was closed. `cat` and `salvage` couldn't give all that the file or
+    /// the log may hold.
     NotWhole,
-    /// 141: whoever read the output has closed it, as at the end of a pipe. A shell gives a program
-    /// this status that SIGPIPE ends.
+    /// 141: whoever read the output has closed it, as at the end of a pipe. A shell reports this
+    /// status for a program that SIGPIPE ends.
     Unread,
 }
 

@@ -1,5 +1,8 @@
-// Standard input and output, which keep why they failed.
-use std::io::{self, Read, Stdin, Stdout, Write};
+// Standard input and output, each of which keeps why it failed last.
+use std::io::{self, BufReader, BufWriter, Read, Stdin, Stdout, Write};
+
+/// So many bytes of requests are taken by one call of the system, and so many of answers are given.
+const PIECE: usize = 1 << 16;
 
 /// Standard input.
 #[derive(Drop)]
@@ -9,7 +12,7 @@ pub struct Input {
 }
 
 impl Input {
-    /// Of the running program.
+    /// Standard input of the running program.
     pub fn of(rt: &HostRuntime) -> Self {
         Input {
             stdin: rt.stdin(),
@@ -47,7 +50,7 @@ pub struct Output {
 }
 
 impl Output {
-    /// Of the running program.
+    /// Standard output of the running program.
     pub fn of(rt: &HostRuntime) -> Self {
         Output {
             stdout: rt.stdout(),
@@ -78,5 +81,21 @@ impl Write for Output {
 
     fn flush(&mut self) -> io::Result<()> {
         self.stdout.flush()
+    }
+}
+
+/// Standard input and output, each with a buffer.
+#[derive(Drop)]
+pub struct Streams {
+    pub input: BufReader<Input>,
+    pub out: BufWriter<Output>,
+}
+
+impl Streams {
+    /// Those of the running program.
+    pub fn of(rt: &HostRuntime) -> io::Result<Box<Self>> {
+        let input = BufReader::with_capacity(rt.alloc(), PIECE, Input::of(rt))?;
+        let out = BufWriter::with_capacity(rt.alloc(), PIECE, Output::of(rt))?;
+        Ok(Box::new(rt.alloc(), Streams { input, out })?)
     }
 }

@@ -47,13 +47,13 @@ const WITH_VALUE: [&str; 9] = [
     "--len",
 ];
 
-/// So many edits at most lie between a word and the command that it is near.
+/// A word is near a command where at most so many edits lie between them.
 const NEAR: usize = 2;
 
 /// The longest word that a system gives a program.
 const LONGEST: usize = 1 << 17;
 
-/// All words, the program's name first. Where one isn't UTF-8, a line says which.
+/// All words, the program's name first. Where one isn't UTF-8, a line on standard error says which.
 pub fn read_words(rt: &HostRuntime) -> Result<Vec<String>, Status> {
     match env::args(rt) {
         Ok(words) => Ok(words.collect(rt.alloc())?),
@@ -85,8 +85,8 @@ fn tell_no_text(rt: &HostRuntime) -> Result<Status, AllocError> {
     Ok(Status::Failed)
 }
 
-// The place of the first word that is no option, nor an option's value. There is none after a word
-// that no command knows: so an unknown option is told as such. Nor is there one after `--`.
+// The place of the first word that is neither an option nor an option's value. None where an option
+// that no command has stands before it, as `--` does: the parser reports an unknown option as such.
 fn place_of_name(words: &[String]) -> Option<usize> {
     let mut is_value = false;
     for (place, word) in words.iter().enumerate().skip(1) {
