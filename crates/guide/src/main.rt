@@ -6,6 +6,7 @@ mod beside;
 mod calls;
 mod device;
 mod journal;
+mod kept;
 mod readings;
 mod sum;
 mod value;
@@ -13,12 +14,13 @@ mod value;
 use crate::beside::{keep_and_copy, keep_and_look_back, keep_and_replay_a_snapshot, keep_two};
 use crate::calls::{keep, keep_a_replay, keep_a_snapshot, keep_and_go_on, keep_and_look};
 use crate::journal::{Journal, JournalError};
+use crate::kept::{KeptError, keep_in_file};
 use crate::readings::{Reading, keep_and_look_at_readings, keep_readings};
 use crate::sum::Poly;
 use crate::value::keep_a_value;
 use disk::{IoBuf, MemBlob};
 use std::alloc::Global;
-use std::io;
+use std::{env, io};
 
 fn text_of(bytes: &IoBuf) -> &str {
     str::from_utf8(bytes.as_ref()).unwrap_or("no text")
@@ -130,10 +132,25 @@ fn fail_and_crash(alloc: Global) -> Result<Told, JournalError> {
     })
 }
 
+/// Opens the file once for each record, and once more for the last one, which is there by then.
+fn show_kept(rt: &HostRuntime, path: &str) -> Result<(), KeptError> {
+    keep_in_file(rt, path, b"1 opened")?;
+    keep_in_file(rt, path, b"2 closed")?;
+    for record in &keep_in_file(rt, path, b"2 closed")? {
+        println!(rt; "in the file {}", text_of(record))?;
+    }
+    Ok(())
+}
+
 fn main(rt: HostRuntime) -> io::Result<()> {
     show_calls(&rt)?;
     show_what_stays(&rt)?;
     show_readings(&rt)?;
+    if let Some(path) = env::args(&rt)?.nth(1)
+        && let Err(error) = show_kept(&rt, path.as_str())
+    {
+        println!(rt; "error {error}")?;
+    }
     match fail_and_crash(rt.alloc()) {
         Ok(told) => {
             println!(rt; "refused {}, recovered {}", told.refused, told.recovered)?;

@@ -1,0 +1,61 @@
+// Records over a file, in a journal of the crate `journal`.
+ghost use Rattle.std.specs.Prelude.{◌≤◌, IfOk, length};
+ghost use Rattle.cache.specs.Pages.{IsFresh};
+
+use crate::calls::{CAPACITY, new_cache};
+use cache::CacheRef;
+use crc32c::Crc32c;
+use disk::{Blob, Error, IoBuf};
+use journal::Journal;
+use std::alloc::Global;
+use std::io;
+use std::num::NonZeroUsize;
+
+/// A journal whose pages and whose records have the checksum CRC-32C.
+type Records<B> = Journal<B, Crc32c, Crc32c>;
+
+/// Why a record wasn't kept.
+#[derive(Debug, Drop, thiserror::Error)]
+pub enum KeptError {
+    /// The file can't be opened.
+    #[error("the file: {0}")]
+    File(#[from] io::Error),
+    /// A call of the layer was refused.
+    #[error("the journal: {0}")]
+    Journal(#[from] Error),
+}
+
+/// Recovers a journal, and commits a record, unless it came back as the last one already. Answers
+/// all records. So after an error it may be called again with the same record.
+fn keep_in<B: Blob>(
+    alloc: Global,
+    blob: &mut B,
+    cache: &mut CacheRef,
+    record: &[u8],
+) -> Result<Vec<IoBuf>, Error>
+    requires fresh { IsFresh cache.old }
+    requires short { length record.now ≤ 65535 }
+{
+    let size = blob.len();
+    let reads = NonZeroUsize::MIN;
+    let (journal, mut records) = Records::<B>::recover(alloc, blob, size, CAPACITY, cache, reads)?;
+    if records.last().is_some_and(|last| last.as_ref() == record) {
+        return Ok(records);
+    }
+    let (journal, offset) = journal.append_record(blob, cache, record)?;
+    let journal = journal.commit(blob, cache)?;
+    let found = journal.read_record(blob, cache, offset)?;
+    if let Some(bytes) = found.and_then(|found| found.bytes) {
+        records.push(bytes)?;
+    }
+    Ok(records)
+}
+
+/// Opens a file, keeps a record in it, and closes it. Answers all records.
+pub fn keep_in_file(rt: &HostRuntime, path: &str, record: &[u8]) -> Result<Vec<IoBuf>, KeptError>
+    requires short { length record.now ≤ 65535 }
+{
+    let mut blob = file::open(rt, path)?;
+    let mut cache = new_cache(rt.alloc())?;
+    Ok(keep_in(rt.alloc(), &mut blob, &mut cache, record)?)
+}
