@@ -2,17 +2,23 @@
 ghost use Rattle.std.specs.Prelude.{◌≤◌, IfOk, length};
 ghost use Rattle.cache.specs.Pages.{IsFresh};
 
-use crate::calls::{CAPACITY, new_cache};
 use cache::CacheRef;
 use crc32c::Crc32c;
 use disk::{Blob, Error, IoBuf};
 use journal::Journal;
+use page::page_size;
 use std::alloc::Global;
 use std::io;
 use std::num::NonZeroUsize;
 
 /// A journal whose pages and whose records have the checksum CRC-32C.
 type Records<B> = Journal<B, Crc32c, Crc32c>;
+
+/// The bytes that the journal may hold back, and the most that one read of a recovery has.
+const BUFFER: usize = 65_536;
+
+/// The pages that the cache may hold, each of 4,096 physical bytes.
+const CACHED: usize = 64;
 
 /// Why a record wasn't kept.
 #[derive(Debug, Drop, thiserror::Error)]
@@ -23,6 +29,13 @@ pub enum KeptError {
     /// A call of the layer was refused.
     #[error("the journal: {0}")]
     Journal(#[from] Error),
+}
+
+fn records_cache(alloc: Global) -> Result<CacheRef, Error>
+    ensures { IfOk result (λ cache. IsFresh cache) }
+{
+    let pages = NonZeroUsize::new(CACHED).unwrap_or(NonZeroUsize::MIN);
+    CacheRef::new(alloc, page_size(4096), pages)
 }
 
 /// Recovers a journal, and commits a record, unless it came back as the last one already. Answers
@@ -37,8 +50,8 @@ fn keep_in<B: Blob>(
     requires short { length record.now ≤ 65535 }
 {
     let size = blob.len();
-    let reads = NonZeroUsize::MIN;
-    let (journal, mut records) = Records::<B>::recover(alloc, blob, size, CAPACITY, cache, reads)?;
+    let reads = NonZeroUsize::new(BUFFER).unwrap_or(NonZeroUsize::MIN);
+    let (journal, mut records) = Records::<B>::recover(alloc, blob, size, BUFFER, cache, reads)?;
     if records.last().is_some_and(|last| last.as_ref() == record) {
         return Ok(records);
     }
@@ -56,6 +69,6 @@ pub fn keep_in_file(rt: &HostRuntime, path: &str, record: &[u8]) -> Result<Vec<I
     requires short { length record.now ≤ 65535 }
 {
     let mut blob = file::open(rt, path)?;
-    let mut cache = new_cache(rt.alloc())?;
+    let mut cache = records_cache(rt.alloc())?;
     Ok(keep_in(rt.alloc(), &mut blob, &mut cache, record)?)
 }

@@ -96,9 +96,10 @@ fn show_readings(rt: &HostRuntime) -> io::Result<()> {
     Ok(())
 }
 
-/// What a journal had.
+/// What was seen of a journal: whether the second commit was refused, and the size in bytes after
+/// each of two recoveries.
 #[derive(Drop)]
-struct Told {
+struct Outcome {
     refused: bool,
     recovered: u64,
     crashed: u64,
@@ -109,7 +110,7 @@ struct Told {
 
 /// Commits a record; is refused as it commits another, and recovers at once; appends a third, and
 /// crashes.
-fn fail_and_crash(alloc: Global) -> Result<Told, JournalError> {
+fn fail_and_crash(alloc: Global) -> Result<Outcome, JournalError> {
     let mut journal = Journal::<Poly>::open(alloc, MemBlob::new(alloc))?;
     let offset = journal.append(b"one")?;
     journal.commit()?;
@@ -122,7 +123,7 @@ fn fail_and_crash(alloc: Global) -> Result<Told, JournalError> {
     journal.crash(&[true; 40])?;
     journal.recover()?;
     let first = journal.read(offset)?.map(|record| record.bytes);
-    Ok(Told {
+    Ok(Outcome {
         refused,
         recovered,
         crashed: journal.size(),
@@ -152,11 +153,14 @@ fn main(rt: HostRuntime) -> io::Result<()> {
         println!(rt; "error {error}")?;
     }
     match fail_and_crash(rt.alloc()) {
-        Ok(told) => {
-            println!(rt; "refused {}, recovered {}", told.refused, told.recovered)?;
-            println!(rt; "after the crash {}", told.crashed)?;
-            println!(rt; "first {}", told.first.as_ref().map_or("none", text_of))?;
-            println!(rt; "{} writes, {} syncs", told.writes, told.syncs)
+        Ok(outcome) => {
+            println!(rt;
+                "refused {}, recovered {}",
+                outcome.refused, outcome.recovered
+            )?;
+            println!(rt; "after the crash {}", outcome.crashed)?;
+            println!(rt; "first {}", outcome.first.as_ref().map_or("none", text_of))?;
+            println!(rt; "{} writes, {} syncs", outcome.writes, outcome.syncs)
         }
         Err(error) => println!(rt; "error {error}"),
     }
