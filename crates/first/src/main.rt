@@ -96,7 +96,7 @@ fn keep_line(rt: &HostRuntime, path: &str, line: &[u8]) -> Result<IoBuf, FirstEr
     Ok(add_line(rt.alloc(), &mut blob, &mut cache, line)?)
 }
 
-fn main(rt: HostRuntime) -> Result<(), FirstError> {
+fn main(rt: HostRuntime) -> anyhow::Result<()> {
     let Some(path) = env::args(&rt)?.nth(1) else {
         return Ok(println!(rt; "name a file")?);
     };
