@@ -8,14 +8,13 @@ use cache::CacheRef;
 use crc32c::Crc32c;
 use disk::{Blob, IoBuf};
 use file::FileBlob;
-use page::page_size;
 use paged::{Verdict, Writer, recover, survey};
 use std::alloc::Global;
-use std::num::NonZeroUsize;
+use std::num::{NonZeroU16, NonZeroUsize};
 use std::{env, io};
 
-/// The physical bytes of a page: a block of the disk. 4,084 of them are content.
-const PAGE: u32 = 4096;
+/// The bytes of content in a page. With its footer of 12 bytes a page has 4,096, a block of the disk.
+const PAGE_SIZE: u16 = 4084;
 
 /// The bytes that the writer may hold back.
 const CAPACITY: usize = 65_536;
@@ -43,6 +42,10 @@ enum FirstError {
     NoSuchCrash,
 }
 
+fn page_size() -> NonZeroU16 {
+    NonZeroU16::new(PAGE_SIZE).unwrap_or(NonZeroU16::MIN)
+}
+
 fn at_least_one(n: usize) -> NonZeroUsize {
     NonZeroUsize::new(n).unwrap_or(NonZeroUsize::MIN)
 }
@@ -50,13 +53,13 @@ fn at_least_one(n: usize) -> NonZeroUsize {
 fn new_cache(alloc: Global) -> Result<CacheRef, disk::Error>
     ensures { IfOk result (λ cache. IsFresh cache) }
 {
-    CacheRef::new(alloc, page_size(PAGE), at_least_one(PAGES))
+    CacheRef::new(alloc, page_size(), at_least_one(PAGES))
 }
 
 /// Looks at an opened file, and writes what a recovery gives up, and may have been synced, to a
 /// file beside it. The blob stays as it is.
 fn look_first(rt: &HostRuntime, path: &str, blob: &mut FileBlob) -> Result<(), FirstError> {
-    let (size, page_size) = (blob.len(), page_size(PAGE));
+    let (size, page_size) = (blob.len(), page_size());
     let reads = at_least_one(BUFFER_SIZE);
     let survey = survey::<FileBlob, Crc32c>(rt.alloc(), blob, size, page_size, reads)?;
     if survey.verdict(page_size, LIMIT) == Verdict::Refuse {

@@ -6,10 +6,9 @@ use cache::CacheRef;
 use crc32c::Crc32c;
 use disk::{Blob, Error, IoBuf};
 use journal::Journal;
-use page::page_size;
 use std::alloc::Global;
 use std::io;
-use std::num::NonZeroUsize;
+use std::num::{NonZeroU16, NonZeroUsize};
 
 /// A journal whose pages and whose records have the checksum CRC-32C.
 type Records<B> = Journal<B, Crc32c, Crc32c>;
@@ -17,8 +16,11 @@ type Records<B> = Journal<B, Crc32c, Crc32c>;
 /// The bytes that the journal may hold back, and the most that one read of a recovery has.
 const BUFFER: usize = 65_536;
 
-/// The pages that the cache may hold, each of 4,096 physical bytes.
-const CACHED: usize = 64;
+/// The bytes of content in a page. With its footer of 12 bytes a page has 4,096.
+const PAGE_SIZE: u16 = 4084;
+
+/// The pages that the cache may hold.
+const PAGES: usize = 64;
 
 /// Why a record wasn't kept.
 #[derive(Debug, Drop, thiserror::Error)]
@@ -34,8 +36,9 @@ pub enum KeptError {
 fn records_cache(alloc: Global) -> Result<CacheRef, Error>
     ensures { IfOk result (λ cache. IsFresh cache) }
 {
-    let pages = NonZeroUsize::new(CACHED).unwrap_or(NonZeroUsize::MIN);
-    CacheRef::new(alloc, page_size(4096), pages)
+    let page_size = NonZeroU16::new(PAGE_SIZE).unwrap_or(NonZeroU16::MIN);
+    let pages = NonZeroUsize::new(PAGES).unwrap_or(NonZeroUsize::MIN);
+    CacheRef::new(alloc, page_size, pages)
 }
 
 /// Recovers a journal, and commits a record, unless it came back as the last one already. Answers
