@@ -41,37 +41,37 @@ fn records_cache(alloc: Global) -> Result<CacheRef, Error>
     CacheRef::new(alloc, page_size, pages)
 }
 
-/// Recovers a journal, and commits a record, unless it came back as the last one already. Answers
-/// all records. So after an error it may be called again with the same record.
+/// Recovers a journal, and commits a record of these bytes, unless it came back as the last one.
+/// Answers all records. So after an error it may be called again with the same bytes.
 fn keep_in<B: Blob>(
     alloc: Global,
     blob: &mut B,
     cache: &mut CacheRef,
-    record: &[u8],
+    bytes: &[u8],
 ) -> Result<Vec<IoBuf>, Error>
     requires fresh { IsFresh cache.old }
-    requires short { length record.now ≤ 65535 }
+    requires short { length bytes.now ≤ 65535 }
 {
     let size = blob.len();
     let reads = NonZeroUsize::new(BUFFER).unwrap_or(NonZeroUsize::MIN);
     let (journal, mut records) = Records::<B>::recover(alloc, blob, size, BUFFER, cache, reads)?;
-    if records.last().is_some_and(|last| last.as_ref() == record) {
+    if records.last().is_some_and(|last| last.as_ref() == bytes) {
         return Ok(records);
     }
-    let (journal, offset) = journal.append_record(blob, cache, record)?;
+    let (journal, offset) = journal.append_record(blob, cache, bytes)?;
     let journal = journal.commit(blob, cache)?;
     let found = journal.read_record(blob, cache, offset)?;
-    if let Some(bytes) = found.and_then(|found| found.bytes) {
-        records.push(bytes)?;
+    if let Some(record) = found.and_then(|found| found.bytes) {
+        records.push(record)?;
     }
     Ok(records)
 }
 
 /// Opens a file, keeps a record in it, and closes it. Answers all records.
-pub fn keep_in_file(rt: &HostRuntime, path: &str, record: &[u8]) -> Result<Vec<IoBuf>, KeptError>
-    requires short { length record.now ≤ 65535 }
+pub fn keep_in_file(rt: &HostRuntime, path: &str, bytes: &[u8]) -> Result<Vec<IoBuf>, KeptError>
+    requires short { length bytes.now ≤ 65535 }
 {
     let mut blob = file::open(rt, path)?;
     let mut cache = records_cache(rt.alloc())?;
-    Ok(keep_in(rt.alloc(), &mut blob, &mut cache, record)?)
+    Ok(keep_in(rt.alloc(), &mut blob, &mut cache, bytes)?)
 }

@@ -1,20 +1,21 @@
 //! What the guide shows: the calls of a writer, a table of readings, a device and a checksum of one's
-//! own, and a journal over them, which is refused and crashes.
+//! own, a journal over them, which is refused and crashes, and the journal of the crate `journal`
+//! over the file that the argument names.
 #![tactic(auto)]
 
 mod beside;
 mod calls;
 mod device;
-mod journal;
 mod kept;
+mod own_journal;
 mod readings;
 mod sum;
 mod value;
 
 use crate::beside::{keep_and_copy, keep_and_look_back, keep_and_replay_a_snapshot, keep_two};
 use crate::calls::{keep, keep_a_replay, keep_a_snapshot, keep_and_go_on, keep_and_look};
-use crate::journal::{Journal, JournalError};
 use crate::kept::{KeptError, keep_in_file};
+use crate::own_journal::{Journal, JournalError};
 use crate::readings::{Reading, keep_and_look_at_readings, keep_readings};
 use crate::sum::Poly;
 use crate::value::keep_a_value;
