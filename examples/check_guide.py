@@ -13,8 +13,8 @@ speaks of this error. Whether the call answers it, and no other, the page has to
 above, an error that is "never of" a call isn't looked for there, and "those of" a call isn't followed. docs/GUIDE.md:
 each line of crates.txt that it quotes must stand there, except that of the crate `mine`. docs/DEFINITIONS.md: each word
 must stand in a file of crates/. In every page each link, and each path below crates/, docs/ or examples/, must be
-there. README.md and docs/PROTOCOL.md must have the same table of exit statuses. It prints what isn't so, and ends with
-status 1 then.
+there. README.md and docs/PROTOCOL.md must have the same table of exit statuses. docs/INDEX.md must be what
+examples/public_items.py writes. It prints what isn't so, and ends with status 1 then.
 """
 import collections
 import functools
@@ -23,6 +23,8 @@ import os
 import re
 import sys
 import textwrap
+
+import public_items
 
 ROOT = os.path.join(os.path.dirname(os.path.abspath(__file__)), "..")
 
@@ -317,6 +319,16 @@ def wrong_statuses(pages):
     return wrong, len(pages)
 
 
+def wrong_index():
+    """The lines by which the page of public items isn't what the sources say, and how many items there are."""
+    there, said = read(public_items.PAGE).split("\n"), public_items.page().split("\n")
+    wrong = [f"not in {public_items.PAGE}: {line}" for line in said if line not in there]
+    wrong += [f"in no source: {line}" for line in there if line not in said]
+    if there != said and not wrong:
+        wrong = [f"{public_items.PAGE}: its lines stand in another order"]
+    return wrong, sum(line.startswith("| `") for line in said)
+
+
 def main():
     pages = ["README.md"] + sorted(f"docs/{name}" for name in os.listdir(os.path.join(ROOT, "docs")))
     found = {
@@ -328,6 +340,7 @@ def main():
         "words": wrong_words("docs/DEFINITIONS.md"),
         "links and paths": wrong_places(pages),
         "tables of statuses": wrong_statuses(["README.md", "docs/PROTOCOL.md"]),
+        "lines of the index": wrong_index(),
     }
     wrong = [line for lines, _ in found.values() for line in lines]
     for line in wrong:

@@ -18,8 +18,8 @@ use paged::{Writer, recover};
 use std::alloc::Global;
 use std::num::NonZeroUsize;
 
-/// A writer on a blob that is recovered: it has the cache's next id and the blob's text, and what
-/// other blobs read from the cache stays theirs.
+/// Recovers a blob. The writer has the cache's next id, and its content is the blob's text, which is
+/// what a recovery keeps. Whatever could be read of other blobs with the cache still can be.
 fn recovered_beside<H: Sum>(
     alloc: Global,
     blob: &mut MemBlob,
@@ -48,8 +48,8 @@ pub struct After {
     pub read: IoBufs,
 }
 
-/// Makes a snapshot, appends, and reads the snapshot, whatever the append answered: it gives what
-/// there was before.
+/// Makes a snapshot, appends, and reads the snapshot, whatever the append answered. The read gives
+/// the content from before the append.
 fn read_after_an_append<B: Blob, H: Sum>(
     writer: Writer<B, H>,
     blob: &mut B,
@@ -74,7 +74,7 @@ fn read_after_an_append<B: Blob, H: Sum>(
     })
 }
 
-/// Replays a snapshot: its first bytes, where there are so many.
+/// Replays a snapshot: its first `count` bytes, or `None` if it has fewer.
 fn replayed_of_a_snapshot<B: Blob, H: Sum>(
     writer: Writer<B, H>,
     blob: &mut B,
@@ -93,7 +93,8 @@ fn replayed_of_a_snapshot<B: Blob, H: Sum>(
     Ok(Some(replay.copy_to_bytes(count)?))
 }
 
-/// Reads a copy of a snapshot that needs no write; `BlobInsufficientLength` where it needs one.
+/// Reads a copy of a snapshot for which nothing has to be written; `BlobInsufficientLength` if a
+/// full page is buffered.
 fn read_a_copy<B: Blob, H: Sum>(
     writer: Writer<B, H>,
     blob: &mut B,
@@ -114,8 +115,7 @@ struct Both {
     second: IoBufs,
 }
 
-/// Recovers two blobs on one cache and appends to them in turn, and then reads each: it gives its
-/// own bytes.
+/// Recovers two blobs on one cache, appends to each, and reads each. Both give their own bytes.
 fn read_both<H: Sum>(
     alloc: Global,
     first_blob: &mut MemBlob,

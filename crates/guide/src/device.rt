@@ -2,8 +2,8 @@
 use disk::{Blob, Error, IoBuf, IoBufs, ReadOptions, StartedRead, StartedSync, WriteOptions};
 use std::alloc::Global;
 
-/// A blob that counts the reads, the writes and the syncs of another, whatever they answer. A count
-/// stays at the greatest `u64`.
+/// A blob that hands each call on to another one, and counts the reads, the writes with the resizes,
+/// and the syncs with the waits, whatever they answer. A count stays at the greatest `u64`.
 #[derive(Drop)]
 pub struct Metered<B> {
     pub inner: B,
@@ -13,7 +13,7 @@ pub struct Metered<B> {
 }
 
 impl<B> Metered<B> {
-    /// A blob of which nothing was asked yet.
+    /// Counts the calls of this blob from now on.
     pub fn new(inner: B) -> Self {
         Metered {
             inner,

@@ -1,24 +1,27 @@
 //! What the guide shows: the calls of a writer, a table of readings, a device and a checksum of one's
-//! own, and a journal over them, which is refused and crashes.
+//! own, a journal over them, which is refused and crashes, and the journal of the crate `journal`
+//! over the file that the argument names.
 #![tactic(auto)]
 
 mod beside;
 mod calls;
 mod device;
-mod journal;
+mod kept;
+mod own_journal;
 mod readings;
 mod sum;
 mod value;
 
 use crate::beside::{keep_and_copy, keep_and_look_back, keep_and_replay_a_snapshot, keep_two};
 use crate::calls::{keep, keep_a_replay, keep_a_snapshot, keep_and_go_on, keep_and_look};
-use crate::journal::{Journal, JournalError};
+use crate::kept::{KeptError, keep_in_file};
+use crate::own_journal::{Journal, JournalError};
 use crate::readings::{Reading, keep_and_look_at_readings, keep_readings};
 use crate::sum::Poly;
 use crate::value::keep_a_value;
 use disk::{IoBuf, MemBlob};
 use std::alloc::Global;
-use std::io;
+use std::{env, io};
 
 fn text_of(bytes: &IoBuf) -> &str {
     str::from_utf8(bytes.as_ref()).unwrap_or("no text")
@@ -94,9 +97,10 @@ fn show_readings(rt: &HostRuntime) -> io::Result<()> {
     Ok(())
 }
 
-/// What a journal had.
+/// What was seen of a journal: whether the second commit was refused, and the size in bytes after
+/// each of two recoveries.
 #[derive(Drop)]
-struct Told {
+struct Outcome {
     refused: bool,
     recovered: u64,
     crashed: u64,
@@ -107,7 +111,7 @@ struct Told {
 
 /// Commits a record; is refused as it commits another, and recovers at once; appends a third, and
 /// crashes.
-fn fail_and_crash(alloc: Global) -> Result<Told, JournalError> {
+fn fail_and_crash(alloc: Global) -> Result<Outcome, JournalError> {
     let mut journal = Journal::<Poly>::open(alloc, MemBlob::new(alloc))?;
     let offset = journal.append(b"one")?;
     journal.commit()?;
@@ -120,7 +124,7 @@ fn fail_and_crash(alloc: Global) -> Result<Told, JournalError> {
     journal.crash(&[true; 40])?;
     journal.recover()?;
     let first = journal.read(offset)?.map(|record| record.bytes);
-    Ok(Told {
+    Ok(Outcome {
         refused,
         recovered,
         crashed: journal.size(),
@@ -130,16 +134,34 @@ fn fail_and_crash(alloc: Global) -> Result<Told, JournalError> {
     })
 }
 
+/// Opens the file once for each record, and once more for the last one, which is there by then.
+fn show_kept(rt: &HostRuntime, path: &str) -> Result<(), KeptError> {
+    keep_in_file(rt, path, b"1 opened")?;
+    keep_in_file(rt, path, b"2 closed")?;
+    for record in &keep_in_file(rt, path, b"2 closed")? {
+        println!(rt; "in the file {}", text_of(record))?;
+    }
+    Ok(())
+}
+
 fn main(rt: HostRuntime) -> io::Result<()> {
     show_calls(&rt)?;
     show_what_stays(&rt)?;
     show_readings(&rt)?;
+    if let Some(path) = env::args(&rt)?.nth(1)
+        && let Err(error) = show_kept(&rt, path.as_str())
+    {
+        println!(rt; "error {error}")?;
+    }
     match fail_and_crash(rt.alloc()) {
-        Ok(told) => {
-            println!(rt; "refused {}, recovered {}", told.refused, told.recovered)?;
-            println!(rt; "after the crash {}", told.crashed)?;
-            println!(rt; "first {}", told.first.as_ref().map_or("none", text_of))?;
-            println!(rt; "{} writes, {} syncs", told.writes, told.syncs)
+        Ok(outcome) => {
+            println!(rt;
+                "refused {}, recovered {}",
+                outcome.refused, outcome.recovered
+            )?;
+            println!(rt; "after the crash {}", outcome.crashed)?;
+            println!(rt; "first {}", outcome.first.as_ref().map_or("none", text_of))?;
+            println!(rt; "{} writes, {} syncs", outcome.writes, outcome.syncs)
         }
         Err(error) => println!(rt; "error {error}"),
     }

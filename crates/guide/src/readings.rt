@@ -60,7 +60,7 @@ impl Reading {
         [a, b, c, d, e, f, g, h, i, j, k, l]
     }
 
-    /// The reading that these bytes are.
+    /// The reading that these bytes encode; `None` unless there are twelve.
     fn from_bytes(bytes: &[u8]) -> Option<Self> {
         let [a, b, c, d, e, f, g, h, i, j, k, l] = bytes else {
             return None;
@@ -103,7 +103,7 @@ fn opened<H: Sum>(
     )
 }
 
-/// Pushes a reading, into the buffer where it fits, and answers its number.
+/// Pushes a reading, into the buffer if it fits there, and answers its number.
 fn note<B: Blob, H: Sum>(
     mut readings: Items<B, H>,
     blob: &mut B,
@@ -143,7 +143,7 @@ fn reading_at<B: Blob, H: Sum>(
     Ok(Reading::from_bytes(&bytes))
 }
 
-/// Pushes a reading, and reads it by its number: its bytes come back.
+/// Pushes a reading, and reads it by its number. The same bytes come back.
 fn note_and_get<B: Blob, H: Sum>(
     readings: Items<B, H>,
     blob: &mut B,
@@ -295,7 +295,7 @@ fn note_three<B: Blob, H: Sum>(
     Ok(readings)
 }
 
-/// What a table of readings had.
+/// What was read of a table of readings: `left` is how many the crash left.
 #[derive(Drop)]
 pub struct Table {
     pub third: Option<Reading>,

@@ -2,7 +2,7 @@
 use page::Sum;
 
 /// A polynomial of the bytes, as hash tables of strings have it: 31 times what came before, and the
-/// byte. It tells fewer changes than CRC-32C, which is the one to take.
+/// byte. It detects fewer changes than CRC-32C, which is the one to take.
 pub struct Poly;
 
 impl Sum for Poly {

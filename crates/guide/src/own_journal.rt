@@ -19,7 +19,7 @@ pub type Device = Metered<MemBlob>;
 /// Why a call of the journal was refused.
 #[derive(Clone, Copy, Debug, PartialEq, Eq, thiserror::Error)]
 pub enum JournalError {
-    /// There is no writer, since a call that took it was refused: recover the journal.
+    /// There is no writer, because a call that took it was refused: recover the journal.
     #[error("there is no writer: recover the journal")]
     NoWriter,
     /// The record has more than 65,535 bytes. The journal is as it was.
@@ -37,8 +37,8 @@ pub struct Record {
     pub end: u64,
 }
 
-/// A journal: its blob, the cache, and the writer, if there is one. A call that takes the writer
-/// and is refused leaves none; then the journal is to be recovered.
+/// A journal: its blob, the cache, and the writer, if there is one. After an error of a call that
+/// takes the writer there is none: recover the journal then.
 ///
 /// A record is two bytes of its length, the higher one first, and its bytes.
 #[derive(Drop)]
@@ -151,7 +151,7 @@ impl<H: Sum> Journal<H> {
         Ok(())
     }
 
-    /// How many bytes the records have, with their lengths; 0 where there is no writer.
+    /// How many bytes the records have, with their lengths; 0 if there is no writer.
     pub fn size(&self) -> u64 {
         match &self.writer {
             Some(writer) => writer.size(),
@@ -186,7 +186,7 @@ impl<H: Sum> Journal<H> {
         Ok(())
     }
 
-    /// The record at an offset; none where no whole one stands there.
+    /// The record that begins at an offset; `None` if no whole one begins there.
     pub fn read(&mut self, offset: u64) -> Result<Option<Record>, JournalError> {
         let size = self.size();
         let body = offset.saturating_add(2);
@@ -234,7 +234,7 @@ impl<H: Sum> Journal<H> {
         self.blob.inner.fail_at(n.max(1));
     }
 
-    /// Crashes the device: of the unsynced bytes those with a flag are left. The writer is gone.
+    /// Crashes the device, which keeps those unsynced bytes whose flag is true. The writer is gone.
     pub fn crash(&mut self, keep: &[bool]) -> Result<(), JournalError> {
         self.writer = None;
         self.blob.inner.crash(keep)?;

@@ -1,0 +1,197 @@
+"""Writes docs/INDEX.md, the list of the public items: python3 examples/public_items.py, at the top of the repository.
+
+For each crate that a program imports (CRATES) it lists what `src/lib.rt` gives out: the items of its own, those that it
+takes from its modules by `pub use`, and those that it takes from another crate so. Under a type or a trait stand its
+public fields, its variants and its calls. A row has the item's path, its kind, its type or signature without clauses,
+and the first sentence of its doc comment.
+
+With --check it writes nothing: it ends with status 1 if docs/INDEX.md isn't what it would write.
+"""
+import glob
+import os
+import re
+import sys
+import textwrap
+
+ROOT = os.path.join(os.path.dirname(os.path.abspath(__file__)), "..")
+PAGE = "docs/INDEX.md"
+
+# The crates that a program imports, the lowest first.
+CRATES = ["disk", "page", "crc32c", "cache", "file", "paged", "items", "journal", "segments", "session", "scripts"]
+
+HEAD = """# The public items
+
+What each crate gives to a program that imports it, one line an item: the type or the signature without its clauses, and
+the first sentence of its comment. [CONTRACTS](CONTRACTS.md) has the clauses, [ERRORS](ERRORS.md) the errors, and
+[GUIDE](GUIDE.md) shows the calls at work. `python3 examples/public_items.py` writes this page from the sources.
+"""
+
+# A doc comment, attributes and comments between it and the item, and the item's first words.
+ITEM = re.compile(r"(?P<doc>(?:^ *///[^\n]*\n)*)(?:^ *(?:#\[|// )[^\n]*\n)*^(?P<indent> *)(?P<pub>pub )?"
+                  r"(?P<kind>const fn|fn|struct|enum|trait|const|type) (?P<name>\w+)", re.M)
+
+
+def read(path):
+    with open(os.path.join(ROOT, path), encoding="utf-8") as file:
+        return file.read()
+
+
+def sources(crate):
+    """The files of a crate's src/, each as its text."""
+    paths = sorted(glob.glob(os.path.join(ROOT, "crates", crate, "src", "**", "*.rt"), recursive=True))
+    return [read(path) for path in paths]
+
+
+def block(text, start):
+    """What stands in the braces that open at an offset, without the braces."""
+    depth, end = 0, start
+    while True:
+        depth += {"{": 1, "}": -1}.get(text[end], 0)
+        end += 1
+        if not depth:
+            return text[start + 1:end - 1]
+
+
+def sentence(doc):
+    """The first sentence of a doc comment, in one line. A link keeps its words alone."""
+    paragraph = doc.split("///\n")[0]
+    text = " ".join(line.strip()[3:].strip() for line in paragraph.strip().split("\n"))
+    text = re.sub(r"\[(`[^`]*`)\](?:\([^)]*\))?", r"\1", text).replace("`crate::", "`")
+    return re.match(r".*?(?:\.(?= [A-Z`])|$)", text)[0]
+
+
+def in_one_line(code):
+    """Code in one line, as rustfmt writes what fits one."""
+    code = re.sub(r"\bmut (?=\w+[:,)])", "", re.sub(r"\s+", " ", code).strip())
+    return re.sub(r",? ([)>])", r"\1", re.sub(r"([(<]) ", r"\1", code))
+
+
+def signature(text, start):
+    """A call's signature without its clauses, up to its body or its semicolon."""
+    depth, end = 0, start
+    while depth or text[end] not in "{;":
+        depth += {"(": 1, "[": 1, ")": -1, "]": -1}.get(text[end], 0)
+        end += 1
+    return in_one_line(re.split(r"^ *(?:requires|ensures|ghost)\b", text[start:end], flags=re.M)[0])
+
+
+def words(code):
+    return code.replace("|", "\\|")
+
+
+class Crate:
+    """A crate's sources, and what its library gives out."""
+
+    def __init__(self, name):
+        self.name = name
+        self.texts = sources(name)
+        library = read(f"crates/{name}/src/lib.rt")
+        self.about = " ".join(re.findall(r"^//! ?(.*)$", re.split(r"^//!$", library, flags=re.M)[0], re.M))
+        self.given_out = []
+        for path in re.findall(r"^pub use ([^;]*);", library, re.M):
+            head, _, tail = path.rpartition("::")
+            names = re.findall(r"\w+", tail)
+            module = head.split("::")[0]
+            crate = name if f"mod {module};" in library else module
+            self.given_out += [(crate, item) for item in names]
+        own = [match for match in ITEM.finditer(library) if match["pub"] and not match["indent"]]
+        self.given_out += [(name, match["name"]) for match in own]
+
+    def rows(self):
+        """A row for each item: path, kind, code, and the first sentence of the comment."""
+        found = []
+        for crate, name in self.given_out:
+            found += items(crate, name)
+        return [(f"{self.name}::{path}", kind, code, said) for path, kind, code, said in found]
+
+
+def items(crate, name):
+    """The rows of an item of a crate, and of what stands below it."""
+    rows = []
+    for text in sources(crate):
+        for match in ITEM.finditer(text):
+            if match["name"] == name and match["pub"] and not match["indent"]:
+                rows += item_rows(text, match)
+    if not rows:
+        sys.exit(f"no such item: {crate}::{name}")
+    if rows[0][1] in ("struct", "enum", "type"):
+        rows += calls_of(crate, name)
+    return rows
+
+
+def item_rows(text, match):
+    """The row of an item, and those of its fields, its variants or, in a trait, its calls."""
+    kind, name, said = match["kind"], match["name"], sentence(match["doc"])
+    start = match.start("kind")
+    if kind in ("fn", "const fn"):
+        return [(name, "function", signature(text, start), said)]
+    if kind in ("const", "type"):
+        code = re.match(r"[^;]*;", text[start:])[0]
+        return [(name, "constant" if kind == "const" else "type", in_one_line(code)[:-1], said)]
+    head = re.match(r"[^{;(]*", text[start:])[0]
+    rows = [(name, kind, in_one_line(head), said)]
+    opening = start + len(head)
+    if text[opening] != "{":
+        return rows
+    inside = block(text, opening)
+    if kind == "struct":
+        rows += parts(name, "field", inside, r"pub (\w+: [^\n]*),")
+    if kind == "enum":
+        rows += parts(name, "variant", inside, r"(\w+(?:\([^\n]*\)| \{[^}]*\})?),")
+    if kind == "trait":
+        for call in ITEM.finditer(inside):
+            if call["kind"] in ("fn", "const fn", "const"):
+                rows.append(call_row(name, inside, call))
+    return rows
+
+
+def parts(owner, kind, inside, form):
+    """The fields or the variants in a block, those at its first level alone."""
+    indent = re.match(r"\s*?( *)\S", inside.strip("\n"))[1]
+    found = re.finditer(rf"((?:^{indent}///[^\n]*\n)*)(?:^{indent}#\[[^\n]*\]\n)*^{indent}{form}$", inside, re.M)
+    return [(f"{owner}::{re.match(r'[A-Za-z0-9_]+', part[2])[0]}", kind, in_one_line(part[2]), sentence(part[1]))
+            for part in found]
+
+
+def call_row(owner, text, match):
+    name = f"{owner}::{match['name']}"
+    start, said = match.start("kind"), sentence(match["doc"])
+    if match["kind"] == "const":
+        return (name, "constant", in_one_line(re.match(r"[^;=]*", text[start:])[0]), said)
+    return (name, "call", signature(text, start), said)
+
+
+def calls_of(crate, owner):
+    """The public calls of a type, in the order of the files."""
+    rows = []
+    for text in sources(crate):
+        text = re.split(r"^#\[cfg\(test\)\]", text, flags=re.M)[0]
+        for match in re.finditer(rf"^impl(?:<[^{{]*?>)? {owner}\b[^{{]*(?={{)", text, re.M):
+            inside = block(text, match.end())
+            rows += [call_row(owner, inside, call) for call in ITEM.finditer(inside) if call["pub"]]
+    return rows
+
+
+def page():
+    """The page as it is to be."""
+    out = [HEAD]
+    for name in CRATES:
+        crate = Crate(name)
+        about = textwrap.fill(re.sub(r"\[(`[^`]*`)\]", r"\1", crate.about), 120)
+        out.append(f"## {name}\n\n{about}\n")
+        rows = [f"| `{path}` | {kind} | `{words(code)}` | {words(said)} |" for path, kind, code, said in crate.rows()]
+        out.append("\n".join(["| Item | Kind | Type or signature | What it is |", "|---|---|---|---|"] + rows) + "\n")
+    return "\n".join(out)
+
+
+def main():
+    if "--check" in sys.argv[1:]:
+        there = os.path.exists(os.path.join(ROOT, PAGE)) and read(PAGE) == page()
+        print(f"{PAGE} is {'' if there else 'not '}what the sources say")
+        sys.exit(0 if there else 1)
+    with open(os.path.join(ROOT, PAGE), "w", encoding="utf-8") as file:
+        file.write(page())
+
+
+if __name__ == "__main__":
+    main()
