@@ -1,0 +1,126 @@
+-- What a call of a store does and leaves, from what the journal's does and leaves.
+use Rattle.std.proofs.Common.{◌≡◌, ℕ, ◌<◌, ◌^◌, List, [], ◌∷◌, ◌++◌, length, inl, inr, refl, sym, ap, ap₂, subst, ◌∙◌}
+use Rattle.std.specs.Prelude.{Result, Ok, Err}
+use Rattle.std.specs.Result.{IsErrAnd}
+use Rattle.std.specs.FinMap.{empty, insert}
+use Rattle.disk.specs.Disk.{Life}
+use Rattle.disk.specs.declared.error.Error.{Error}
+use Rattle.disk.specs.declared.error.Error.TheVariants.{OutOfMemory}
+use Rattle.cache.specs.CacheState.{CacheState}
+use Rattle.page.specs.Page.{text}
+use Rattle.writer_state.specs.Sound.{content}
+use Rattle.writer_state.specs.WriterState.{WriterState}
+use Rattle.journal.specs.Calls.{JournalCallLeaves}
+use Rattle.journal.specs.Frame.{IsPrefix, records}
+use Rattle.journal.specs.Journal.{BringsRecordsBack, IsAppended, IsCommitted, JournalHasRecovered, RecoversJournal, records_in}
+use Rattle.store.specs.declared.store.OpenError.{OpenError}
+use Rattle.store.specs.declared.store.OpenError.TheVariants.{NoPut, Refused}
+use Rattle.store.specs.Store.{Bytes, HasCommitted, HasOpenedStore, HasStored, MapGoes, OpenStoreGoes, StoreLeaves, StorePutGoes, StoreState, after_puts, put_record, puts_of}
+use Rattle.store.proofs.Puts.{after_puts-one, begins, key_of-record, put_value-record, puts_kept}
+
+module _ (sum own : List ℕ → ℕ) where
+  -- ---- what a call leaves
+
+  pub journal_leaves : (s : StoreState) (w : WriterState) (puts : List Bytes) (cache after : CacheState) (old new : Life)
+      → w ≡ s.journal → JournalCallLeaves sum own w puts cache after old new
+      → StoreLeaves sum own s.journal.page_size puts cache after old new
+  journal_leaves s w puts cache after old new is leaves =
+      let its = subst (λ v. JournalCallLeaves sum own v puts cache after old new) is leaves in
+      inr (record { fresh = its.fresh; kept = puts_kept sum own s.journal.page_size old new its.kept; only = its.only })
+
+  pub put_leaves : (s : StoreState) (w : WriterState) (bytes put : Bytes) (cache after : CacheState) (old new : Life)
+      → w ≡ s.journal → bytes ≡ put → JournalCallLeaves sum own w (records_in own w old ++ bytes ∷ []) cache after old new
+      → StoreLeaves sum own s.journal.page_size (puts_of own s old ++ put ∷ []) cache after old new
+  put_leaves s w bytes put cache after old new is same leaves =
+      journal_leaves s w (puts_of own s old ++ put ∷ []) cache after old new is
+      (subst (λ (l : List Bytes). JournalCallLeaves sum own w l cache after old new) (ap₂ (λ v b. records_in own v old ++ b ∷ []) is same) leaves)
+
+  pub commit_leaves : (s : StoreState) (w : WriterState) (cache after : CacheState) (old new : Life)
+      → w ≡ s.journal → JournalCallLeaves sum own w (records_in own w old) cache after old new
+      → StoreLeaves sum own s.journal.page_size (puts_of own s old) cache after old new
+  commit_leaves s w cache after old new is leaves =
+      journal_leaves s w (puts_of own s old) cache after old new is
+      (subst (λ (v : WriterState). JournalCallLeaves sum own w (records_in own v old) cache after old new) is leaves)
+
+  -- ---- a put
+
+  pub stored : (s now : StoreState) (w : WriterState) (bytes at value : Bytes) (after : CacheState) (old new : Life) (offset : ℕ)
+      → w ≡ s.journal → bytes ≡ put_record at value → length at < 2 ^ 16
+      → s.map ≡ after_puts empty (puts_of own s old)
+      → IsAppended sum own w bytes after old new now.journal offset
+      → now.map ≡ insert s.map at value
+      → HasStored sum own s at value after old new now
+  stored s now w bytes at value after old new offset is same short held added map =
+      let put = put_record at value in
+      let puts : puts_of own now new ≡ puts_of own s old ++ put ∷ [] = added.added ∙ ap₂ (λ v b. records_in own v old ++ b ∷ []) is same in
+      record {
+        store = record {
+          journal = added.journal;
+          held = map ∙ ap (λ m. insert m at value) held
+              ∙ ap₂ (insert (after_puts empty (puts_of own s old))) (sym (key_of-record at value short)) (sym (put_value-record at value short))
+              ∙ sym (after_puts-one empty (puts_of own s old) put) ∙ ap (after_puts empty) (sym puts);
+        };
+        map = map;
+        puts = puts;
+      }
+
+  -- memory for the record was refused
+  pub put_refused : (s : StoreState) (at value : Bytes) (after : CacheState) (old new : Life) (result : Result StoreState Error) (e : Error)
+      → IsErrAnd result (λ y. y ≡ e) → e ≡ OutOfMemory → StorePutGoes sum own s at value after old new result
+  put_refused s at value after old new (Ok now) e none memory = absurd none
+  put_refused s at value after old new (Err y) e is memory = inl (is ∙ memory)
+
+  -- ---- a commit
+
+  pub committed : (s now : StoreState) (w : WriterState) (after : CacheState) (old new : Life)
+      → w ≡ s.journal → s.map ≡ after_puts empty (puts_of own s old)
+      → IsCommitted sum own w after old new now.journal → now.map ≡ s.map
+      → HasCommitted sum own s after old new now
+  committed s now w after old new is held commits map =
+      let puts : puts_of own now new ≡ puts_of own s old = ap (records own) commits.holds ∙ ap (λ v. records_in own v old) is in
+      record {
+        store = record { journal = commits.journal; held = map ∙ held ∙ ap (after_puts empty) (sym puts) };
+        map = map;
+        puts = puts;
+        committed = record { content = content now.journal new.present.readable; are = refl; all = commits.all };
+      }
+
+  -- ---- an opening
+
+  pub opened : (now : StoreState) (cache after : CacheState) (old new : Life) (found : List Bytes)
+      → JournalHasRecovered sum own cache after old new now.journal found
+      → BringsRecordsBack sum own cache.page_size old.present found
+      → now.map ≡ after_puts empty found
+      → HasOpenedStore sum own cache.page_size after old.present new now
+  opened now cache after old new found recovered back map = record {
+    store = record { journal = recovered.journal; held = map ∙ ap (after_puts empty) recovered.same };
+    page_size = recovered.page_size;
+    committed = record { content = content now.journal new.present.readable; are = refl; all = recovered.all };
+    back = λ puts was.
+        let all = records own was.content in
+        let is = back was.content (length all) was.all in
+        subst (λ (l : List Bytes). IsPrefix l (puts_of own now new)) was.are
+        (subst (λ (l : List Bytes). IsPrefix all l) recovered.same (begins all found (length all) refl is.1));
+  }
+
+  pub open_refused : (cache after : CacheState) (capacity : ℕ) (old new : Life) (result : Result StoreState OpenError) (e : Error)
+      → IsErrAnd result (λ y. y ≡ Refused e) → RecoversJournal sum own cache after capacity old new (Err e)
+      → OpenStoreGoes sum own cache after capacity old new result
+  open_refused cache after capacity old new (Ok now) e none why = absurd none
+  open_refused cache after capacity old new (Err y) e is why =
+      subst (λ x. OpenStoreGoes sum own cache after capacity old new (Err x)) (sym is) (inr why)
+
+  -- the map wasn't made
+  no_map : (cache after : CacheState) (capacity : ℕ) (old new : Life) (e : OpenError)
+      → MapGoes (records own (text sum cache.page_size old.present.readable)) (Err e)
+      → OpenStoreGoes sum own cache after capacity old new (Err e)
+  no_map cache after capacity old new NoPut has = has
+  no_map cache after capacity old new (Refused e) memory = inl memory
+
+  pub open_failed : (cache after : CacheState) (capacity : ℕ) (old new : Life) (found : List Bytes) (result : Result StoreState OpenError) (e : OpenError)
+      → IsErrAnd result (λ y. y ≡ e) → found ≡ records own (text sum cache.page_size old.present.readable) → MapGoes found (Err e)
+      → OpenStoreGoes sum own cache after capacity old new result
+  open_failed cache after capacity old new found (Ok now) e none given goes = absurd none
+  open_failed cache after capacity old new found (Err y) e is given goes =
+      subst (λ x. OpenStoreGoes sum own cache after capacity old new (Err x)) (sym is)
+      (no_map cache after capacity old new e (subst (λ (l : List Bytes). MapGoes l (Err e)) given goes))

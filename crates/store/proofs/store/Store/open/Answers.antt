@@ -1,0 +1,21 @@
+use Rattle.std.proofs.Common.{ap, ◌∙◌}
+use Rattle.std.specs.FinMap.{empty}
+use Rattle.store.specs.Store.{after_puts}
+use Rattle.store.proofs.Calls.{opened}
+use Rattle.store.proofs.Puts.{puts_kept}
+use Rattle.store.proofs.store.Store.open.Goals as goal
+
+pub returns-in_err-journal-clause-keeps : goal.returns-in_err-journal-clause-keeps
+returns-in_err-journal-clause-keeps g c = puts_kept g.H.Sum.sum_of g.R.Sum.sum_of c.args.cache.now.page_size _ _ c.recover.ensures.leaves.kept
+
+pub returns-in_err-map-clause-keeps : goal.returns-in_err-map-clause-keeps
+returns-in_err-map-clause-keeps g c = puts_kept g.H.Sum.sum_of g.R.Sum.sum_of c.args.cache.now.page_size _ _ c.recover.ensures.leaves.kept
+
+pub returns-clause-goes : goal.returns-clause-goes
+returns-clause-goes g c =
+    opened g.H.Sum.sum_of g.R.Sum.sum_of _ c.args.cache.now c.recover.new.cache _ _ c.in_ok-journal.records.items
+    c.in_ok-journal.ensures.goes.answers c.in_ok-journal.ensures.goes.back
+    (c.in_ok-map.ensures ∙ ap (after_puts empty) c.deref.ensures.value)
+
+pub returns-clause-keeps : goal.returns-clause-keeps
+returns-clause-keeps g c = puts_kept g.H.Sum.sum_of g.R.Sum.sum_of c.args.cache.now.page_size _ _ c.recover.ensures.leaves.kept

@@ -1,0 +1,170 @@
+-- A map that a journal keeps. Each record of the journal is a put: a key, and the value that it has
+-- from then on. The map is what the puts make of an empty one, in turn.
+use Rattle.std.specs.Prelude.{◌≡◌, ◌⊎◌, ◌<◌, ◌+◌, ◌++◌, ℕ, List, [], ◌∷◌, length, take, drop}
+use Rattle.std.specs.Prelude.{get_or, Option, Some, None, Result, Ok, Err}
+use Rattle.std.specs.Cmp.Lexicographic.{slice_cmp}
+use Rattle.std.specs.Coded.{Coded, coded_list, coded_ℕ}
+use Rattle.std.specs.FinMap.{FinMap, code, empty, insert}
+use Rattle.std.specs.Int.{w16, to_be_bytes, from_be_bytes}
+use Rattle.std.specs.Ordering.{nat_cmp}
+use Rattle.disk.specs.Disk.{Disk, Life}
+use Rattle.disk.specs.declared.error.Error.{Error}
+use Rattle.disk.specs.declared.error.Error.TheVariants.{OutOfMemory}
+use Rattle.page.specs.Page.{text}
+use Rattle.cache.specs.CacheState.{CacheState}
+use Rattle.cache.specs.Pages.{IsFresh}
+use Rattle.crash.specs.Kept.{Through}
+use Rattle.writer_state.specs.WriterState.{WriterState}
+use Rattle.journal.specs.Frame.{IsPrefix, records}
+use Rattle.journal.specs.Journal.{AppendRecordGoes, CommitGoes, CommitsAll, IsJournal}
+use Rattle.journal.specs.Journal.{LeavesRecords, RecoversJournal, records_in}
+use Rattle.store.specs.declared.store.OpenError.{OpenError}
+use Rattle.store.specs.declared.store.OpenError.TheVariants.{NoPut, Refused}
+
+-- a map from keys to values, both of them bytes
+abbrev pub Bytes : Type 0
+Bytes = List ℕ
+
+abbrev pub ByteMap : Type 0
+ByteMap = FinMap (slice_cmp nat_cmp) Bytes
+
+-- a map is data: what tells two maps apart are their entries
+abbrev pub map_code : Coded ByteMap
+map_code = code (coded_list coded_ℕ) (coded_list coded_ℕ)
+
+-- a store as contracts see it: its map, and its journal
+pub record StoreState : Type 0 where
+  pub map : ByteMap
+  pub journal : WriterState
+
+-- ---- puts
+
+-- the record of a put: the length of the key in two bytes, the key, and the value
+abbrev pub put_record : (key value : Bytes) → Bytes
+put_record key value = to_be_bytes w16 (length key) ++ key ++ value
+
+-- the key of a put
+abbrev pub key_of : Bytes → Bytes
+key_of put = take (from_be_bytes w16 (take 2 put)) (drop 2 put)
+
+-- the value of a put
+abbrev pub put_value : Bytes → Bytes
+put_value put = drop (from_be_bytes w16 (take 2 put)) (drop 2 put)
+
+-- a record that is too short for its key is no put
+abbrev pub IsNoPut : Bytes → Type 0
+IsNoPut put = length put < 2 + from_be_bytes w16 (take 2 put)
+
+-- one of these records is no put
+abbrev pub HasNoPut : List Bytes → Type 0
+HasNoPut puts = (i : ℕ) × (i < length puts) × IsNoPut (get_or puts i [])
+
+-- the map after these puts
+abbrev pub after_puts : ByteMap → List Bytes → ByteMap
+after_puts map [] = map
+after_puts map (put ∷ puts) = after_puts (insert map (key_of put) (put_value put)) puts
+
+-- the puts of a store, oldest first
+abbrev pub puts_of : (own : List ℕ → ℕ) → StoreState → Life → List Bytes
+puts_of own s life = records_in own s.journal life
+
+-- a store between two calls: its map is what its puts make
+pub record IsStore (sum own : List ℕ → ℕ) (s : StoreState) (cache : CacheState) (life : Life)
+    : Type 0 where
+  pub journal : IsJournal sum s.journal cache life
+  pub held : s.map ≡ after_puts empty (puts_of own s life)
+
+-- ---- what a crash leaves
+
+-- these puts are committed: whatever a crash leaves, a recovery brings them back
+pub record AreCommitted (sum own : List ℕ → ℕ) (P : ℕ) (puts : List Bytes) (d : Disk)
+    : Type 0 where
+  pub content : List ℕ
+  pub are : records own content ≡ puts
+  pub all : CommitsAll sum own P content d
+
+-- puts that were committed as a call began are committed at each moment since
+abbrev pub KeepsPuts : (sum own : List ℕ → ℕ) → ℕ → Life → Life → Type 0
+KeepsPuts sum own P old new =
+    (puts : List Bytes) → AreCommitted sum own P puts old.present
+    → Through (AreCommitted sum own P puts) old new
+
+-- a call that the journal took: what was committed stays so, and chance aside a crash at any moment
+-- since the call began leaves only the first of these puts
+pub record KeepsStore (sum own : List ℕ → ℕ) (P : ℕ) (puts : List Bytes) (after : CacheState)
+    (old new : Life) : Type 0 where
+  pub fresh : IsFresh after
+  pub kept : KeepsPuts sum own P old new
+  pub only : LeavesRecords sum own P puts old new
+
+-- what a call leaves, whatever it answers: memory was refused before anything was done; or the
+-- journal took the call
+abbrev pub StoreLeaves : (sum own : List ℕ → ℕ) → ℕ → List Bytes → (cache after : CacheState)
+    → Life → Life → Type 0
+StoreLeaves sum own P puts cache after old new =
+    ((new ≡ old) × (after ≡ cache)) ⊎ KeepsStore sum own P puts after old new
+
+-- ---- what each call does
+
+-- a value was put at a key: the map has it there, and at each other key what it had
+pub record HasStored (sum own : List ℕ → ℕ) (s : StoreState) (at value : Bytes)
+    (after : CacheState) (old new : Life) (now : StoreState) : Type 0 where
+  pub store : IsStore sum own now after new
+  pub map : now.map ≡ insert s.map at value
+  pub puts : puts_of own now new ≡ puts_of own s old ++ put_record at value ∷ []
+
+-- a put, by its answer; an error is one of the journal's append, or memory was refused
+abbrev pub StorePutGoes : (sum own : List ℕ → ℕ) → StoreState → (at value : Bytes) → CacheState → Life
+    → Life → Result StoreState Error → Type 0
+StorePutGoes sum own s at value after old new (Ok now) =
+    HasStored sum own s at value after old new now
+StorePutGoes sum own s at value after old new (Err e) =
+    (e ≡ OutOfMemory)
+    ⊎ AppendRecordGoes sum own s.journal (put_record at value) after old new (Err e)
+
+-- all puts were committed, and the map is as it was
+pub record HasCommitted (sum own : List ℕ → ℕ) (s : StoreState) (after : CacheState)
+    (old new : Life) (now : StoreState) : Type 0 where
+  pub store : IsStore sum own now after new
+  pub map : now.map ≡ s.map
+  pub puts : puts_of own now new ≡ puts_of own s old
+  pub committed : AreCommitted sum own now.journal.page_size (puts_of own now new) new.present
+
+-- a commit, by its answer; an error is one of the journal's commit
+abbrev pub CommitPutsGoes : (sum own : List ℕ → ℕ) → StoreState → CacheState → Life → Life
+    → Result StoreState Error → Type 0
+CommitPutsGoes sum own s after old new (Ok now) = HasCommitted sum own s after old new now
+CommitPutsGoes sum own s after old new (Err e) = CommitGoes sum own s.journal after old new (Err e)
+
+-- a store was opened: its puts begin with all that were committed, and are committed now
+pub record HasOpenedStore (sum own : List ℕ → ℕ) (P : ℕ) (after : CacheState) (was : Disk)
+    (new : Life) (now : StoreState) : Type 0 where
+  pub store : IsStore sum own now after new
+  pub page_size : now.journal.page_size ≡ P
+  pub committed : AreCommitted sum own P (puts_of own now new) new.present
+  pub back : (puts : List Bytes) → AreCommitted sum own P puts was
+      → IsPrefix puts (puts_of own now new)
+
+-- an opening, by its answer: a record of the blob is no put; or the journal wasn't recovered, or
+-- memory for the map was refused
+abbrev pub OpenStoreGoes : (sum own : List ℕ → ℕ) → (cache after : CacheState) → (capacity : ℕ)
+    → Life → Life → Result StoreState OpenError → Type 0
+OpenStoreGoes sum own cache after capacity old new (Ok now) =
+    HasOpenedStore sum own cache.page_size after old.present new now
+OpenStoreGoes sum own cache after capacity old new (Err NoPut) =
+    HasNoPut (records own (text sum cache.page_size old.present.readable))
+OpenStoreGoes sum own cache after capacity old new (Err (Refused e)) =
+    (e ≡ OutOfMemory) ⊎ RecoversJournal sum own cache after capacity old new (Err e)
+
+-- ---- inside
+
+-- the parts of a put, by the answer
+abbrev pub PartsGoes : Bytes → Option (Bytes × Bytes) → Type 0
+PartsGoes put (Some r) = (r.0 ≡ key_of put) × (r.1 ≡ put_value put)
+PartsGoes put None = IsNoPut put
+
+-- the map of these puts, by the answer
+abbrev pub MapGoes : List Bytes → Result ByteMap OpenError → Type 0
+MapGoes puts (Ok map) = map ≡ after_puts empty puts
+MapGoes puts (Err NoPut) = HasNoPut puts
+MapGoes puts (Err (Refused e)) = e ≡ OutOfMemory

@@ -1,0 +1,73 @@
+//! Keeps a map in a journal: puts, commits, crashes, and opens again.
+#![tactic(auto)]
+
+ghost use Rattle.std.specs.Prelude.{IfOk};
+ghost use Rattle.cache.specs.Pages.{IsFresh};
+
+mod map;
+mod store;
+
+use crate::store::{OpenError, Store};
+use cache::CacheRef;
+use crc32c::Crc32c;
+use disk::{Blob, Error, MemBlob};
+use std::alloc::Global;
+use std::io;
+use std::num::{NonZeroU16, NonZeroUsize};
+
+type Settings = Store<MemBlob, Crc32c, Crc32c>;
+
+fn new_cache(alloc: Global) -> Result<CacheRef, Error>
+    ensures { IfOk result (λ cache. IsFresh cache) }
+{
+    let pages = NonZeroUsize::new(16).unwrap_or(NonZeroUsize::MIN);
+    CacheRef::new(alloc, page_size(), pages)
+}
+
+fn page_size() -> NonZeroU16 {
+    NonZeroU16::new(4084).unwrap_or(NonZeroU16::MIN)
+}
+
+/// Puts two settings and commits them, and puts one of them again.
+fn keep(alloc: Global, blob: &mut MemBlob) -> Result<Settings, OpenError> {
+    let mut cache = new_cache(alloc)?;
+    let size = blob.len();
+    let store: Settings = Store::open(alloc, blob, size, &mut cache)?;
+    let store = store.put(blob, &mut cache, b"name", b"lamp")?;
+    let store = store.put(blob, &mut cache, b"light", b"on")?;
+    let store = store.commit(blob, &mut cache)?;
+    Ok(store.put(blob, &mut cache, b"light", b"off")?)
+}
+
+/// Opens what a crash left that keeps nothing which wasn't committed.
+fn crash(alloc: Global, blob: &mut MemBlob) -> Result<Settings, OpenError> {
+    blob.crash(&[])?;
+    let mut cache = new_cache(alloc)?;
+    let size = blob.len();
+    Store::open(alloc, blob, size, &mut cache)
+}
+
+fn show(rt: &HostRuntime, store: &Result<Settings, OpenError>) -> io::Result<()> {
+    match store {
+        Ok(store) => {
+            for key in ["name", "light", "heat"] {
+                let value = store.get(key.as_bytes()).map_or("nothing", text_of);
+                println!(rt; "{key} {value}")?;
+            }
+            Ok(())
+        }
+        Err(error) => println!(rt; "error {error}"),
+    }
+}
+
+fn text_of(bytes: &[u8]) -> &str {
+    str::from_utf8(bytes).unwrap_or("no text")
+}
+
+fn main(rt: HostRuntime) -> io::Result<()> {
+    let alloc = rt.alloc();
+    let mut blob = MemBlob::new(alloc);
+    show(&rt, &keep(alloc, &mut blob))?;
+    println!(rt; "after the crash")?;
+    show(&rt, &crash(alloc, &mut blob))
+}
