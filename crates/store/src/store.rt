@@ -120,7 +120,7 @@ impl<B: Blob, H: Sum, R: Sum> Store<B, H, R> {
         requires fresh { IsFresh cache.old }
         ensures goes { let old = B.life blob.old in let new = B.life blob.new in
             OpenStoreGoes H.sum_of R.sum_of cache.old cache.new 65536 old new result }
-        ensures keeps { let old = B.life blob.old in let new = B.life blob.new in
+        ensures stays { let old = B.life blob.old in let new = B.life blob.new in
             KeepsPuts H.sum_of R.sum_of cache.old.page_size old new }
         ensures fresh { IsFresh cache.new }
     {

@@ -5,11 +5,11 @@ use Rattle.store.proofs.Calls.{opened}
 use Rattle.store.proofs.Puts.{puts_kept}
 use Rattle.store.proofs.store.Store.open.Goals as goal
 
-pub returns-in_err-journal-clause-keeps : goal.returns-in_err-journal-clause-keeps
-returns-in_err-journal-clause-keeps g c = puts_kept g.H.Sum.sum_of g.R.Sum.sum_of c.args.cache.now.page_size _ _ c.recover.ensures.leaves.kept
+pub returns-in_err-journal-clause-stays : goal.returns-in_err-journal-clause-stays
+returns-in_err-journal-clause-stays g c = puts_kept g.H.Sum.sum_of g.R.Sum.sum_of c.args.cache.now.page_size _ _ c.recover.ensures.leaves.kept
 
-pub returns-in_err-map-clause-keeps : goal.returns-in_err-map-clause-keeps
-returns-in_err-map-clause-keeps g c = puts_kept g.H.Sum.sum_of g.R.Sum.sum_of c.args.cache.now.page_size _ _ c.recover.ensures.leaves.kept
+pub returns-in_err-map-clause-stays : goal.returns-in_err-map-clause-stays
+returns-in_err-map-clause-stays g c = puts_kept g.H.Sum.sum_of g.R.Sum.sum_of c.args.cache.now.page_size _ _ c.recover.ensures.leaves.kept
 
 pub returns-clause-goes : goal.returns-clause-goes
 returns-clause-goes g c =
@@ -17,5 +17,5 @@ returns-clause-goes g c =
     c.in_ok-journal.ensures.goes.answers c.in_ok-journal.ensures.goes.back
     (c.in_ok-map.ensures ∙ ap (after_puts empty) c.deref.ensures.value)
 
-pub returns-clause-keeps : goal.returns-clause-keeps
-returns-clause-keeps g c = puts_kept g.H.Sum.sum_of g.R.Sum.sum_of c.args.cache.now.page_size _ _ c.recover.ensures.leaves.kept
+pub returns-clause-stays : goal.returns-clause-stays
+returns-clause-stays g c = puts_kept g.H.Sum.sum_of g.R.Sum.sum_of c.args.cache.now.page_size _ _ c.recover.ensures.leaves.kept
