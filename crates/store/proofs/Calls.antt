@@ -7,6 +7,7 @@ use Rattle.disk.specs.Disk.{Life}
 use Rattle.disk.specs.declared.error.Error.{Error}
 use Rattle.disk.specs.declared.error.Error.TheVariants.{OutOfMemory}
 use Rattle.cache.specs.CacheState.{CacheState}
+use Rattle.crash.specs.Moments.{through_end}
 use Rattle.page.specs.Page.{text}
 use Rattle.writer_state.specs.Sound.{content}
 use Rattle.writer_state.specs.WriterState.{WriterState}
@@ -15,7 +16,7 @@ use Rattle.journal.specs.Frame.{IsPrefix, records}
 use Rattle.journal.specs.Journal.{BringsRecordsBack, IsAppended, IsCommitted, JournalHasRecovered, RecoversJournal, records_in}
 use Rattle.store.specs.declared.store.OpenError.{OpenError}
 use Rattle.store.specs.declared.store.OpenError.TheVariants.{NoPut, Refused}
-use Rattle.store.specs.Store.{Bytes, HasCommitted, HasOpenedStore, HasStored, MapGoes, OpenStoreGoes, StoreLeaves, StorePutGoes, StoreState, after_puts, put_record, puts_of}
+use Rattle.store.specs.Store.{AreCommitted, Bytes, HasCommitted, HasOpenedStore, HasStored, MapGoes, OpenStoreGoes, StoreLeaves, StorePutGoes, StoreState, after_puts, put_record, puts_of}
 use Rattle.store.proofs.Puts.{after_puts-one, begins, key_of-record, put_value-record, puts_kept}
 
 module _ (sum own : List ℕ → ℕ) where
@@ -26,7 +27,13 @@ module _ (sum own : List ℕ → ℕ) where
       → StoreLeaves sum own s.journal.page_size puts cache after old new
   journal_leaves s w puts cache after old new is leaves =
       let its = subst (λ v. JournalCallLeaves sum own v puts cache after old new) is leaves in
-      inr (record { fresh = its.fresh; kept = puts_kept sum own s.journal.page_size old new its.kept; only = its.only })
+      let kept = puts_kept sum own s.journal.page_size old new its.kept in
+      inr (record {
+        fresh = its.fresh;
+        kept = kept;
+        stays = λ committed was. through_end (AreCommitted sum own s.journal.page_size committed) old new (kept committed was);
+        only = its.only;
+      })
 
   pub put_leaves : (s : StoreState) (w : WriterState) (bytes put : Bytes) (cache after : CacheState) (old new : Life)
       → w ≡ s.journal → bytes ≡ put → JournalCallLeaves sum own w (records_in own w old ++ bytes ∷ []) cache after old new
@@ -95,6 +102,7 @@ module _ (sum own : List ℕ → ℕ) where
   opened now cache after old new found recovered back map = record {
     store = record { journal = recovered.journal; held = map ∙ ap (after_puts empty) recovered.same };
     page_size = recovered.page_size;
+    puts = sym recovered.same ∙ recovered.given;
     committed = record { content = content now.journal new.present.readable; are = refl; all = recovered.all };
     back = λ puts was.
         let all = records own was.content in

@@ -89,12 +89,15 @@ KeepsPuts sum own P old new =
     (puts : List Bytes) → AreCommitted sum own P puts old.present
     → Through (AreCommitted sum own P puts) old new
 
--- a call that the journal took: what was committed stays so, and chance aside a crash at any moment
--- since the call began leaves only the first of these puts
+-- a call that the journal took: what was committed is so at each moment since the call began, also
+-- now that it has ended; and chance aside a crash at any of these moments leaves only the first of
+-- these puts
 pub record KeepsStore (sum own : List ℕ → ℕ) (P : ℕ) (puts : List Bytes) (after : CacheState)
     (old new : Life) : Type 0 where
   pub fresh : IsFresh after
   pub kept : KeepsPuts sum own P old new
+  pub stays : (committed : List Bytes) → AreCommitted sum own P committed old.present
+      → AreCommitted sum own P committed new.present
   pub only : LeavesRecords sum own P puts old new
 
 -- what a call leaves, whatever it answers: memory was refused before anything was done; or the
@@ -114,8 +117,8 @@ pub record HasStored (sum own : List ℕ → ℕ) (s : StoreState) (at value : B
   pub puts : puts_of own now new ≡ puts_of own s old ++ put_record at value ∷ []
 
 -- a put, by its answer; an error is one of the journal's append, or memory was refused
-abbrev pub StorePutGoes : (sum own : List ℕ → ℕ) → StoreState → (at value : Bytes) → CacheState → Life
-    → Life → Result StoreState Error → Type 0
+abbrev pub StorePutGoes : (sum own : List ℕ → ℕ) → StoreState → (at value : Bytes) → CacheState
+    → Life → Life → Result StoreState Error → Type 0
 StorePutGoes sum own s at value after old new (Ok now) =
     HasStored sum own s at value after old new now
 StorePutGoes sum own s at value after old new (Err e) =
@@ -136,11 +139,13 @@ abbrev pub CommitPutsGoes : (sum own : List ℕ → ℕ) → StoreState → Cach
 CommitPutsGoes sum own s after old new (Ok now) = HasCommitted sum own s after old new now
 CommitPutsGoes sum own s after old new (Err e) = CommitGoes sum own s.journal after old new (Err e)
 
--- a store was opened: its puts begin with all that were committed, and are committed now
+-- a store was opened: its puts are the records of what could be read, they begin with all that were
+-- committed, and they are committed now
 pub record HasOpenedStore (sum own : List ℕ → ℕ) (P : ℕ) (after : CacheState) (was : Disk)
     (new : Life) (now : StoreState) : Type 0 where
   pub store : IsStore sum own now after new
   pub page_size : now.journal.page_size ≡ P
+  pub puts : puts_of own now new ≡ records own (text sum P was.readable)
   pub committed : AreCommitted sum own P (puts_of own now new) new.present
   pub back : (puts : List Bytes) → AreCommitted sum own P puts was
       → IsPrefix puts (puts_of own now new)

@@ -108,8 +108,12 @@ impl<B, H, R> Store<B, H, R> {
 }
 
 impl<B: Blob, H: Sum, R: Sum> Store<B, H, R> {
-    /// Opens the store of a blob of so many physical bytes, whatever they are. All puts that were
-    /// committed are there.
+    /// Opens the store of a blob of `size` physical bytes, whatever they are. The journal is
+    /// recovered, and its records, which begin with all puts that were committed, make the map. The
+    /// cache is a new one, or one that other blobs have.
+    ///
+    /// `NoPut` where a record is no put, `Refused` where the recovery failed ([`Journal::recover`])
+    /// or memory did. Puts that were committed still are, whatever it answers.
     pub fn open(
         alloc: Global,
         blob: &mut B,
@@ -134,8 +138,11 @@ impl<B: Blob, H: Sum, R: Sum> Store<B, H, R> {
         })
     }
 
-    /// Puts a value at a key. It is durable once [`Store::commit`] answered `Ok`. A key and its
-    /// value have at most 65,533 bytes.
+    /// Puts a value at a key, of at most 65,533 bytes together. The put is durable once the next
+    /// [`Store::commit`] has answered `Ok`.
+    ///
+    /// The errors are those of [`Journal::append_record`]. The store is gone then, and what was
+    /// committed still is.
     pub fn put(
         self,
         blob: &mut B,
@@ -168,6 +175,9 @@ impl<B: Blob, H: Sum, R: Sum> Store<B, H, R> {
     }
 
     /// Commits all puts: whatever crashes from then on, they come back.
+    ///
+    /// The errors are those of [`Journal::commit`]. The store is gone then, and what was committed
+    /// before still is.
     pub fn commit(self, blob: &mut B, cache: &mut CacheRef) -> Result<Self, Error>
         requires store { IsStore H.sum_of R.sum_of self cache.old (B.life blob.old) }
         ensures goes { let old = B.life blob.old in let new = B.life blob.new in
