@@ -1,53 +1,60 @@
 -- What a call of a store does and leaves, from what the journal's does and leaves.
 use Rattle.std.proofs.Common.{◌≡◌, ℕ, ◌<◌, ◌^◌, List, [], ◌∷◌, ◌++◌, length, inl, inr, refl, sym, ap, ap₂, subst, ◌∙◌}
 use Rattle.std.specs.Prelude.{Result, Ok, Err}
-use Rattle.std.specs.Result.{IsErrAnd}
+use Rattle.std.specs.Result.{IfOk, IsErrAnd}
 use Rattle.std.specs.FinMap.{empty, insert}
-use Rattle.disk.specs.Disk.{Life}
+use Rattle.disk.specs.Disk.{Disk, IsImage, Life}
 use Rattle.disk.specs.declared.error.Error.{Error}
 use Rattle.disk.specs.declared.error.Error.TheVariants.{OutOfMemory}
 use Rattle.cache.specs.CacheState.{CacheState}
 use Rattle.crash.specs.Moments.{through_end}
+use Rattle.crash.proofs.DistinctLaws.{distinct_is_chance_free}
 use Rattle.page.specs.Page.{text}
 use Rattle.writer_state.specs.Sound.{content}
 use Rattle.writer_state.specs.WriterState.{WriterState}
 use Rattle.journal.specs.Calls.{JournalCallLeaves}
 use Rattle.journal.specs.Frame.{IsPrefix, records}
-use Rattle.journal.specs.Journal.{BringsRecordsBack, IsAppended, IsCommitted, JournalHasRecovered, RecoversJournal, records_in}
+use Rattle.journal.specs.Journal.{BringsRecordsBack, IsAppended, IsCommitted, IsJournal, JournalHasRecovered, RecoversJournal, records_in}
 use Rattle.store.specs.declared.store.OpenError.{OpenError}
 use Rattle.store.specs.declared.store.OpenError.TheVariants.{NoPut, Refused}
-use Rattle.store.specs.Store.{AreCommitted, Bytes, HasCommitted, HasOpenedStore, HasStored, MapGoes, OpenStoreGoes, StoreLeaves, StorePutGoes, StoreState, after_puts, put_record, puts_of}
+use Rattle.store.specs.Store.{AreCommitted, Bytes, ArePuts, CommitPutsLeaves, HasComeBack, HasCommitted, HasOpenedStore, HasStored, KeepsStore, MapGoes, OpenStoreGoes, PutLeaves, StorePutGoes, StoreState, after_puts, put_record, puts_of}
+use Rattle.journal.proofs.Journals.{commits_left}
+use Rattle.paged.specs.Calls.{IsSameWriter}
+use Rattle.cache.specs.Pages.{IsFresh}
 use Rattle.store.proofs.Puts.{after_puts-one, begins, key_of-record, put_value-record, puts_kept}
 
 module _ (sum own : List ℕ → ℕ) where
   -- ---- what a call leaves
 
-  pub journal_leaves : (s : StoreState) (w : WriterState) (puts : List Bytes) (cache after : CacheState) (old new : Life)
-      → w ≡ s.journal → JournalCallLeaves sum own w puts cache after old new
-      → StoreLeaves sum own s.journal.page_size puts cache after old new
-  journal_leaves s w puts cache after old new is leaves =
-      let its = subst (λ v. JournalCallLeaves sum own v puts cache after old new) is leaves in
-      let kept = puts_kept sum own s.journal.page_size old new its.kept in
-      inr (record {
-        fresh = its.fresh;
+  pub journal_keeps : (w v : WriterState) (puts : List Bytes) (cache after : CacheState) (old new : Life)
+      → w ≡ v → JournalCallLeaves sum own w puts cache after old new → KeepsStore sum own v puts cache after old new
+  journal_keeps w v puts cache after old new is leaves =
+      let its = subst (λ x. JournalCallLeaves sum own x puts cache after old new) is leaves in
+      let kept = puts_kept sum own v.page_size old new its.kept in
+      record {
+        journal = its;
         kept = kept;
-        stays = λ committed was. through_end (AreCommitted sum own s.journal.page_size committed) old new (kept committed was);
-        only = its.only;
-      })
+        stays = λ committed was. through_end (AreCommitted sum own v.page_size committed) old new (kept committed was);
+      }
 
   pub put_leaves : (s : StoreState) (w : WriterState) (bytes put : Bytes) (cache after : CacheState) (old new : Life)
       → w ≡ s.journal → bytes ≡ put → JournalCallLeaves sum own w (records_in own w old ++ bytes ∷ []) cache after old new
-      → StoreLeaves sum own s.journal.page_size (puts_of own s old ++ put ∷ []) cache after old new
+      → PutLeaves sum own s.journal (puts_of own s old ++ put ∷ []) cache after old new
   put_leaves s w bytes put cache after old new is same leaves =
-      journal_leaves s w (puts_of own s old ++ put ∷ []) cache after old new is
-      (subst (λ (l : List Bytes). JournalCallLeaves sum own w l cache after old new) (ap₂ (λ v b. records_in own v old ++ b ∷ []) is same) leaves)
+      inr (journal_keeps w s.journal (puts_of own s old ++ put ∷ []) cache after old new is
+      (subst (λ (l : List Bytes). JournalCallLeaves sum own w l cache after old new) (ap₂ (λ v b. records_in own v old ++ b ∷ []) is same) leaves))
 
   pub commit_leaves : (s : StoreState) (w : WriterState) (cache after : CacheState) (old new : Life)
       → w ≡ s.journal → JournalCallLeaves sum own w (records_in own w old) cache after old new
-      → StoreLeaves sum own s.journal.page_size (puts_of own s old) cache after old new
+      → CommitPutsLeaves sum own s cache after old new
   commit_leaves s w cache after old new is leaves =
-      journal_leaves s w (puts_of own s old) cache after old new is
+      journal_keeps w s.journal (puts_of own s old) cache after old new is
       (subst (λ (v : WriterState). JournalCallLeaves sum own w (records_in own v old) cache after old new) is leaves)
+
+  -- a journal's cache serves on
+  pub journal_fresh : (w : WriterState) (cache : CacheState) (life : Life) → IsJournal sum w cache life → IsFresh cache
+  unfolding IsJournal
+  journal_fresh w cache life journal = journal.between.ready.fresh
 
   -- ---- a put
 
@@ -67,6 +74,7 @@ module _ (sum own : List ℕ → ℕ) where
               ∙ ap₂ (insert (after_puts empty (puts_of own s old))) (sym (key_of-record at value short)) (sym (put_value-record at value short))
               ∙ sym (after_puts-one empty (puts_of own s old) put) ∙ ap (after_puts empty) (sym puts);
         };
+        same = subst (λ v. IsSameWriter v now.journal) is added.same;
         map = map;
         puts = puts;
       }
@@ -87,6 +95,7 @@ module _ (sum own : List ℕ → ℕ) where
       let puts : puts_of own now new ≡ puts_of own s old = ap (records own) commits.holds ∙ ap (λ v. records_in own v old) is in
       record {
         store = record { journal = commits.journal; held = map ∙ held ∙ ap (after_puts empty) (sym puts) };
+        same = subst (λ v. IsSameWriter v now.journal) is commits.same;
         map = map;
         puts = puts;
         committed = record { content = content now.journal new.present.readable; are = refl; all = commits.all };
@@ -97,11 +106,12 @@ module _ (sum own : List ℕ → ℕ) where
   pub opened : (now : StoreState) (cache after : CacheState) (old new : Life) (found : List Bytes)
       → JournalHasRecovered sum own cache after old new now.journal found
       → BringsRecordsBack sum own cache.page_size old.present found
-      → now.map ≡ after_puts empty found
+      → ArePuts found × (now.map ≡ after_puts empty found)
       → HasOpenedStore sum own cache.page_size after old.present new now
-  opened now cache after old new found recovered back map = record {
-    store = record { journal = recovered.journal; held = map ∙ ap (after_puts empty) recovered.same };
+  opened now cache after old new found recovered back made = record {
+    store = record { journal = recovered.journal; held = made.1 ∙ ap (after_puts empty) recovered.same };
     page_size = recovered.page_size;
+    whole = subst ArePuts recovered.same made.0;
     puts = sym recovered.same ∙ recovered.given;
     committed = record { content = content now.journal new.present.readable; are = refl; all = recovered.all };
     back = λ puts was.
@@ -132,3 +142,28 @@ module _ (sum own : List ℕ → ℕ) where
   open_failed cache after capacity old new found (Err y) e is given goes =
       subst (λ x. OpenStoreGoes sum own cache after capacity old new (Err x)) (sym is)
       (no_map cache after capacity old new e (subst (λ (l : List Bytes). MapGoes l (Err e)) given goes))
+
+  -- ---- a crash
+
+  pub come_back : (P : ℕ) (after : CacheState) (was : Disk) (image : List ℕ) (mid new : Life) (now : StoreState)
+      → IsImage was image → mid.present.readable ≡ image → mid.present.base ≡ image → mid.present.since ≡ []
+      → HasOpenedStore sum own P after mid.present new now
+      → HasComeBack sum own P after was image new now
+  come_back P after was image mid new now is_image readable base since opened = record {
+    store = opened.store;
+    back = λ puts committed. opened.back puts (record {
+      content = committed.content;
+      are = committed.are;
+      all = commits_left sum own P committed.content (length (records own committed.content)) was mid.present (subst (λ (l : List ℕ). IsImage was l) (sym base) is_image) since committed.all;
+    });
+    only = λ distinct all only.
+        subst (λ (l : List Bytes). IsPrefix l all) (sym (opened.puts ∙ ap (λ (l : List ℕ). records own (text sum P l)) readable))
+        (only.only image is_image (distinct_is_chance_free sum P was image only.vouched is_image distinct));
+  }
+
+  pub came_back : (cache after : CacheState) (capacity : ℕ) (was : Disk) (image : List ℕ) (mid new : Life) (result : Result StoreState OpenError)
+      → IsImage was image → mid.present.readable ≡ image → mid.present.base ≡ image → mid.present.since ≡ []
+      → OpenStoreGoes sum own cache after capacity mid new result
+      → IfOk result (HasComeBack sum own cache.page_size after was image new)
+  came_back cache after capacity was image mid new (Ok now) is_image readable base since goes = come_back cache.page_size after was image mid new now is_image readable base since goes
+  came_back cache after capacity was image mid new (Err e) is_image readable base since goes = tt

@@ -1,6 +1,6 @@
 -- A map that a journal keeps. Each record of the journal is a put: a key, and the value that it has
 -- from then on. The map is what the puts make of an empty one, in turn.
-use Rattle.std.specs.Prelude.{◌≡◌, ◌⊎◌, ◌<◌, ◌+◌, ◌++◌, ℕ, List, [], ◌∷◌, length, take, drop}
+use Rattle.std.specs.Prelude.{◌≡◌, ◌⊎◌, ◌<◌, ◌≤◌, ◌+◌, ◌++◌, ℕ, List, [], ◌∷◌, length, take, drop}
 use Rattle.std.specs.Prelude.{get_or, Option, Some, None, Result, Ok, Err}
 use Rattle.std.specs.Cmp.Lexicographic.{slice_cmp}
 use Rattle.std.specs.Coded.{Coded, coded_list, coded_ℕ}
@@ -12,12 +12,14 @@ use Rattle.disk.specs.declared.error.Error.{Error}
 use Rattle.disk.specs.declared.error.Error.TheVariants.{OutOfMemory}
 use Rattle.page.specs.Page.{text}
 use Rattle.cache.specs.CacheState.{CacheState}
-use Rattle.cache.specs.Pages.{IsFresh}
+use Rattle.crash.specs.Distinct.{IsDistinct}
 use Rattle.crash.specs.Kept.{Through}
 use Rattle.writer_state.specs.WriterState.{WriterState}
+use Rattle.paged.specs.Calls.{IsSameWriter}
+use Rattle.journal.specs.Calls.{JournalCallLeaves}
 use Rattle.journal.specs.Frame.{IsPrefix, records}
 use Rattle.journal.specs.Journal.{AppendRecordGoes, CommitGoes, CommitsAll, IsJournal}
-use Rattle.journal.specs.Journal.{LeavesRecords, RecoversJournal, records_in}
+use Rattle.journal.specs.Journal.{OnlyRecords, RecoversJournal, records_in}
 use Rattle.store.specs.declared.store.OpenError.{OpenError}
 use Rattle.store.specs.declared.store.OpenError.TheVariants.{NoPut, Refused}
 
@@ -51,13 +53,19 @@ key_of put = take (from_be_bytes w16 (take 2 put)) (drop 2 put)
 abbrev pub put_value : Bytes → Bytes
 put_value put = drop (from_be_bytes w16 (take 2 put)) (drop 2 put)
 
--- a record that is too short for its key is no put
-abbrev pub IsNoPut : Bytes → Type 0
-IsNoPut put = length put < 2 + from_be_bytes w16 (take 2 put)
+-- a record is a put if it is long enough for its key
+abbrev pub IsPut : Bytes → Type 0
+IsPut put = 2 + from_be_bytes w16 (take 2 put) ≤ length put
 
--- one of these records is no put
+-- each of these records is a put
+abbrev pub ArePuts : List Bytes → Type 0
+ArePuts [] = Unit {0}
+ArePuts (put ∷ puts) = IsPut put × ArePuts puts
+
+-- one of them is too short to be one
 abbrev pub HasNoPut : List Bytes → Type 0
-HasNoPut puts = (i : ℕ) × (i < length puts) × IsNoPut (get_or puts i [])
+HasNoPut puts = (i : ℕ) × (i < length puts)
+    × (length (get_or puts i []) < 2 + from_be_bytes w16 (take 2 (get_or puts i [])))
 
 -- the map after these puts
 abbrev pub after_puts : ByteMap → List Bytes → ByteMap
@@ -89,23 +97,28 @@ KeepsPuts sum own P old new =
     (puts : List Bytes) → AreCommitted sum own P puts old.present
     → Through (AreCommitted sum own P puts) old new
 
--- a call that the journal took: what was committed is so at each moment since the call began, also
--- now that it has ended; and chance aside a crash at any of these moments leaves only the first of
--- these puts
-pub record KeepsStore (sum own : List ℕ → ℕ) (P : ℕ) (puts : List Bytes) (after : CacheState)
-    (old new : Life) : Type 0 where
-  pub fresh : IsFresh after
-  pub kept : KeepsPuts sum own P old new
-  pub stays : (committed : List Bytes) → AreCommitted sum own P committed old.present
-      → AreCommitted sum own P committed new.present
-  pub only : LeavesRecords sum own P puts old new
+-- a call that the journal took: it left what the journal's call leaves (`only` of it: chance aside a
+-- crash at any moment since the call began leaves only the first of these puts); and what was
+-- committed is so at each of these moments, also now that the call has ended
+pub record KeepsStore (sum own : List ℕ → ℕ) (w : WriterState) (puts : List Bytes)
+    (cache after : CacheState) (old new : Life) : Type 0 where
+  pub journal : JournalCallLeaves sum own w puts cache after old new
+  pub kept : KeepsPuts sum own w.page_size old new
+  pub stays : (committed : List Bytes) → AreCommitted sum own w.page_size committed old.present
+      → AreCommitted sum own w.page_size committed new.present
 
--- what a call leaves, whatever it answers: memory was refused before anything was done; or the
+-- what a put leaves, whatever it answers: memory was refused before anything was done; or the
 -- journal took the call
-abbrev pub StoreLeaves : (sum own : List ℕ → ℕ) → ℕ → List Bytes → (cache after : CacheState)
+abbrev pub PutLeaves : (sum own : List ℕ → ℕ) → WriterState → List Bytes
+    → (cache after : CacheState) → Life → Life → Type 0
+PutLeaves sum own w puts cache after old new =
+    ((new ≡ old) × (after ≡ cache)) ⊎ KeepsStore sum own w puts cache after old new
+
+-- what a commit leaves, whatever it answers
+abbrev pub CommitPutsLeaves : (sum own : List ℕ → ℕ) → StoreState → (cache after : CacheState)
     → Life → Life → Type 0
-StoreLeaves sum own P puts cache after old new =
-    ((new ≡ old) × (after ≡ cache)) ⊎ KeepsStore sum own P puts after old new
+CommitPutsLeaves sum own s cache after old new =
+    KeepsStore sum own s.journal (puts_of own s old) cache after old new
 
 -- ---- what each call does
 
@@ -113,6 +126,7 @@ StoreLeaves sum own P puts cache after old new =
 pub record HasStored (sum own : List ℕ → ℕ) (s : StoreState) (at value : Bytes)
     (after : CacheState) (old new : Life) (now : StoreState) : Type 0 where
   pub store : IsStore sum own now after new
+  pub same : IsSameWriter s.journal now.journal
   pub map : now.map ≡ insert s.map at value
   pub puts : puts_of own now new ≡ puts_of own s old ++ put_record at value ∷ []
 
@@ -129,6 +143,7 @@ StorePutGoes sum own s at value after old new (Err e) =
 pub record HasCommitted (sum own : List ℕ → ℕ) (s : StoreState) (after : CacheState)
     (old new : Life) (now : StoreState) : Type 0 where
   pub store : IsStore sum own now after new
+  pub same : IsSameWriter s.journal now.journal
   pub map : now.map ≡ s.map
   pub puts : puts_of own now new ≡ puts_of own s old
   pub committed : AreCommitted sum own now.journal.page_size (puts_of own now new) new.present
@@ -145,6 +160,7 @@ pub record HasOpenedStore (sum own : List ℕ → ℕ) (P : ℕ) (after : CacheS
     (new : Life) (now : StoreState) : Type 0 where
   pub store : IsStore sum own now after new
   pub page_size : now.journal.page_size ≡ P
+  pub whole : ArePuts (puts_of own now new)
   pub puts : puts_of own now new ≡ records own (text sum P was.readable)
   pub committed : AreCommitted sum own P (puts_of own now new) new.present
   pub back : (puts : List Bytes) → AreCommitted sum own P puts was
@@ -161,15 +177,26 @@ OpenStoreGoes sum own cache after capacity old new (Err NoPut) =
 OpenStoreGoes sum own cache after capacity old new (Err (Refused e)) =
     (e ≡ OutOfMemory) ⊎ RecoversJournal sum own cache after capacity old new (Err e)
 
+-- a store came back after a crash that left this image: its puts begin with all that were committed
+-- as the crash came, whatever the checksum functions; and where no checksum collides in the image
+-- they are the first of those that had been made
+pub record HasComeBack (sum own : List ℕ → ℕ) (P : ℕ) (after : CacheState) (was : Disk)
+    (image : List ℕ) (new : Life) (now : StoreState) : Type 0 where
+  pub store : IsStore sum own now after new
+  pub back : (puts : List Bytes) → AreCommitted sum own P puts was
+      → IsPrefix puts (puts_of own now new)
+  pub only : IsDistinct sum P was image → (all : List Bytes) → OnlyRecords sum own P all was
+      → IsPrefix (puts_of own now new) all
+
 -- ---- inside
 
 -- the parts of a put, by the answer
 abbrev pub PartsGoes : Bytes → Option (Bytes × Bytes) → Type 0
-PartsGoes put (Some r) = (r.0 ≡ key_of put) × (r.1 ≡ put_value put)
-PartsGoes put None = IsNoPut put
+PartsGoes put (Some r) = IsPut put × (r.0 ≡ key_of put) × (r.1 ≡ put_value put)
+PartsGoes put None = length put < 2 + from_be_bytes w16 (take 2 put)
 
 -- the map of these puts, by the answer
 abbrev pub MapGoes : List Bytes → Result ByteMap OpenError → Type 0
-MapGoes puts (Ok map) = map ≡ after_puts empty puts
+MapGoes puts (Ok map) = ArePuts puts × (map ≡ after_puts empty puts)
 MapGoes puts (Err NoPut) = HasNoPut puts
 MapGoes puts (Err (Refused e)) = e ≡ OutOfMemory

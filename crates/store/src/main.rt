@@ -7,7 +7,7 @@ ghost use Rattle.cache.specs.Pages.{IsFresh};
 mod map;
 mod store;
 
-use crate::store::{OpenError, Store};
+use crate::store::{OpenError, Store, crash_and_open};
 use cache::CacheRef;
 use crc32c::Crc32c;
 use disk::{Blob, Error, MemBlob};
@@ -41,10 +41,8 @@ fn keep(alloc: Global, blob: &mut MemBlob) -> Result<Settings, OpenError> {
 
 /// Opens what a crash left that keeps nothing which wasn't committed.
 fn crash(alloc: Global, blob: &mut MemBlob) -> Result<Settings, OpenError> {
-    blob.crash(&[])?;
     let mut cache = new_cache(alloc)?;
-    let size = blob.len();
-    Store::open(alloc, blob, size, &mut cache)
+    crash_and_open(alloc, blob, &[], &mut cache)
 }
 
 fn show(rt: &HostRuntime, store: &Result<Settings, OpenError>) -> io::Result<()> {

@@ -3,13 +3,17 @@ ghost use Rattle.std.specs.Prelude.{◌≡◌, ◌≤◌, ◌+◌, ◌++◌, ◌
 ghost use Rattle.std.specs.Prelude.{IfOk, IsOkUnless, option_map};
 ghost use Rattle.std.specs.FinMap.{get};
 ghost use Rattle.cache.specs.Pages.{IsFresh};
+ghost use Rattle.disk.specs.History.{life_of};
+ghost use Rattle.disk.specs.Torn.{torn};
+ghost use Rattle.journal.specs.Calls.{JournalRecoveryLeaves};
 ghost use Rattle.store.specs.Store.{put_record, puts_of};
 ghost use Rattle.store.specs.Store.{CommitPutsGoes, IsStore, MapGoes, OpenStoreGoes, PartsGoes};
-ghost use Rattle.store.specs.Store.{KeepsPuts, StorePutGoes, StoreLeaves};
+ghost use Rattle.store.specs.Store.{CommitPutsLeaves, HasComeBack, KeepsPuts, PutLeaves};
+ghost use Rattle.store.specs.Store.{StorePutGoes};
 
 use crate::map::Map;
 use cache::CacheRef;
-use disk::{Blob, Error, IoBuf};
+use disk::{Blob, Error, IoBuf, MemBlob};
 use journal::Journal;
 use page::Sum;
 use std::alloc::Global;
@@ -22,8 +26,7 @@ const CAPACITY: usize = 65_536;
 /// Why a store wasn't opened.
 #[derive(Clone, Copy, Debug, PartialEq, Eq, thiserror::Error)]
 pub enum OpenError {
-    /// A record of the journal is no put: the journal is of another program. Nothing was changed
-    /// since the journal was recovered.
+    /// A record of the journal is no put: the journal is of another program.
     #[error("a record of the journal is no put")]
     NoPut,
     /// The layer below refused the recovery, or memory for the map.
@@ -112,8 +115,9 @@ impl<B: Blob, H: Sum, R: Sum> Store<B, H, R> {
     /// recovered, and its records, which begin with all puts that were committed, make the map. The
     /// cache is a new one, or one that other blobs have.
     ///
-    /// `NoPut` where a record is no put, `Refused` where the recovery failed ([`Journal::recover`])
-    /// or memory did. Puts that were committed still are, whatever it answers.
+    /// `NoPut` where a record is no put: the recovery is done then, and has cut what it cuts.
+    /// `Refused` where the recovery failed ([`Journal::recover`]), or memory for the map was
+    /// refused. Puts that were committed still are, whatever it answers.
     pub fn open(
         alloc: Global,
         blob: &mut B,
@@ -126,7 +130,8 @@ impl<B: Blob, H: Sum, R: Sum> Store<B, H, R> {
             OpenStoreGoes H.sum_of R.sum_of cache.old cache.new 65536 old new result }
         ensures stays { let old = B.life blob.old in let new = B.life blob.new in
             KeepsPuts H.sum_of R.sum_of cache.old.page_size old new }
-        ensures fresh { IsFresh cache.new }
+        ensures leaves { let old = B.life blob.old in let new = B.life blob.new in
+            JournalRecoveryLeaves H.sum_of R.sum_of cache.old cache.new old new }
     {
         let buffer = NonZeroUsize::new(CAPACITY).unwrap_or(NonZeroUsize::MIN);
         let (journal, records) = Journal::recover(alloc, blob, size, CAPACITY, cache, buffer)?;
@@ -155,9 +160,9 @@ impl<B: Blob, H: Sum, R: Sum> Store<B, H, R> {
         ensures goes { let old = B.life blob.old in let new = B.life blob.new in
             StorePutGoes H.sum_of R.sum_of self key.now value.now cache.new old new result }
         ensures leaves { let old = B.life blob.old in let new = B.life blob.new in
-            let P = self.journal.page_size in
             let puts = puts_of R.sum_of self old ++ put_record key.now value.now ∷ [] in
-            StoreLeaves H.sum_of R.sum_of P puts cache.old cache.new old new }
+            PutLeaves H.sum_of R.sum_of self.journal puts cache.old cache.new old new }
+        ensures fresh { IsFresh cache.new }
     {
         let Store {
             alloc,
@@ -183,9 +188,8 @@ impl<B: Blob, H: Sum, R: Sum> Store<B, H, R> {
         ensures goes { let old = B.life blob.old in let new = B.life blob.new in
             CommitPutsGoes H.sum_of R.sum_of self cache.new old new result }
         ensures leaves { let old = B.life blob.old in let new = B.life blob.new in
-            let P = self.journal.page_size in
-            let puts = puts_of R.sum_of self old in
-            StoreLeaves H.sum_of R.sum_of P puts cache.old cache.new old new }
+            CommitPutsLeaves H.sum_of R.sum_of self cache.old cache.new old new }
+        ensures fresh { IsFresh cache.new }
     {
         let Store {
             alloc,
@@ -199,4 +203,25 @@ impl<B: Blob, H: Sum, R: Sum> Store<B, H, R> {
             map,
         })
     }
+}
+
+/// Crashes a blob in memory, which keeps what these flags say ([`MemBlob::crash`]), and opens its
+/// store. The cache is to have pages of the size that the store had.
+///
+/// The errors are those of [`Store::open`], and `Refused` where memory for the crash was refused,
+/// which leaves all as it was.
+pub fn crash_and_open<H: Sum, R: Sum>(
+    alloc: Global,
+    blob: &mut MemBlob,
+    keep: &[bool],
+    cache: &mut CacheRef,
+) -> Result<Store<MemBlob, H, R>, OpenError>
+    requires fresh { IsFresh cache.old }
+    ensures back { let was = (life_of blob.old).present in let P = cache.old.page_size in
+        let image = torn keep.now was.since was.base in let new = life_of blob.new in
+        IfOk result (HasComeBack H.sum_of R.sum_of P cache.new was image new) }
+{
+    blob.crash(keep)?;
+    let size = blob.len();
+    Store::open(alloc, blob, size, cache)
 }

@@ -1,6 +1,6 @@
-use Rattle.std.proofs.Common.{ap, ◌∙◌}
+use Rattle.std.proofs.Common.{ap, subst, ◌∙◌}
 use Rattle.std.specs.FinMap.{empty}
-use Rattle.store.specs.Store.{after_puts}
+use Rattle.store.specs.Store.{ArePuts, after_puts}
 use Rattle.store.proofs.Calls.{opened}
 use Rattle.store.proofs.Puts.{puts_kept}
 use Rattle.store.proofs.store.Store.open.Goals as goal
@@ -15,7 +15,7 @@ pub returns-clause-goes : goal.returns-clause-goes
 returns-clause-goes g c =
     opened g.H.Sum.sum_of g.R.Sum.sum_of _ c.args.cache.now c.recover.new.cache _ _ c.in_ok-journal.records.items
     c.in_ok-journal.ensures.goes.answers c.in_ok-journal.ensures.goes.back
-    (c.in_ok-map.ensures ∙ ap (after_puts empty) c.deref.ensures.value)
+    (subst ArePuts c.deref.ensures.value c.in_ok-map.ensures.0, c.in_ok-map.ensures.1 ∙ ap (after_puts empty) c.deref.ensures.value)
 
 pub returns-clause-stays : goal.returns-clause-stays
 returns-clause-stays g c = puts_kept g.H.Sum.sum_of g.R.Sum.sum_of c.args.cache.now.page_size _ _ c.recover.ensures.leaves.kept

@@ -1,6 +1,6 @@
 use Rattle.std.proofs.Common.{inl, refl, ap, ◌∙◌, arith}
 use Rattle.std.specs.FinMap.{insert}
-use Rattle.store.proofs.Calls.{put_leaves, put_refused, stored}
+use Rattle.store.proofs.Calls.{journal_fresh, put_leaves, put_refused, stored}
 use Rattle.store.proofs.store.Store.put.Goals as goal
 
 pub returns-in_err-record-clause-goes : goal.returns-in_err-record-clause-goes
@@ -27,3 +27,6 @@ returns-clause-goes g c =
 pub returns-clause-leaves : goal.returns-clause-leaves
 returns-clause-leaves g c =
     put_leaves g.H.Sum.sum_of g.R.Sum.sum_of c.args.self _ _ _ _ _ _ _ (ap (λ s. s.journal) c.self.view_is) (c.deref.ensures.value ∙ c.in_ok-record.ensures.made) c.append_record.ensures.leaves
+
+pub returns-in_err-record-clause-fresh : goal.returns-in_err-record-clause-fresh
+returns-in_err-record-clause-fresh g c = journal_fresh g.H.Sum.sum_of g.R.Sum.sum_of c.args.self.journal c.args.cache.now _ c.requires.store.journal
