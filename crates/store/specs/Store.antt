@@ -97,8 +97,8 @@ KeepsPuts sum own P old new =
     (puts : List Bytes) → AreCommitted sum own P puts old.present
     → Through (AreCommitted sum own P puts) old new
 
--- a call that the journal took: it left what the journal's call leaves (`only` of it: chance aside a
--- crash at any moment since the call began leaves only the first of these puts); and what was
+-- a call that the journal took: it left what the journal's call leaves (`only` of it: chance aside
+-- a crash at any moment since the call began leaves only the first of these puts); and what was
 -- committed is so at each of these moments, also now that the call has ended
 pub record KeepsStore (sum own : List ℕ → ℕ) (w : WriterState) (puts : List Bytes)
     (cache after : CacheState) (old new : Life) : Type 0 where
