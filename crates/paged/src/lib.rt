@@ -15,6 +15,7 @@ mod flush;
 mod outlook;
 mod raw;
 mod read;
+mod recommended;
 mod recovery;
 mod replay;
 mod scan;
@@ -27,6 +28,10 @@ mod writer;
 
 pub use outlook::{Outlook, look, survey};
 pub use paged_read::{Hand, Replay, Sealed, TooFew, View, physical_page_size};
+pub use recommended::{
+    RECOMMENDED_CAPACITY, RECOMMENDED_LIMIT, recommended_buffer_size, recommended_cache,
+    recommended_page_size,
+};
 pub use recovery::{recover, recover_keeping};
 pub use start::wait_sync;
 pub use verdict::{Survey, Verdict};
