@@ -1,9 +1,11 @@
 -- What a journal's calls leave to readers, and what a reader's reads do.
 use Rattle.std.proofs.Common.{◌≡◌, ℕ, ◌+◌, ◌^◌, ◌<◌, ◌≤◌, List, [], ◌∷◌, ◌++◌, length, drop, refl, sym, ap, ◌∙◌, subst, append-nil, arith, Ok, Err, Result}
-use Rattle.std.specs.Prelude.{Option, Some, None, is_some, false, true}
+use Rattle.std.specs.Prelude.{Bool, Option, Some, None, is_some, false, true}
 use Rattle.std.specs.Result.{IsErrAnd}
 use Rattle.std.proofs.lemmas.List.{drop_all}
 use Rattle.disk.specs.Disk.{Disk, Life, IsImage}
+use Rattle.disk.specs.History.{begun}
+use Rattle.disk.specs.Torn.{torn}
 use Rattle.disk.specs.declared.error.Error.{Error}
 use Rattle.disk.specs.declared.error.Error.TheVariants.{ReadFailed, WriteFailed, ResizeFailed, SyncFailed, InvalidChecksum, BlobInsufficientLength, OffsetOverflow, OutOfMemory, IdsExhausted}
 use Rattle.cache.specs.CacheState.{CacheState}
@@ -33,7 +35,7 @@ use Rattle.paged.specs.Truncate.{KeepsFloorsWithin}
 use Rattle.page.specs.Page.{text}
 use Rattle.std.specs.Prelude.{Vec}
 use Rattle.std.specs.declared.alloc.Global.{Global}
-use Rattle.journal.specs.Calls.{JournalCallLeaves, JournalCrashGoes, JournalCrashLeaves, RecordReadLeaves, ReaderLeaves, JournalRecoverGoes, JournalRecoveryLeaves}
+use Rattle.journal.specs.Calls.{CrashRecoversJournal, JournalCallLeaves, JournalCrashGoes, JournalCrashLeaves, RecordReadLeaves, ReaderLeaves, JournalRecoverGoes, JournalRecoveryLeaves}
 use Rattle.journal.specs.declared.frame.Found.{Found}
 use Rattle.journal.specs.Frame.{AreWholeFrames, IsPrefix, listed, records, whole_frames}
 use Rattle.journal.specs.Journal.{BringsRecordsBack, Commits, JournalHasRecovered, RecoversJournal, IsBetweenCalls, IsFound, IsJournal, StartsStay, OnlyReads, RecordReadRefused, records_in}
@@ -162,10 +164,17 @@ pub recovers_not : (sum own : List ℕ → ℕ) (cache after : CacheState) (capa
 recovers_not sum own cache after capacity old new e (Ok r) is answers = absurd is
 recovers_not sum own cache after capacity old new e (Err x) is answers = record { answers = answers; apart = tt; readers_apart = tt; back = tt }
 
--- a crash that was refused
-pub crash_refused : (sum own : List ℕ → ℕ) (P : ℕ) (was : Disk) (image : List ℕ) (e : Error) (result : Result (WriterState × Vec (List ℕ) Global) Error) → IsErrAnd result (λ x. x ≡ e) → JournalCrashGoes sum own P was image result
-crash_refused sum own P was image e (Ok r) is = absurd is
-crash_refused sum own P was image e (Err x) is = record { back = tt; only = tt }
+-- memory for a crash was refused: nothing changed
+pub crash_refused : (sum own : List ℕ → ℕ) (cache : CacheState) (capacity : ℕ) (keep : List Bool) (old new : Life) (e : Error) (result : Result (WriterState × Vec (List ℕ) Global) Error) → IsErrAnd result (λ x. x ≡ e) → e ≡ OutOfMemory → new ≡ old
+    → JournalCrashGoes sum own cache cache capacity keep old new result
+crash_refused sum own cache capacity keep old new e (Ok r) is out same = absurd is
+crash_refused sum own cache capacity keep old new e (Err x) is out same = record { answers = inl (is ∙ out, refl, same); back = tt; only = tt }
+
+-- a recovery of what a crash left
+pub crash_recovers : (sum own : List ℕ → ℕ) (cache after : CacheState) (capacity : ℕ) (keep : List Bool) (old new : Life) (result : Result (WriterState × Vec (List ℕ) Global) Error)
+    → RecoversJournal sum own cache after capacity (begun (torn keep old.present.since old.present.base) old.present.log) new result → CrashRecoversJournal sum own cache after capacity keep old new result
+crash_recovers sum own cache after capacity keep old new (Ok r) recovers = recovers
+crash_recovers sum own cache after capacity keep old new (Err e) recovers = inr recovers
 
 -- what no crash leaves
 pub nothing_crashed : (sum own : List ℕ → ℕ) (cache : CacheState) (d : Disk) → IsFresh cache → JournalCrashLeaves sum own cache cache d d

@@ -1,8 +1,11 @@
 -- What each call of a journal leaves, whatever it answers, and what a recovery brings back.
-use Rattle.std.specs.Prelude.{ℕ, List, Vec, Result, IfOk}
+use Rattle.std.specs.Prelude.{◌≡◌, ◌⊎◌, ℕ, Bool, List, Vec, Result, Ok, Err, IfOk}
 use Rattle.std.specs.declared.alloc.Global.{Global}
 use Rattle.disk.specs.Disk.{Disk, Life}
+use Rattle.disk.specs.History.{begun}
+use Rattle.disk.specs.Torn.{torn}
 use Rattle.disk.specs.declared.error.Error.{Error}
+use Rattle.disk.specs.declared.error.Error.TheVariants.{OutOfMemory}
 use Rattle.cache.specs.CacheState.{CacheState}
 use Rattle.cache.specs.Pages.{IsFresh}
 use Rattle.crash.specs.Looks.{Looked}
@@ -10,7 +13,8 @@ use Rattle.writer_state.specs.WriterState.{WriterState}
 use Rattle.journal.specs.Journal.{AllJournalsStay, BringsOnlyRecords, BringsRecordsBack}
 use Rattle.journal.specs.Journal.{IsNewToJournals, KeepsAllRecords, KeepsCommitted}
 use Rattle.journal.specs.Journal.{LeavesAllRecords, LeavesRecords, OtherJournalsStay}
-use Rattle.journal.specs.Journal.{RecoversJournal, StaysCommitted, records_in}
+use Rattle.journal.specs.Journal.{JournalHasRecovered, RecoversJournal, StaysCommitted}
+use Rattle.journal.specs.Journal.{records_in}
 use Rattle.journal.specs.Reader.{AllReadersStay, EachReaderStays, IsNewToReaders, JournalsStay}
 use Rattle.journal.specs.Reader.{KeepsTheirStarts, LeavesTheirRecords, OtherReadersStay}
 use Rattle.journal.specs.Reader.{ReaderState, ReadersStay}
@@ -75,12 +79,30 @@ pub record JournalRecoveryLeaves (sum own : List ℕ → ℕ) (cache after : Cac
   pub all : KeepsAllRecords sum own cache.page_size old new
   pub only : LeavesAllRecords sum own cache.page_size old new
 
--- a crash that left this image, and a recovery: the records begin with all that were committed; and
--- where no checksum collides in the image, they are the first of those that were appended
-pub record JournalCrashGoes (sum own : List ℕ → ℕ) (P : ℕ) (was : Disk) (image : List ℕ)
+-- a blob in memory crashed and kept what the true flags name, and its journal was recovered. At an
+-- error memory for the crash was refused, and nothing changed; or the recovery of what the flags
+-- leave was refused
+abbrev pub CrashRecoversJournal : (sum own : List ℕ → ℕ) → (cache after : CacheState) → ℕ
+    → List Bool → Life → Life → Result (WriterState × Vec (List ℕ) Global) Error → Type 0
+CrashRecoversJournal sum own cache after capacity keep old new (Ok r) =
+    let d = old.present in let left = begun (torn keep d.since d.base) d.log in
+    JournalHasRecovered sum own cache after left new r.0 r.1.items
+CrashRecoversJournal sum own cache after capacity keep old new (Err e) =
+    let d = old.present in let left = begun (torn keep d.since d.base) d.log in
+    ((e ≡ OutOfMemory) × (after ≡ cache) × (new ≡ old))
+    ⊎ RecoversJournal sum own cache after capacity left new (Err e)
+
+-- a crash and the recovery after it, by their answer: the records begin with all that were
+-- committed as the crash came; and where no checksum collides in what the crash left, they are the
+-- first of those that were appended
+pub record JournalCrashGoes (sum own : List ℕ → ℕ) (cache after : CacheState) (capacity : ℕ)
+    (keep : List Bool) (old new : Life)
     (result : Result (WriterState × Vec (List ℕ) Global) Error) : Type 0 where
-  pub back : IfOk result (λ r. BringsRecordsBack sum own P was r.1.items)
-  pub only : IfOk result (λ r. BringsOnlyRecords sum own P was image r.1.items)
+  pub answers : CrashRecoversJournal sum own cache after capacity keep old new result
+  pub back : IfOk result (λ r.
+      BringsRecordsBack sum own cache.page_size old.present r.1.items)
+  pub only : let d = old.present in let image = torn keep d.since d.base in
+      IfOk result (λ r. BringsOnlyRecords sum own cache.page_size d image r.1.items)
 
 -- what a crash and a recovery leave: the cache serves on, the journals and the readers of other
 -- blobs go on, and what was committed still is

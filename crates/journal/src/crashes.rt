@@ -2,7 +2,6 @@
 ghost use Rattle.std.specs.Prelude.{IfOk};
 ghost use Rattle.std.specs.Int.NonZero.{non_zero_usize_get};
 ghost use Rattle.disk.specs.History.{life_of};
-ghost use Rattle.disk.specs.Torn.{torn};
 ghost use Rattle.cache.specs.Pages.{IsFresh};
 ghost use Rattle.paged_read.specs.Searches.{ReadsWithin, scan_bytes};
 ghost use Rattle.journal.specs.Journal.{IsJournal};
@@ -33,9 +32,8 @@ pub fn crash_and_recover<H: Sum, R: Sum>(
     buffer_size: NonZeroUsize,
 ) -> Result<(Journal<MemBlob, H, R>, Vec<IoBuf>), Error>
     requires fresh { IsFresh cache.old }
-    ensures goes { let was = (life_of blob.old).present in
-        let image = torn keep.now was.since was.base in
-        JournalCrashGoes H.sum_of R.sum_of cache.old.page_size was image result }
+    ensures goes { JournalCrashGoes H.sum_of R.sum_of cache.old cache.new capacity keep.now
+        (life_of blob.old) (life_of blob.new) result }
     ensures ready { IfOk result (λ r. IsJournal H.sum_of r.0 cache.new (life_of blob.new)) }
     ensures leaves { let was = (life_of blob.old).present in let is = (life_of blob.new).present in
         JournalCrashLeaves H.sum_of R.sum_of cache.old cache.new was is }

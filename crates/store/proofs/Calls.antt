@@ -8,17 +8,15 @@ use Rattle.disk.specs.declared.error.Error.{Error}
 use Rattle.disk.specs.declared.error.Error.TheVariants.{OutOfMemory}
 use Rattle.cache.specs.CacheState.{CacheState}
 use Rattle.crash.specs.Moments.{through_end}
-use Rattle.crash.proofs.DistinctLaws.{distinct_is_chance_free}
 use Rattle.page.specs.Page.{text}
 use Rattle.writer_state.specs.Sound.{content}
 use Rattle.writer_state.specs.WriterState.{WriterState}
-use Rattle.journal.specs.Calls.{JournalCallLeaves}
+use Rattle.journal.specs.Calls.{JournalCallLeaves, JournalCrashLeaves}
 use Rattle.journal.specs.Frame.{IsPrefix, records}
-use Rattle.journal.specs.Journal.{BringsRecordsBack, IsAppended, IsCommitted, IsJournal, JournalHasRecovered, RecoversJournal, records_in}
+use Rattle.journal.specs.Journal.{BringsOnlyRecords, BringsRecordsBack, IsAppended, IsCommitted, IsJournal, JournalHasRecovered, RecoversJournal, records_in}
 use Rattle.store.specs.declared.store.OpenError.{OpenError}
 use Rattle.store.specs.declared.store.OpenError.TheVariants.{NoPut, Refused}
-use Rattle.store.specs.Store.{AreCommitted, Bytes, ArePuts, CommitPutsLeaves, HasComeBack, HasCommitted, HasOpenedStore, HasStored, KeepsStore, MapGoes, OpenStoreGoes, PutLeaves, StorePutGoes, StoreState, after_puts, put_record, puts_of}
-use Rattle.journal.proofs.Journals.{commits_left}
+use Rattle.store.specs.Store.{AreCommitted, Bytes, ArePuts, CommitPutsLeaves, CrashAndOpenLeaves, HasComeBack, HasCommitted, HasOpenedStore, HasStored, KeepsStore, MapGoes, OpenStoreGoes, PutLeaves, StorePutGoes, StoreState, after_puts, put_record, puts_of}
 use Rattle.paged.specs.Calls.{IsSameWriter}
 use Rattle.cache.specs.Pages.{IsFresh}
 use Rattle.store.proofs.Puts.{after_puts-one, begins, key_of-record, put_value-record, puts_kept}
@@ -51,25 +49,21 @@ module _ (sum own : List ℕ → ℕ) where
       journal_keeps w s.journal (puts_of own s old) cache after old new is
       (subst (λ (v : WriterState). JournalCallLeaves sum own w (records_in own v old) cache after old new) is leaves)
 
-  -- a journal's cache serves on
-  pub journal_fresh : (w : WriterState) (cache : CacheState) (life : Life) → IsJournal sum w cache life → IsFresh cache
-  unfolding IsJournal
-  journal_fresh w cache life journal = journal.between.ready.fresh
-
   -- ---- a put
 
   pub stored : (s now : StoreState) (w : WriterState) (bytes at value : Bytes) (after : CacheState) (old new : Life) (offset : ℕ)
       → w ≡ s.journal → bytes ≡ put_record at value → length at < 2 ^ 16
       → s.map ≡ after_puts empty (puts_of own s old)
       → IsAppended sum own w bytes after old new now.journal offset
-      → now.map ≡ insert s.map at value
+      → now.map ≡ insert s.map at value → IsFresh after
       → HasStored sum own s at value after old new now
-  stored s now w bytes at value after old new offset is same short held added map =
+  stored s now w bytes at value after old new offset is same short held added map fresh =
       let put = put_record at value in
       let puts : puts_of own now new ≡ puts_of own s old ++ put ∷ [] = added.added ∙ ap₂ (λ v b. records_in own v old ++ b ∷ []) is same in
       record {
         store = record {
           journal = added.journal;
+          fresh = fresh;
           held = map ∙ ap (λ m. insert m at value) held
               ∙ ap₂ (insert (after_puts empty (puts_of own s old))) (sym (key_of-record at value short)) (sym (put_value-record at value short))
               ∙ sym (after_puts-one empty (puts_of own s old) put) ∙ ap (after_puts empty) (sym puts);
@@ -89,12 +83,12 @@ module _ (sum own : List ℕ → ℕ) where
 
   pub committed : (s now : StoreState) (w : WriterState) (after : CacheState) (old new : Life)
       → w ≡ s.journal → s.map ≡ after_puts empty (puts_of own s old)
-      → IsCommitted sum own w after old new now.journal → now.map ≡ s.map
+      → IsCommitted sum own w after old new now.journal → now.map ≡ s.map → IsFresh after
       → HasCommitted sum own s after old new now
-  committed s now w after old new is held commits map =
+  committed s now w after old new is held commits map fresh =
       let puts : puts_of own now new ≡ puts_of own s old = ap (records own) commits.holds ∙ ap (λ v. records_in own v old) is in
       record {
-        store = record { journal = commits.journal; held = map ∙ held ∙ ap (after_puts empty) (sym puts) };
+        store = record { journal = commits.journal; fresh = fresh; held = map ∙ held ∙ ap (after_puts empty) (sym puts) };
         same = subst (λ v. IsSameWriter v now.journal) is commits.same;
         map = map;
         puts = puts;
@@ -103,22 +97,27 @@ module _ (sum own : List ℕ → ℕ) where
 
   -- ---- an opening
 
+  -- the puts of an opened store begin with all that were committed
+  back_of : (P : ℕ) (was : Disk) (found puts : List Bytes) → BringsRecordsBack sum own P was found → found ≡ puts
+      → (committed : List Bytes) → AreCommitted sum own P committed was → IsPrefix committed puts
+  back_of P was found puts back same committed were =
+      let all = records own were.content in
+      let is = back were.content (length all) were.all in
+      subst (λ (l : List Bytes). IsPrefix l puts) were.are
+      (subst (λ (l : List Bytes). IsPrefix all l) same (begins all found (length all) refl is.1))
+
   pub opened : (now : StoreState) (cache after : CacheState) (old new : Life) (found : List Bytes)
       → JournalHasRecovered sum own cache after old new now.journal found
       → BringsRecordsBack sum own cache.page_size old.present found
-      → ArePuts found × (now.map ≡ after_puts empty found)
+      → ArePuts found × (now.map ≡ after_puts empty found) → IsFresh after
       → HasOpenedStore sum own cache.page_size after old.present new now
-  opened now cache after old new found recovered back made = record {
-    store = record { journal = recovered.journal; held = made.1 ∙ ap (after_puts empty) recovered.same };
+  opened now cache after old new found recovered back made fresh = record {
+    store = record { journal = recovered.journal; fresh = fresh; held = made.1 ∙ ap (after_puts empty) recovered.same };
     page_size = recovered.page_size;
     whole = subst ArePuts recovered.same made.0;
     puts = sym recovered.same ∙ recovered.given;
     committed = record { content = content now.journal new.present.readable; are = refl; all = recovered.all };
-    back = λ puts was.
-        let all = records own was.content in
-        let is = back was.content (length all) was.all in
-        subst (λ (l : List Bytes). IsPrefix l (puts_of own now new)) was.are
-        (subst (λ (l : List Bytes). IsPrefix all l) recovered.same (begins all found (length all) refl is.1));
+    back = back_of cache.page_size old.present found (puts_of own now new) back recovered.same;
   }
 
   pub open_refused : (cache after : CacheState) (capacity : ℕ) (old new : Life) (result : Result StoreState OpenError) (e : Error)
@@ -145,25 +144,27 @@ module _ (sum own : List ℕ → ℕ) where
 
   -- ---- a crash
 
-  pub come_back : (P : ℕ) (after : CacheState) (was : Disk) (image : List ℕ) (mid new : Life) (now : StoreState)
-      → IsImage was image → mid.present.readable ≡ image → mid.present.base ≡ image → mid.present.since ≡ []
-      → HasOpenedStore sum own P after mid.present new now
-      → HasComeBack sum own P after was image new now
-  come_back P after was image mid new now is_image readable base since opened = record {
-    store = opened.store;
-    back = λ puts committed. opened.back puts (record {
-      content = committed.content;
-      are = committed.are;
-      all = commits_left sum own P committed.content (length (records own committed.content)) was mid.present (subst (λ (l : List ℕ). IsImage was l) (sym base) is_image) since committed.all;
-    });
-    only = λ distinct all only.
-        subst (λ (l : List Bytes). IsPrefix l all) (sym (opened.puts ∙ ap (λ (l : List ℕ). records own (text sum P l)) readable))
-        (only.only image is_image (distinct_is_chance_free sum P was image only.vouched is_image distinct));
+  pub come_back : (now : StoreState) (cache after : CacheState) (was : Disk) (image : List ℕ) (mid new : Life) (found : List Bytes)
+      → mid.present.readable ≡ image → JournalHasRecovered sum own cache after mid new now.journal found
+      → BringsRecordsBack sum own cache.page_size was found → BringsOnlyRecords sum own cache.page_size was image found
+      → ArePuts found × (now.map ≡ after_puts empty found) → IsFresh after
+      → HasComeBack sum own cache.page_size after was image new now
+  come_back now cache after was image mid new found left recovered back only made fresh = record {
+    store = record { journal = recovered.journal; fresh = fresh; held = made.1 ∙ ap (after_puts empty) recovered.same };
+    page_size = recovered.page_size;
+    whole = subst ArePuts recovered.same made.0;
+    puts = sym recovered.same ∙ recovered.given ∙ ap (λ (l : List ℕ). records own (text sum cache.page_size l)) left;
+    committed = record { content = content now.journal new.present.readable; are = refl; all = recovered.all };
+    back = back_of cache.page_size was found (puts_of own now new) back recovered.same;
+    only = λ distinct all were. subst (λ (l : List Bytes). IsPrefix l all) recovered.same (only distinct all were);
   }
 
-  pub came_back : (cache after : CacheState) (capacity : ℕ) (was : Disk) (image : List ℕ) (mid new : Life) (result : Result StoreState OpenError)
-      → IsImage was image → mid.present.readable ≡ image → mid.present.base ≡ image → mid.present.since ≡ []
-      → OpenStoreGoes sum own cache after capacity mid new result
-      → IfOk result (HasComeBack sum own cache.page_size after was image new)
-  came_back cache after capacity was image mid new (Ok now) is_image readable base since goes = come_back cache.page_size after was image mid new now is_image readable base since goes
-  came_back cache after capacity was image mid new (Err e) is_image readable base since goes = tt
+  pub crash_leaves : (cache after : CacheState) (was is : Disk) → JournalCrashLeaves sum own cache after was is → CrashAndOpenLeaves sum own cache after was is
+  crash_leaves cache after was is leaves = record {
+    journal = leaves;
+    stays = λ puts were. record {
+      content = were.content;
+      are = were.are;
+      all = leaves.stays were.content (length (records own were.content)) were.all;
+    };
+  }

@@ -1,6 +1,6 @@
 -- A map that a journal keeps. Each record of the journal is a put: a key, and the value that it has
 -- from then on. The map is what the puts make of an empty one, in turn.
-use Rattle.std.specs.Prelude.{◌≡◌, ◌⊎◌, ◌<◌, ◌≤◌, ◌+◌, ◌++◌, ℕ, List, [], ◌∷◌, length, take, drop}
+use Rattle.std.specs.Prelude.{◌≡◌, ◌⊎◌, ◌<◌, ◌≤◌, ◌+◌, ◌++◌, ℕ, Bool, List, [], ◌∷◌, length, take, drop}
 use Rattle.std.specs.Prelude.{get_or, Option, Some, None, Result, Ok, Err}
 use Rattle.std.specs.Cmp.Lexicographic.{slice_cmp}
 use Rattle.std.specs.Coded.{Coded, coded_list, coded_ℕ}
@@ -8,16 +8,18 @@ use Rattle.std.specs.FinMap.{FinMap, code, empty, insert}
 use Rattle.std.specs.Int.{w16, to_be_bytes, from_be_bytes}
 use Rattle.std.specs.Ordering.{nat_cmp}
 use Rattle.disk.specs.Disk.{Disk, Life}
+use Rattle.disk.specs.Torn.{torn}
 use Rattle.disk.specs.declared.error.Error.{Error}
 use Rattle.disk.specs.declared.error.Error.TheVariants.{OutOfMemory}
 use Rattle.page.specs.Page.{text}
 use Rattle.cache.specs.CacheState.{CacheState}
+use Rattle.cache.specs.Pages.{IsFresh}
 use Rattle.crash.specs.Distinct.{IsDistinct}
 use Rattle.crash.specs.Kept.{Through}
 use Rattle.writer_state.specs.WriterState.{WriterState}
-use Rattle.paged.specs.Calls.{IsSameWriter}
-use Rattle.journal.specs.Calls.{JournalCallLeaves}
-use Rattle.journal.specs.Frame.{IsPrefix, records}
+use Rattle.paged.specs.Calls.{AsksAtMost, IsSameWriter, sync_calls, wait_calls}
+use Rattle.journal.specs.Calls.{CrashRecoversJournal, JournalCallLeaves, JournalCrashLeaves}
+use Rattle.journal.specs.Frame.{IsPrefix, frame, records}
 use Rattle.journal.specs.Journal.{AppendRecordGoes, CommitGoes, CommitsAll, IsJournal}
 use Rattle.journal.specs.Journal.{OnlyRecords, RecoversJournal, records_in}
 use Rattle.store.specs.declared.store.OpenError.{OpenError}
@@ -76,10 +78,11 @@ after_puts map (put ∷ puts) = after_puts (insert map (key_of put) (put_value p
 abbrev pub puts_of : (own : List ℕ → ℕ) → StoreState → Life → List Bytes
 puts_of own s life = records_in own s.journal life
 
--- a store between two calls: its map is what its puts make
+-- a store between two calls: its map is what its puts make; and its cache serves other blobs too
 pub record IsStore (sum own : List ℕ → ℕ) (s : StoreState) (cache : CacheState) (life : Life)
     : Type 0 where
   pub journal : IsJournal sum s.journal cache life
+  pub fresh : IsFresh cache
   pub held : s.map ≡ after_puts empty (puts_of own s life)
 
 -- ---- what a crash leaves
@@ -177,16 +180,56 @@ OpenStoreGoes sum own cache after capacity old new (Err NoPut) =
 OpenStoreGoes sum own cache after capacity old new (Err (Refused e)) =
     (e ≡ OutOfMemory) ⊎ RecoversJournal sum own cache after capacity old new (Err e)
 
--- a store came back after a crash that left this image: its puts begin with all that were committed
--- as the crash came, whatever the checksum functions; and where no checksum collides in the image
--- they are the first of those that had been made
+-- a store came back after a crash that left this image: its puts are the records of the image, and
+-- are committed now; they begin with all that were committed as the crash came, whatever the
+-- checksum functions; and where no checksum collides in the image they are the first of those that
+-- had been made
 pub record HasComeBack (sum own : List ℕ → ℕ) (P : ℕ) (after : CacheState) (was : Disk)
     (image : List ℕ) (new : Life) (now : StoreState) : Type 0 where
   pub store : IsStore sum own now after new
+  pub page_size : now.journal.page_size ≡ P
+  pub whole : ArePuts (puts_of own now new)
+  pub puts : puts_of own now new ≡ records own (text sum P image)
+  pub committed : AreCommitted sum own P (puts_of own now new) new.present
   pub back : (puts : List Bytes) → AreCommitted sum own P puts was
       → IsPrefix puts (puts_of own now new)
   pub only : IsDistinct sum P was image → (all : List Bytes) → OnlyRecords sum own P all was
       → IsPrefix (puts_of own now new) all
+
+-- a crash and an opening, by their answer: a record of what the crash left is no put; or memory for
+-- the map was refused; or memory for the crash, and nothing changed; or the recovery
+abbrev pub CrashAndOpenGoes : (sum own : List ℕ → ℕ) → (cache after : CacheState) → (capacity : ℕ)
+    → List Bool → Life → Life → Result StoreState OpenError → Type 0
+CrashAndOpenGoes sum own cache after capacity keep old new (Ok now) =
+    let d = old.present in let image = torn keep d.since d.base in
+    HasComeBack sum own cache.page_size after d image new now
+CrashAndOpenGoes sum own cache after capacity keep old new (Err NoPut) =
+    let d = old.present in let image = torn keep d.since d.base in
+    HasNoPut (records own (text sum cache.page_size image))
+CrashAndOpenGoes sum own cache after capacity keep old new (Err (Refused e)) =
+    (e ≡ OutOfMemory) ⊎ CrashRecoversJournal sum own cache after capacity keep old new (Err e)
+
+-- what a crash and an opening leave, whatever they answer: what the journal's crash and recovery
+-- leave; and puts that were committed still are
+pub record CrashAndOpenLeaves (sum own : List ℕ → ℕ) (cache after : CacheState) (was is : Disk)
+    : Type 0 where
+  pub journal : JournalCrashLeaves sum own cache after was is
+  pub stays : (puts : List Bytes) → AreCommitted sum own cache.page_size puts was
+      → AreCommitted sum own cache.page_size puts is
+
+-- ---- what each call asks of the device
+
+-- a put makes at most three device calls, one of which waits for a commit that was started; and
+-- none where the record fits what the journal may hold back
+pub record PutCosts (own : List ℕ → ℕ) (w : WriterState) (put : Bytes) (old new : Life) : Type 0
+  where
+  pub calls : AsksAtMost (wait_calls w.sync + 2) old new
+  pub buffered : length w.tip + length (frame own put) ≤ w.capacity → new ≡ old
+
+-- a commit makes at most two device calls, and none where all is durable
+pub record CommitCosts (w : WriterState) (old new : Life) : Type 0 where
+  pub calls : AsksAtMost (sync_calls w) old new
+  pub idle : sync_calls w ≡ 0 → new ≡ old
 
 -- ---- inside
 

@@ -1,36 +1,21 @@
 //! Keeps a map in a journal: puts, commits, crashes, and opens again.
 #![tactic(auto)]
 
-ghost use Rattle.std.specs.Prelude.{IfOk};
-ghost use Rattle.cache.specs.Pages.{IsFresh};
-
 mod map;
 mod store;
 
 use crate::store::{OpenError, Store, crash_and_open};
-use cache::CacheRef;
 use crc32c::Crc32c;
-use disk::{Blob, Error, MemBlob};
+use disk::{Blob, MemBlob};
+use paged::recommended_cache;
 use std::alloc::Global;
 use std::io;
-use std::num::{NonZeroU16, NonZeroUsize};
 
 type Settings = Store<MemBlob, Crc32c, Crc32c>;
 
-fn new_cache(alloc: Global) -> Result<CacheRef, Error>
-    ensures { IfOk result (λ cache. IsFresh cache) }
-{
-    let pages = NonZeroUsize::new(16).unwrap_or(NonZeroUsize::MIN);
-    CacheRef::new(alloc, page_size(), pages)
-}
-
-fn page_size() -> NonZeroU16 {
-    NonZeroU16::new(4084).unwrap_or(NonZeroU16::MIN)
-}
-
 /// Puts two settings and commits them, and puts one of them again.
 fn keep(alloc: Global, blob: &mut MemBlob) -> Result<Settings, OpenError> {
-    let mut cache = new_cache(alloc)?;
+    let mut cache = recommended_cache(alloc)?;
     let size = blob.len();
     let store: Settings = Store::open(alloc, blob, size, &mut cache)?;
     let store = store.put(blob, &mut cache, b"name", b"lamp")?;
@@ -41,7 +26,7 @@ fn keep(alloc: Global, blob: &mut MemBlob) -> Result<Settings, OpenError> {
 
 /// Opens what a crash left that keeps nothing which wasn't committed.
 fn crash(alloc: Global, blob: &mut MemBlob) -> Result<Settings, OpenError> {
-    let mut cache = new_cache(alloc)?;
+    let mut cache = recommended_cache(alloc)?;
     crash_and_open(alloc, blob, &[], &mut cache)
 }
 

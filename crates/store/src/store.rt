@@ -4,24 +4,21 @@ ghost use Rattle.std.specs.Prelude.{IfOk, IsOkUnless, option_map};
 ghost use Rattle.std.specs.FinMap.{get};
 ghost use Rattle.cache.specs.Pages.{IsFresh};
 ghost use Rattle.disk.specs.History.{life_of};
-ghost use Rattle.disk.specs.Torn.{torn};
 ghost use Rattle.journal.specs.Calls.{JournalRecoveryLeaves};
+ghost use Rattle.paged_read.specs.Searches.{ReadsWithin, scan_bytes};
 ghost use Rattle.store.specs.Store.{put_record, puts_of};
 ghost use Rattle.store.specs.Store.{CommitPutsGoes, IsStore, MapGoes, OpenStoreGoes, PartsGoes};
-ghost use Rattle.store.specs.Store.{CommitPutsLeaves, HasComeBack, KeepsPuts, PutLeaves};
-ghost use Rattle.store.specs.Store.{StorePutGoes};
+ghost use Rattle.store.specs.Store.{CommitPutsLeaves, CrashAndOpenGoes, CrashAndOpenLeaves};
+ghost use Rattle.store.specs.Store.{CommitCosts, KeepsPuts, PutCosts, PutLeaves, StorePutGoes};
 
 use crate::map::Map;
 use cache::CacheRef;
 use disk::{Blob, Error, IoBuf, MemBlob};
-use journal::Journal;
+use journal::{Journal, crash_and_recover};
 use page::Sum;
+use paged::{RECOMMENDED_CAPACITY, recommended_buffer_size};
 use std::alloc::Global;
 use std::marker::Model;
-use std::num::NonZeroUsize;
-
-// The bytes that the journal may hold back, and that one read of a recovery has.
-const CAPACITY: usize = 65_536;
 
 /// Why a store wasn't opened.
 #[derive(Clone, Copy, Debug, PartialEq, Eq, thiserror::Error)]
@@ -132,9 +129,11 @@ impl<B: Blob, H: Sum, R: Sum> Store<B, H, R> {
             KeepsPuts H.sum_of R.sum_of cache.old.page_size old new }
         ensures leaves { let old = B.life blob.old in let new = B.life blob.new in
             JournalRecoveryLeaves H.sum_of R.sum_of cache.old cache.new old new }
+        ensures costs { let most = scan_bytes cache.old.page_size 65536 in
+            ReadsWithin most (B.life blob.old) (B.life blob.new) }
     {
-        let buffer = NonZeroUsize::new(CAPACITY).unwrap_or(NonZeroUsize::MIN);
-        let (journal, records) = Journal::recover(alloc, blob, size, CAPACITY, cache, buffer)?;
+        let (capacity, most) = (RECOMMENDED_CAPACITY, recommended_buffer_size());
+        let (journal, records) = Journal::recover(alloc, blob, size, capacity, cache, most)?;
         let map = map_of(alloc, &records)?;
         Ok(Store {
             alloc,
@@ -144,7 +143,8 @@ impl<B: Blob, H: Sum, R: Sum> Store<B, H, R> {
     }
 
     /// Puts a value at a key, of at most 65,533 bytes together. The put is durable once the next
-    /// [`Store::commit`] has answered `Ok`.
+    /// [`Store::commit`] has answered `Ok`. The device is asked for nothing where the record fits
+    /// what the journal may hold back; else at most three calls are made.
     ///
     /// The errors are those of [`Journal::append_record`]. The store is gone then, and what was
     /// committed still is.
@@ -163,6 +163,8 @@ impl<B: Blob, H: Sum, R: Sum> Store<B, H, R> {
             let puts = puts_of R.sum_of self old ++ put_record key.now value.now ∷ [] in
             PutLeaves H.sum_of R.sum_of self.journal puts cache.old cache.new old new }
         ensures fresh { IsFresh cache.new }
+        ensures costs { let old = B.life blob.old in let new = B.life blob.new in
+            PutCosts R.sum_of self.journal (put_record key.now value.now) old new }
     {
         let Store {
             alloc,
@@ -179,7 +181,8 @@ impl<B: Blob, H: Sum, R: Sum> Store<B, H, R> {
         })
     }
 
-    /// Commits all puts: whatever crashes from then on, they come back.
+    /// Commits all puts: whatever crashes from then on, they come back. It makes at most two device
+    /// calls, and none where all is durable.
     ///
     /// The errors are those of [`Journal::commit`]. The store is gone then, and what was committed
     /// before still is.
@@ -190,6 +193,7 @@ impl<B: Blob, H: Sum, R: Sum> Store<B, H, R> {
         ensures leaves { let old = B.life blob.old in let new = B.life blob.new in
             CommitPutsLeaves H.sum_of R.sum_of self cache.old cache.new old new }
         ensures fresh { IsFresh cache.new }
+        ensures costs { CommitCosts self.journal (B.life blob.old) (B.life blob.new) }
     {
         let Store {
             alloc,
@@ -209,7 +213,8 @@ impl<B: Blob, H: Sum, R: Sum> Store<B, H, R> {
 /// store. The cache is to have pages of the size that the store had.
 ///
 /// The errors are those of [`Store::open`], and `Refused` where memory for the crash was refused,
-/// which leaves all as it was.
+/// which leaves all as it was. Puts that were committed still are, whatever it answers, so it may
+/// be called again.
 pub fn crash_and_open<H: Sum, R: Sum>(
     alloc: Global,
     blob: &mut MemBlob,
@@ -217,11 +222,19 @@ pub fn crash_and_open<H: Sum, R: Sum>(
     cache: &mut CacheRef,
 ) -> Result<Store<MemBlob, H, R>, OpenError>
     requires fresh { IsFresh cache.old }
-    ensures back { let was = (life_of blob.old).present in let P = cache.old.page_size in
-        let image = torn keep.now was.since was.base in let new = life_of blob.new in
-        IfOk result (HasComeBack H.sum_of R.sum_of P cache.new was image new) }
+    ensures goes { let old = life_of blob.old in let new = life_of blob.new in
+        CrashAndOpenGoes H.sum_of R.sum_of cache.old cache.new 65536 keep.now old new result }
+    ensures leaves { let was = (life_of blob.old).present in let is = (life_of blob.new).present in
+        CrashAndOpenLeaves H.sum_of R.sum_of cache.old cache.new was is }
+    ensures costs { let most = scan_bytes cache.old.page_size 65536 in
+        ReadsWithin most (life_of blob.old) (life_of blob.new) }
 {
-    blob.crash(keep)?;
-    let size = blob.len();
-    Store::open(alloc, blob, size, cache)
+    let (capacity, most) = (RECOMMENDED_CAPACITY, recommended_buffer_size());
+    let (journal, records) = crash_and_recover(alloc, blob, keep, capacity, cache, most)?;
+    let map = map_of(alloc, &records)?;
+    Ok(Store {
+        alloc,
+        journal,
+        map,
+    })
 }

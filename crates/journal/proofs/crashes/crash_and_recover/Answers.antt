@@ -6,16 +6,16 @@ use Rattle.crash.specs.Moments.{through_end}
 use Rattle.std.specs.Int.NonZero.{non_zero_usize_get}
 use Rattle.paged_read.specs.Searches.{ReadsWithin, scan_bytes}
 use Rattle.journal.specs.Calls.{JournalCrashLeaves}
-use Rattle.journal.specs.Journal.{Commits}
+use Rattle.journal.specs.Journal.{Commits, RecoversJournal}
 use Rattle.journal.proofs.Journals.{brought_back, brought_only, commits_left}
 use Rattle.journal.proofs.Costs.{same_log, unread}
-use Rattle.journal.proofs.Readers.{crash_refused, nothing_crashed}
+use Rattle.journal.proofs.Readers.{crash_recovers, crash_refused, nothing_crashed}
 use Rattle.journal.proofs.crashes.crash_and_recover.Goals as goal
 
 pub returns-in_err-crash-clause-goes : goal.returns-in_err-crash-clause-goes
 returns-in_err-crash-clause-goes g c =
-    let d = (life_of c.args.blob.now).present in
-    crash_refused g.H.Sum.sum_of g.R.Sum.sum_of c.args.cache.now.page_size d (torn c.args.keep.now d.since d.base) c.in_err-crash.field-0.0 c.from_residual.result c.from_residual.ensures.1
+    crash_refused g.H.Sum.sum_of g.R.Sum.sum_of c.args.cache.now c.args.capacity c.args.keep.now (life_of c.args.blob.now) (life_of c.crash.new.self) c.in_err-crash.field-0.0 c.from_residual.result c.from_residual.ensures.1
+    c.in_err-crash.ensures.err (ap life_of c.in_err-crash.ensures.same)
 
 pub returns-in_err-crash-clause-leaves : goal.returns-in_err-crash-clause-leaves
 returns-in_err-crash-clause-leaves g c =
@@ -29,15 +29,19 @@ returns-clause-goes g c =
     let own = g.R.Sum.sum_of in
     let cache = c.args.cache.now in
     let after = c.recover.new.cache in
-    let d = (life_of c.args.blob.now).present in
-    let image = torn c.args.keep.now d.since d.base in
+    let old = life_of c.args.blob.now in
     let mid = life_of c.crash.new.self in
     let new = life_of c.recover.new.blob in
-    let left = ap (λ (l : Life). l.present.readable) c.in_ok-crash.ensures.life in
-    let answers = c.recover.ensures.goes.answers in
+    let d = old.present in
+    let image = torn c.args.keep.now d.since d.base in
+    let life = c.in_ok-crash.ensures.life in
+    let left = ap (λ (l : Life). l.present.readable) life in
+    let recovers = c.recover.ensures.goes.answers in
     record {
-      back = brought_back sum own cache after c.args.capacity d image mid new c.recover.result c.crash.ensures.image left answers;
-      only = brought_only sum own cache after c.args.capacity d image mid new c.recover.result c.crash.ensures.image left answers;
+      answers = crash_recovers sum own cache after c.args.capacity c.args.keep.now old new c.recover.result
+          (subst (λ (l : Life). RecoversJournal sum own cache after c.args.capacity l new c.recover.result) life recovers);
+      back = brought_back sum own cache after c.args.capacity d image mid new c.recover.result c.crash.ensures.image left recovers;
+      only = brought_only sum own cache after c.args.capacity d image mid new c.recover.result c.crash.ensures.image left recovers;
     }
 
 pub returns-clause-leaves : goal.returns-clause-leaves

@@ -16,6 +16,7 @@ returns-clause-goes g c =
     opened g.H.Sum.sum_of g.R.Sum.sum_of _ c.args.cache.now c.recover.new.cache _ _ c.in_ok-journal.records.items
     c.in_ok-journal.ensures.goes.answers c.in_ok-journal.ensures.goes.back
     (subst ArePuts c.deref.ensures.value c.in_ok-map.ensures.0, c.in_ok-map.ensures.1 ∙ ap (after_puts empty) c.deref.ensures.value)
+    c.recover.ensures.leaves.fresh
 
 pub returns-clause-stays : goal.returns-clause-stays
 returns-clause-stays g c = puts_kept g.H.Sum.sum_of g.R.Sum.sum_of c.args.cache.now.page_size _ _ c.recover.ensures.leaves.kept
