@@ -7,7 +7,7 @@ ghost use Rattle.std.specs.List.{concat};
 ghost use Rattle.disk.specs.Disk.{IsImage, LeavesNoMore, Life, Write, Resize, failures, had_failed};
 ghost use Rattle.disk.specs.Disk.{DeviceReadGoes, DeviceReadManyGoes, WriteGoes, ResizeGoes};
 ghost use Rattle.disk.specs.Disk.{SyncGoes, StartReadGoes, StartGoes, WaitStartedGoes};
-ghost use Rattle.disk.specs.History.{life_of, begun, with_action, request_of};
+ghost use Rattle.disk.specs.History.{life_of, asked, begun, with_action, request_of};
 ghost use Rattle.disk.specs.declared.action.Action.TheVariants as actions;
 ghost use Rattle.disk.specs.Memory.{Asks, AsksStart, AsksWait, waits_in_vain, IsRange};
 ghost use Rattle.disk.specs.Memory.{AreRanges, KeepsSettings, delivery};
@@ -248,15 +248,20 @@ impl MemBlob {
         ensures told { OnOk result (self.new ≡ with_action action self.old) }
         ensures same { OnErr result (self.new ≡ self.old) }
     {
-        // What may fail comes before the first change, also where the device is to fail.
-        let call = action.call(self.alloc)?;
-        make_room(&mut self.calls, &mut self.failed, &mut self.events)?;
-        self.starts.try_reserve(1)?;
-        action.reserve(&mut self.readable)?;
         let event = Event {
             action,
             failed: self.failing == 1,
         };
+        // What may fail comes before the first change, also where the device is to fail.
+        let call = prepare(
+            self.alloc,
+            &event.action,
+            &mut self.calls,
+            &mut self.failed,
+            &mut self.events,
+            &mut self.starts,
+            &mut self.readable,
+        )?;
         event.redo(&mut self.readable)?;
         self.settled = event.settled_after(&self.starts, self.settled, self.events.len());
         event.record_start(&mut self.starts, self.events.len());
@@ -409,6 +414,33 @@ fn spent(alloc: Global, count: usize) -> Result<Vec<Start>, AllocError>
         },
     )?;
     Ok(starts)
+}
+
+// The call that an action makes, and room for all that it leaves. All is as it was but for the room.
+fn prepare(
+    alloc: Global,
+    action: &Action,
+    calls: &mut Vec<Call>,
+    failed: &mut Vec<bool>,
+    events: &mut Vec<Event>,
+    starts: &mut Vec<Start>,
+    readable: &mut Vec<u8>,
+) -> Result<Call, AllocError>
+    ensures call { IfOk result (λ call. request_of call ≡ asked action.now) }
+    ensures calls { calls.new.items ≡ calls.old.items }
+    ensures failed { failed.new.items ≡ failed.old.items }
+    ensures events { events.new.items ≡ events.old.items }
+    ensures starts { starts.new.items ≡ starts.old.items }
+    ensures readable { readable.new.items ≡ readable.old.items }
+    ensures room { IfOk result (λ call. (vec_len calls.new < vec_capacity calls.new)
+        × (vec_len failed.new < vec_capacity failed.new)
+        × (vec_len events.new < vec_capacity events.new)
+        × (vec_len starts.new < vec_capacity starts.new)) }
+{
+    make_room(calls, failed, events)?;
+    starts.try_reserve(1)?;
+    action.reserve(readable)?;
+    action.call(alloc)
 }
 
 // Room for one device call more.

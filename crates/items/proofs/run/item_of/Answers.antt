@@ -1,4 +1,5 @@
-use Rattle.std.proofs.Common.{[]}
+use Rattle.std.proofs.Common.{[], arith}
+use Rattle.std.proofs.lemmas.Grind.{common_steps}
 use Rattle.std.proofs.lemmas.Result.{err_from_is_err_and}
 use Rattle.paged_read.specs.Failures.{none_failed_start}
 use Rattle.paged.specs.Reads.{size_of}
@@ -32,3 +33,6 @@ pub returns-in_err-resize-clause-leaves : goal.returns-in_err-resize-clause-leav
 returns-in_err-resize-clause-leaves g c =
     let life = g.B.Blob.life c.args.blob.now in
     nothing_leaves g.H.Sum.sum_of c.args.items.now (items_of c.args.items.now life) c.args.cache.now life (first_of_itself (items_of c.args.items.now life)) c.requires.items
+
+pub returns-in-Ok-clause-gives : goal.returns-in-Ok-clause-gives
+returns-in-Ok-clause-gives g c = grind (arith, common_steps)

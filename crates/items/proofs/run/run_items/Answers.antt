@@ -1,4 +1,5 @@
 use Rattle.std.proofs.Common.{rules, ◌≡◌, ◌+◌, List, [], ◌∷◌, ◌++◌, take, ap, sym, ◌∙◌, subst, arith}
+use Rattle.std.proofs.lemmas.Grind.{common_steps}
 use Rattle.std.proofs.lemmas.List.{take_more}
 use Rattle.items.specs.declared.run.ItemStep.{ItemStep}
 use Rattle.items.specs.Run.{RanItems}
@@ -35,3 +36,6 @@ returns-clause-ready g c = (c.loop-step.invariant.stands, fresh_in g.H.Sum.sum_o
 
 pub returns-in_err-try_reserve-clause-ready : goal.returns-in_err-try_reserve-clause-ready
 returns-in_err-try_reserve-clause-ready g c = (c.requires.open, fresh_in g.H.Sum.sum_of c.args.session.now c.args.cache.now (g.B.Blob.life c.args.blob.now) c.requires.open)
+
+pub returns-clause-goes : goal.returns-clause-goes
+returns-clause-goes g c = grind (arith, common_steps)

@@ -1,4 +1,5 @@
 use Rattle.std.proofs.Common.{rules, ◌≡◌, ◌∙◌, sym, ap, subst, ℕ, ◌+◌, ◌<◌, List, length, arith, eqb-true, Ok, Err}
+use Rattle.std.proofs.lemmas.Grind.{common_steps}
 use Rattle.std.specs.Prelude.{Result, Vec}
 use Rattle.std.specs.declared.alloc.Global.{Global}
 use Rattle.disk.specs.Disk.{DeviceReadManyGoes, ReadMany}
@@ -78,3 +79,9 @@ returns-in_err-read_many-clause-looked g c = looked_many c.deref.result.now (g.B
 
 pub returns-clause-looked : goal.returns-clause-looked
 returns-clause-looked g c = looked_many c.deref.result.now (g.B.Blob.life c.args.blob.now) (g.B.Blob.life c.read_many.new.self) c.read_many.new.out.items (Ok tt) c.in_ok-read_many.ensures.goes
+
+pub loop-page-preserved : goal.loop-page-preserved
+loop-page-preserved g c = grind (arith, common_steps)
+
+pub returns-clause-asks : goal.returns-clause-asks
+returns-clause-asks g c = grind (arith, common_steps)

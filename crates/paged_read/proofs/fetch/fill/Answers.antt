@@ -1,4 +1,5 @@
-use Rattle.std.proofs.Common.{◌≡◌, ◌∙◌, ap, ℕ, ◌+◌, ◌-◌, List, length, take, drop, get_or, []}
+use Rattle.std.proofs.Common.{◌≡◌, ◌∙◌, ap, ℕ, ◌+◌, ◌-◌, List, length, take, drop, get_or, [], arith}
+use Rattle.std.proofs.lemmas.Grind.{common_steps}
 use Rattle.std.proofs.lemmas.List.{get_or_default}
 use Rattle.paged_read.specs.Batch.{bytes_found}
 use Rattle.paged_read.specs.declared.lack.Lack.{Lack}
@@ -16,3 +17,6 @@ loop-lack-preserved c = λ P content told.
     (told c.loop-lack.lack-index none c.loop-lack-test.true)
     (c.copy_from_slice.ensures.after ∙ ap (λ (l : List ℕ). take (lack.piece.skip + lack.piece.len - lack.piece.skip) (drop lack.piece.skip l)) (c.as_ref.ensures ∙ here))
     (c.loop-lack.invariant P content told)
+
+pub returns-clause-told : goal.returns-clause-told
+returns-clause-told c = grind (arith, common_steps)

@@ -1,4 +1,5 @@
-use Rattle.std.proofs.Common.{rules, ◌+◌, ◌*◌, Ok, Err}
+use Rattle.std.proofs.Common.{rules, ◌+◌, ◌*◌, Ok, Err, arith}
+use Rattle.std.proofs.lemmas.Grind.{common_steps}
 use Rattle.crash.proofs.LookLaws.{looked_read}
 use Rattle.paged_read.proofs.Failing.{none_failed_read}
 use Rattle.paged_read.proofs.FullPages.{read_longer}
@@ -23,3 +24,12 @@ returns-else-is_full-clause-reads g c =
 
 pub returns-then-is_full-clause-answered : goal.returns-then-is_full-clause-answered
 returns-then-is_full-clause-answered g c = read_longer (c.args.page * (c.from.result + 12)) (c.from.result + 12) (g.B.Blob.life c.args.blob.now) (g.B.Blob.life c.read_at.new.self) c.in_ok-bytes.bytes c.in_ok-bytes.ensures.goes
+
+pub returns-else-is_full-clause-asks : goal.returns-else-is_full-clause-asks
+returns-else-is_full-clause-asks g c = grind (arith, common_steps)
+
+pub returns-in_err-bytes-clause-asks : goal.returns-in_err-bytes-clause-asks
+returns-in_err-bytes-clause-asks g c = grind (arith, common_steps)
+
+pub returns-then-is_full-clause-asks : goal.returns-then-is_full-clause-asks
+returns-then-is_full-clause-asks g c = grind (arith, common_steps)

@@ -1,4 +1,5 @@
 use Rattle.std.proofs.Common.{◌≡◌, ◌+◌, ◌-◌, ◌/◌, ◌%◌, ◌<◌, ◌++◌, ◌∷◌, [], ◌∙◌, sym, ap, arith, append_assoc, map, List}
+use Rattle.std.proofs.lemmas.Grind.{common_steps}
 use Rattle.std.specs.Int.{div_ceil}
 use Rattle.std.specs.Int.NonZero.{non_zero_u16_get}
 use Rattle.std.specs.List.{range_with_len}
@@ -30,3 +31,6 @@ loop-page-preserved c =
     ∙ ap (λ (p : Piece). old ++ (before ++ p ∷ [])) c.piece_at.ensures
     ∙ ap (λ (l : List Piece). old ++ l) (sym (map-range_with_len_more f first (c.loop-page.page - first) c.loop-page.page (omega (arith, c.loop-page.auto.page))))
     ∙ ap (λ n. old ++ map f (range_with_len first n)) (sym n)
+
+pub returns-in_err-push-clause-ok : goal.returns-in_err-push-clause-ok
+returns-in_err-push-clause-ok c = grind (arith, common_steps)

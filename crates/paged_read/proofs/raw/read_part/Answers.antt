@@ -1,4 +1,5 @@
 use Rattle.std.proofs.Common.{rules, ◌≡◌, ◌*◌, ℕ, ◌∙◌, ap, arith}
+use Rattle.std.proofs.lemmas.Grind.{common_steps}
 use Rattle.std.proofs.lemmas.Result.{err_from_is_err_and}
 use Rattle.std.specs.Int.NonZero.{non_zero_u16_get}
 use Rattle.paged_read.specs.RawReads.{value_told}
@@ -27,3 +28,6 @@ returns-in_err-bytes-clause-reads g c =
 pub returns-then-stop-skip-clause-reads : goal.returns-then-stop-skip-clause-reads
 returns-then-stop-skip-clause-reads g c =
     pages_rise (non_zero_u16_get c.args.page_size) c.args.page 1 1 (g.B.Blob.life c.args.blob.now) (g.B.Blob.life c.read_value.new.blob) (omega arith) c.in_ok-bytes.ensures.reads
+
+pub returns-then-stop-skip-clause-told : goal.returns-then-stop-skip-clause-told
+returns-then-stop-skip-clause-told g c = grind (arith, common_steps)

@@ -1,4 +1,5 @@
 use Rattle.std.proofs.Common.{◌≡◌, ℕ, ◌+◌, ◌*◌, ◌/◌, ◌≤◌, max, refl, ap, ◌∙◌, arith, subst, sym}
+use Rattle.std.proofs.lemmas.Grind.{common_steps}
 use Rattle.std.proofs.Math.Nat.{mul-le-mul_left}
 use Rattle.std.proofs.lemmas.Result.{err_from_is_err_and}
 use Rattle.std.specs.Int.NonZero.{non_zero_u16_get, non_zero_usize_get}
@@ -267,3 +268,6 @@ returns-clause-reads g c =
       forward = subst (λ (n : ℕ). ReadsForward n from to old now) is (forward_end (most * (P + 12)) from (k * (P + 12)) to old now (omega (arith, more)) c.loop-done.invariant.reads);
       stops = c.loop-done.invariant.stops;
     }
+
+pub returns-clause-finds : goal.returns-clause-finds
+returns-clause-finds g c = grind (arith, common_steps)

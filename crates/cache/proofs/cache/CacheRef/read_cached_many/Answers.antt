@@ -1,4 +1,5 @@
-use Rattle.std.proofs.Common.{◌∙◌, ap, sym, ℕ, List, length, take, slice_index_or}
+use Rattle.std.proofs.Common.{◌∙◌, ap, sym, ℕ, List, length, take, slice_index_or, arith}
+use Rattle.std.proofs.lemmas.Grind.{common_steps}
 use Rattle.std.proofs.lemmas.List.{take_rest}
 use Rattle.cache.specs.CacheState.{put_at}
 use Rattle.cache.specs.declared.piece.Piece.{Piece}
@@ -49,3 +50,6 @@ returns-in_err-push-in-None-clause-copies c =
     unread c.args.self.now c.args.id pieces c.args.buf.now c.loop-piece.buf c.from_residual.result
     c.from_residual.ensures.1 c.loop-piece.invariant.0
     (some_left c.args.self.now c.args.id pieces c.loop-piece.left.items piece (i + 1) step.0)
+
+pub returns-clause-copies : goal.returns-clause-copies
+returns-clause-copies c = grind (arith, common_steps)

@@ -1,4 +1,5 @@
 use Rattle.std.proofs.Common.{◌≡◌, ◌≢◌, ◌∙◌, ℕ, ◌+◌, ◌<◌, inl, inr, ap, sym, subst, arith}
+use Rattle.std.proofs.lemmas.Grind.{common_steps}
 use Rattle.std.proofs.lemmas.Bool.{cases_eq}
 use Rattle.cache.specs.Slots.{Taken}
 use Rattle.cache.specs.declared.slots.Slots.{Slots}
@@ -52,3 +53,6 @@ returns-clause-puts c = λ ids.
           (omega (arith, w.if-self-len.false, c.requires.are.within, c.len-2.ensures, old.keys.ok.0))
           many
     ]
+
+pub returns-in-Some-clause-are : goal.returns-in-Some-clause-are
+returns-in-Some-clause-are c = grind (arith, common_steps)

@@ -16,23 +16,23 @@ overflow_add-self c =
 pub invariant_of-self-2 : goal.invariant_of-self-2
 invariant_of-self-2 c =
     let inside = c.self.inside in
-    let room = c.in_ok-make_room.ensures in
-    let events = c.make_room.new.events in
+    let room = c.prepare.ensures in
+    let events = c.prepare.new.events in
     let count : c.len.result ≡ length inside.events.items = c.len.ensures ∙ events.ok.0 ∙ ap length room.events in
-    kept_next inside.first.items inside.readable.items c.redo.new.bytes.items inside.calls.items c.push_reserved.new.self.items inside.failed.items c.push_reserved-2.new.self.items inside.events.items c.push_reserved-3.new.self.items inside.earlier inside.settled c.settled_after-self-inside.result inside.failures (inside.failures + c.faults.result) inside.failing c.saturating_sub-self-inside.result inside.backwards inside.starts.items c.record_start.new.starts.items c.args.action c.in_ok-call.call c.self.invariant c.in_ok-call.ensures
+    kept_next inside.first.items inside.readable.items c.redo.new.bytes.items inside.calls.items c.push_reserved.new.self.items inside.failed.items c.push_reserved-2.new.self.items inside.events.items c.push_reserved-3.new.self.items inside.earlier inside.settled c.settled_after-self-inside.result inside.failures (inside.failures + c.faults.result) inside.failing c.saturating_sub-self-inside.result inside.backwards inside.starts.items c.record_start.new.starts.items c.args.action c.in_ok-call.call c.self.invariant c.in_ok-call.ensures.call
     (c.push_reserved.ensures.items ∙ ap (λ v. v ++ c.in_ok-call.call ∷ []) room.calls)
     (c.push_reserved-2.ensures.items ∙ ap (λ v. v ++ (inside.failing == 1) ∷ []) room.failed)
     (c.push_reserved-3.ensures.items ∙ ap (λ v. v ++ record { action = c.args.action; failed = inside.failing == 1 } ∷ []) room.events)
-    (c.in_ok-redo.ensures.ok ∙ ap (redone (record { action = c.args.action; failed = inside.failing == 1 })) c.reserve.ensures.same)
+    (c.in_ok-redo.ensures.ok ∙ ap (redone (record { action = c.args.action; failed = inside.failing == 1 })) c.prepare.ensures.readable)
     c.saturating_sub-self-inside.ensures
     (ap (λ n. inside.failures + n) c.faults.ensures)
-    (c.settled_after-self-inside.ensures ∙ ap₂ (λ (starts : List Start) (n : ℕ). settled_after c.args.action (inside.failing == 1) starts inside.settled n) (c.deref.ensures.value ∙ c.try_reserve.ensures.items) count)
-    (c.record_start.ensures ∙ ap₂ (λ (starts : List Start) (n : ℕ). starts_after c.args.action (inside.failing == 1) starts n) (c.try_reserve.ensures.items) (c.len-2.ensures ∙ events.ok.0 ∙ ap length room.events))
+    (c.settled_after-self-inside.ensures ∙ ap₂ (λ (starts : List Start) (n : ℕ). settled_after c.args.action (inside.failing == 1) starts inside.settled n) (c.deref.ensures.value ∙ c.prepare.ensures.starts) count)
+    (c.record_start.ensures ∙ ap₂ (λ (starts : List Start) (n : ℕ). starts_after c.args.action (inside.failing == 1) starts n) (c.prepare.ensures.starts) (c.len-2.ensures ∙ events.ok.0 ∙ ap length room.events))
 
 pub returns-clause-told : goal.returns-clause-told
 returns-clause-told c =
     let inside = c.self.inside in
-    let room = c.in_ok-make_room.ensures in
+    let room = c.prepare.ensures in
     told_next inside.first.items inside.calls.items c.push_reserved.new.self.items inside.failed.items c.push_reserved-2.new.self.items inside.events.items c.push_reserved-3.new.self.items inside.earlier inside.failing c.saturating_sub-self-inside.result inside.backwards c.args.action c.in_ok-call.call c.args.self.now c.self.invariant.before c.self.invariant.outcomes c.self.view_is
     (c.push_reserved.ensures.items ∙ ap (λ v. v ++ c.in_ok-call.call ∷ []) room.calls)
     (c.push_reserved-2.ensures.items ∙ ap (λ v. v ++ (inside.failing == 1) ∷ []) room.failed)

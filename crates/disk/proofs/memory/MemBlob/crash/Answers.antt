@@ -1,4 +1,5 @@
 use Rattle.std.proofs.Common.{ℕ, replicate, ap, sym, ◌∙◌, true, arith}
+use Rattle.std.proofs.lemmas.Grind.{common_steps}
 use Rattle.disk.specs.Disk.{failures}
 use Rattle.disk.specs.History.{names_in, life_of}
 use Rattle.disk.proofs.Starts.{begun_kept}
@@ -33,3 +34,6 @@ returns-clause-leaves c =
     begun_leaves c.args.keep.now (life_of c.args.self.now).present
     (history_of c.in_ok-image.image.items c.len-self-inside.result old.calls.items old.failed.items c.clear.new.self.items old.failing old.backwards)
     c.clear.ensures.items c.in_ok-image.ensures
+
+pub returns-clause-life : goal.returns-clause-life
+returns-clause-life c = grind (arith, common_steps)

@@ -1,4 +1,5 @@
 use Rattle.std.proofs.Common.{◌≡◌, ◌++◌, ◌+◌, ◌-◌, ◌<◌, ◌^◌, length, nat_lt, sym, ap, ◌∙◌, subst, Ok, arith}
+use Rattle.std.proofs.lemmas.Grind.{common_steps}
 use Rattle.std.specs.List.{concat}
 use Rattle.page.specs.Tip.{Tip, TipAppendGoes, tip_size}
 use Rattle.page.proofs.Buffers.{grown_buffer, append_goes}
@@ -24,3 +25,6 @@ returns c =
     subst (λ (old : Tip). TipAppendGoes old c.args.bytes.now (record { page_size = b.page_size; capacity = b.capacity; offset = b.offset; bytes = concat c.extend.new.chunks ++ c.extend.new.self.bytes.items }) (Ok (nat_lt b.capacity (c.len-len.result + length c.args.bytes.now)))) c.self.view_is
     (append_goes b.page_size b.capacity b.offset c.len-len.result (b.tail.limit - length b.tail.bytes.items) b.chunks c.extend.new.chunks b.tail.bytes.items c.args.bytes.now c.extend.new.self.bytes.items len_is
     (subst (λ (t : Tip). tip_size t + length c.args.bytes.now < 2 ^ 64) (sym c.self.view_is) small) c.in_ok-extend.ensures.chunks c.in_ok-extend.ensures.tail.0)
+
+pub returns-then-bytes-spare : goal.returns-then-bytes-spare
+returns-then-bytes-spare c = grind (arith, common_steps)

@@ -1,4 +1,5 @@
-use Rattle.std.proofs.Common.{◌∙◌, ap, refl, drop}
+use Rattle.std.proofs.Common.{◌∙◌, ap, refl, drop, arith}
+use Rattle.std.proofs.lemmas.Grind.{common_steps}
 use Rattle.std.specs.Int.NonZero.{non_zero_u16_get}
 use Rattle.paged_read.specs.Hand.{payloads_at}
 use Rattle.paged_read.proofs.Hands.{hand_passed}
@@ -18,3 +19,6 @@ invariant_of-self c =
           c.drop_front.ensures c.passed-at.ensures.cursor c.passed-at.ensures.fits
           (rw (← size) (told ∙ ap (λ run. drop c.min-count.result (payloads_at c.from-page_size.result was.runs.items run was.at.start was.at.left)) first)),
     )
+
+pub returns-clause-bytes : goal.returns-clause-bytes
+returns-clause-bytes c = grind (arith, common_steps)

@@ -1,4 +1,5 @@
 use Rattle.std.proofs.Common.{◌≡◌, ◌≤◌, ◌+◌, ◌-◌, ◌++◌, length, take, drop, arith, ap, ◌∙◌, length-take, length-drop}
+use Rattle.std.proofs.lemmas.Grind.{common_steps}
 use Rattle.std.proofs.lemmas.List.{drop-drop}
 use Rattle.std.proofs.lemmas.Slice.{take-put_mid}
 use Rattle.paged_read.proofs.Hands.{overwritten, sliced_more}
@@ -30,3 +31,6 @@ loop-done-preserved c =
       copied = front ∙ ap (λ l. take done out ++ l) c.copy_from_slice.ensures.after
           ∙ sliced_more all out chunk here done (length chunk) len so_far.copied so_far.rest c.chunk-chunk.ensures.chunk (omega (arith, least));
     }
+
+pub returns-clause-taken : goal.returns-clause-taken
+returns-clause-taken c = grind (arith, common_steps)

@@ -1,4 +1,5 @@
 use Rattle.std.proofs.Common.{◌≡◌, ℕ, ◌+◌, arith, refl, sym, ap, ◌∙◌, get_or, cond}
+use Rattle.std.proofs.lemmas.Grind.{common_steps}
 use Rattle.std.proofs.lemmas.List.Sums.{sum_by_more, sum_by_more_le}
 use Rattle.paged_read.specs.Tail.{tail_at}
 use Rattle.paged_read.proofs.BatchSteps.{gathered_start}
@@ -41,3 +42,9 @@ returns-in_err-served-clause-refused g c =
     let i = c.loop-offset.offset-index in
     let p = err_from_is_err_and c.from_residual.result c.from_residual.ensures.1 in
     rw p.1 (λ none. absurd (both_ways _ c.in_err-served.ensures.refused (each_served c.args.cache.now t c.args.ranges.now i (0, 0) c.loop-offset-test.true none)))
+
+pub returns-clause-gathered : goal.returns-clause-gathered
+returns-clause-gathered c = grind (arith, common_steps)
+
+pub returns-clause-served : goal.returns-clause-served
+returns-clause-served c = grind (arith, common_steps)

@@ -1,4 +1,5 @@
 use Rattle.std.proofs.Common.{◌≡◌, ◌∙◌, refl, sym, ap, subst, ℕ, ◌<◌, List, length, take, get_or, arith, rules, length-set}
+use Rattle.std.proofs.lemmas.Grind.{common_steps}
 use Rattle.std.proofs.lemmas.List.{get_or_default}
 use Rattle.page.specs.Page.{value_len}
 use Rattle.std.proofs.lemmas.List.{take_all}
@@ -59,3 +60,6 @@ returns-clause-puts g c = λ life can delivered.
     let t = tail_at c.args.self.page_size c.args.self.id c.args.self.tip.now in
     subst (λ (l : List (ℕ × List ℕ)). PutsPages t.id (logical_bytes t life.present.readable) (delivered_pages c.args.pages.now l) c.args.cache.now c.loop-index.cache)
     (take_all c.loop-index.index c.args.out.now c.loop-index-test.false) (c.loop-index.invariant.puts life can delivered)
+
+pub returns-in_err-keep_page-clause-err : goal.returns-in_err-keep_page-clause-err
+returns-in_err-keep_page-clause-err c = grind (arith, common_steps)

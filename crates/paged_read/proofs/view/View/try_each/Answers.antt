@@ -1,4 +1,5 @@
 use Rattle.std.proofs.Common.{◌≡◌, ◌∙◌, sym, ap, ℕ, ◌+◌, ◌-◌, ◌≤◌, length, get_or, arith}
+use Rattle.std.proofs.lemmas.Grind.{common_steps}
 use Rattle.std.proofs.lemmas.List.Sums.{sum_by_more, sum_by_more_le}
 use Rattle.std.proofs.lemmas.Slice.{take-put_mid}
 use Rattle.paged_read.specs.Tail.{logical_bytes, tail_at}
@@ -29,3 +30,9 @@ loop-index-preserved g c =
       missed = missed_more cache t ranges i (0, 0) c.loop-index.missed.items c.note.new.missed.items answer there is c.in_ok-note.ensures.ok inv.missed;
       served = λ d can. served_more_bytes cache t ranges i (0, 0) (logical_bytes t d.readable) buf _ part buf_offset there (omega (arith, room)) inv.buf_offset front size (λ served. tries.1 (is ∙ served) d can) (inv.served d can);
     }
+
+pub returns-clause-missed : goal.returns-clause-missed
+returns-clause-missed c = grind (arith, common_steps)
+
+pub returns-clause-served : goal.returns-clause-served
+returns-clause-served c = grind (arith, common_steps)
