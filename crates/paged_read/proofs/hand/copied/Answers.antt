@@ -1,4 +1,5 @@
 use Rattle.std.proofs.Common.{◌≡◌, ◌≤◌, ◌+◌, length, take, drop, arith, ap, ◌∙◌, sym, length-take}
+use Rattle.std.proofs.lemmas.Grind.{common_steps}
 use Rattle.std.proofs.lemmas.List.{drop-drop}
 use Rattle.paged_read.specs.Hand.{payloads_at}
 use Rattle.paged_read.proofs.Hands.{copied_more}
@@ -38,3 +39,9 @@ loop-at-preserved c =
           let whole : len ≡ at.left = omega (arith, part, least, less, size, c.len.ensures) in
           sym c.after-at.ensures.bytes ∙ ap (λ l. drop at.left l) rest ∙ drop-drop at.left done told ∙ ap (λ n. drop n told) (omega (arith, part, whole));
     }
+
+pub after-at-requires-clause-within : goal.after-at-requires-clause-within
+after-at-requires-clause-within c = grind (arith, common_steps)
+
+pub loop-at-smaller : goal.loop-at-smaller
+loop-at-smaller c = grind (arith, common_steps)

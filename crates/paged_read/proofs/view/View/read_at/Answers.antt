@@ -1,4 +1,5 @@
 use Rattle.std.proofs.Common.{rules, refl, Ok, Err, Result, ◌≡◌, ◌+◌, ◌≤◌, ◌∙◌, ◌++◌, List, ℕ, [], ◌∷◌, length, take, drop, sym, ap, subst, arith}
+use Rattle.std.proofs.lemmas.Grind.{common_steps}
 use Rattle.std.specs.List.{concat}
 use Rattle.std.proofs.lemmas.List.{take_all}
 use Rattle.paged_read.specs.Failures.{NoneFailed, none_failed_start}
@@ -156,3 +157,6 @@ returns-clause-costs g c =
     let many : length c.deref_mut.result.now ≡ len = c.deref_mut.ensures.len ∙ c.in_ok-resize.ensures.len in
     costs_again {A = Unit {0}} g.H.Sum.sum_of t (c.args.offset, len) c.args.cache.now c.read_into.new.cache old new _ _
     (subst (λ n. ReadCosts {A = Unit {0}} g.H.Sum.sum_of t (c.args.offset, n) c.args.cache.now c.read_into.new.cache old new (Ok _)) many c.in_ok-read_into.ensures.costs)
+
+pub append_front-requires : goal.append_front-requires
+append_front-requires g c = grind (arith, common_steps)

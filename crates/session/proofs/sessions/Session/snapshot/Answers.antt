@@ -1,4 +1,5 @@
-use Rattle.std.proofs.Common.{rules, ◌≡◌, inl, Some, None, Ok, Err}
+use Rattle.std.proofs.Common.{rules, ◌≡◌, inl, Some, None, Ok, Err, arith}
+use Rattle.std.proofs.lemmas.Grind.{common_steps}
 use Rattle.session.specs.Calls.{SnapshotSays}
 use Rattle.session.proofs.Below.{can_in, leaves_on, leaves_gone, sound_in}
 use Rattle.session.proofs.sessions.Session.snapshot.Goals as goal
@@ -39,3 +40,9 @@ returns-in-Err-clause-tails g c =
     let at : c.args.self.now.writer ≡ Some c.in-Some.writer = search rules in
     let none : c.take.new.self ≡ None = search rules in
     leaves_gone g.H.Sum.sum_of c.args.self.now.writer c.take.new.self c.in-Some.writer c.args.cache.now c.snapshot.new.cache old new at none c.in-Err.ensures.owes.tails c.in-Err.ensures.owes.replays c.in-Err.ensures.owes.others c.in-Err.ensures.owes.cached.settings
+
+pub returns-in-Err-clause-cached : goal.returns-in-Err-clause-cached
+returns-in-Err-clause-cached c = grind (arith, common_steps)
+
+pub returns-in-Ok-clause-cached : goal.returns-in-Ok-clause-cached
+returns-in-Ok-clause-cached c = grind (arith, common_steps)
