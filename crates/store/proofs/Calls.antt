@@ -1,9 +1,9 @@
 -- What a call of a store does and leaves, from what the journal's does and leaves.
 use Rattle.std.proofs.Common.{◌≡◌, ℕ, ◌<◌, ◌^◌, List, [], ◌∷◌, ◌++◌, length, inl, inr, refl, sym, ap, ap₂, subst, ◌∙◌}
 use Rattle.std.specs.Prelude.{Result, Ok, Err}
-use Rattle.std.specs.Result.{IfOk, IsErrAnd}
+use Rattle.std.specs.Result.{IsErrAnd}
 use Rattle.std.specs.FinMap.{empty, insert}
-use Rattle.disk.specs.Disk.{Disk, IsImage, Life}
+use Rattle.disk.specs.Disk.{Disk, Life}
 use Rattle.disk.specs.declared.error.Error.{Error}
 use Rattle.disk.specs.declared.error.Error.TheVariants.{OutOfMemory}
 use Rattle.cache.specs.CacheState.{CacheState}
@@ -13,7 +13,7 @@ use Rattle.writer_state.specs.Sound.{content}
 use Rattle.writer_state.specs.WriterState.{WriterState}
 use Rattle.journal.specs.Calls.{JournalCallLeaves, JournalCrashLeaves}
 use Rattle.journal.specs.Frame.{IsPrefix, records}
-use Rattle.journal.specs.Journal.{BringsOnlyRecords, BringsRecordsBack, IsAppended, IsCommitted, IsJournal, JournalHasRecovered, RecoversJournal, records_in}
+use Rattle.journal.specs.Journal.{BringsOnlyRecords, BringsRecordsBack, IsAppended, IsCommitted, JournalHasRecovered, RecoversJournal, records_in}
 use Rattle.store.specs.declared.store.OpenError.{OpenError}
 use Rattle.store.specs.declared.store.OpenError.TheVariants.{NoPut, Refused}
 use Rattle.store.specs.Store.{AreCommitted, Bytes, ArePuts, CommitPutsLeaves, CrashAndOpenLeaves, HasComeBack, HasCommitted, HasOpenedStore, HasStored, KeepsStore, MapGoes, OpenStoreGoes, PutLeaves, StorePutGoes, StoreState, after_puts, put_record, puts_of}

@@ -223,8 +223,8 @@ pub record CrashAndOpenLeaves (sum own : List ℕ → ℕ) (cache after : CacheS
 -- none where the record fits what the journal may hold back
 pub record PutCosts (own : List ℕ → ℕ) (w : WriterState) (put : Bytes) (old new : Life) : Type 0
   where
-  pub calls : AsksAtMost (wait_calls w.sync + 2) old new
-  pub buffered : length w.tip + length (frame own put) ≤ w.capacity → new ≡ old
+    pub calls : AsksAtMost (wait_calls w.sync + 2) old new
+    pub buffered : length w.tip + length (frame own put) ≤ w.capacity → new ≡ old
 
 -- a commit makes at most two device calls, and none where all is durable
 pub record CommitCosts (w : WriterState) (old new : Life) : Type 0 where

@@ -230,8 +230,8 @@ pub fn crash_and_open<H: Sum, R: Sum>(
         ReadsWithin most (life_of blob.old) (life_of blob.new) }
 {
     let (capacity, most) = (RECOMMENDED_CAPACITY, recommended_buffer_size());
-    let (journal, records) = crash_and_recover(alloc, blob, keep, capacity, cache, most)?;
-    let map = map_of(alloc, &records)?;
+    let (journal, puts) = crash_and_recover(alloc, blob, keep, capacity, cache, most)?;
+    let map = map_of(alloc, &puts)?;
     Ok(Store {
         alloc,
         journal,

@@ -18,7 +18,7 @@ pub returns-clause-goes : goal.returns-clause-goes
 returns-clause-goes g c =
     let d = (life_of c.args.blob.now).present in
     let image = torn c.args.keep.now d.since d.base in
-    come_back g.H.Sum.sum_of g.R.Sum.sum_of _ c.args.cache.now c.crash_and_recover.new.cache d image (begun image d.log) _ c.in_ok-journal.records.items refl
+    come_back g.H.Sum.sum_of g.R.Sum.sum_of _ c.args.cache.now c.crash_and_recover.new.cache d image (begun image d.log) _ c.in_ok-journal.puts.items refl
     c.in_ok-journal.ensures.goes.answers c.in_ok-journal.ensures.goes.back c.in_ok-journal.ensures.goes.only
     (subst ArePuts c.deref.ensures.value c.in_ok-map.ensures.0, c.in_ok-map.ensures.1 ∙ ap (after_puts empty) c.deref.ensures.value)
     c.crash_and_recover.ensures.leaves.fresh
