@@ -1,4 +1,5 @@
 use Rattle.std.proofs.Common.{◌∙◌, ◌++◌, ℕ, List, length, ap, arith}
+use Rattle.std.proofs.lemmas.Grind.{common_steps}
 use Rattle.page.specs.Page.{slot_bytes}
 use Rattle.page.specs.declared.slot.ActiveChecksum.{ActiveChecksum}
 use Rattle.crash.specs.Built.{kept_slot, kept_bytes, footer}
@@ -20,3 +21,6 @@ loop-page-preserved g c =
           c.in_ok-extend_from_slice-2.ensures.items c.loop-page.invariant.bytes;
       known = tells_none sum _;
     }
+
+pub returns-clause-bytes : goal.returns-clause-bytes
+returns-clause-bytes g c = grind (arith, common_steps)

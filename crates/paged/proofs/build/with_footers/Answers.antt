@@ -1,4 +1,5 @@
 use Rattle.std.proofs.Common.{◌≡◌, ◌∷◌, ◌++◌, length, drop, sym, ap, ◌∙◌, arith}
+use Rattle.std.proofs.lemmas.Grind.{common_steps}
 use Rattle.std.specs.List.{concat}
 use Rattle.std.specs.Vec.Iter.{into_iter_items}
 use Rattle.paged.specs.Flush.{with_footers}
@@ -16,3 +17,6 @@ loop-page-preserved c =
           c.in_ok-slice.ensures.ok c.in_ok-append.ensures.bytes c.in_ok-append-2.ensures.bytes
           (ap (λ pages. concat c.loop-page.bufs ++ with_footers pages (drop c.loop-page.at c.args.footers.now)) (sym taken) ∙ c.loop-page.invariant.bytes);
     }
+
+pub returns-clause-bytes : goal.returns-clause-bytes
+returns-clause-bytes c = grind (arith, common_steps)

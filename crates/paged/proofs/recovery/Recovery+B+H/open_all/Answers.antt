@@ -1,6 +1,7 @@
 use Rattle.paged_read.proofs.Backward.{down_back}
 use Rattle.paged.proofs.OpenedReads.{opened_reads, opened_others}
 use Rattle.std.proofs.Common.{◌≡◌, ◌+◌, ◌*◌, ◌/◌, ◌%◌, ◌^◌, ◌<◌, ℕ, length, ◌∙◌, ap, arith, refl, subst}
+use Rattle.std.proofs.lemmas.Grind.{common_steps}
 use Rattle.std.proofs.lemmas.Result.{err_from_is_err_and}
 use Rattle.std.specs.Int.NonZero.{non_zero_u16_get}
 use Rattle.page.specs.Geometry.{adjusted}
@@ -229,3 +230,6 @@ returns-clause-others g c =
 pub returns-clause-mended : goal.returns-clause-mended
 returns-clause-mended g c = λ durable.
     opens_mended g.H.Sum.sum_of c.args.cache.now c.args.capacity (g.B.Blob.life c.args.blob.now) (g.B.Blob.life c.keep_pages.new.blob) c.at_prefix.result (opens g (goal.at.returns-clause-mended g c).After-at_prefix) durable
+
+pub returns-clause-fresh_ids : goal.returns-clause-fresh_ids
+returns-clause-fresh_ids g c = grind (arith, common_steps)
