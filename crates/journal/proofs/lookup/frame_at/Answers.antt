@@ -1,4 +1,5 @@
 use Rattle.std.proofs.Common.{◌+◌, ◌-◌, ap, arith}
+use Rattle.std.proofs.lemmas.Grind.{common_steps}
 use Rattle.paged_read.specs.Failures.{none_failed_start}
 use Rattle.paged_read.specs.Tail.{logical_bytes, tail_at}
 use Rattle.journal.proofs.Costs.{frame_none}
@@ -30,3 +31,6 @@ returns-then-size-offset-clause-costs g c =
     let t = tail_at c.args.view.page_size c.args.view.id c.args.view.tip.now in
     let life = g.B.Blob.life c.args.blob.now in
     frame_none t (logical_bytes t life.present.readable) c.args.offset c.args.cache.now life
+
+pub overflow_add-result : goal.overflow_add-result
+overflow_add-result g c = grind (arith, common_steps)

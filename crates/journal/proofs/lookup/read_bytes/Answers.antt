@@ -1,4 +1,5 @@
 use Rattle.std.proofs.Common.{◌≡◌, ◌∙◌, ℕ, length, arith, subst}
+use Rattle.std.proofs.lemmas.Grind.{common_steps}
 use Rattle.std.proofs.lemmas.Result.{err_from_is_err_and}
 use Rattle.paged_read.specs.Failures.{none_failed_start}
 use Rattle.paged_read.specs.Tail.{tail_at}
@@ -58,3 +59,6 @@ returns-in_ok-from_vec-in-Ok-clause-costs g c = costs g (goal.at.returns-in_ok-f
 
 pub returns-in-Err-clause-costs : goal.returns-in-Err-clause-costs
 returns-in-Err-clause-costs g c = costs g (goal.at.returns-in-Err-clause-costs g c).After-read_into (c.deref_mut.ensures.len ∙ c.in_ok-resize.ensures.len)
+
+pub returns-in_ok-from_vec-in-Ok-clause-reads : goal.returns-in_ok-from_vec-in-Ok-clause-reads
+returns-in_ok-from_vec-in-Ok-clause-reads g c = grind (arith, common_steps)

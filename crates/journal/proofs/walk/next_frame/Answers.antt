@@ -1,4 +1,5 @@
 use Rattle.std.proofs.Common.{◌≡◌, ◌+◌, ◌≤◌, ◌++◌, ◌∙◌, ℕ, List, length, length-drop, take, drop, ap, sym, arith}
+use Rattle.std.proofs.lemmas.Grind.{common_steps}
 use Rattle.std.proofs.lemmas.List.{length-take-le}
 use Rattle.journal.specs.Frame.{record_len}
 use Rattle.journal.proofs.Walks.{after, left, parted, said, took}
@@ -55,3 +56,6 @@ returns-clause-passes g c = λ content is within.
       after = omega (arith, is_after.long);
       within = omega (arith, enough, had.size);
     }
+
+pub take_into-requires-2 : goal.take_into-requires-2
+take_into-requires-2 g c = grind (arith, common_steps)

@@ -1,4 +1,5 @@
 use Rattle.std.proofs.Common.{◌≡◌, ℕ, ◌+◌, ◌-◌, ◌≤◌, List, ◌++◌, rules, arith, length, take, drop, sym, ap, ◌∙◌, subst}
+use Rattle.std.proofs.lemmas.Grind.{common_steps}
 use Rattle.std.proofs.lemmas.List.{take_at, drop_at, take-append-le, length-take-le}
 use Rattle.std.proofs.lemmas.Slice.{take-put_mid_below}
 use Rattle.std.proofs.Math.Seq.{take-add}
@@ -50,3 +51,6 @@ loop-preserved g c =
                 (Consumes-kept before between after _ is.takes w.in-Err.ensures.bytes);
           }
     ]
+
+pub returns-in-Ok-eq0-clause-came : goal.returns-in-Ok-eq0-clause-came
+returns-in-Ok-eq0-clause-came g c = grind (arith, common_steps)

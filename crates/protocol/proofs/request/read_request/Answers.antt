@@ -1,4 +1,5 @@
 use Rattle.std.proofs.Common.{◌≡◌, ◌<◌, ◌∙◌, sym, arith, length, take}
+use Rattle.std.proofs.lemmas.Grind.{common_steps}
 use Rattle.std.proofs.lemmas.List.{length-take-le, take_all}
 use Rattle.protocol.proofs.Frames.{request_cut, request_refused}
 use Rattle.protocol.proofs.request.read_request.Goals as goal
@@ -27,3 +28,6 @@ returns-in_err-request g c =
           c.in_err-request.field-0.0 c.from_residual-in_err-request.result four (c.length_of-length.ensures.told ∙ sym all)
           read.came.takes c.from_residual-in_err-request.ensures.1 c.in_err-request.ensures.reads;
     }
+
+pub returns : goal.returns
+returns g c = grind (arith, common_steps)
