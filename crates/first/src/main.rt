@@ -7,8 +7,10 @@ use cache::CacheRef;
 use crc32c::Crc32c;
 use disk::{Blob, IoBuf};
 use file::FileBlob;
-use paged::{RECOMMENDED_CAPACITY, RECOMMENDED_LIMIT, Verdict, Writer, recommended_buffer_size};
-use paged::{recommended_cache, recommended_page_size, recover, survey};
+use paged::{
+    RECOMMENDED_CAPACITY, RECOMMENDED_LIMIT, Verdict, Writer, recommended_buffer_size,
+    recommended_cache, recommended_page_size, recover, survey,
+};
 use std::alloc::Global;
 use std::{env, io};
 

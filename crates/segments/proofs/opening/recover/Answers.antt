@@ -1,5 +1,6 @@
 use Rattle.std.specs.Int.NonZero.{non_zero_u16_get}
-use Rattle.std.proofs.Common.{subst}
+use Rattle.std.proofs.Common.{subst, arith}
+use Rattle.std.proofs.lemmas.Grind.{common_steps}
 use Rattle.segments.specs.Log.{LeavesOpened}
 use Rattle.segments.proofs.Opened.{opened_leaves}
 use Rattle.segments.proofs.opening.recover.Goals as goal
@@ -11,3 +12,6 @@ returns-in-Ok-clause-leaves g c =
     let P = non_zero_u16_get c.args.options.page_size in
     subst (λ old. LeavesOpened sum own P old c.recover.new.self) c.in_ok-owned.ensures.life
     (opened_leaves sum own P c.in_ok-owned.owned.cache c.recover.new.self.cache c.in_ok-owned.owned.life c.recover.new.self.life c.in_ok-owned.ensures.cache c.recover.ensures.leaves)
+
+pub returns-in-Ok-clause-has : goal.returns-in-Ok-clause-has
+returns-in-Ok-clause-has g c = grind (arith, common_steps)

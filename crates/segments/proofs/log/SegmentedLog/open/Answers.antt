@@ -1,6 +1,17 @@
+use Rattle.std.proofs.Common.{arith}
+use Rattle.std.proofs.lemmas.Grind.{common_steps}
 use Rattle.segments.proofs.Beginning.{parts_open}
 use Rattle.segments.proofs.log.SegmentedLog.open.Goals as goal
 
 pub returns-in-Ok-begin-clause-opens : goal.returns-in-Ok-begin-clause-opens
 returns-in-Ok-begin-clause-opens g c =
     c.in-Ok-begin.ensures.opens (g.F.Folder.asked c.args.folder) (parts_open g.H.Sum.sum_of g.R.Sum.sum_of _ _ (g.F.Folder.asked c.args.folder) _ _ _ _ c.in-Ok.ensures.are)
+
+pub returns-in-Err-begin-clause-log : goal.returns-in-Err-begin-clause-log
+returns-in-Err-begin-clause-log c = grind (arith, common_steps)
+
+pub returns-in-Err-begin-clause-opens : goal.returns-in-Err-begin-clause-opens
+returns-in-Err-begin-clause-opens c = grind (arith, common_steps)
+
+pub returns-in-Err-begin-clause-page_size : goal.returns-in-Err-begin-clause-page_size
+returns-in-Err-begin-clause-page_size c = grind (arith, common_steps)

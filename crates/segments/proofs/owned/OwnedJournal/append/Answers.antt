@@ -1,4 +1,5 @@
-use Rattle.std.proofs.Common.{sym, subst, ◌∙◌}
+use Rattle.std.proofs.Common.{sym, subst, ◌∙◌, arith}
+use Rattle.std.proofs.lemmas.Grind.{common_steps}
 use Rattle.segments.specs.Owned.{IsOwned}
 use Rattle.segments.proofs.Counts.{one_more_fits}
 use Rattle.segments.proofs.OwnedLaws.{owned_of}
@@ -11,3 +12,6 @@ overflow_add-self g c =
     let opened = subst (λ s. IsOwned sum own s) (sym c.self.view_is) c.requires.owned in
     let held = owned_of sum own _ c.in-Some.journal opened (sym c.take.ensures.value ∙ c.in-Some.is) in
     one_more_fits sum own c.in-Some.journal c.in-Ok.journal c.args.bytes.now _ _ _ c.in-Ok.offset c.self.inside.records c.size-size.result held.counts (c.in-Ok.ensures).goes c.size-size.ensures c.size-size.type_inv
+
+pub returns-in-Ok-clause-ready : goal.returns-in-Ok-clause-ready
+returns-in-Ok-clause-ready g c = grind (arith, common_steps)
