@@ -416,7 +416,7 @@ fn spent(alloc: Global, count: usize) -> Result<Vec<Start>, AllocError>
     Ok(starts)
 }
 
-// The call that an action makes, and room for all that it leaves. All is as it was but for the room.
+// The call that an action makes, and room for all that it leaves. Nothing changes except the room.
 fn prepare(
     alloc: Global,
     action: &Action,
