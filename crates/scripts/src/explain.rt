@@ -6,6 +6,44 @@ use std::alloc::Global;
 use std::io::Write;
 use std::{fmt, io};
 
+/// The names of the lines after the first in a script of a session.
+const NAMES: [&str; 29] = [
+    "append",
+    "owned",
+    "try",
+    "sync",
+    "start-sync",
+    "wait",
+    "wait-sync",
+    "needs",
+    "size",
+    "read",
+    "upto",
+    "cached",
+    "ranges",
+    "cached-ranges",
+    "scan",
+    "begin",
+    "truncate",
+    "snapshot",
+    "try-snapshot",
+    "snap",
+    "replay",
+    "ensure",
+    "take",
+    "seek",
+    "seal",
+    "fail",
+    "crash",
+    "recover",
+    "dump",
+];
+
+/// The names of the lines after the first in a script of items.
+const ITEM_NAMES: [&str; 8] = [
+    "push", "get", "len", "sync", "fail", "crash", "recover", "dump",
+];
+
 /// How many bytes of a text are shown at most.
 const MOST_SHOWN: usize = 60;
 
@@ -63,22 +101,30 @@ impl Form {
 
     /// What the word at this index must be in a later line that begins with `name`, which has
     /// index 0.
-    fn after(lines: &[Named], name: &[u8], index: usize) -> Self {
-        for (line, forms) in lines {
-            if line.as_bytes() == name {
-                let [.., last] = *forms;
-                return forms.get(index.saturating_sub(1)).copied().unwrap_or(last);
+    fn after(name: &[u8], index: usize) -> Self {
+        match name {
+            b"append" | b"owned" | b"try" | b"push" if index == 1 => Form::Hex,
+            b"wait-sync" | b"truncate" | b"get" if index == 1 => Form::Number,
+            b"replay" | b"fail" if index == 1 => Form::Count,
+            b"crash" if index == 1 => Form::Flags,
+            b"read" | b"upto" | b"cached" | b"ensure" | b"take" | b"seek" if index < 3 => {
+                Form::Number
             }
+            b"snap" if index < 4 => Form::Number,
+            b"scan" if index < 3 => Form::Number,
+            b"scan" if index == 3 => Form::Count,
+            b"ranges" | b"cached-ranges" if index == 1 => Form::Range,
+            b"ranges" | b"cached-ranges" => Form::RangeOrEnd,
+            _ => Form::End,
         }
-        Form::End
     }
 
     /// Whether a word has this form. A word that there is no memory to read counts as having it.
     fn fits(self, alloc: Global, word: &[u8]) -> bool {
         match self {
-            Form::Start => word == b"start".as_slice() || word == b"start-items".as_slice(),
-            Form::Name => is_one_of(&LINES, word),
-            Form::ItemName => is_one_of(&ITEM_LINES, word),
+            Form::Start => matches!(word, b"start" | b"start-items"),
+            Form::Name => is_one_of(&NAMES, word),
+            Form::ItemName => is_one_of(&ITEM_NAMES, word),
             Form::Hex => is_read(parse_hex(alloc, word)),
             Form::Number => is_read(parse_number(word)),
             Form::Count => word != b"0".as_slice() && is_read(parse_number(word)),
@@ -97,8 +143,8 @@ impl fmt::Display for Form {
     fn fmt<W: fmt::Write>(&self, f: &mut fmt::Formatter<W>) -> fmt::Result {
         match self {
             Form::Start => write!(f, "start or start-items"),
-            Form::Name => write_names(f, &LINES),
-            Form::ItemName => write_names(f, &ITEM_LINES),
+            Form::Name => write_names(f, &NAMES),
+            Form::ItemName => write_names(f, &ITEM_NAMES),
             Form::Hex => write!(f, "pairs of the digits 0-9 and a-f, or -"),
             Form::Number => write!(f, "a number below 2^64, with no 0 in front"),
             Form::Count => write!(f, "a number from 1 to 2^64 - 1, with no 0 in front"),
@@ -114,85 +160,13 @@ impl fmt::Display for Form {
     }
 }
 
-/// A line after the first: its name, and what the words after it must be. More words than these
-/// must be as the last of them.
-type Named = (&'static str, [Form; 4]);
-
-const NOTHING: [Form; 4] = [Form::End, Form::End, Form::End, Form::End];
-
-const HEX: [Form; 4] = [Form::Hex, Form::End, Form::End, Form::End];
-
-const NUMBER: [Form; 4] = [Form::Number, Form::End, Form::End, Form::End];
-
-const NUMBERS: [Form; 4] = [Form::Number, Form::Number, Form::End, Form::End];
-
-const THREE_NUMBERS: [Form; 4] = [Form::Number, Form::Number, Form::Number, Form::End];
-
-const SCAN: [Form; 4] = [Form::Number, Form::Number, Form::Count, Form::End];
-
-const COUNT: [Form; 4] = [Form::Count, Form::End, Form::End, Form::End];
-
-const FLAGS: [Form; 4] = [Form::Flags, Form::End, Form::End, Form::End];
-
-const RANGES: [Form; 4] = [
-    Form::Range,
-    Form::RangeOrEnd,
-    Form::RangeOrEnd,
-    Form::RangeOrEnd,
-];
-
-/// The lines after the first in a script of a session.
-const LINES: [Named; 29] = [
-    ("append", HEX),
-    ("owned", HEX),
-    ("try", HEX),
-    ("sync", NOTHING),
-    ("start-sync", NOTHING),
-    ("wait", NOTHING),
-    ("wait-sync", NUMBER),
-    ("needs", NOTHING),
-    ("size", NOTHING),
-    ("read", NUMBERS),
-    ("upto", NUMBERS),
-    ("cached", NUMBERS),
-    ("ranges", RANGES),
-    ("cached-ranges", RANGES),
-    ("scan", SCAN),
-    ("begin", NOTHING),
-    ("truncate", NUMBER),
-    ("snapshot", NOTHING),
-    ("try-snapshot", NOTHING),
-    ("snap", THREE_NUMBERS),
-    ("replay", COUNT),
-    ("ensure", NUMBERS),
-    ("take", NUMBERS),
-    ("seek", NUMBERS),
-    ("seal", NOTHING),
-    ("fail", COUNT),
-    ("crash", FLAGS),
-    ("recover", NOTHING),
-    ("dump", NOTHING),
-];
-
-/// The lines after the first in a script of items.
-const ITEM_LINES: [Named; 8] = [
-    ("push", HEX),
-    ("get", NUMBER),
-    ("len", NOTHING),
-    ("sync", NOTHING),
-    ("fail", COUNT),
-    ("crash", FLAGS),
-    ("recover", NOTHING),
-    ("dump", NOTHING),
-];
-
-fn is_one_of(lines: &[Named], word: &[u8]) -> bool {
-    lines.iter().any(|line| line.0.as_bytes() == word)
+fn is_one_of(names: &[&str], word: &[u8]) -> bool {
+    names.iter().any(|name| name.as_bytes() == word)
 }
 
-fn write_names<W: fmt::Write>(f: &mut fmt::Formatter<W>, lines: &[Named]) -> fmt::Result {
+fn write_names<W: fmt::Write>(f: &mut fmt::Formatter<W>, names: &[&str]) -> fmt::Result {
     write!(f, "one of")?;
-    for (name, _) in lines {
+    for name in names {
         write!(f, " {name}")?;
     }
     Ok(())
@@ -207,8 +181,7 @@ fn is_read<T: Drop>(read: Result<T, ReadError>) -> bool {
 fn form_at(place: Place, words: &[&[u8]], index: usize) -> Form {
     match (place, words) {
         (Place::First, [name, ..]) => Form::at_start(name, index),
-        (Place::OfSession, [name, ..]) if index > 0 => Form::after(&LINES, name, index),
-        (Place::OfItems, [name, ..]) if index > 0 => Form::after(&ITEM_LINES, name, index),
+        (_, [name, ..]) if index > 0 => Form::after(name, index),
         (Place::First, []) => Form::Start,
         (Place::OfSession, _) => Form::Name,
         (Place::OfItems, _) => Form::ItemName,
