@@ -1,4 +1,6 @@
 // Appends on a file of the system, beside a plain file that is asked for the same.
+ghost use Rattle.cache.specs.Pages.{IsFresh};
+
 use crate::stage::{PAGE_SIZE, PHYSICAL_PAGE, recovered};
 use crate::work::append_synced;
 use anyhow::Result;
@@ -58,14 +60,32 @@ pub fn compare<H: Sum>(rt: &HostRuntime, path: &str, appends: u64) -> Result<Com
 
 // The nanoseconds that the layer takes.
 fn append_by_layer<H: Sum>(rt: &HostRuntime, path: &str, appends: u64) -> Result<u128> {
-    let alloc = rt.alloc();
+    let mut blob = opened(rt, path)?;
     let page_size = NonZeroU16::new(PAGE_SIZE).unwrap_or(NonZeroU16::MIN);
-    let mut blob = file::open(rt, path)?;
-    let mut cache = CacheRef::new(alloc, page_size, NonZeroUsize::MIN)?;
+    let mut cache = CacheRef::new(rt.alloc(), page_size, NonZeroUsize::MIN)?;
+    append_to::<H>(rt, &mut *blob, &mut cache, appends)
+}
+
+// A file as a blob, in a box, since whoever owns one lets it go wherever a call may fail.
+fn opened(rt: &HostRuntime, path: &str) -> Result<Box<FileBlob>> {
+    let blob = file::open(rt, path)?;
+    Ok(Box::new(rt.alloc(), blob)?)
+}
+
+// The nanoseconds of the appends, each with a sync.
+fn append_to<H: Sum>(
+    rt: &HostRuntime,
+    blob: &mut FileBlob,
+    cache: &mut CacheRef,
+    appends: u64,
+) -> Result<u128>
+    requires fresh { IsFresh cache.old }
+{
     let size = blob.len();
-    let writer = recovered::<FileBlob, H>(alloc, &mut blob, size, &mut cache, NonZeroUsize::MIN)?;
+    let reads = NonZeroUsize::MIN;
+    let writer = recovered::<FileBlob, H>(rt.alloc(), blob, size, cache, reads)?;
     let start = Instant::now(rt)?;
-    append_synced(writer, &mut blob, &mut cache, &[0x5A; RECORD], appends, 1)?;
+    append_synced(writer, blob, cache, &[0x5A; RECORD], appends, 1)?;
     Ok(start.elapsed(rt)?.as_nanos())
 }
 

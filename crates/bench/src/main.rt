@@ -62,19 +62,24 @@ impl<'a> Request<'a> {
 
 /// The command line.
 fn command<'a>(alloc: Global) -> Result<Command<'a>> {
+    let command = Command::new(alloc, "bench")
+        .about("plays workloads on a blob in memory")
+        .subcommand(time_command(alloc)?)?
+        .subcommand(file_command(alloc)?)?;
+    Ok(command)
+}
+
+/// The part of the command line that is for times.
+fn time_command<'a>(alloc: Global) -> Result<Command<'a>> {
     let rounds = Arg::new(alloc, "ROUNDS")
         .help("how often each workload is played")
         .value_parser(value_parser!(u64).range(1..))
         .required(true);
     let name = Arg::new(alloc, "NAME").help("plays the workloads whose line has this in it");
-    let time = Command::new(alloc, "time")
+    let command = Command::new(alloc, "time")
         .about("prints what each operation took")
         .arg(rounds)?
         .arg(name)?;
-    let command = Command::new(alloc, "bench")
-        .about("plays workloads on a blob in memory")
-        .subcommand(time)?
-        .subcommand(file_command(alloc)?)?;
     Ok(command)
 }
 
@@ -127,6 +132,22 @@ fn print(rt: &HostRuntime, request: &Request, line: &str, done: &Done) -> Result
     Ok(())
 }
 
+/// Does what the command line asks.
+fn answer(rt: &HostRuntime, matches: &ArgMatches) -> Result<()> {
+    if let Some(words) = matches.subcommand_matches("file") {
+        let path = words.get_str("PATH").unwrap_or_default();
+        let appends = words.get_one::<u64>("APPENDS").unwrap_or(1);
+        let compared = compare::<Crc32c>(rt, path, appends)?;
+        println!(rt; "{compared}")?;
+        return Ok(());
+    }
+    let request = Request::of(matches);
+    play_all::<ConstSum>(rt, &request, "const")?;
+    play_all::<AddSum>(rt, &request, "add")?;
+    play_all::<Crc32c>(rt, &request, "crc32c")?;
+    play_caches(rt, &request)
+}
+
 fn main(rt: HostRuntime) -> Result<ExitCode> {
     let alloc = rt.alloc();
     let words: Vec<String> = env::args(&rt)?.collect(alloc)?;
@@ -137,16 +158,6 @@ fn main(rt: HostRuntime) -> Result<ExitCode> {
             return Ok(ExitCode::from(error.exit_code() as u8));
         }
     };
-    if let Some(words) = matches.subcommand_matches("file") {
-        let path = words.get_str("PATH").unwrap_or_default();
-        let appends = words.get_one::<u64>("APPENDS").unwrap_or(1);
-        println!(rt; "{}", compare::<Crc32c>(&rt, path, appends)?)?;
-        return Ok(ExitCode::SUCCESS);
-    }
-    let request = Request::of(&matches);
-    play_all::<ConstSum>(&rt, &request, "const")?;
-    play_all::<AddSum>(&rt, &request, "add")?;
-    play_all::<Crc32c>(&rt, &request, "crc32c")?;
-    play_caches(&rt, &request)?;
+    answer(&rt, &matches)?;
     Ok(ExitCode::SUCCESS)
 }

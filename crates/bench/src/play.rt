@@ -67,7 +67,7 @@ fn play_appends<H: Sum>(
     for _ in 0..rounds {
         let writer = stage.restart::<H>()?;
         let start = Start::now(rt, &stage.blob)?;
-        append_round(writer, &mut stage, workload, &record, &owned)?;
+        append_round(writer, &mut *stage, workload, &record, &owned)?;
         start.end(rt, &stage.blob, done)?;
     }
     Ok(())
@@ -133,10 +133,10 @@ fn play_reads<H: Sum>(
     let record = record(rt.alloc(), workload.bytes())?;
     let mut stage = Stage::new(rt.alloc(), reads.size, reads.cached)?;
     let appends = reads.size.div_ceil(record.len().max(1) as u64);
-    let writer = filled::<H>(&mut stage, &record, appends, reads.synced)?;
+    let writer = filled::<H>(&mut *stage, &record, appends, reads.synced)?;
     read_rounds(
         rt,
-        &mut stage,
+        &mut *stage,
         &writer,
         workload,
         &reads.offsets,
@@ -195,7 +195,7 @@ fn play_recoveries<H: Sum>(
 ) -> Result<()> {
     let mut stage = Stage::new(rt.alloc(), workload.bytes() as u64, false)?;
     let record = record(rt.alloc(), workload.bytes())?;
-    filled::<H>(&mut stage, &record, 1, true)?;
+    filled::<H>(&mut *stage, &record, 1, true)?;
     let buffer_size = NonZeroUsize::new(buffer).unwrap_or(NonZeroUsize::MIN);
     for _ in 0..rounds {
         let start = Start::now(rt, &stage.blob)?;
@@ -213,8 +213,9 @@ fn play_replays<H: Sum>(
     done: &mut Done,
 ) -> Result<()> {
     let mut stage = Stage::new(rt.alloc(), workload.bytes() as u64, false)?;
+    let stage = &mut *stage;
     let record = record(rt.alloc(), workload.bytes())?;
-    let mut writer = filled::<H>(&mut stage, &record, 1, true)?;
+    let mut writer = filled::<H>(stage, &record, 1, true)?;
     let buffer_size = NonZeroUsize::new(buffer).unwrap_or(NonZeroUsize::MIN);
     for _ in 0..rounds {
         let start = Start::now(rt, &stage.blob)?;

@@ -34,9 +34,10 @@ pub struct Stage {
 
 impl Stage {
     /// An empty blob, with memory for the pages of so many logical bytes. All of that memory was
-    /// written to before. The cache may hold all of the pages if `cached`, or else one.
-    pub fn new(alloc: Global, bytes: u64, cached: bool) -> Result<Self>
-        ensures { IfOk result (λ stage. IsFresh stage.cache) }
+    /// written to before. The cache may hold all of the pages if `cached`, or else one. It stands in
+    /// a box, since whoever owns it lets it go wherever a call may fail.
+    pub fn new(alloc: Global, bytes: u64, cached: bool) -> Result<Box<Self>>
+        ensures { IfOk result (λ stage. IsFresh stage.value.cache) }
     {
         let page_size = NonZeroU16::new(PAGE_SIZE).unwrap_or(NonZeroU16::MIN);
         let pages = (bytes / u64::from(PAGE_SIZE)).saturating_add(2);
@@ -46,22 +47,24 @@ impl Stage {
         let mut memory = Vec::with_capacity(alloc, room)?;
         memory.resize(room, 0)?;
         memory.clear();
-        Ok(Stage {
-            alloc,
-            blob: Counted::new(VecBlob::from_vec(memory)),
-            cache: CacheRef::new(alloc, page_size, held)?,
-        })
+        let cache = CacheRef::new(alloc, page_size, held)?;
+        Ok(Self::over(alloc, memory, cache)?)
     }
 
     /// An empty blob, and a cache that may hold so many pages.
-    pub fn holding(alloc: Global, pages: u64) -> Result<Self> {
+    pub fn holding(alloc: Global, pages: u64) -> Result<Box<Self>> {
         let page_size = NonZeroU16::new(PAGE_SIZE).unwrap_or(NonZeroU16::MIN);
         let held = NonZeroUsize::new(pages as usize).unwrap_or(NonZeroUsize::MIN);
-        Ok(Stage {
-            alloc,
-            blob: Counted::new(VecBlob::from_vec(Vec::new(alloc))),
-            cache: CacheRef::new(alloc, page_size, held)?,
-        })
+        let cache = CacheRef::new(alloc, page_size, held)?;
+        Ok(Self::over(alloc, Vec::new(alloc), cache)?)
+    }
+
+    // A blob with these bytes, and this cache, in a box.
+    fn over(alloc: Global, bytes: Vec<u8>, cache: CacheRef) -> Result<Box<Self>, Error>
+        ensures { IfOk result (λ stage. stage.value.cache ≡ cache) }
+    {
+        let blob = Counted::new(VecBlob::from_vec(bytes));
+        Ok(Box::new(alloc, Stage { alloc, blob, cache })?)
     }
 
     /// Empties the blob, and answers its writer.
