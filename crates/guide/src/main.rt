@@ -109,10 +109,15 @@ struct Outcome {
     syncs: u64,
 }
 
-/// Commits a record; is refused as it commits another, and recovers at once; appends a third, and
-/// crashes.
+/// Plays on a new journal, which it owns, what another function does with it.
 fn fail_and_crash(alloc: Global) -> Result<Outcome, JournalError> {
     let mut journal = Journal::<Poly>::open(alloc, MemBlob::new(alloc))?;
+    play_failures(&mut journal)
+}
+
+/// Commits a record; is refused as it commits another, and recovers at once; appends a third, and
+/// crashes.
+fn play_failures(journal: &mut Journal<Poly>) -> Result<Outcome, JournalError> {
     let offset = journal.append(b"one")?;
     journal.commit()?;
     journal.append(b"two")?;
