@@ -34,8 +34,8 @@ pub struct Stage {
 
 impl Stage {
     /// An empty blob, with memory for the pages of so many logical bytes. All of that memory was
-    /// written to before. The cache may hold all of the pages if `cached`, or else one. It stands in
-    /// a box, since whoever owns it lets it go wherever a call may fail.
+    /// written to before. The cache may hold all of the pages if `cached`, or else one. It stands
+    /// in a box, since whoever owns it lets it go wherever a call may fail.
     pub fn new(alloc: Global, bytes: u64, cached: bool) -> Result<Box<Self>>
         ensures { IfOk result (λ stage. IsFresh stage.value.cache) }
     {

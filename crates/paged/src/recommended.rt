@@ -14,7 +14,8 @@ pub const RECOMMENDED_CAPACITY: usize = 65_536;
 
 /// How many physical bytes a recovery may cut although a page among them has a value: 1 MiB. It is
 /// for the `limit` of [`crate::Survey::verdict`]. A crash leaves such pages of what was written
-/// after the last completed sync; a program that writes more between two syncs wants a greater limit.
+/// after the last completed sync; a program that writes more between two syncs wants a greater
+/// limit.
 pub const RECOMMENDED_LIMIT: u64 = 1_048_576;
 
 /// The logical size of a page, in bytes: 4,084. With its footer of 12 bytes such a page has 4,096
