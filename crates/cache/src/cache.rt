@@ -18,12 +18,23 @@ use std::num::{NonZeroU16, NonZeroUsize};
 /// What is put under a blob's id must be that blob's own pages, so that its readers read what the
 /// blob holds: the blob's writer and its readers see to that. A cache doesn't check what it is
 /// given.
-#[derive(Drop)]
 pub struct CacheRef {
     pub(crate) alloc: Global,
     pub(crate) slots: Slots,
     /// The next id; `None` once the greatest `u64` was given.
     pub(crate) next: Option<u64>,
+}
+
+// By hand, so that an owner lets one go by one call: of a derived drop, a proof follows each field
+// at each exit.
+impl Drop for CacheRef {
+    fn drop(self) {
+        let CacheRef {
+            alloc: _,
+            slots: _,
+            next: _,
+        } = self;
+    }
 }
 
 impl Model for CacheRef {

@@ -26,7 +26,6 @@ pub enum Argument {
 pub type Form<V> = (&'static [u8], &'static [Argument], V);
 
 /// The words of a step after its name, each kind in its order.
-#[derive(Drop)]
 pub struct Arguments {
     /// The numbers.
     pub numbers: Vec<u64>,
@@ -36,6 +35,19 @@ pub struct Arguments {
     pub ranges: Vec<(u64, usize)>,
     /// The flags.
     pub flags: Vec<bool>,
+}
+
+// By hand, so that an owner lets one go by one call: of a derived drop, a proof follows each field
+// at each exit.
+impl Drop for Arguments {
+    fn drop(self) {
+        let Arguments {
+            numbers: _,
+            pieces: _,
+            ranges: _,
+            flags: _,
+        } = self;
+    }
 }
 
 impl Arguments {

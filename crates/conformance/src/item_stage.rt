@@ -46,7 +46,6 @@ pub enum Told {
 
 /// A blob in memory with its cache, and the items on it, with a snapshot and a replay of them, if
 /// there are such. It is handed out in a box.
-#[derive(Drop)]
 pub struct ItemStage<H: Sum> {
     alloc: Global,
     setting: Setting,
@@ -56,6 +55,23 @@ pub struct ItemStage<H: Sum> {
     items: Option<Items<MemBlob, H>>,
     snapshot: Option<ItemsSnapshot<MemBlob, H>>,
     replay: Option<ItemsReplay<MemBlob, H>>,
+}
+
+// By hand, so that an owner lets one go by one call: of a derived drop, a proof follows each field
+// at each exit.
+impl<H: Sum> Drop for ItemStage<H> {
+    fn drop(self) {
+        let ItemStage {
+            alloc: _,
+            setting: _,
+            size: _,
+            blob: _,
+            cache: _,
+            items: _,
+            snapshot: _,
+            replay: _,
+        } = self;
+    }
 }
 
 impl<H: Sum> Model for ItemStage<H> {

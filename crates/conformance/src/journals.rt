@@ -84,13 +84,26 @@ const STEPS: [Form<Verb>; 13] = [
 ];
 
 /// A blob with its cache, and the journal on it and a reader of the journal, if there are such.
-#[derive(Drop)]
 pub struct Journals<H: Sum, R: Sum> {
     sizes: Sizes,
     blob: MemBlob,
     cache: CacheRef,
     journal: Option<Journal<MemBlob, H, R>>,
     reader: Option<Reader<MemBlob, H, R>>,
+}
+
+// By hand, so that an owner lets one go by one call: of a derived drop, a proof follows each field
+// at each exit.
+impl<H: Sum, R: Sum> Drop for Journals<H, R> {
+    fn drop(self) {
+        let Journals {
+            sizes: _,
+            blob: _,
+            cache: _,
+            journal: _,
+            reader: _,
+        } = self;
+    }
 }
 
 impl<H: Sum, R: Sum> Model for Journals<H, R> {

@@ -4,7 +4,6 @@ use std::io;
 use std::io::Write;
 
 /// A step, what it should answer, and which device calls it should make.
-#[derive(Drop)]
 pub struct Row {
     /// The number of its line, from 1 on.
     pub number: usize,
@@ -20,6 +19,22 @@ pub struct Row {
     pub wanted: Vec<u8>,
     /// The lines that it should write of errors.
     pub errors: Vec<u8>,
+}
+
+// By hand, so that an owner lets one go by one call: of a derived drop, a proof follows each field
+// at each exit.
+impl Drop for Row {
+    fn drop(self) {
+        let Row {
+            number: _,
+            step: _,
+            reply: _,
+            calls: _,
+            given: _,
+            wanted: _,
+            errors: _,
+        } = self;
+    }
 }
 
 /// A line with each text in quotes as hexadecimal digits, and without underscores.
@@ -70,6 +85,20 @@ fn add_line(text: &mut Vec<u8>, line: &[u8]) -> Result<(), AllocError> {
 }
 
 impl Row {
+    /// The step alone.
+    pub fn into_step(self) -> Vec<u8> {
+        let Row {
+            number: _,
+            step,
+            reply: _,
+            calls: _,
+            given: _,
+            wanted: _,
+            errors: _,
+        } = self;
+        step
+    }
+
     /// The row of a line.
     pub fn read(alloc: Global, number: usize, line: &[u8]) -> io::Result<Row> {
         let (line, calls) = cut(line, b" |");

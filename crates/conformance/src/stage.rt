@@ -11,7 +11,6 @@ use std::marker::Model;
 use std::num::{NonZeroU16, NonZeroUsize};
 
 /// A blob in memory with its cache, and the session on it. It is handed out in a box.
-#[derive(Drop)]
 pub struct Stage<H: Sum> {
     alloc: Global,
     setting: Setting,
@@ -20,6 +19,21 @@ pub struct Stage<H: Sum> {
     session: Session<MemBlob, H>,
     // How many device calls there were at the last `mark`.
     mark: usize,
+}
+
+// By hand, so that an owner lets one go by one call: of a derived drop, a proof follows each field
+// at each exit.
+impl<H: Sum> Drop for Stage<H> {
+    fn drop(self) {
+        let Stage {
+            alloc: _,
+            setting: _,
+            blob: _,
+            cache: _,
+            session: _,
+            mark: _,
+        } = self;
+    }
 }
 
 impl<H: Sum> Model for Stage<H> {

@@ -7,9 +7,16 @@ use std::marker::Model;
 
 /// What starting a read of several ranges answers, to be waited for. It keeps the bytes of each
 /// range, as they were at the start, or why there are none.
-#[derive(Drop)]
 pub struct StartedRead {
     answer: Result<Vec<IoBuf>, Error>,
+}
+
+// By hand, so that an owner lets one go by one call: of a derived drop, a proof follows each field
+// at each exit.
+impl Drop for StartedRead {
+    fn drop(self) {
+        let StartedRead { answer: _ } = self;
+    }
 }
 
 impl Model for StartedRead {
@@ -35,6 +42,7 @@ impl StartedRead {
     pub fn wait(self) -> Result<Vec<IoBuf>, Error>
         ensures { answer_of result ≡ self }
     {
-        self.answer
+        let StartedRead { answer } = self;
+        answer
     }
 }

@@ -29,11 +29,22 @@ use std::marker::Model;
 /// of that write, so a later sync that answers `Ok` would call durable what isn't there. After a
 /// failed sync a system may have dropped what it was to write. [`failure`](Mirror::failure) reports
 /// why the host failed. Open the host anew then, and recover.
-#[derive(Drop)]
 pub struct Mirror<S: Host> {
     host: S,
     kept: VecBlob,
     failure: Option<io::Error>,
+}
+
+// By hand, so that an owner lets one go by one call: of a derived drop, a proof follows each field
+// at each exit.
+impl<S: Host + Drop> Drop for Mirror<S> {
+    fn drop(self) {
+        let Mirror {
+            host: _,
+            kept: _,
+            failure: _,
+        } = self;
+    }
 }
 
 impl<S: Host> Model for Mirror<S> {

@@ -45,10 +45,17 @@ pub enum ItemReply {
 }
 
 /// Items that a run goes on with, or none after a refusal that ended them.
-#[derive(Drop)]
 pub struct ItemSession<B, H> {
     alloc: Global,
     items: Option<Items<B, H>>,
+}
+
+// By hand, so that an owner lets one go by one call: of a derived drop, a proof follows each field
+// at each exit.
+impl<B, H> Drop for ItemSession<B, H> {
+    fn drop(self) {
+        let ItemSession { alloc: _, items: _ } = self;
+    }
 }
 
 impl<B, H> Model for ItemSession<B, H> {
@@ -82,7 +89,8 @@ impl<B, H> ItemSession<B, H> {
     pub fn into_items(self) -> Option<Items<B, H>>
         ensures { result ≡ self }
     {
-        self.items
+        let ItemSession { alloc: _, items } = self;
+        items
     }
 
     fn len(&self) -> ItemReply

@@ -17,7 +17,6 @@ use std::mem;
 /// The bytes stand in frozen chunks, each a whole number of pages, and one tail after them that
 /// still grows. An append copies each byte once. Full pages are handed out where they stand. After
 /// an error the buffer is as it was.
-#[derive(Drop)]
 pub struct Buffer {
     alloc: Global,
     page_size: usize,
@@ -25,6 +24,21 @@ pub struct Buffer {
     offset: u64,
     chunks: IoBufs,
     tail: Tail,
+}
+
+// By hand, so that an owner lets one go by one call: of a derived drop, a proof follows each field
+// at each exit.
+impl Drop for Buffer {
+    fn drop(self) {
+        let Buffer {
+            alloc: _,
+            page_size: _,
+            capacity: _,
+            offset: _,
+            chunks: _,
+            tail: _,
+        } = self;
+    }
 }
 
 impl Model for Buffer {

@@ -33,7 +33,6 @@ use std::num::NonZeroUsize;
 ///
 /// Where the read ahead of a batch failed, the replay reads the batch again once it is needed, and
 /// only a failure of that read is answered.
-#[derive(Drop)]
 pub struct Replay<B, H> {
     sealed: Sealed<B, H>,
     batches: Batches,
@@ -41,6 +40,21 @@ pub struct Replay<B, H> {
     hand: Hand,
     queue: Vec<Ahead>,
     exhausted: bool,
+}
+
+// By hand, so that an owner lets one go by one call: of a derived drop, a proof follows each field
+// at each exit.
+impl<B, H> Drop for Replay<B, H> {
+    fn drop(self) {
+        let Replay {
+            sealed: _,
+            batches: _,
+            position: _,
+            hand: _,
+            queue: _,
+            exhausted: _,
+        } = self;
+    }
 }
 
 impl<B, H> Model for Replay<B, H> {

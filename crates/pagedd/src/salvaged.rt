@@ -42,7 +42,6 @@ impl Content {
 }
 
 /// What was salvaged of a file.
-#[derive(Drop)]
 pub struct Salvaged {
     /// The offset in the content where its values begin.
     pub begin: usize,
@@ -57,6 +56,22 @@ pub struct Salvaged {
     pub short: Vec<usize>,
     /// How many bytes follow the last page.
     pub tail: usize,
+}
+
+// By hand, so that an owner lets one go by one call: of a derived drop, a proof follows each field
+// at each exit.
+impl Drop for Salvaged {
+    fn drop(self) {
+        let Salvaged {
+            begin: _,
+            pages: _,
+            repeats: _,
+            gaps: _,
+            rest: _,
+            short: _,
+            tail: _,
+        } = self;
+    }
 }
 
 /// Content that is missing at an offset of what was salvaged: what the pages from a first to a last

@@ -226,20 +226,36 @@ impl fmt::Display for Shown<'_> {
 pub fn explain<E: Write>(alloc: Global, text: &[u8], number: u64, err: &mut E) -> io::Result<()> {
     let lines = parts(alloc, without_last_feed(text), b'\n')?;
     let at = number.saturating_sub(1) as usize;
-    let (Some(first), Some(line)) = (lines.first(), lines.get(at)) else {
-        return Ok(());
-    };
-    let place = Place::of(number, &parts(alloc, first, b' ')?);
+    match (lines.first(), lines.get(at)) {
+        (Some(first), Some(line)) => {
+            let place = Place::of(number, &parts(alloc, first, b' ')?);
+            explain_line(alloc, place, line, err)
+        }
+        _ => Ok(()),
+    }
+}
+
+// The same for a line at this place in a script.
+fn explain_line<E: Write>(alloc: Global, place: Place, line: &[u8], err: &mut E) -> io::Result<()> {
     let words = parts(alloc, line, b' ')?;
-    let Some((index, form)) = first_fault(alloc, place, &words) else {
-        return Ok(());
-    };
+    match first_fault(alloc, place, &words) {
+        Some((index, form)) => write_fault(line, index, words.get(index).copied(), form, err),
+        None => Ok(()),
+    }
+}
+
+// Writes that the word at this index of a line, or its end if it has no such word, isn't of a form.
+fn write_fault<E: Write>(
+    line: &[u8],
+    index: usize,
+    word: Option<&[u8]>,
+    form: Form,
+    err: &mut E,
+) -> io::Result<()> {
     let line = Shown(line);
     let count = index.saturating_add(1);
-    match words.get(index) {
-        Some(word) if word.is_empty() => {
-            writeln!(err, "word {count} of {line} is empty: expected {form}")
-        }
+    match word {
+        Some([]) => writeln!(err, "word {count} of {line} is empty: expected {form}"),
         Some(word) => {
             let word = Shown(word);
             writeln!(err, "word {count} of {line} is {word}: expected {form}")

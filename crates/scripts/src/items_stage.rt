@@ -12,7 +12,6 @@ use std::io::Write;
 use std::marker::Model;
 
 /// A blob in memory with its cache, and the items in it.
-#[derive(Drop)]
 pub struct ItemStage<H: Sum> {
     alloc: Global,
     start: ItemStart,
@@ -23,6 +22,21 @@ pub struct ItemStage<H: Sum> {
     // Whether a recovery may follow: the blob crashed, and no step, recovery or refused crash came
     // since then.
     crashed: bool,
+}
+
+// By hand, so that an owner lets one go by one call: of a derived drop, a proof follows each field
+// at each exit.
+impl<H: Sum> Drop for ItemStage<H> {
+    fn drop(self) {
+        let ItemStage {
+            alloc: _,
+            start: _,
+            blob: _,
+            cache: _,
+            session: _,
+            crashed: _,
+        } = self;
+    }
 }
 
 impl<H: Sum> Model for ItemStage<H> {

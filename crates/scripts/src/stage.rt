@@ -15,7 +15,6 @@ use std::io::Write;
 use std::marker::Model;
 
 /// A blob in memory with its cache, and the session on it.
-#[derive(Drop)]
 pub struct Stage<H: Sum> {
     alloc: Global,
     start: Start,
@@ -26,6 +25,21 @@ pub struct Stage<H: Sum> {
     // Whether a recovery may follow: the blob crashed, and no step, recovery or refused crash came
     // since then.
     crashed: bool,
+}
+
+// By hand, so that an owner lets one go by one call: of a derived drop, a proof follows each field
+// at each exit.
+impl<H: Sum> Drop for Stage<H> {
+    fn drop(self) {
+        let Stage {
+            alloc: _,
+            start: _,
+            blob: _,
+            cache: _,
+            session: _,
+            crashed: _,
+        } = self;
+    }
 }
 
 impl<H: Sum> Model for Stage<H> {

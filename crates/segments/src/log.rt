@@ -33,7 +33,6 @@ pub struct Options {
 }
 
 /// A log of records in segments, in a folder.
-#[derive(Drop)]
 pub struct SegmentedLog<F: Folder<B>, B: Blob, H: Sum, R: Sum> {
     pub(crate) alloc: Global,
     pub(crate) options: Options,
@@ -42,6 +41,22 @@ pub struct SegmentedLog<F: Folder<B>, B: Blob, H: Sum, R: Sum> {
     pub(crate) current: OwnedJournal<B, H, R>,
     pub(crate) listing: Listing,
     pub(crate) loaded: Option<Loaded<H, R>>,
+}
+
+// By hand, so that an owner lets one go by one call: of a derived drop, a proof follows each field
+// at each exit.
+impl<F: Folder<B> + Drop, B: Blob + Drop, H: Sum, R: Sum> Drop for SegmentedLog<F, B, H, R> {
+    fn drop(self) {
+        let SegmentedLog {
+            alloc: _,
+            options: _,
+            folder: _,
+            manifest: _,
+            current: _,
+            listing: _,
+            loaded: _,
+        } = self;
+    }
 }
 
 impl<F: Folder<B>, B: Blob, H: Sum, R: Sum> Model for SegmentedLog<F, B, H, R> {

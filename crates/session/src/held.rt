@@ -23,10 +23,20 @@ use std::alloc::Global;
 use std::marker::Model;
 
 /// A writer in this phase, or none.
-#[derive(Drop)]
 pub(crate) struct Held<B, H, Phase> {
     pub(crate) alloc: Global,
     pub(crate) writer: Option<Writer<B, H, Phase>>,
+}
+
+// By hand, so that an owner lets one go by one call: of a derived drop, a proof follows each field
+// at each exit.
+impl<B, H, Phase> Drop for Held<B, H, Phase> {
+    fn drop(self) {
+        let Held {
+            alloc: _,
+            writer: _,
+        } = self;
+    }
 }
 
 impl<B, H, Phase> Model for Held<B, H, Phase> {

@@ -37,7 +37,6 @@ use std::marker::Model;
 /// closed session keeps its names, its snapshots and its replays: a caller can still wait for the
 /// started syncs, read the snapshots, and go on with the replays. A truncate forgets the replays.
 /// What isn't let go is kept until the session is dropped.
-#[derive(Drop)]
 pub struct Session<B, H> {
     pub(crate) alloc: Global,
     pub(crate) phase: WriterPhase<B, H>,
@@ -45,6 +44,20 @@ pub struct Session<B, H> {
     // None in the place of one that was let go, or of a replay that was forgotten.
     pub(crate) snapshots: Vec<Option<Sealed<B, H>>>,
     pub(crate) replays: Vec<Option<Replay<B, H>>>,
+}
+
+// By hand, so that an owner lets one go by one call: of a derived drop, a proof follows each field
+// at each exit.
+impl<B, H> Drop for Session<B, H> {
+    fn drop(self) {
+        let Session {
+            alloc: _,
+            phase: _,
+            names: _,
+            snapshots: _,
+            replays: _,
+        } = self;
+    }
 }
 
 impl<B, H> Model for Session<B, H> {

@@ -21,9 +21,8 @@ fn in_two(bytes: &[u8], known: usize) -> u32 {
     Crc32c::sum_from(bytes, known, Crc32c::sum(&bytes[..known]))
 }
 
-// The vectors are those of RFC 3720, B.4, and the check of the nine digits.
-#[test]
-fn checks(rt: HostRuntime) {
+// The checks of the nine digits and of the vectors of RFC 3720, B.4: 32 zeros, 32 ones, a command.
+fn published() -> [u32; 4] {
     let mut command = [0u8; 48];
     for (at, byte) in [
         (0, 1),
@@ -37,32 +36,54 @@ fn checks(rt: HostRuntime) {
     ] {
         command[at] = byte;
     }
-    assert_eq!(rt; Crc32c::sum(b"123456789"), 0xE3069283);
-    assert_eq!(rt; Crc32c::sum(&[0; 32]), 0x8A9136AA);
-    assert_eq!(rt; Crc32c::sum(&[0xFF; 32]), 0x62A8AB43);
-    assert_eq!(rt; Crc32c::sum(&command), 0xD9963A56);
+    [
+        Crc32c::sum(b"123456789"),
+        Crc32c::sum(&[0; 32]),
+        Crc32c::sum(&[0xFF; 32]),
+        Crc32c::sum(&command),
+    ]
+}
+
+// Whether the sum is that of the definition, also where it goes on from that of the first bytes.
+fn is_right(bytes: &[u8], known: &[usize]) -> bool {
+    let check = bit_by_bit(bytes);
+    Crc32c::sum(bytes) == check && known.iter().all(|known| in_two(bytes, *known) == check)
+}
+
+// From 64 bytes on the message goes by rows, from 640 on it is folded, and from 2,368 on the window
+// moves. Answers the first length at which a sum is wrong.
+fn first_wrong(message: &[u8; 5000]) -> Option<usize> {
+    for len in 0..=700 {
+        if !is_right(&message[..len], &[len / 3]) {
+            return Some(len);
+        }
+    }
+    for len in [
+        1101, 2367, 2368, 2399, 2400, 2431, 2432, 2495, 2496, 2527, 4084, 4447, 5000,
+    ] {
+        let known = [0, len / 7, len - 641, len - 640, len - 639, len];
+        if !is_right(&message[..len], &known) {
+            return Some(len);
+        }
+    }
+    None
+}
+
+#[test]
+fn checks(rt: HostRuntime) {
+    assert_eq!(rt;
+        published(),
+        [0xE3069283, 0x8A9136AA, 0x62A8AB43, 0xD9963A56]
+    );
+}
+
+#[test]
+fn checks_at_each_length(rt: HostRuntime) {
     let mut message = [0u8; 5000];
     let mut random = 1u32;
     for byte in &mut message {
         random = random.wrapping_mul(1664525).wrapping_add(1013904223);
         *byte = (random >> 24) as u8;
     }
-    // From 64 bytes on the message goes by rows, from 640 on it is folded, and from 2,368 on the
-    // window moves.
-    for len in 0..=700 {
-        let bytes = &message[..len];
-        let check = bit_by_bit(bytes);
-        assert_eq!(rt; Crc32c::sum(bytes), check, "at {len}");
-        assert_eq!(rt; in_two(bytes, len / 3), check, "in two at {len}");
-    }
-    for len in [
-        1101, 2367, 2368, 2399, 2400, 2431, 2432, 2495, 2496, 2527, 4084, 4447, 5000,
-    ] {
-        let bytes = &message[..len];
-        let check = bit_by_bit(bytes);
-        assert_eq!(rt; Crc32c::sum(bytes), check, "at {len}");
-        for known in [0, len / 7, len - 641, len - 640, len - 639, len] {
-            assert_eq!(rt; in_two(bytes, known), check, "from {known} to {len}");
-        }
-    }
+    assert_eq!(rt; first_wrong(&message), None);
 }
