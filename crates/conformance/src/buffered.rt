@@ -277,18 +277,34 @@ fn is_plain(alloc: Global, page_size: usize, fill: usize, len: usize) -> Result<
     requires small { 2 * page_size < 2 ^ 64 }
     requires fits { fill + len < 2 ^ 64 }
 {
-    let mut buffer = Buffer::from(alloc, 0, &[], 2 * page_size, page_size)?;
     let mut count = 1;
     let all = counted(alloc, &mut count, fill + len)?;
+    let mut buffer = Buffer::from(alloc, 0, &[], 2 * page_size, page_size)?;
+    keeps_both(alloc, &mut buffer, fill, &all)
+}
+
+// Whether an empty buffer that gets the first `fill` of these bytes, and then the others, is the
+// plain list of them, before its full pages are handed out and after.
+fn keeps_both(
+    alloc: Global,
+    buffer: &mut Buffer,
+    fill: usize,
+    all: &[u8],
+) -> Result<bool, Error> {
     let (first, second) = all.split_at(fill.min(all.len()));
     buffer.append(first)?;
     buffer.append(second)?;
-    if !holds(alloc, &buffer, 0, &all)? || !reads(alloc, &buffer, &all)? {
-        return Ok(false);
-    }
-    let drained = buffer.drain_full_pages()?;
+    Ok(holds(alloc, buffer, 0, all)?
+        && reads(alloc, buffer, all)?
+        && hands_out(alloc, buffer, all)?)
+}
+
+// Whether a buffer that holds these bytes hands out their full pages, and keeps the others.
+fn hands_out(alloc: Global, buffer: &mut Buffer, all: &[u8]) -> Result<bool, Error> {
+    let page_size = buffer.page_size().max(1);
     let (full, rest) = all.split_at(all.len() / page_size * page_size);
-    Ok(drained.coalesce()?.as_ref() == full && holds(alloc, &buffer, full.len() as u64, rest)?)
+    let drained = buffer.drain_full_pages()?.coalesce()?;
+    Ok(drained.as_ref() == full && holds(alloc, buffer, full.len() as u64, rest)?)
 }
 
 fn are_plain(alloc: Global, page_size: usize) -> Result<bool, Error>
