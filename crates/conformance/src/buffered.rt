@@ -285,18 +285,15 @@ fn is_plain(alloc: Global, page_size: usize, fill: usize, len: usize) -> Result<
 
 // Whether an empty buffer that gets the first `fill` of these bytes, and then the others, is the
 // plain list of them, before its full pages are handed out and after.
-fn keeps_both(
-    alloc: Global,
-    buffer: &mut Buffer,
-    fill: usize,
-    all: &[u8],
-) -> Result<bool, Error> {
+fn keeps_both(alloc: Global, buffer: &mut Buffer, fill: usize, all: &[u8]) -> Result<bool, Error> {
     let (first, second) = all.split_at(fill.min(all.len()));
     buffer.append(first)?;
     buffer.append(second)?;
-    Ok(holds(alloc, buffer, 0, all)?
-        && reads(alloc, buffer, all)?
-        && hands_out(alloc, buffer, all)?)
+    Ok(
+        holds(alloc, buffer, 0, all)?
+            && reads(alloc, buffer, all)?
+            && hands_out(alloc, buffer, all)?,
+    )
 }
 
 // Whether a buffer that holds these bytes hands out their full pages, and keeps the others.
