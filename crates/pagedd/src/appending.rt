@@ -101,10 +101,9 @@ fn begin<B: Blob + InMemory, H: Sum>(
     rt: &HostRuntime,
     request: &Request,
     blob: &mut B,
-) -> Result<Result<Box<Appender<B, H>>, Stop>, Status>
+) -> Result<Result<Appender<B, H>, Stop>, Status>
     ensures ready { let new = (B.life blob.new).present in
-        IfOk result (λ begun. IfOk begun (λ b.
-        IsSessionReady H.sum_of b.value.session b.value.cache new)) }
+        IfOk result (λ begun. IfOk begun (λ b. IsSessionReady H.sum_of b.session b.cache new)) }
 {
     let begun = begin_within::<B, H>(rt.alloc(), request, blob, 0);
     let Err(Stop::WouldCut(_)) = begun else {
@@ -120,9 +119,9 @@ fn begin_within<B: Blob, H: Sum>(
     request: &Request,
     blob: &mut B,
     allowed: u64,
-) -> Result<Box<Appender<B, H>>, Stop>
+) -> Result<Appender<B, H>, Stop>
     ensures ready { let new = (B.life blob.new).present in
-        IfOk result (λ b. IsSessionReady H.sum_of b.value.session b.value.cache new) }
+        IfOk result (λ b. IsSessionReady H.sum_of b.session b.cache new) }
 {
     let buffer = request.buffer;
     let mut cache = CacheRef::new(alloc, request.shape.page_size, request.cache)?;
@@ -136,14 +135,7 @@ fn begin_within<B: Blob, H: Sum>(
         buffer,
         allowed,
     )?;
-    Ok(in_box(alloc, Appender { session, cache })?)
-}
-
-// Puts an appender in a box: to let a box go is one call, also for the proof.
-fn in_box<B, H>(alloc: Global, appender: Appender<B, H>) -> Result<Box<Appender<B, H>>, Error>
-    ensures same { IfOk result (λ b. b.value ≡ appender) }
-{
-    Ok(Box::new(alloc, appender)?)
+    Ok(Appender { session, cache })
 }
 
 // Appends the input piece by piece. `synced` is how much of the content is durable.

@@ -54,15 +54,13 @@ fn options_of(request: &Request) -> Options {
     }
 }
 
-/// Opens the log of a folder, and puts it in a box. A log is owned outside of one only here, since
-/// letting such a log go costs the proof much.
+/// Opens the log of a folder.
 pub fn open_log<F: Folder<B> + Drop, B: Blob + Drop, H: Sum>(
     alloc: Global,
     request: &Request,
     folder: F,
-) -> Result<Box<SegmentedLog<F, B, H, H>>, Error>
-    ensures log { IfOk result (λ log. IsLog H.sum_of H.sum_of log.value) }
+) -> Result<SegmentedLog<F, B, H, H>, Error>
+    ensures log { IfOk result (λ log. IsLog H.sum_of H.sum_of log) }
 {
-    let log = SegmentedLog::<F, B, H, H>::open(alloc, folder, options_of(request))?;
-    Ok(Box::new(alloc, log)?)
+    SegmentedLog::open(alloc, folder, options_of(request))
 }

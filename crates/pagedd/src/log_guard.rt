@@ -84,7 +84,7 @@ fn guard_file<H: Sum>(
     let allowed = if request.read_only {
         allow::<VecBlob, H>(rt, &part, &mut copy)?
     } else {
-        allow::<FileBlob, H>(rt, &part, &mut *open(rt, path)?)?
+        allow::<FileBlob, H>(rt, &part, &mut open(rt, path)?)?
     };
     given_up.cut = given_up.cut.saturating_add(look.survey.outlook.cut);
     given_up.bytes = given_up.bytes.saturating_add(allowed.bytes);

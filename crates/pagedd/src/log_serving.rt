@@ -84,7 +84,7 @@ fn serve_folder<F: Folder<B> + Drop, B: Blob + Cause + Drop, H: Sum>(
     folder: F,
 ) -> Result<Status, Status> {
     match open_log::<F, B, H>(rt.alloc(), request, folder) {
-        Ok(mut log) => serve_opened(rt, request, given_up, &mut *log),
+        Ok(mut log) => serve_opened(rt, request, given_up, &mut log),
         Err(error) => Err(refuse(rt, request, &error)),
     }
 }

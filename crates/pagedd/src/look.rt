@@ -41,9 +41,9 @@ impl InMemory for VecBlob {
 }
 
 /// Reads a file into memory. Where that fails, a line says why.
-pub fn read(rt: &HostRuntime, path: &str) -> Result<Box<VecBlob>, Status> {
+pub fn read(rt: &HostRuntime, path: &str) -> Result<VecBlob, Status> {
     match file::read(rt, path) {
-        Ok(blob) => Ok(Box::new(rt.alloc(), blob)?),
+        Ok(blob) => Ok(blob),
         Err(error) => Err(fail(rt, path, error)),
     }
 }

@@ -88,7 +88,7 @@ fn perform<H: Sum>(
         Task::ServeLog => serve_log::<H>(rt, request),
         Task::Serve { create } => serve::<H>(rt, request, create),
         Task::Append { each_line } => append::<H>(rt, request, each_line),
-        Task::Tell(told) => tell_of::<H>(rt, request, told, &mut *read(rt, request.file)?),
+        Task::Tell(told) => tell_of::<H>(rt, request, told, &mut read(rt, request.file)?),
         Task::Salvage { out } => salvage::<H>(rt, request, set_aside, out),
         Task::Version => {
             or_end(rt, println!(rt; "pagedd {VERSION}"))?;

@@ -11,9 +11,9 @@ use page::Sum;
 use paged::Verdict;
 
 /// Opens a file, or makes it. Where that fails, a line says why.
-pub fn open(rt: &HostRuntime, path: &str) -> Result<Box<FileBlob>, Status> {
+pub fn open(rt: &HostRuntime, path: &str) -> Result<FileBlob, Status> {
     match file::open(rt, path) {
-        Ok(blob) => Ok(Box::new(rt.alloc(), blob)?),
+        Ok(blob) => Ok(blob),
         Err(error) => Err(fail(rt, path, error)),
     }
 }

@@ -159,8 +159,7 @@ fn keep<H: Sum>(
     blob: &mut FileBlob,
     content: &[u8],
 ) -> Result<(), Error> {
-    let cache = CacheRef::new(rt.alloc(), request.shape.page_size, request.cache)?;
-    let mut cache = Box::new(rt.alloc(), cache)?;
+    let mut cache = CacheRef::new(rt.alloc(), request.shape.page_size, request.cache)?;
     write::<H>(rt.alloc(), request, blob, &mut cache, content)
 }
 

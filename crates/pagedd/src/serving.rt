@@ -18,12 +18,12 @@ use std::io::Write;
 pub fn serve<H: Sum>(rt: &HostRuntime, request: &Request, create: bool) -> Result<Status, Status> {
     let file = request.file;
     if request.read_only {
-        return serve_blob::<VecBlob, H>(rt, request, &mut *read(rt, file)?);
+        return serve_blob::<VecBlob, H>(rt, request, &mut read(rt, file)?);
     }
     if !create && !fs::exists(rt, file).unwrap_or(true) {
         return Ok(tell_unknown(rt, file)?);
     }
-    serve_blob::<FileBlob, H>(rt, request, &mut *open(rt, file)?)
+    serve_blob::<FileBlob, H>(rt, request, &mut open(rt, file)?)
 }
 
 // Serves a blob that nobody opened.

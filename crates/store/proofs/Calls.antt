@@ -16,7 +16,7 @@ use Rattle.journal.specs.Frame.{IsPrefix, records}
 use Rattle.journal.specs.Journal.{BringsOnlyRecords, BringsRecordsBack, IsAppended, IsCommitted, JournalHasRecovered, RecoversJournal, records_in}
 use Rattle.store.specs.declared.store.OpenError.{OpenError}
 use Rattle.store.specs.declared.store.OpenError.TheVariants.{NoPut, Refused}
-use Rattle.store.specs.Store.{AreCommitted, Bytes, ArePuts, CommitPutsLeaves, CrashAndOpenLeaves, HasComeBack, HasCommitted, HasOpenedStore, HasStored, KeepsStore, MapGoes, OpenStoreGoes, PutLeaves, StorePutGoes, StoreState, after_puts, put_record, puts_of}
+use Rattle.store.specs.Store.{AreCommitted, Bytes, ArePuts, CommitPutsLeaves, CrashAndOpenLeaves, HasComeBack, HasCommitted, HasOpenedStore, HasStored, KeepsStore, MapGoes, OpenStoreGoes, PutLeaves, StorePutGoes, StoreState, WasRecovered, after_puts, put_record, puts_of}
 use Rattle.paged.specs.Calls.{IsSameWriter}
 use Rattle.cache.specs.Pages.{IsFresh}
 use Rattle.store.proofs.Puts.{after_puts-one, begins, key_of-record, put_value-record, puts_kept}
@@ -129,18 +129,19 @@ module _ (sum own : List ℕ → ℕ) where
 
   -- the map wasn't made
   no_map : (cache after : CacheState) (capacity : ℕ) (old new : Life) (e : OpenError)
+      → WasRecovered sum own cache after old new
       → MapGoes (records own (text sum cache.page_size old.present.readable)) (Err e)
       → OpenStoreGoes sum own cache after capacity old new (Err e)
-  no_map cache after capacity old new NoPut has = has
-  no_map cache after capacity old new (Refused e) memory = inl memory
+  no_map cache after capacity old new NoPut was has = (was, has)
+  no_map cache after capacity old new (Refused e) was memory = inl (was, memory)
 
-  pub open_failed : (cache after : CacheState) (capacity : ℕ) (old new : Life) (found : List Bytes) (result : Result StoreState OpenError) (e : OpenError)
-      → IsErrAnd result (λ y. y ≡ e) → found ≡ records own (text sum cache.page_size old.present.readable) → MapGoes found (Err e)
+  pub open_failed : (cache after : CacheState) (capacity : ℕ) (old new : Life) (w : WriterState) (found : List Bytes) (result : Result StoreState OpenError) (e : OpenError)
+      → IsErrAnd result (λ y. y ≡ e) → JournalHasRecovered sum own cache after old new w found → MapGoes found (Err e)
       → OpenStoreGoes sum own cache after capacity old new result
-  open_failed cache after capacity old new found (Ok now) e none given goes = absurd none
-  open_failed cache after capacity old new found (Err y) e is given goes =
+  open_failed cache after capacity old new w found (Ok now) e none recovered goes = absurd none
+  open_failed cache after capacity old new w found (Err y) e is recovered goes =
       subst (λ x. OpenStoreGoes sum own cache after capacity old new (Err x)) (sym is)
-      (no_map cache after capacity old new e (subst (λ (l : List Bytes). MapGoes l (Err e)) given goes))
+      (no_map cache after capacity old new e (w, found, recovered) (subst (λ (l : List Bytes). MapGoes l (Err e)) recovered.given goes))
 
   -- ---- a crash
 

@@ -8,6 +8,7 @@ use Rattle.std.specs.FinMap.{FinMap, code, empty, insert}
 use Rattle.std.specs.Int.{w16, to_be_bytes, from_be_bytes}
 use Rattle.std.specs.Ordering.{nat_cmp}
 use Rattle.disk.specs.Disk.{Disk, Life}
+use Rattle.disk.specs.History.{begun}
 use Rattle.disk.specs.Torn.{torn}
 use Rattle.disk.specs.declared.error.Error.{Error}
 use Rattle.disk.specs.declared.error.Error.TheVariants.{OutOfMemory}
@@ -21,7 +22,7 @@ use Rattle.paged.specs.Calls.{AsksAtMost, IsSameWriter, sync_calls, wait_calls}
 use Rattle.journal.specs.Calls.{CrashRecoversJournal, JournalCallLeaves, JournalCrashLeaves}
 use Rattle.journal.specs.Frame.{IsPrefix, frame, records}
 use Rattle.journal.specs.Journal.{AppendRecordGoes, CommitGoes, CommitsAll, IsJournal}
-use Rattle.journal.specs.Journal.{OnlyRecords, RecoversJournal, records_in}
+use Rattle.journal.specs.Journal.{JournalHasRecovered, OnlyRecords, RecoversJournal, records_in}
 use Rattle.store.specs.declared.store.OpenError.{OpenError}
 use Rattle.store.specs.declared.store.OpenError.TheVariants.{NoPut, Refused}
 
@@ -169,16 +170,24 @@ pub record HasOpenedStore (sum own : List ℕ → ℕ) (P : ℕ) (after : CacheS
   pub back : (puts : List Bytes) → AreCommitted sum own P puts was
       → IsPrefix puts (puts_of own now new)
 
--- an opening, by its answer: a record of the blob is no put; or the journal wasn't recovered, or
--- memory for the map was refused
+-- the journal was recovered, and brought these puts
+abbrev pub WasRecovered : (sum own : List ℕ → ℕ) → (cache after : CacheState) → Life → Life
+    → Type 0
+WasRecovered sum own cache after old new = (w : WriterState) × (puts : List Bytes)
+    × JournalHasRecovered sum own cache after old new w puts
+
+-- an opening, by its answer: the journal was recovered, and a record of the blob is no put, or
+-- memory for the map was refused; or the journal wasn't recovered
 abbrev pub OpenStoreGoes : (sum own : List ℕ → ℕ) → (cache after : CacheState) → (capacity : ℕ)
     → Life → Life → Result StoreState OpenError → Type 0
 OpenStoreGoes sum own cache after capacity old new (Ok now) =
     HasOpenedStore sum own cache.page_size after old.present new now
 OpenStoreGoes sum own cache after capacity old new (Err NoPut) =
-    HasNoPut (records own (text sum cache.page_size old.present.readable))
+    WasRecovered sum own cache after old new
+    × HasNoPut (records own (text sum cache.page_size old.present.readable))
 OpenStoreGoes sum own cache after capacity old new (Err (Refused e)) =
-    (e ≡ OutOfMemory) ⊎ RecoversJournal sum own cache after capacity old new (Err e)
+    (WasRecovered sum own cache after old new × (e ≡ OutOfMemory))
+    ⊎ RecoversJournal sum own cache after capacity old new (Err e)
 
 -- a store came back after a crash that left this image: its puts are the records of the image, and
 -- are committed now; they begin with all that were committed as the crash came, whatever the
@@ -196,8 +205,9 @@ pub record HasComeBack (sum own : List ℕ → ℕ) (P : ℕ) (after : CacheStat
   pub only : IsDistinct sum P was image → (all : List Bytes) → OnlyRecords sum own P all was
       → IsPrefix (puts_of own now new) all
 
--- a crash and an opening, by their answer: a record of what the crash left is no put; or memory for
--- the map was refused; or memory for the crash, and nothing changed; or the recovery
+-- a crash and an opening, by their answer: the journal was recovered from what the crash left, and a
+-- record is no put, or memory for the map was refused; or the recovery was refused, or memory for
+-- the crash, and then nothing changed
 abbrev pub CrashAndOpenGoes : (sum own : List ℕ → ℕ) → (cache after : CacheState) → (capacity : ℕ)
     → List Bool → Life → Life → Result StoreState OpenError → Type 0
 CrashAndOpenGoes sum own cache after capacity keep old new (Ok now) =
@@ -205,9 +215,12 @@ CrashAndOpenGoes sum own cache after capacity keep old new (Ok now) =
     HasComeBack sum own cache.page_size after d image new now
 CrashAndOpenGoes sum own cache after capacity keep old new (Err NoPut) =
     let d = old.present in let image = torn keep d.since d.base in
-    HasNoPut (records own (text sum cache.page_size image))
+    WasRecovered sum own cache after (begun image d.log) new
+    × HasNoPut (records own (text sum cache.page_size image))
 CrashAndOpenGoes sum own cache after capacity keep old new (Err (Refused e)) =
-    (e ≡ OutOfMemory) ⊎ CrashRecoversJournal sum own cache after capacity keep old new (Err e)
+    let d = old.present in let image = torn keep d.since d.base in
+    (WasRecovered sum own cache after (begun image d.log) new × (e ≡ OutOfMemory))
+    ⊎ CrashRecoversJournal sum own cache after capacity keep old new (Err e)
 
 -- what a crash and an opening leave, whatever they answer: what the journal's crash and recovery
 -- leave; and puts that were committed still are

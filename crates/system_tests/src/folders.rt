@@ -166,24 +166,8 @@ fn is_copied(rt: &HostRuntime, path: &str) -> io::Result<bool> {
         folder,
         options(84),
     ) {
-        Ok(log) => Ok(is_gone_over(log)),
+        Ok(mut log) => Ok(goes_over(&mut log).unwrap_or(false)),
         Err(_) => Ok(false),
-    }
-}
-
-fn is_gone_over(log: SegmentedLog<FolderCopy, VecBlob, Crc32c, Crc32c>) -> bool
-    requires { IsLog crc32c crc32c log }
-{
-    let mut log = log;
-    is_over(&mut log)
-}
-
-fn is_over(log: &mut SegmentedLog<FolderCopy, VecBlob, Crc32c, Crc32c>) -> bool
-    requires { IsLog crc32c crc32c log.old }
-{
-    match goes_over(log) {
-        Ok(is) => is,
-        Err(_) => false,
     }
 }
 
@@ -308,23 +292,7 @@ fn ask(rt: &HostRuntime, log: &mut Log, what: What) -> Result<bool, Error>
 // Whether the log opens, and the answer to `what` is yes.
 fn is_so(rt: &HostRuntime, path: &str, what: What) -> bool {
     match open(rt, path) {
-        Ok(log) => is_so_of(rt, log, what),
-        Err(_) => false,
-    }
-}
-
-fn is_so_of(rt: &HostRuntime, log: Log, what: What) -> bool
-    requires { IsLog crc32c crc32c log }
-{
-    let mut log = log;
-    is_yes(rt, &mut log, what)
-}
-
-fn is_yes(rt: &HostRuntime, log: &mut Log, what: What) -> bool
-    requires { IsLog crc32c crc32c log.old }
-{
-    match ask(rt, log, what) {
-        Ok(is) => is,
+        Ok(mut log) => ask(rt, &mut log, what).unwrap_or(false),
         Err(_) => false,
     }
 }
