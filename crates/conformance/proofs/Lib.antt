@@ -1,3 +1,4 @@
 pub mod ReaderLaws
 pub mod ItemLaws
 pub mod PairLaws
+pub mod Durable

@@ -5,6 +5,7 @@ use crate::case::Case;
 use crate::forms::Argument::{Number, Word};
 use crate::forms::{Arguments, Form, read_step};
 use crate::journals::{Journals, Sizes};
+use crate::logs::{Logs, read_options};
 use crate::memory::Memory;
 use crate::mirrored::Mirrored;
 use crate::nested::Nested;
@@ -31,13 +32,14 @@ enum Kind {
     Plain,
     Mirror,
     Journal,
+    Log,
     Pair,
     Buffer,
     Cache,
     View,
 }
 
-const KINDS: [Form<Kind>; 14] = [
+const KINDS: [Form<Kind>; 15] = [
     (b"cases", &[], Kind::Cases),
     (b"scripts", &[], Kind::Scripts),
     (b"requests", &[], Kind::Requests),
@@ -47,6 +49,7 @@ const KINDS: [Form<Kind>; 14] = [
     (b"mirror", &[Number, Number], Kind::Mirror),
     (b"journal", &[Word], Kind::Journal),
     (b"journal", &[Word, Number, Number, Number], Kind::Journal),
+    (b"log", &[Number, Number, Number], Kind::Log),
     (b"pair", &[Number, Number, Number], Kind::Pair),
     (b"buffer", &[Number, Number, Number], Kind::Buffer),
     (b"cache", &[Number, Number], Kind::Cache),
@@ -141,6 +144,10 @@ fn play_kind(
         Kind::Cases => play_once(alloc, &mut Nested, case, refuses, told),
         Kind::Scripts => play_once(alloc, &mut Scripts, case, refuses, told),
         Kind::Journal => over_journal(alloc, case, words, refuses, told),
+        Kind::Log => {
+            let made = Logs::<AddSum>::new(alloc, read_options(words));
+            play_made(alloc, made, case, refuses, told)
+        }
         Kind::Pair => {
             let pages = buffer_size(words.number(2));
             let made = Pair::<AddSum>::new(alloc, page_size(first)?, len, pages);
@@ -168,7 +175,7 @@ fn play_kind(
 // cache leaves a page out, and requests are answered in bytes.
 fn hides_refusals(kind: Kind) -> bool {
     match kind {
-        Kind::Cases | Kind::Requests | Kind::Mirror | Kind::Cache => true,
+        Kind::Cases | Kind::Requests | Kind::Mirror | Kind::Log | Kind::Cache => true,
         _ => false,
     }
 }

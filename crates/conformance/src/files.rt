@@ -1,0 +1,310 @@
+// Files in memory, whose names and bytes can be lost in a crash.
+use crate::words::out_of_memory;
+use disk::{Blob, Error, IoBufs, MemBlob, WriteOptions};
+use segments::Asked;
+use std::alloc::Global;
+use std::io;
+use std::io::{ErrorKind, Write};
+
+/// A call of the folder, or of a file in it.
+#[derive(Clone, Copy)]
+pub enum Told {
+    /// To open a file, and to make it where it is missing.
+    Open(Asked),
+    /// To put so many bytes at an offset of a file.
+    Put(Asked, u64, usize),
+    /// To set the length of a file in bytes.
+    SetLen(Asked, u64),
+    /// To make the bytes of a file durable.
+    Sync(Asked),
+    /// To remove a file.
+    Remove(Asked),
+    /// To make the names of the files durable.
+    SyncNames,
+}
+
+// Whether a crash may lose a file, or bring it back.
+#[derive(Clone, Copy, PartialEq, Eq)]
+enum Standing {
+    // The file stands there, and its name is durable.
+    Named,
+    // It was made, and the names weren't made durable since.
+    Made,
+    // It was removed, and the names weren't made durable since.
+    Removed,
+}
+
+#[derive(Drop)]
+struct Stored {
+    name: Asked,
+    blob: MemBlob,
+    standing: Standing,
+}
+
+/// The files of a folder, and what was asked of them. The call of one number fails, counted from 1.
+#[derive(Drop)]
+pub struct Files {
+    alloc: Global,
+    files: Vec<Stored>,
+    told: Vec<Told>,
+    failing: usize,
+}
+
+fn is_same(one: Asked, other: Asked) -> bool {
+    match (one, other) {
+        (Asked::Manifest, Asked::Manifest) => true,
+        (Asked::Segment(one), Asked::Segment(other)) => one == other,
+        _ => false,
+    }
+}
+
+// A blob in memory that wasn't made to fail fails only if there is no memory.
+fn done(answer: Result<(), Error>) -> io::Result<()> {
+    match answer {
+        Ok(()) => Ok(()),
+        Err(_) => Err(out_of_memory()),
+    }
+}
+
+impl Files {
+    /// No files.
+    pub fn new(alloc: Global) -> Self {
+        Files {
+            alloc,
+            files: Vec::new(alloc),
+            told: Vec::new(alloc),
+            failing: 0,
+        }
+    }
+
+    /// What was asked so far.
+    pub fn told(&self) -> &[Told] {
+        &self.told
+    }
+
+    /// Makes the nth call from now on fail, counted from 1.
+    pub fn fail_at(&mut self, n: usize) {
+        self.failing = self.told.len().saturating_add(n);
+    }
+
+    // Notes a call, and fails if it is the one that must fail.
+    fn note(&mut self, told: Told) -> io::Result<()> {
+        self.told.push(told)?;
+        if self.told.len() == self.failing {
+            return Err(ErrorKind::StorageFull.into());
+        }
+        Ok(())
+    }
+
+    fn place_of(&self, name: Asked) -> Option<usize> {
+        for (index, stored) in self.files.iter().enumerate() {
+            if stored.standing != Standing::Removed && is_same(stored.name, name) {
+                return Some(index);
+            }
+        }
+        None
+    }
+
+    fn blob(&self, name: Asked) -> io::Result<&MemBlob> {
+        let index = self.place_of(name).unwrap_or(usize::MAX);
+        match self.files.get(index) {
+            Some(stored) => Ok(&stored.blob),
+            None => Err(ErrorKind::NotFound.into()),
+        }
+    }
+
+    fn blob_mut(&mut self, name: Asked) -> io::Result<&mut MemBlob> {
+        let index = self.place_of(name).unwrap_or(usize::MAX);
+        match self.files.get_mut(index) {
+            Some(stored) => Ok(&mut stored.blob),
+            None => Err(ErrorKind::NotFound.into()),
+        }
+    }
+
+    /// Whether a file is there.
+    pub fn has(&self, name: Asked) -> bool {
+        self.place_of(name).is_some()
+    }
+
+    /// The bytes of a file. `NotFound` where it is missing.
+    pub fn bytes(&self, name: Asked) -> io::Result<Vec<u8>> {
+        let blob = self.blob(name)?;
+        Ok(Vec::from_slice(self.alloc, blob.bytes())?)
+    }
+
+    /// The numbers of the segments whose files are there, and how many bytes each has.
+    pub fn segments(&self) -> io::Result<Vec<(u64, usize)>> {
+        let mut numbers = Vec::new(self.alloc);
+        for stored in &self.files {
+            match stored.name {
+                Asked::Segment(number) if stored.standing != Standing::Removed => {
+                    numbers.push((number, stored.blob.bytes().len()))?;
+                }
+                _ => {}
+            }
+        }
+        Ok(numbers)
+    }
+
+    /// Opens a file, and makes it where it is missing. Its bytes are durable then.
+    pub fn open(&mut self, name: Asked) -> io::Result<Vec<u8>> {
+        self.note(Told::Open(name))?;
+        if !self.has(name) {
+            self.files.push(Stored {
+                name,
+                blob: MemBlob::new(self.alloc),
+                standing: Standing::Made,
+            })?;
+        }
+        done(self.blob_mut(name)?.sync())?;
+        self.bytes(name)
+    }
+
+    /// Puts bytes at an offset of a file.
+    pub fn put(&mut self, name: Asked, offset: u64, bufs: &IoBufs) -> io::Result<()> {
+        self.note(Told::Put(name, offset, bufs.len()))?;
+        let blob = self.blob_mut(name)?;
+        done(blob.write_at(offset, bufs, WriteOptions::default()))
+    }
+
+    /// Sets the length of a file in bytes.
+    pub fn set_len(&mut self, name: Asked, len: u64) -> io::Result<()> {
+        self.note(Told::SetLen(name, len))?;
+        done(self.blob_mut(name)?.resize(len))
+    }
+
+    /// Makes the bytes of a file durable.
+    pub fn sync(&mut self, name: Asked) -> io::Result<()> {
+        self.note(Told::Sync(name))?;
+        done(self.blob_mut(name)?.sync())
+    }
+
+    /// Removes the file of a segment.
+    pub fn remove(&mut self, segment: u64) -> io::Result<()> {
+        self.note(Told::Remove(Asked::Segment(segment)))?;
+        let index = self.place_of(Asked::Segment(segment)).unwrap_or(usize::MAX);
+        match self.files.get_mut(index) {
+            Some(stored) => {
+                stored.standing = Standing::Removed;
+                Ok(())
+            }
+            None => Err(ErrorKind::NotFound.into()),
+        }
+    }
+
+    /// Makes the names of the files durable.
+    pub fn sync_names(&mut self) -> io::Result<()> {
+        self.note(Told::SyncNames)?;
+        self.settle_names();
+        Ok(())
+    }
+
+    // The files that stand there are named, and the others are gone.
+    fn settle_names(&mut self) {
+        self.files
+            .retain(|stored| stored.standing != Standing::Removed);
+        for stored in &mut self.files {
+            stored.standing = Standing::Named;
+        }
+    }
+
+    /// Crashes. `names` has a flag for each file that was made or removed since the names were made
+    /// durable, in the order in which the files were made: whether that is kept. Of the bytes of
+    /// each file that aren't durable, `bytes` says which are kept (`MemBlob::crash`).
+    pub fn crash(&mut self, names: &[bool], bytes: &[bool]) -> io::Result<()> {
+        let mut flags = names.iter();
+        for stored in &mut self.files {
+            let stays = match stored.standing {
+                Standing::Named => true,
+                Standing::Made => flags.next() == Some(&true),
+                Standing::Removed => flags.next() != Some(&true),
+            };
+            stored.standing = if stays {
+                Standing::Named
+            } else {
+                Standing::Removed
+            };
+            done(stored.blob.crash(bytes))?;
+        }
+        self.settle_names();
+        self.failing = 0;
+        Ok(())
+    }
+
+    /// Gives a file these bytes, all of them durable, as somebody else may do.
+    pub fn replace(&mut self, name: Asked, bytes: &[u8]) -> io::Result<()> {
+        let Ok(blob) = MemBlob::from_bytes(self.alloc, bytes) else {
+            return Err(out_of_memory());
+        };
+        *self.blob_mut(name)? = blob;
+        Ok(())
+    }
+
+    /// Takes a file away, as somebody else may do.
+    pub fn lose(&mut self, name: Asked) {
+        self.files.retain(|stored| !is_same(stored.name, name));
+    }
+
+    /// The same files, with all that can be read durable, of which nothing was asked yet.
+    pub fn copy(&self) -> io::Result<Files> {
+        let mut files = Files::new(self.alloc);
+        for stored in &self.files {
+            if stored.standing == Standing::Removed {
+                continue;
+            }
+            let Ok(blob) = MemBlob::from_bytes(self.alloc, stored.blob.bytes()) else {
+                return Err(out_of_memory());
+            };
+            files.files.push(Stored {
+                name: stored.name,
+                blob,
+                standing: Standing::Named,
+            })?;
+        }
+        Ok(files)
+    }
+}
+
+/// Writes the name of a file: `manifest`, or the number of a segment.
+pub fn say_name(name: Asked, said: &mut Vec<u8>) -> io::Result<()> {
+    match name {
+        Asked::Manifest => write!(said, "manifest"),
+        Asked::Segment(number) => write!(said, "{number}"),
+    }
+}
+
+fn say_call(word: &str, name: Asked, said: &mut Vec<u8>) -> io::Result<()> {
+    write!(said, "{word} ")?;
+    say_name(name, said)
+}
+
+fn say_one(told: Told, said: &mut Vec<u8>) -> io::Result<()> {
+    match told {
+        Told::Open(name) => say_call("open", name, said),
+        Told::Put(name, offset, len) => {
+            say_call("put", name, said)?;
+            write!(said, " {offset} {len}")
+        }
+        Told::SetLen(name, len) => {
+            say_call("set-len", name, said)?;
+            write!(said, " {len}")
+        }
+        Told::Sync(name) => say_call("sync", name, said),
+        Told::Remove(name) => say_call("remove", name, said),
+        Told::SyncNames => write!(said, "sync names"),
+    }
+}
+
+/// Writes what was asked, from one call on.
+pub fn say_told(told: &[Told], first: usize, said: &mut Vec<u8>) -> io::Result<()> {
+    if told.len() <= first {
+        return write!(said, "none");
+    }
+    for (index, one) in told.iter().skip(first).enumerate() {
+        if index > 0 {
+            write!(said, ", ")?;
+        }
+        say_one(*one, said)?;
+    }
+    Ok(())
+}

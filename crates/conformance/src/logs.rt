@@ -1,0 +1,479 @@
+// A log in segments over a folder in memory.
+ghost use Rattle.std.specs.Prelude.{IfOk};
+ghost use Rattle.segments.specs.Log.{IsLog};
+
+use crate::files::{Files, say_name, say_told};
+use crate::forms::Argument::{Bytes, Flags, Number, Word};
+use crate::forms::{Arguments, Form, read_step};
+use crate::line::Row;
+use crate::memory_folder::{MemoryFile, MemoryFolder, Shared, lent};
+use crate::subject::Subject;
+use crate::words::{buffer_size, flags, number, page_size, say_bytes, unreadable};
+use disk::IoBuf;
+use journal::Found;
+use page::Sum;
+use scripts::Hex;
+use segments::{Asked, Error, Options, Place, SegmentedLog};
+use std::alloc::Global;
+use std::cell::RefCell;
+use std::io;
+use std::io::Write;
+use std::marker::Model;
+use std::rc::Rc;
+
+type Log<H> = SegmentedLog<MemoryFolder, MemoryFile, H, H>;
+
+/// Reads how a log is kept from the words of a `start` line: the logical bytes of a page, those
+/// that are buffered, and from how many on a segment is closed. Each opening reads a page at once,
+/// and a cache has one page.
+pub fn read_options(words: &Arguments) -> io::Result<Options> {
+    Ok(Options {
+        page_size: page_size(words.number(0))?,
+        capacity: words.length(1),
+        pages: buffer_size(1),
+        buffer_size: buffer_size(1),
+        segment_size: words.number(2),
+    })
+}
+
+// What a step asks of a log.
+#[derive(Clone, Copy)]
+enum Verb {
+    Open,
+    Close,
+    Append,
+    Commit,
+    StartCommit,
+    Wait,
+    Read,
+    Records,
+    DropBefore,
+    Fail,
+    Crash,
+    Files,
+    Dump,
+    Change,
+    Cut,
+    Copy,
+    Lose,
+    Torn,
+}
+
+const STEPS: [Form<Verb>; 18] = [
+    (b"open", &[], Verb::Open),
+    (b"close", &[], Verb::Close),
+    (b"append", &[Bytes], Verb::Append),
+    (b"commit", &[], Verb::Commit),
+    (b"start-commit", &[], Verb::StartCommit),
+    (b"wait", &[], Verb::Wait),
+    (b"read", &[Number, Number], Verb::Read),
+    (b"records", &[], Verb::Records),
+    (b"drop-before", &[Number], Verb::DropBefore),
+    (b"fail", &[Number], Verb::Fail),
+    (b"crash", &[Flags, Word], Verb::Crash),
+    (b"files", &[], Verb::Files),
+    (b"dump", &[Word], Verb::Dump),
+    (b"change", &[Word, Number], Verb::Change),
+    (b"cut", &[Word, Number], Verb::Cut),
+    (b"copy", &[Word, Word], Verb::Copy),
+    (b"lose", &[Word], Verb::Lose),
+    (b"torn", &[Bytes], Verb::Torn),
+];
+
+// More flags than a case has bytes that aren't durable, and more calls than an append makes.
+const MOST: usize = 4096;
+
+// Which bytes a crash keeps of those that aren't durable.
+#[derive(Clone, Copy)]
+enum Kept {
+    Nothing,
+    All,
+    EachSecond,
+}
+
+// What a crash keeps: the changes of names, and of the bytes.
+const CHOICES: [(&[bool], Kept); 6] = [
+    (&[], Kept::Nothing),
+    (&[], Kept::All),
+    (&[], Kept::EachSecond),
+    (&[true, true], Kept::Nothing),
+    (&[true, true], Kept::All),
+    (&[true, true], Kept::EachSecond),
+];
+
+fn kept_bytes(alloc: Global, kept: Kept) -> io::Result<Vec<bool>> {
+    let mut flags = Vec::new(alloc);
+    for index in 0..MOST {
+        flags.push(match kept {
+            Kept::Nothing => false,
+            Kept::All => true,
+            Kept::EachSecond => index % 2 == 0,
+        })?;
+    }
+    Ok(flags)
+}
+
+/// The files of a folder, and the log in them, if one is open.
+#[derive(Drop)]
+pub struct Logs<H: Sum> {
+    options: Options,
+    files: Shared,
+    log: Option<Log<H>>,
+}
+
+impl<H: Sum> Model for Logs<H> {
+    ghost use Rattle.std.specs.Prelude.{IfSome};
+    ghost use Rattle.segments.specs.Log.{IsLog};
+
+    ghost Value = { Unit {0} };
+
+    ghost view = { λ l. tt };
+
+    ghost invariant = { λ l. IfSome l.log (λ log. IsLog H.sum_of H.sum_of log) };
+}
+
+// The file of a name: `manifest`, or the number of a segment.
+fn file_of(word: Option<&[u8]>) -> io::Result<Asked> {
+    match word {
+        Some(b"manifest") => Ok(Asked::Manifest),
+        Some(word) => Ok(Asked::Segment(number(word)?)),
+        None => Err(unreadable()),
+    }
+}
+
+// The flags that a word is; as many true ones as a case needs for `all`.
+fn flags_of(alloc: Global, word: &[u8]) -> io::Result<Vec<bool>> {
+    if word == b"all".as_slice() {
+        let mut all = Vec::new(alloc);
+        all.resize(MOST, true)?;
+        return Ok(all);
+    }
+    flags(alloc, word)
+}
+
+fn open_log<H: Sum>(alloc: Global, files: Shared, options: Options) -> Result<Log<H>, Error>
+    ensures { IfOk result (λ log. IsLog H.sum_of H.sum_of log) }
+{
+    SegmentedLog::open(alloc, MemoryFolder::new(files), options)
+}
+
+// All records of a log.
+fn records_of<H: Sum>(alloc: Global, log: &mut Log<H>) -> Result<Vec<IoBuf>, Error>
+    requires { IsLog H.sum_of H.sum_of log.old }
+    ensures { IsLog H.sum_of H.sum_of log.new }
+{
+    let mut records = Vec::new(alloc);
+    let mut place = log.start();
+    for _ in 0..u64::MAX {
+        let Some((_, record)) = log.next(&mut place)? else {
+            break;
+        };
+        records.push(record)?;
+    }
+    Ok(records)
+}
+
+fn say_log_error(error: &Error, said: &mut Vec<u8>) -> io::Result<()> {
+    write!(said, "fault {error}")
+}
+
+fn say_log_done(answer: Result<(), Error>, said: &mut Vec<u8>) -> io::Result<()> {
+    match answer {
+        Ok(()) => write!(said, "ok"),
+        Err(error) => say_log_error(&error, said),
+    }
+}
+
+fn say_place(answer: Result<Place, Error>, said: &mut Vec<u8>) -> io::Result<()> {
+    match answer {
+        Ok(place) => write!(said, "at {} {}", place.segment, place.offset),
+        Err(error) => say_log_error(&error, said),
+    }
+}
+
+fn say_found(found: Result<Option<Found>, Error>, said: &mut Vec<u8>) -> io::Result<()> {
+    match found {
+        Ok(Some(found)) => {
+            match &found.bytes {
+                Some(bytes) => write!(said, "record {}", Hex(bytes.as_ref()))?,
+                None => write!(said, "frame")?,
+            }
+            write!(said, " end {}", found.end)
+        }
+        Ok(None) => write!(said, "none"),
+        Err(error) => say_log_error(&error, said),
+    }
+}
+
+fn say_records(records: Result<Vec<IoBuf>, Error>, said: &mut Vec<u8>) -> io::Result<()> {
+    match records {
+        Ok(records) => {
+            write!(said, "records")?;
+            for record in &records {
+                write!(said, " {}", Hex(record.as_ref()))?;
+            }
+            Ok(())
+        }
+        Err(error) => say_log_error(&error, said),
+    }
+}
+
+// Writes the files with their sizes: the manifest, and then the segments.
+fn say_files(files: &Files, said: &mut Vec<u8>) -> io::Result<()> {
+    write!(said, "files")?;
+    if let Ok(bytes) = files.bytes(Asked::Manifest) {
+        write!(said, " ")?;
+        say_name(Asked::Manifest, said)?;
+        write!(said, ":{}", bytes.len())?;
+    }
+    for (number, len) in files.segments()? {
+        write!(said, " {number}:{len}")?;
+    }
+    Ok(())
+}
+
+// Appends a record and commits it.
+fn append_and_commit<H: Sum>(log: &mut Log<H>, bytes: &[u8]) -> Result<(), Error>
+    requires log { IsLog H.sum_of H.sum_of log.old }
+    ensures log { IsLog H.sum_of H.sum_of log.new }
+{
+    if bytes.len() > 65535 {
+        return Ok(());
+    }
+    log.append(bytes)?;
+    log.commit()
+}
+
+// Whether the records after a crash are those before the append, and the appended one, if there is
+// one more. It must be there if its commit answered `Ok`.
+fn are_left(before: &[IoBuf], bytes: &[u8], after: &[IoBuf], is_committed: bool) -> bool {
+    let Some((front, more)) = after.split_at_checked(before.len()) else {
+        return false;
+    };
+    let is_front = front
+        .iter()
+        .zip(before)
+        .all(|(one, other)| one.as_ref() == other.as_ref());
+    let is_more = match more {
+        [] => !is_committed,
+        [record] => record.as_ref() == bytes,
+        _ => false,
+    };
+    is_front && is_more
+}
+
+impl<H: Sum> Logs<H> {
+    /// A folder without files, and no log.
+    pub fn new(alloc: Global, options: io::Result<Options>) -> io::Result<Box<Self>> {
+        let options = options?;
+        let files = Rc::new(alloc, RefCell::new(Files::new(alloc)))?;
+        Ok(Box::new(
+            alloc,
+            Logs {
+                options,
+                files,
+                log: None,
+            },
+        )?)
+    }
+
+    fn open(&mut self, alloc: Global, said: &mut Vec<u8>) -> io::Result<()> {
+        self.log = None;
+        match open_log::<H>(alloc, self.files.clone()?, self.options) {
+            Ok(log) => {
+                write!(said, "opened {}", log.len().unwrap_or(u64::MAX))?;
+                let (first, last) = (log.first_segment(), log.last_segment());
+                self.log = Some(log);
+                write!(said, " in {first} to {last}")
+            }
+            Err(error) => say_log_error(&error, said),
+        }
+    }
+
+    // A step of an open log.
+    fn go(
+        &mut self,
+        alloc: Global,
+        verb: Verb,
+        words: &Arguments,
+        said: &mut Vec<u8>,
+    ) -> io::Result<()> {
+        let (first, second) = (words.number(0), words.number(1));
+        let bytes = words.bytes();
+        let Some(log) = &mut self.log else {
+            return write!(said, "closed");
+        };
+        match verb {
+            Verb::Append if bytes.len() <= 65535 => say_place(log.append(bytes), said),
+            Verb::Commit => say_log_done(log.commit(), said),
+            Verb::StartCommit => match log.start_commit() {
+                Ok(_) => write!(said, "ok"),
+                Err(error) => say_log_error(&error, said),
+            },
+            Verb::Wait => say_log_done(log.wait_for_commit(), said),
+            Verb::Read => {
+                let place = Place {
+                    segment: first,
+                    offset: second,
+                };
+                say_found(log.read(place), said)
+            }
+            Verb::Records => say_records(records_of::<H>(alloc, log), said),
+            Verb::DropBefore => say_log_done(log.drop_before(first), said),
+            _ => Err(unreadable()),
+        }
+    }
+
+    // What somebody else does to the files.
+    fn harm(&mut self, verb: Verb, words: &Arguments) -> io::Result<()> {
+        let name = file_of(words.piece(0))?;
+        let mut files = lent(&self.files)?;
+        if !files.has(name) {
+            return Err(unreadable());
+        }
+        let mut bytes = files.bytes(name)?;
+        let at = words.length(0);
+        match verb {
+            Verb::Lose => {
+                files.lose(name);
+                return Ok(());
+            }
+            Verb::Copy => return files.replace(file_of(words.piece(1))?, &bytes),
+            Verb::Cut => bytes.resize(at.min(MOST), 0)?,
+            _ => {
+                if let Some(byte) = bytes.get_mut(at) {
+                    *byte ^= 1;
+                }
+            }
+        }
+        files.replace(name, &bytes)
+    }
+
+    fn crash(&mut self, alloc: Global, words: &Arguments) -> io::Result<()> {
+        self.log = None;
+        let bytes = flags_of(alloc, words.bytes())?;
+        lent(&self.files)?.crash(&words.flags, &bytes)
+    }
+
+    // Opens a copy of the files, makes the call of this number fail, appends a record, and commits
+    // it. Then all crashes with these flags, and is opened again. Answers whether no call failed,
+    // and the records then.
+    fn tear_once(
+        &self,
+        alloc: Global,
+        record: &[u8],
+        call: usize,
+        names: &[bool],
+        bytes: &[bool],
+    ) -> Result<(bool, Vec<IoBuf>), Error> {
+        let copy = lent(&self.files)?.copy()?;
+        let files: Shared = Rc::new(alloc, RefCell::new(copy))?;
+        let mut log = open_log::<H>(alloc, files.clone()?, self.options)?;
+        lent(&files)?.fail_at(call);
+        let is_committed = append_and_commit::<H>(&mut log, record).is_ok();
+        drop(log);
+        lent(&files)?.crash(names, bytes)?;
+        let mut log = open_log::<H>(alloc, files, self.options)?;
+        Ok((is_committed, records_of::<H>(alloc, &mut log)?))
+    }
+
+    // The same for each choice of what the crash keeps: the names or not, and of the bytes none,
+    // all, or each second one. Answers whether no call failed; `None` after it has written which
+    // crash leaves something else than `before`, with the new record or without it.
+    fn tear_call(
+        &self,
+        alloc: Global,
+        record: &[u8],
+        call: usize,
+        before: &[IoBuf],
+        said: &mut Vec<u8>,
+    ) -> io::Result<Option<bool>> {
+        let mut is_committed = false;
+        for (choice, (names, bytes)) in CHOICES.iter().enumerate() {
+            let bytes = kept_bytes(alloc, *bytes)?;
+            let torn = self.tear_once(alloc, record, call, names, &bytes);
+            match torn {
+                Ok((is, after)) if are_left(before, record, &after, is) => is_committed = is,
+                Ok((_, after)) => {
+                    write!(said, "fault call {call} choice {choice}: ")?;
+                    say_records(Ok(after), said)?;
+                    return Ok(None);
+                }
+                Err(error) => {
+                    write!(said, "fault call {call} choice {choice}: {error}")?;
+                    return Ok(None);
+                }
+            }
+        }
+        Ok(Some(is_committed))
+    }
+
+    // Appends and commits a record once for each call of that, with that call failing, and once
+    // with none failing. Writes how many calls there are.
+    fn tear(&mut self, alloc: Global, record: &[u8], said: &mut Vec<u8>) -> io::Result<()> {
+        self.log = None;
+        let before = match open_log::<H>(alloc, self.files.clone()?, self.options) {
+            Ok(mut log) => records_of::<H>(alloc, &mut log),
+            Err(error) => Err(error),
+        };
+        let before = match before {
+            Ok(before) => before,
+            Err(error) => return say_log_error(&error, said),
+        };
+        for call in 1..MOST {
+            match self.tear_call(alloc, record, call, &before, said)? {
+                Some(true) => return write!(said, "calls {}", call - 1),
+                Some(false) => {}
+                None => return Ok(()),
+            }
+        }
+        Ok(())
+    }
+}
+
+impl<H: Sum> Subject for Logs<H> {
+    fn play(&mut self, alloc: Global, row: &Row, said: &mut Vec<u8>) -> io::Result<()> {
+        let Some((verb, words)) = read_step(alloc, &STEPS, &row.step)? else {
+            return Err(unreadable());
+        };
+        match verb {
+            Verb::Open => self.open(alloc, said),
+            Verb::Close => {
+                self.log = None;
+                write!(said, "ok")
+            }
+            Verb::Fail => {
+                lent(&self.files)?.fail_at(words.length(0));
+                write!(said, "ok")
+            }
+            Verb::Crash => {
+                self.crash(alloc, &words)?;
+                write!(said, "ok")
+            }
+            Verb::Files => say_files(&*lent(&self.files)?, said),
+            Verb::Dump => {
+                match lent(&self.files)?.bytes(file_of(words.piece(0))?) {
+                    Ok(bytes) => say_bytes("blob", &bytes, said),
+                    Err(_) => write!(said, "none"),
+                }
+            }
+            Verb::Change | Verb::Cut | Verb::Copy | Verb::Lose => {
+                self.harm(verb, &words)?;
+                write!(said, "ok")
+            }
+            Verb::Torn => self.tear(alloc, words.bytes(), said),
+            _ => self.go(alloc, verb, &words, said),
+        }
+    }
+
+    fn calls(&self) -> usize {
+        match lent(&self.files) {
+            Ok(files) => files.told().len(),
+            Err(_) => 0,
+        }
+    }
+
+    fn say_calls(&self, first: usize, said: &mut Vec<u8>) -> io::Result<()> {
+        say_told(lent(&self.files)?.told(), first, said)
+    }
+}
