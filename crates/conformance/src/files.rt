@@ -8,7 +8,7 @@ use std::io::{ErrorKind, Write};
 
 /// A call of the folder, or of a file in it.
 #[derive(Clone, Copy)]
-pub enum Told {
+pub enum FileCall {
     /// To open a file, and to make it where it is missing.
     Open(Asked),
     /// To put so many bytes at an offset of a file.
@@ -41,12 +41,13 @@ struct Stored {
     standing: Standing,
 }
 
-/// The files of a folder, and what was asked of them. The call of one number fails, counted from 1.
+/// The files of a folder, and the calls that were made of them. The call of one number fails,
+/// counted from 1.
 #[derive(Drop)]
 pub struct Files {
     alloc: Global,
     files: Vec<Stored>,
-    told: Vec<Told>,
+    calls: Vec<FileCall>,
     failing: usize,
 }
 
@@ -72,25 +73,25 @@ impl Files {
         Files {
             alloc,
             files: Vec::new(alloc),
-            told: Vec::new(alloc),
+            calls: Vec::new(alloc),
             failing: 0,
         }
     }
 
-    /// What was asked so far.
-    pub fn told(&self) -> &[Told] {
-        &self.told
+    /// The calls so far.
+    pub fn calls(&self) -> &[FileCall] {
+        &self.calls
     }
 
     /// Makes the nth call from now on fail, counted from 1.
     pub fn fail_at(&mut self, n: usize) {
-        self.failing = self.told.len().saturating_add(n);
+        self.failing = self.calls.len().saturating_add(n);
     }
 
     // Notes a call, and fails if it is the one that must fail.
-    fn note(&mut self, told: Told) -> io::Result<()> {
-        self.told.push(told)?;
-        if self.told.len() == self.failing {
+    fn note(&mut self, call: FileCall) -> io::Result<()> {
+        self.calls.push(call)?;
+        if self.calls.len() == self.failing {
             return Err(ErrorKind::StorageFull.into());
         }
         Ok(())
@@ -148,7 +149,7 @@ impl Files {
 
     /// Opens a file, and makes it where it is missing. Its bytes are durable then.
     pub fn open(&mut self, name: Asked) -> io::Result<Vec<u8>> {
-        self.note(Told::Open(name))?;
+        self.note(FileCall::Open(name))?;
         if !self.has(name) {
             self.files.push(Stored {
                 name,
@@ -162,26 +163,26 @@ impl Files {
 
     /// Puts bytes at an offset of a file.
     pub fn put(&mut self, name: Asked, offset: u64, bufs: &IoBufs) -> io::Result<()> {
-        self.note(Told::Put(name, offset, bufs.len()))?;
+        self.note(FileCall::Put(name, offset, bufs.len()))?;
         let blob = self.blob_mut(name)?;
         done(blob.write_at(offset, bufs, WriteOptions::default()))
     }
 
     /// Sets the length of a file in bytes.
     pub fn set_len(&mut self, name: Asked, len: u64) -> io::Result<()> {
-        self.note(Told::SetLen(name, len))?;
+        self.note(FileCall::SetLen(name, len))?;
         done(self.blob_mut(name)?.resize(len))
     }
 
     /// Makes the bytes of a file durable.
     pub fn sync(&mut self, name: Asked) -> io::Result<()> {
-        self.note(Told::Sync(name))?;
+        self.note(FileCall::Sync(name))?;
         done(self.blob_mut(name)?.sync())
     }
 
     /// Removes the file of a segment.
     pub fn remove(&mut self, segment: u64) -> io::Result<()> {
-        self.note(Told::Remove(Asked::Segment(segment)))?;
+        self.note(FileCall::Remove(Asked::Segment(segment)))?;
         let index = self.place_of(Asked::Segment(segment)).unwrap_or(usize::MAX);
         match self.files.get_mut(index) {
             Some(stored) => {
@@ -194,7 +195,7 @@ impl Files {
 
     /// Makes the names of the files durable.
     pub fn sync_names(&mut self) -> io::Result<()> {
-        self.note(Told::SyncNames)?;
+        self.note(FileCall::SyncNames)?;
         self.settle_names();
         Ok(())
     }
@@ -245,7 +246,7 @@ impl Files {
         self.files.retain(|stored| !is_same(stored.name, name));
     }
 
-    /// The same files, with all that can be read durable, of which nothing was asked yet.
+    /// The same files, with all that can be read durable, of which no call was made yet.
     pub fn copy(&self) -> io::Result<Files> {
         let mut files = Files::new(self.alloc);
         for stored in &self.files {
@@ -278,29 +279,29 @@ fn say_call(word: &str, name: Asked, said: &mut Vec<u8>) -> io::Result<()> {
     say_name(name, said)
 }
 
-fn say_one(told: Told, said: &mut Vec<u8>) -> io::Result<()> {
-    match told {
-        Told::Open(name) => say_call("open", name, said),
-        Told::Put(name, offset, len) => {
+fn say_one(call: FileCall, said: &mut Vec<u8>) -> io::Result<()> {
+    match call {
+        FileCall::Open(name) => say_call("open", name, said),
+        FileCall::Put(name, offset, len) => {
             say_call("put", name, said)?;
             write!(said, " {offset} {len}")
         }
-        Told::SetLen(name, len) => {
+        FileCall::SetLen(name, len) => {
             say_call("set-len", name, said)?;
             write!(said, " {len}")
         }
-        Told::Sync(name) => say_call("sync", name, said),
-        Told::Remove(name) => say_call("remove", name, said),
-        Told::SyncNames => write!(said, "sync names"),
+        FileCall::Sync(name) => say_call("sync", name, said),
+        FileCall::Remove(name) => say_call("remove", name, said),
+        FileCall::SyncNames => write!(said, "sync names"),
     }
 }
 
 /// Writes what was asked, from one call on.
-pub fn say_told(told: &[Told], first: usize, said: &mut Vec<u8>) -> io::Result<()> {
-    if told.len() <= first {
+pub fn say_file_calls(calls: &[FileCall], first: usize, said: &mut Vec<u8>) -> io::Result<()> {
+    if calls.len() <= first {
         return write!(said, "none");
     }
-    for (index, one) in told.iter().skip(first).enumerate() {
+    for (index, one) in calls.iter().skip(first).enumerate() {
         if index > 0 {
             write!(said, ", ")?;
         }

@@ -2,7 +2,7 @@
 ghost use Rattle.std.specs.Prelude.{IfOk};
 ghost use Rattle.segments.specs.Log.{IsLog};
 
-use crate::files::{Files, say_name, say_told};
+use crate::files::{Files, say_file_calls, say_name};
 use crate::forms::Argument::{Bytes, Flags, Number, Word};
 use crate::forms::{Arguments, Form, read_step};
 use crate::line::Row;
@@ -468,12 +468,12 @@ impl<H: Sum> Subject for Logs<H> {
 
     fn calls(&self) -> usize {
         match lent(&self.files) {
-            Ok(files) => files.told().len(),
+            Ok(files) => files.calls().len(),
             Err(_) => 0,
         }
     }
 
     fn say_calls(&self, first: usize, said: &mut Vec<u8>) -> io::Result<()> {
-        say_told(lent(&self.files)?.told(), first, said)
+        say_file_calls(lent(&self.files)?.calls(), first, said)
     }
 }

@@ -6,7 +6,6 @@ ghost use Rattle.segments.specs.FolderEvents.{plain_event, opening_outcome};
 ghost use Rattle.segments.specs.Folders.{call_for};
 
 use crate::files::Files;
-use crate::words::out_of_memory;
 use disk::{IoBufs, Past, VecBlob};
 use file::{Host, Mirror};
 use segments::{Asked, Folder, FolderCall, FolderPast};
