@@ -205,9 +205,9 @@ pub record HasComeBack (sum own : List ℕ → ℕ) (P : ℕ) (after : CacheStat
   pub only : IsDistinct sum P was image → (all : List Bytes) → OnlyRecords sum own P all was
       → IsPrefix (puts_of own now new) all
 
--- a crash and an opening, by their answer: the journal was recovered from what the crash left, and a
--- record is no put, or memory for the map was refused; or the recovery was refused, or memory for
--- the crash, and then nothing changed
+-- a crash and an opening, by their answer: the journal was recovered from what the crash left, and
+-- a record is no put, or memory for the map was refused; or the recovery was refused, or memory
+-- for the crash, and then nothing changed
 abbrev pub CrashAndOpenGoes : (sum own : List ℕ → ℕ) → (cache after : CacheState) → (capacity : ℕ)
     → List Bool → Life → Life → Result StoreState OpenError → Type 0
 CrashAndOpenGoes sum own cache after capacity keep old new (Ok now) =
