@@ -1,5 +1,5 @@
 // Appending the program's input to a file.
-ghost use Rattle.std.specs.Prelude.{◌≡◌, IfOk};
+ghost use Rattle.std.specs.Prelude.{IfOk};
 ghost use Rattle.session.specs.Run.{IsSessionReady};
 
 use crate::ending::{fail, fail_stop};
