@@ -130,13 +130,13 @@ put_at offset bytes buf = take offset buf ++ bytes ++ drop (offset + length byte
 -- a piece's bytes are of one page of P bytes, and a buffer of this size has room for them
 pub record IsPiece (P room : ℕ) (piece : Piece) : Type 0 where
   pub within : piece.skip + piece.len ≤ P
-  pub fits : piece.buf_offset + piece.len ≤ room
+  pub fits : piece.place + piece.len ≤ room
 
 -- the buffer after a piece: a piece of a page that is held is copied into it, any other leaves it
 abbrev pub with_piece : Option (List ℕ) → Piece → List ℕ → List ℕ
 with_piece None piece buf = buf
 with_piece (Some page) piece buf =
-    put_at piece.buf_offset (take piece.len (drop piece.skip page)) buf
+    put_at piece.place (take piece.len (drop piece.skip page)) buf
 
 -- a buffer once each of these pieces was tried, in order: the bytes of the pages that are held are
 -- copied, the others left out

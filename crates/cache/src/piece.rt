@@ -7,8 +7,8 @@ pub struct Piece {
     pub page: u64,
     /// The byte of the page with which the piece begins.
     pub skip: usize,
-    /// The piece's offset in the buffer.
-    pub buf_offset: usize,
+    /// Where the piece goes in the buffer, in bytes.
+    pub place: usize,
     /// How many bytes the piece has.
     pub len: usize,
 }

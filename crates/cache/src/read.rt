@@ -53,7 +53,7 @@ impl CacheRef {
         let mut left = Vec::new(self.alloc);
         for piece in pieces {
             match self.page(id, piece.page) {
-                Some(page) => copy_at(buf, piece.buf_offset, &page[piece.skip..][..piece.len]),
+                Some(page) => copy_at(buf, piece.place, &page[piece.skip..][..piece.len]),
                 None => left.push(*piece)?,
             }
         }

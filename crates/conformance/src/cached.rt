@@ -51,7 +51,7 @@ fn piece_of(words: &Arguments) -> Piece {
     Piece {
         page: words.number(1),
         skip: words.length(2),
-        buf_offset: words.length(3),
+        place: words.length(3),
         len: words.length(4),
     }
 }
@@ -70,7 +70,7 @@ fn is_piece(page_size: usize, room: usize, piece: Piece) -> bool
     piece.len <= page_size
         && piece.skip <= page_size - piece.len
         && piece.len <= room
-        && piece.buf_offset <= room - piece.len
+        && piece.place <= room - piece.len
 }
 
 impl Cached {

@@ -24,7 +24,7 @@ use Rattle.paged.specs.Ready.{IsReady}
 use Rattle.items.specs.Items.{items, AreDurable, AreFirst, WouldBeDurable}
 use Rattle.items.specs.State.{ItemsState}
 use Rattle.items.specs.Standing.{AreItems, AreReady, ItemsCallLeaves, StandAsItems, items_content, count, items_of}
-use Rattle.items.specs.Calls.{AllDurable, AreStarted, AreSynced, CompletesItems, DurabilityLasts, GoOn, GoReady, HaveWaited, IsPushed, PushGoes, StartedFor, TryPushGoes}
+use Rattle.items.specs.Calls.{AllDurable, AreStarted, AreSynced, CompletesItems, DurabilityLasts, GoOn, GoReady, HaveWaited, IsPushed, PushAnswers, StartedFor, TryPushGoes}
 use Rattle.items.proofs.Laws.{length-items, durable_longer, durable_of, first_of_itself, first_of_more, items_more, would_longer}
 use Rattle.items.proofs.Standing.{are_items, owed_leaves, stand}
 
@@ -169,7 +169,7 @@ pushed sum s item cache after old new w now i items long number holds is size is
       there = ap₂ (λ (l : List (List ℕ)) (n : ℕ). slice_get l n) added last ∙ slice_get_last all item;
     }
 
-pub not_pushed : (sum : List ℕ → ℕ) (s : ItemsState) (item : List ℕ) (after : CacheState) (old new : Life) (e : Error) → AppendAnswers sum s.writer item old new (Err e) → PushGoes sum s item after old new (Err e)
+pub not_pushed : (sum : List ℕ → ℕ) (s : ItemsState) (item : List ℕ) (after : CacheState) (old new : Life) (e : Error) → AppendAnswers sum s.writer item old new (Err e) → PushAnswers sum s item after old new (Err e)
 not_pushed sum s item after old new OffsetOverflow refused = refused
 not_pushed sum s item after old new ReadFailed refused = refused.cause
 not_pushed sum s item after old new WriteFailed refused = refused.cause
@@ -199,7 +199,7 @@ tried_holds sum s bytes v at cache life tries appends items =
 pub tried_some : (sum : List ℕ → ℕ) (s : ItemsState) (bytes : List ℕ) (v : WriterState) (at i : ℕ) → TryAppendGoes s.writer bytes v (Ok (Some at)) → BuffersOver sum s.writer bytes v (Ok (Some at)) → KeepsReads s.writer v → length bytes ≡ s.size → i ≡ count s
     → TryPushGoes sum s bytes (record { writer = v; size = s.size }) (Ok (Some i))
 tried_some sum s bytes v at i tries appends reads long number = (
-  tries.1,
+  (tries.0, tries.1),
   number,
   λ cache life items.
       let was = (stand sum s cache life items).ready in
@@ -208,11 +208,11 @@ tried_some sum s bytes v at i tries appends reads long number = (
 )
 
 pub tried_none : (sum : List ℕ → ℕ) (s : ItemsState) (bytes : List ℕ) (v : WriterState) → TryAppendGoes s.writer bytes v (Ok None) → TryPushGoes sum s bytes (record { writer = v; size = s.size }) (Ok None)
-tried_none sum s bytes v tries = (tries.1, ap (λ (w : WriterState). record { writer = w; size = s.size }) tries.2)
+tried_none sum s bytes v tries = (tries.0, tries.1, ap (λ (w : WriterState). record { writer = w; size = s.size }) tries.2)
 
 pub not_tried : (sum : List ℕ → ℕ) (s : ItemsState) (bytes : List ℕ) (v : WriterState) (e : Error) → TryAppendGoes s.writer bytes v (Err e) → TryPushGoes sum s bytes (record { writer = v; size = s.size }) (Err e)
 not_tried sum s bytes v OffsetOverflow tries = (tries.0, ap (λ (w : WriterState). record { writer = w; size = s.size }) tries.1)
-not_tried sum s bytes v OutOfMemory tries = ap (λ (w : WriterState). record { writer = w; size = s.size }) tries.2
+not_tried sum s bytes v OutOfMemory tries = ((tries.0, tries.1), ap (λ (w : WriterState). record { writer = w; size = s.size }) tries.2)
 not_tried sum s bytes v ReadFailed tries = absurd tries
 not_tried sum s bytes v WriteFailed tries = absurd tries
 not_tried sum s bytes v ResizeFailed tries = absurd tries
@@ -236,9 +236,9 @@ some_ready sum s bytes v at i tries appends pushes cache life items =
 pub tries_ready : (sum : List ℕ → ℕ) (s : ItemsState) (bytes : List ℕ) (v : WriterState) (i : ℕ) (result : Result (Option ℕ) Error) → TryAppendGoes s.writer bytes v result → BuffersOver sum s.writer bytes v result → KeepsReads s.writer v → length bytes ≡ s.size → i ≡ count s
     → (cache : CacheState) (life : Life) → AreItems sum s cache life → GoReady sum s (record { writer = v; size = s.size }) cache life × DurabilityLasts sum s (record { writer = v; size = s.size }) life life
 tries_ready sum s bytes v i (Ok (Some at)) tries appends reads long number = some_ready sum s bytes v at i tries appends (tried_some sum s bytes v at i tries appends reads long number)
-tries_ready sum s bytes v i (Ok None) tries appends reads long number = same_ready sum s (record { writer = v; size = s.size }) (tried_none sum s bytes v tries).1
+tries_ready sum s bytes v i (Ok None) tries appends reads long number = same_ready sum s (record { writer = v; size = s.size }) (tried_none sum s bytes v tries).2
 tries_ready sum s bytes v i (Err OffsetOverflow) tries appends reads long number = same_ready sum s (record { writer = v; size = s.size }) (not_tried sum s bytes v OffsetOverflow tries).1
-tries_ready sum s bytes v i (Err OutOfMemory) tries appends reads long number = same_ready sum s (record { writer = v; size = s.size }) (not_tried sum s bytes v OutOfMemory tries)
+tries_ready sum s bytes v i (Err OutOfMemory) tries appends reads long number = same_ready sum s (record { writer = v; size = s.size }) (not_tried sum s bytes v OutOfMemory tries).1
 tries_ready sum s bytes v i (Err ReadFailed) tries appends reads long number = absurd tries
 tries_ready sum s bytes v i (Err WriteFailed) tries appends reads long number = absurd tries
 tries_ready sum s bytes v i (Err ResizeFailed) tries appends reads long number = absurd tries

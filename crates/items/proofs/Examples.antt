@@ -1,5 +1,5 @@
 -- Each definition of items, computed on a few bytes. Pages have 4 bytes, and the checksum is their sum.
-use Rattle.std.proofs.Common.{◌≡◌, ℕ, zero, suc, ◌<◌, List, [], ◌∷◌, ◌++◌, take, refl, sym, ap, subst, arith, true, false, Some, None, Ok, Err}
+use Rattle.std.proofs.Common.{◌≡◌, ℕ, zero, suc, ◌<◌, List, [], ◌∷◌, ◌++◌, take, refl, sym, ap, subst, arith, true, false, lit<, lit≤, Some, None, Ok, Err}
 use Rattle.std.specs.Prelude.{All, get_or, slice_get}
 use Rattle.std.proofs.lemmas.List.{append_cancel_left}
 use Rattle.std.proofs.lemmas.Option.{same_Some}
@@ -16,7 +16,7 @@ use Rattle.writer_state.proofs.Examples.{a_lost_floor, all_is_covered, all_keep,
 use Rattle.items.specs.Items.{items, item, item_floor, AreDurable, AreFirst, BringsItemsBack, WouldBeDurable}
 use Rattle.items.specs.State.{ItemsReplayState, ItemsState}
 use Rattle.items.specs.Standing.{AreItems, count, items_content, items_of}
-use Rattle.items.specs.Calls.{AreRising, ItemIsAt, FirstRefused, GetGoes, IsThere, TryPushGoes, item_ranges}
+use Rattle.items.specs.Calls.{AreRising, ItemIsAt, FirstRefused, GetGoes, HasRoomFor, IsThere, PassesOffsets, TryPushGoes, item_ranges}
 use Rattle.items.specs.Readers.{NextItemRefused}
 use Rattle.items.specs.Run.{SameSizes, SaysPushed, TellsLength}
 use Rattle.items.specs.declared.run.ItemReply.TheVariants.{BadItem, Closed, Done, Length}
@@ -190,7 +190,29 @@ a_later_does_not first = none_such first.at first.there first.before first.refus
 
 -- a tip of three bytes and a buffer of eight have room for five bytes more, and so none for seven
 pub no_room_for_seven : TryPushGoes add_sum one_of_seven seven one_of_seven (Ok None)
-no_room_for_seven = (omega arith, refl)
+no_room_for_seven = (lit< tt, omega arith, refl)
+
+-- it has room for the three bytes of an item, and would answer `None` for none of them
+pub room_for_three : HasRoomFor one_of_seven (97 ∷ 98 ∷ 99 ∷ [])
+room_for_three = (lit< tt, omega arith)
+
+pub room_is_used : (now : ItemsState) → TryPushGoes add_sum one_of_seven (97 ∷ 98 ∷ 99 ∷ []) now (Ok None) → ⊥
+room_is_used now tries = omega (arith, tries.1)
+
+-- behind the last page that has an offset there is no room, whatever the buffer holds
+abbrev at_the_end : ItemsState
+at_the_end = record one_of_seven { writer = record one_of_seven.writer { full_pages = 1152921504606846975 } }
+
+pub passes_offsets : PassesOffsets at_the_end (97 ∷ 98 ∷ 99 ∷ [])
+passes_offsets = lit≤ tt
+
+-- so a push that asks no device may neither answer that the item doesn't fit the buffer, nor that
+-- memory is wanted
+pub not_none : (now : ItemsState) → TryPushGoes add_sum at_the_end seven now (Ok None) → ⊥
+not_none now tries = omega (arith, tries.0)
+
+pub not_out_of_memory : (now : ItemsState) → TryPushGoes add_sum at_the_end (97 ∷ 98 ∷ 99 ∷ []) now (Err OutOfMemory) → ⊥
+not_out_of_memory now tries = omega (arith, tries.0.0)
 
 -- a session without items is closed to each step
 pub closed : (life : Life) (cache : CacheState) → SaysPushed add_sum seven None None cache life life Closed

@@ -1,7 +1,7 @@
 -- What a recovery of items does, from what that of the blob and the cut after it do.
 use Rattle.std.specs.Prelude.{Bool, IfOk, Result}
 use Rattle.std.specs.Result.{IsErrAnd}
-use Rattle.std.proofs.Common.{◌≡◌, inl, inr, ℕ, ◌*◌, ◌/◌, ◌<◌, ◌≤◌, List, [], ◌∷◌, ◌++◌, length, take, refl, sym, ap, ap₂, ◌∙◌, subst, arith, length-take, Ok, Err}
+use Rattle.std.proofs.Common.{◌≡◌, inl, inr, ℕ, ◌*◌, ◌/◌, ◌^◌, ◌<◌, ◌≤◌, List, [], ◌∷◌, ◌++◌, length, take, refl, sym, ap, ap₂, ◌∙◌, subst, arith, length-take, Ok, Err}
 use Rattle.std.proofs.lemmas.List.{take-take, append_assoc}
 use Rattle.std.proofs.Math.Nat.{div-mul-le_self, mul-div_cancel, mul-le-mul_right}
 use Rattle.disk.specs.Disk.{Disk, Life, IsImage, Entry, SomeFailed, HasFailed, LogGrows}
@@ -9,6 +9,7 @@ use Rattle.disk.specs.History.{begun}
 use Rattle.disk.specs.Torn.{torn}
 use Rattle.disk.specs.declared.error.Error.{Error}
 use Rattle.disk.specs.declared.error.Error.TheVariants.{ReadFailed, WriteFailed, ResizeFailed, SyncFailed, InvalidChecksum, BlobInsufficientLength, OffsetOverflow, OutOfMemory, IdsExhausted}
+use Rattle.page.specs.Geometry.{adjusted}
 use Rattle.page.specs.Page.{text}
 use Rattle.cache.specs.CacheState.{CacheState}
 use Rattle.cache.specs.Pages.{IsFresh}
@@ -186,18 +187,20 @@ cut_refused sum n capacity cache old mid new w IdsExhausted recovered (cause, lo
 
 -- a recovery, by its answer
 pub recovers_so : (sum : List ℕ → ℕ) (s : ℕ) (cache after : CacheState) (capacity : ℕ) (old new : Life) (now : ItemsState) → 0 < s → IsImage old.present old.present.readable → HaveRecovered sum s cache after old new now
-    → ItemsRecoverGoes sum s cache after capacity old new (Ok now)
-recovers_so sum s cache after capacity old new now some is_image has =
+    → (2 ^ 64 ≤ adjusted capacity cache.page_size → ⊥) → ItemsRecoverGoes sum s cache after capacity old new (Ok now)
+recovers_so sum s cache after capacity old new now some is_image has rounded =
     let P = cache.page_size in
     let d = old.present in
     record {
       answers = has;
+      overflow = λ passes. absurd (rounded passes);
       back = subst (λ (found : List (List ℕ)). BringsItemsBack sum P s d found) (sym has.same) (brings_back sum P s d d.readable some is_image);
       only = subst (λ (found : List (List ℕ)). BringsOnlyItems sum P s d d.readable found) (sym has.same) (brings_only sum P s d d.readable is_image);
     }
 
-pub recovers_not : (sum : List ℕ → ℕ) (s : ℕ) (cache after : CacheState) (capacity : ℕ) (old new : Life) (e : Error) → Recovers sum cache capacity old new (Err e) → ItemsRecoverGoes sum s cache after capacity old new (Err e)
-recovers_not sum s cache after capacity old new e refused = record { answers = refused; back = tt; only = tt }
+pub recovers_not : (sum : List ℕ → ℕ) (s : ℕ) (cache after : CacheState) (capacity : ℕ) (old new : Life) (e : Error) → Recovers sum cache capacity old new (Err e)
+    → (2 ^ 64 ≤ adjusted capacity cache.page_size → e ≡ OffsetOverflow) → ItemsRecoverGoes sum s cache after capacity old new (Err e)
+recovers_not sum s cache after capacity old new e refused overflow = record { answers = refused; overflow = λ passes. ap Err (overflow passes); back = tt; only = tt }
 
 -- what comes back of a crash
 pub brought_back : (sum : List ℕ → ℕ) (s : ℕ) (cache after : CacheState) (capacity : ℕ) (d : Disk) (image : List ℕ) (old new : Life) (result : Result ItemsState Error) → 0 < s → IsImage d image → old.present.readable ≡ image → RecoversItems sum s cache after capacity old new result

@@ -12,6 +12,7 @@ use Rattle.disk.specs.Torn.{torn}
 use Rattle.disk.specs.declared.error.Error.{Error}
 use Rattle.disk.specs.declared.error.Error.TheVariants.{ReadFailed, OffsetOverflow, OutOfMemory}
 use Rattle.disk.specs.declared.error.Error.TheVariants.{BlobInsufficientLength}
+use Rattle.page.specs.Geometry.{adjusted}
 use Rattle.page.specs.Page.{text}
 use Rattle.cache.specs.CacheState.{CacheState}
 use Rattle.writer_state.specs.WriterState.{started_state}
@@ -23,7 +24,7 @@ use Rattle.paged_read.specs.Ranges.{served_ranges}
 use Rattle.paged_read.specs.Tail.{Tail}
 use Rattle.paged.specs.Calls.{IsSameWriter, CallCause}
 use Rattle.paged.specs.Recovers.{Recovers}
-use Rattle.paged.specs.Writer.{physical_blob_size}
+use Rattle.paged.specs.Writer.{physical_blob_size, FitsBlob}
 use Rattle.items.specs.Items.{items, item, AreDurable, BringsItemsBack, BringsOnlyItems}
 use Rattle.items.specs.Items.{WouldBeDurable}
 use Rattle.items.specs.State.{ItemsState}
@@ -83,14 +84,23 @@ pub record IsPushed (sum : List ℕ → ℕ) (s : ItemsState) (item : List ℕ) 
   pub added : items_of now new ≡ items_of s old ++ item ∷ []
   pub there : slice_get (items_of now new) i ≡ Some item
 
-abbrev pub PushGoes : (List ℕ → ℕ) → ItemsState → List ℕ → CacheState → Life → Life
-    → Result (ItemsState × ℕ) Error → Type 0
-PushGoes sum s item after old new (Ok r) = IsPushed sum s item after old new r.0 r.1
-PushGoes sum s item after old new (Err OffsetOverflow) =
+-- the physical size that the blob needs with this item passes the greatest `u64`
+abbrev pub PassesOffsets : ItemsState → List ℕ → Type 0
+PassesOffsets s item =
     let w = s.writer in
-    (new ≡ old)
-    × (2 ^ 64 ≤ physical_blob_size w.page_size w.full_pages (length w.tip + length item))
-PushGoes sum s item after old new (Err e) = CallCause s.writer.sync old new e
+    2 ^ 64 ≤ physical_blob_size w.page_size w.full_pages (length w.tip + length item)
+
+abbrev pub PushAnswers : (List ℕ → ℕ) → ItemsState → List ℕ → CacheState → Life → Life
+    → Result (ItemsState × ℕ) Error → Type 0
+PushAnswers sum s item after old new (Ok r) = IsPushed sum s item after old new r.0 r.1
+PushAnswers sum s item after old new (Err OffsetOverflow) = (new ≡ old) × PassesOffsets s item
+PushAnswers sum s item after old new (Err e) = CallCause s.writer.sync old new e
+
+-- a push, by its answer; an overflow comes before anything is asked for
+pub record PushGoes (sum : List ℕ → ℕ) (s : ItemsState) (item : List ℕ) (after : CacheState)
+    (old new : Life) (result : Result (ItemsState × ℕ) Error) : Type 0 where
+  pub answers : PushAnswers sum s item after old new result
+  pub overflow : PassesOffsets s item → result ≡ Err OffsetOverflow
 
 -- all items are durable
 abbrev pub AllDurable : (List ℕ → ℕ) → ItemsState → Life → Type 0
@@ -140,20 +150,27 @@ abbrev pub ItemsWaitGoes : (List ℕ → ℕ) → ItemsState → CacheState → 
 ItemsWaitGoes sum s cache old new (Ok now) = HaveWaited sum s cache old new now
 ItemsWaitGoes sum s cache old new (Err e) = CallCause s.writer.sync old new e
 
--- a push of an item, if the buffer has room for it, over whatever blob
+-- the blob has offsets for an item more, and the buffer has room for it
+abbrev pub HasRoomFor : ItemsState → List ℕ → Type 0
+HasRoomFor s item =
+    let w = s.writer in
+    FitsBlob w.page_size w.full_pages (length w.tip + length item)
+    × (length w.tip + length item ≤ w.capacity)
+
+-- a push of an item, if the buffer has room for it, over whatever blob. An overflow comes before
+-- anything is asked for; memory is asked for only where there is room
 abbrev pub TryPushGoes : (List ℕ → ℕ) → ItemsState → List ℕ → ItemsState → Result (Option ℕ) Error
     → Type 0
 TryPushGoes sum s item now (Ok (Some i)) =
-    let w = s.writer in
-    (length w.tip + length item ≤ w.capacity) × (i ≡ count s)
+    HasRoomFor s item × (i ≡ count s)
     × ((cache : CacheState) (life : Life) → AreItems sum s cache life
     → IsPushed sum s item cache life life now i)
 TryPushGoes sum s item now (Ok None) =
-    let w = s.writer in (w.capacity < length w.tip + length item) × (now ≡ s)
-TryPushGoes sum s item now (Err OffsetOverflow) =
     let w = s.writer in
-    (2 ^ 64 ≤ physical_blob_size w.page_size w.full_pages (length w.tip + length item)) × (now ≡ s)
-TryPushGoes sum s item now (Err OutOfMemory) = now ≡ s
+    FitsBlob w.page_size w.full_pages (length w.tip + length item)
+    × (w.capacity < length w.tip + length item) × (now ≡ s)
+TryPushGoes sum s item now (Err OffsetOverflow) = PassesOffsets s item × (now ≡ s)
+TryPushGoes sum s item now (Err OutOfMemory) = HasRoomFor s item × (now ≡ s)
 TryPushGoes sum s item now (Err _) = ⊥
 
 -- ---- recovery
@@ -182,10 +199,12 @@ RecoversItems sum s cache after capacity old new (Err e) =
     Recovers sum cache capacity old new (Err e)
 
 -- a recovery, by its answer: what it brings back begins with the items that were durable; and where
--- no checksum collides, it is the first of those that a crash was to leave
+-- no checksum collides, it is the first of those that a crash was to leave. An overflow of the
+-- capacity comes before anything is asked for
 pub record ItemsRecoverGoes (sum : List ℕ → ℕ) (s : ℕ) (cache after : CacheState) (capacity : ℕ)
     (old new : Life) (result : Result ItemsState Error) : Type 0 where
   pub answers : RecoversItems sum s cache after capacity old new result
+  pub overflow : 2 ^ 64 ≤ adjusted capacity cache.page_size → result ≡ Err OffsetOverflow
   pub back : IfOk result (λ r. BringsItemsBack sum cache.page_size s old.present (items_of r new))
   pub only : let was = old.present in
       IfOk result (λ r. BringsOnlyItems sum cache.page_size s was was.readable (items_of r new))

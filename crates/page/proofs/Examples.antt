@@ -5,7 +5,7 @@ use Rattle.std.specs.Prelude.{Some, None, Ok, Err, true, false, replicate, nat_l
 use Rattle.std.specs.Int.{w16, to_be_bytes}
 use Rattle.page.specs.Page.{slot_bytes, slot_of, slot_len, slot_crc, verifies, verified_len, value_len, value, active, pages, text}
 use Rattle.page.specs.Footer.{footer_bytes, footer_of, longer_slot}
-use Rattle.page.specs.Geometry.{adjusted, EndWithin, RangeGoes, RangesGo}
+use Rattle.page.specs.Geometry.{adjusted, is_too_big, EndWithin, RangeGoes, RangesGo}
 use Rattle.disk.specs.declared.error.Error.TheVariants.{OffsetOverflow, BlobInsufficientLength}
 use Rattle.page.specs.Sums.{add_sum, const_sum}
 use Rattle.page.specs.Tip.{Tip, tip_size, joined, full_len, drained, grown_limit, page_limit, kept_limit, TipAppendGoes, TipTryAppendGoes, TipDrainGoes}
@@ -174,6 +174,20 @@ a_capacity_of_pages = refl
 pub no_capacity : nat_le (2 ^ 64) (adjusted 18446744073709551615 64) ≡ true
 no_capacity = refl
 
+-- after 2 buffered bytes, 6 are not too big for 8
+pub too_big : is_too_big 2 8 6 4 ≡ false
+too_big = refl
+
+-- after 3 bytes, 5 fit; 6 leave a whole page after the one that they fill; after 7, 4 don't
+pub not_past_the_capacity : is_too_big 3 8 5 4 ≡ false
+not_past_the_capacity = refl
+
+pub a_page_is_left : is_too_big 3 8 6 4 ≡ true
+a_page_is_left = refl
+
+pub no_page_is_left : is_too_big 7 8 4 4 ≡ false
+no_page_is_left = refl
+
 -- page 2 of 4 logical bytes stands at byte 32 and has 16 bytes; the last page that has an offset,
 -- and the first that has none
 pub a_physical_page : (2 * (4 + 12) ≡ 32) × (4 + 12 ≡ 16)
@@ -187,6 +201,10 @@ it_ends_within = lit< tt
 
 pub the_next_passes : 2 ^ 64 ≤ (1152921504606846975 + 1) * (4 + 12)
 the_next_passes = lit≤ tt
+
+-- so many bytes more pass the greatest offset, whatever the capacity
+pub too_big_to_count : 2 ^ 64 ≤ 1 + 18446744073709551615
+too_big_to_count = lit≤ tt
 
 -- a range whose end passes the greatest offset, and one that passes a size of 16
 pub an_overflow : RangeGoes 16 (18446744073709551615, 4) (Err OffsetOverflow)

@@ -1,8 +1,9 @@
 -- A footer's twelve bytes, and what its slots hold.
-use Rattle.std.proofs.Common.{◌≡◌, ◌∙◌, ap, sym, subst, ℕ, ◌+◌, ◌<◌, ◌≤◌, ◌++◌, Bool, true, false, List, length, take, drop, get_or, arith, nat_lt, inl, inr}
+use Rattle.std.proofs.Common.{◌≡◌, ◌∙◌, ap, sym, subst, ℕ, ◌+◌, ◌<◌, ◌≤◌, ◌^◌, ◌++◌, Bool, true, false, List, length, take, drop, get_or, arith, nat_lt, inl, inr}
 use Rattle.std.specs.Prelude.{if◌then◌else◌, Some, not, ◌==◌, ◌&&◌}
 use Rattle.page.specs.declared.slot.ActiveChecksum.{ActiveChecksum}
 use Rattle.std.specs.Bool.{then_some}
+use Rattle.std.proofs.lemmas.Nat.{from_be_bytes-to_be_bytes_2, from_be_bytes-to_be_bytes_4}
 use Rattle.std.proofs.lemmas.Bool.{le-ltb, lt-ltb, cases_lt}
 use Rattle.std.proofs.lemmas.List.{take-append-drop, length-take, length-drop, take_all, drop-drop, length-take-le}
 use Rattle.page.specs.Slot.{other}
@@ -21,6 +22,15 @@ footer_bytes-footer_of bytes twelve below =
     let first = slot_bytes-said (take 6 bytes) (rw length-take (omega arith)) (take-below 6 256 bytes (omega arith) below) in
     let second = slot_bytes-said (drop 6 bytes) (rw length-drop (omega arith)) (drop-below 6 256 bytes below) in
     ap (λ b. b ++ slot_bytes (slot_len (drop 6 bytes)) (slot_crc (drop 6 bytes))) first ∙ ap (λ b. take 6 bytes ++ b) second ∙ take-append-drop 6 bytes
+
+-- the footer that a footer's bytes are read as is that footer
+pub footer_of-footer_bytes : (c : Checksum) → c.len1 < 2 ^ 16 → c.crc1 < 2 ^ 32 → c.len2 < 2 ^ 16 → c.crc2 < 2 ^ 32 → footer_of (footer_bytes c) ≡ c
+footer_of-footer_bytes c len1 crc1 len2 crc2 =
+    let a : slot_len (take 6 (footer_bytes c)) ≡ c.len1 = from_be_bytes-to_be_bytes_2 c.len1 len1 in
+    let b : slot_crc (take 6 (footer_bytes c)) ≡ c.crc1 = from_be_bytes-to_be_bytes_4 c.crc1 crc1 in
+    let d : slot_len (drop 6 (footer_bytes c)) ≡ c.len2 = from_be_bytes-to_be_bytes_2 c.len2 len2 in
+    let e : slot_crc (drop 6 (footer_bytes c)) ≡ c.crc2 = from_be_bytes-to_be_bytes_4 c.crc2 crc2 in
+    λ i. record { len1 = a i; crc1 = b i; len2 = d i; crc2 = e i }
 
 -- what a page's slot holds, as its footer has it
 abbrev pub says : ℕ → List ℕ → Slot → ActiveChecksum

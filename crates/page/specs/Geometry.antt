@@ -1,6 +1,6 @@
 -- How much a buffer of pages holds, and which ranges of a blob can be read.
-use Rattle.std.specs.Prelude.{◌≡◌, ℕ, ◌+◌, ◌*◌, ◌<◌, ◌≤◌, ◌^◌, ◌++◌, List, [], ◌∷◌}
-use Rattle.std.specs.Prelude.{Result, Ok, Err, All, max}
+use Rattle.std.specs.Prelude.{◌≡◌, ℕ, ◌+◌, ◌-◌, ◌*◌, ◌<◌, ◌≤◌, ◌^◌, ◌&&◌, ◌++◌, Bool, List, [], ◌∷◌}
+use Rattle.std.specs.Prelude.{Result, Ok, Err, All, max, nat_le, nat_lt}
 use Rattle.std.specs.Int.{next_multiple_of}
 use Rattle.disk.specs.declared.error.Error.{Error}
 use Rattle.disk.specs.declared.error.Error.TheVariants.{OffsetOverflow, BlobInsufficientLength}
@@ -8,6 +8,16 @@ use Rattle.disk.specs.declared.error.Error.TheVariants.{OffsetOverflow, BlobInsu
 -- a capacity in whole pages, and at least two of them
 abbrev pub adjusted : ℕ → ℕ → ℕ
 adjusted capacity page_size = max (next_multiple_of capacity page_size) (2 * page_size)
+
+-- how many bytes more make these whole pages
+abbrev pub fill : ℕ → ℕ → ℕ
+fill len page_size = next_multiple_of len page_size - len
+
+-- n bytes after these pass the capacity, and would leave a whole page after the one that they
+-- fill
+abbrev pub is_too_big : ℕ → ℕ → ℕ → ℕ → Bool
+is_too_big len capacity n page_size =
+    nat_lt capacity (len + n) && nat_le (fill len page_size + page_size) n
 
 -- each range, an offset and a length, begins at or after the end of the one before; the first at or
 -- after this offset

@@ -62,16 +62,24 @@ impl Checksum {
         ActiveChecksum::new(slot, len, crc)
     }
 
-    /// The twelve bytes.
+    /// The twelve bytes, which [`from_bytes`](Checksum::from_bytes) reads back.
     pub fn to_bytes(&self) -> [u8; FOOTER]
-        ensures { result ≡ footer_bytes self.now }
+        ensures value { result ≡ footer_bytes self.now }
+        ensures inverse { footer_of result ≡ self.now }
     {
-        let [a, b, c, d, e, f] = Self::slot_bytes(self.len1, self.crc1);
-        let [g, h, i, j, k, l] = Self::slot_bytes(self.len2, self.crc2);
+        let Checksum {
+            len1,
+            crc1,
+            len2,
+            crc2,
+        } = *self;
+        let [a, b, c, d, e, f] = Self::slot_bytes(len1, crc1);
+        let [g, h, i, j, k, l] = Self::slot_bytes(len2, crc2);
         [a, b, c, d, e, f, g, h, i, j, k, l]
     }
 
     /// The footer of these twelve bytes, whatever they are.
+    /// [`to_bytes`](Checksum::to_bytes) gives them back.
     pub fn from_bytes(bytes: [u8; FOOTER]) -> Self
         ensures value { result ≡ footer_of bytes }
         ensures inverse { footer_bytes result ≡ bytes }
@@ -106,6 +114,8 @@ impl Checksum {
     /// both have that length. A slot verifies if its length is from 1 to the payload's and its
     /// checksum is that of the payload's first bytes of that length. `None` where no slot
     /// verifies, and for fewer than 12 bytes.
+    // Inlined, since a scan calls it for each page, and pages may be small.
+    #[inline(always)]
     pub fn validate_page<H: Sum>(page: &[u8]) -> Option<ActiveChecksum>
         ensures { result ≡ active H.sum_of (length page.now - 12) page.now }
     {

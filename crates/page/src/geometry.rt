@@ -1,10 +1,10 @@
 // Where pages stand in a blob.
-ghost use Rattle.std.specs.Prelude.{◌≡◌, ◌+◌, ◌*◌, ◌-◌, ◌<◌, ◌≤◌, ◌^◌, IsOkUnless};
-ghost use Rattle.std.specs.Prelude.{sum_by};
-ghost use Rattle.std.specs.Int.{IsPowerOfTwo};
+ghost use Rattle.std.specs.Prelude.{◌≡◌, ◌+◌, ◌*◌, ◌-◌, ◌%◌, ◌<◌, ◌≤◌, ◌^◌, IsOkUnless, IfOk};
+ghost use Rattle.std.specs.Prelude.{false, sum_by};
+ghost use Rattle.std.specs.Int.{IsPowerOfTwo, next_multiple_of};
 ghost use Rattle.std.specs.Int.NonZero.{non_zero_u16_get};
 ghost use Rattle.std.specs.Result.{OkIff};
-ghost use Rattle.page.specs.Geometry.{adjusted, AreInOrder, RangeGoes, RangesGo};
+ghost use Rattle.page.specs.Geometry.{adjusted, fill, is_too_big, AreInOrder, RangeGoes, RangesGo};
 
 use disk::Error;
 use std::num::NonZeroU16;
@@ -54,6 +54,34 @@ pub fn adjusted_capacity(capacity: usize, page_size: u64) -> Result<usize, Error
         .checked_next_multiple_of(page_size)
         .ok_or(Error::OffsetOverflow)?;
     Ok(whole_pages.max(two_pages))
+}
+
+/// Whether `n` bytes are too many to go through a buffer of `len` bytes: they pass its capacity,
+/// and would leave a whole page after the one that they fill. `OffsetOverflow` exactly where a sum
+/// that this takes passes the greatest length: the bytes together, those of the pages that hold
+/// `len` bytes, or the fewest that are too many.
+pub fn too_big_for_buffer(
+    len: usize,
+    capacity: usize,
+    n: usize,
+    page_size: usize,
+) -> Result<bool, Error>
+    requires { 0 < page_size }
+    ensures answer { OkIff result ((len + n < 2 ^ 64)
+        × (next_multiple_of len page_size < 2 ^ 64)
+        × (fill len page_size + page_size < 2 ^ 64)) (is_too_big len capacity n page_size) }
+    ensures err { IsOkUnless result Error.OffsetOverflow }
+    ensures room { IfOk result (λ big.
+        big ≡ false → capacity % page_size ≡ 0 → len ≤ capacity → len + n < capacity + page_size) }
+{
+    let total = len.checked_add(n).ok_or(Error::OffsetOverflow)?;
+    let whole_pages = len
+        .checked_next_multiple_of(page_size)
+        .ok_or(Error::OffsetOverflow)?;
+    let too_many = (whole_pages - len)
+        .checked_add(page_size)
+        .ok_or(Error::OffsetOverflow)?;
+    Ok(total > capacity && n >= too_many)
 }
 
 /// Checks that ranges, each an offset and a length in bytes, lie within a blob of `size` bytes. The

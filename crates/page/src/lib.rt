@@ -18,7 +18,8 @@ pub use buffer::Buffer;
 pub use checksum::Checksum;
 pub use encode::{EncodeSize, FixedSize, Write};
 pub use geometry::{
-    CHECKSUM_SIZE, adjusted_capacity, page_size, physical_page, validate_read_ranges,
+    CHECKSUM_SIZE, adjusted_capacity, page_size, physical_page, too_big_for_buffer,
+    validate_read_ranges,
 };
 pub use pages::split_pages;
 pub use slot::{ActiveChecksum, Slot};

@@ -1,7 +1,7 @@
 // Appending what is too big for the buffer: whole pages go to the device from where they stand, or,
 // where they are small, copied beside their footers.
 ghost use Rattle.std.specs.Prelude.{◌≡◌, ◌<◌, ◌≤◌, ◌+◌, ◌/◌, ◌%◌, ◌^◌, ◌++◌, [], true, length};
-ghost use Rattle.std.specs.Prelude.{if◌then◌else◌, false, ◌⊎◌};
+ghost use Rattle.std.specs.Prelude.{if◌then◌else◌, false, ◌⊎◌, ◌&&◌, nat_lt};
 ghost use Rattle.std.specs.Prelude.{IfOk, OnOk, IsErrOf, IsOkUnless, Err};
 ghost use Rattle.std.specs.List.{concat};
 ghost use Rattle.disk.specs.Disk.{WriteGoes};
@@ -26,7 +26,7 @@ use crate::Writer;
 use crate::build::physical_pages;
 use cache::CacheRef;
 use disk::{Blob, Error, IoBuf, IoBufs, WriteOptions};
-use page::{ActiveChecksum, Sum, split_pages};
+use page::{ActiveChecksum, Sum, split_pages, too_big_for_buffer};
 use std::alloc::Global;
 use writer_state::SyncState;
 
@@ -54,20 +54,21 @@ fn cut_pages<H: Sum>(
 impl<B, H, Phase> Writer<B, H, Phase> {
     /// How many of `more` bytes fill the tip to a page boundary, if they are too big for the
     /// buffer. They are too big if the buffer would hold more than its capacity with them, and a
-    /// whole page of them is left after the boundary.
+    /// whole page of them is left after the boundary. `None` also where they and what is buffered
+    /// pass the greatest length together: no blob has room for so many.
     pub(crate) fn too_big_for_buffer(&self, more: usize) -> Option<usize>
-        ensures { result ≡ (if goes_direct self.now more then Some (fill_of self.now) else None) }
+        ensures { let small = nat_lt (length self.now.tip + more) (2 ^ 64) in
+            result ≡ (if small && goes_direct self.now more then Some (fill_of self.now) else None) }
     {
         let len = self.tip.len();
-        if more <= self.tip.capacity().saturating_sub(len) {
+        let capacity = self.tip.capacity();
+        if more <= capacity.saturating_sub(len) {
             return None;
         }
         let page_size = usize::from(self.page_size.get());
-        let fill = (page_size - len % page_size) % page_size;
-        if fill + page_size <= more {
-            Some(fill)
-        } else {
-            None
+        match too_big_for_buffer(len, capacity, more, page_size) {
+            Ok(true) => Some((page_size - len % page_size) % page_size),
+            _ => None,
         }
     }
 

@@ -146,16 +146,16 @@ refused_not_put sum P key bytes old new IdsExhausted keeps = absurd keeps
 pub told_more : (P : ℕ) (content : List ℕ) (lacks : List Lack) (i : ℕ) (d : Lack) (at : List ℕ) (out : List (ℕ × List ℕ)) (buf part first : List ℕ) (room : ℕ) → i < length lacks → CanPutPiece at out room (get_or lacks i d)
     → IsTold P content at out (get_or lacks i d) → part ≡ take ((get_or lacks i d).piece.skip + (get_or lacks i d).piece.len - (get_or lacks i d).piece.skip) (drop (get_or lacks i d).piece.skip (bytes_found at out (get_or lacks i d).number))
     → buf ≡ with_told P content (pieces_in (take i lacks)) first
-    → put_mid (get_or lacks i d).piece.buf_offset ((get_or lacks i d).piece.buf_offset + (get_or lacks i d).piece.len - (get_or lacks i d).piece.buf_offset) buf part ≡ with_told P content (pieces_in (take (i + 1) lacks)) first
+    → put_mid (get_or lacks i d).piece.place ((get_or lacks i d).piece.place + (get_or lacks i d).piece.len - (get_or lacks i d).piece.place) buf part ≡ with_told P content (pieces_in (take (i + 1) lacks)) first
 told_more P content lacks i d at out buf part first room there ready logical_bytes is before =
     let lack = get_or lacks i d in
     let piece = lack.piece in
     let found = bytes_found at out lack.number in
     let n : piece.skip + piece.len - piece.skip ≡ piece.len = omega arith in
     let many : length (take piece.len (drop piece.skip found)) ≡ piece.len = length-take-le piece.len (drop piece.skip found) (omega (arith, ready.within, length-drop piece.skip found)) in
-    put_mid_is piece.buf_offset piece.len buf part (take piece.len (drop piece.skip found)) (is ∙ ap (λ (m : ℕ). take m (drop piece.skip found)) n) many
-    ∙ ap (λ (l : List ℕ). put_at piece.buf_offset l buf) logical_bytes
-    ∙ ap (λ (l : List ℕ). put_at piece.buf_offset (take piece.len (drop piece.skip (page_of_content P content piece.page))) l) before
+    put_mid_is piece.place piece.len buf part (take piece.len (drop piece.skip found)) (is ∙ ap (λ (m : ℕ). take m (drop piece.skip found)) n) many
+    ∙ ap (λ (l : List ℕ). put_at piece.place l buf) logical_bytes
+    ∙ ap (λ (l : List ℕ). put_at piece.place (take piece.len (drop piece.skip (page_of_content P content piece.page))) l) before
     ∙ sym (told_push P content (pieces_in (take i lacks)) piece first)
     ∙ ap (λ (l : List Piece). with_told P content l first) (sym (map-append (λ (l : Lack). l.piece) (take i lacks) (lack ∷ [])) ∙ ap (λ (l : List Lack). pieces_in l) (sym (take_more lacks i d there)))
 

@@ -42,35 +42,35 @@ put_front buf_offset bytes xs ys fits =
 
 -- room for pieces
 abbrev pub HaveRoom : (room : ℕ) → List Piece → Type 0
-HaveRoom room pieces = All (λ piece. piece.buf_offset + piece.len ≤ room) pieces
+HaveRoom room pieces = All (λ piece. piece.place + piece.len ≤ room) pieces
 
 pub length_told_pieces : (P : ℕ) (content : List ℕ) (pieces : List Piece) (xs : List ℕ) → HaveRoom (length xs) pieces → length (with_told P content pieces xs) ≡ length xs
 length_told_pieces P content [] xs room = refl
 length_told_pieces P content (piece ∷ pieces) xs room =
-    let same : length (put_at piece.buf_offset (piece_bytes P content piece) xs) ≡ length xs = put_length piece.buf_offset (piece_bytes P content piece) xs (omega (arith, length_piece P content piece, room 0 piece (omega arith))) in
-    length_told_pieces P content pieces (put_at piece.buf_offset (piece_bytes P content piece) xs) (λ k d less. omega (arith, same, room (suc k) d (omega arith))) ∙ same
+    let same : length (put_at piece.place (piece_bytes P content piece) xs) ≡ length xs = put_length piece.place (piece_bytes P content piece) xs (omega (arith, length_piece P content piece, room 0 piece (omega arith))) in
+    length_told_pieces P content pieces (put_at piece.place (piece_bytes P content piece) xs) (λ k d less. omega (arith, same, room (suc k) d (omega arith))) ∙ same
 
 -- pieces of the front leave the rest
 pub told_front : (P : ℕ) (content : List ℕ) (pieces : List Piece) (xs ys : List ℕ) → HaveRoom (length xs) pieces → with_told P content pieces (xs ++ ys) ≡ with_told P content pieces xs ++ ys
 told_front P content [] xs ys room = refl
 told_front P content (piece ∷ pieces) xs ys room =
-    let fits : piece.buf_offset + length (piece_bytes P content piece) ≤ length xs = omega (arith, length_piece P content piece, room 0 piece (omega arith)) in
-    let same : length (put_at piece.buf_offset (piece_bytes P content piece) xs) ≡ length xs = put_length piece.buf_offset (piece_bytes P content piece) xs fits in
-    ap (λ (l : List ℕ). with_told P content pieces l) (put_front piece.buf_offset (piece_bytes P content piece) xs ys fits)
-    ∙ told_front P content pieces (put_at piece.buf_offset (piece_bytes P content piece) xs) ys (λ k d less. omega (arith, same, room (suc k) d (omega arith)))
+    let fits : piece.place + length (piece_bytes P content piece) ≤ length xs = omega (arith, length_piece P content piece, room 0 piece (omega arith)) in
+    let same : length (put_at piece.place (piece_bytes P content piece) xs) ≡ length xs = put_length piece.place (piece_bytes P content piece) xs fits in
+    ap (λ (l : List ℕ). with_told P content pieces l) (put_front piece.place (piece_bytes P content piece) xs ys fits)
+    ∙ told_front P content pieces (put_at piece.place (piece_bytes P content piece) xs) ys (λ k d less. omega (arith, same, room (suc k) d (omega arith)))
 
 -- one piece more
-pub told_push : (P : ℕ) (content : List ℕ) (pieces : List Piece) (piece : Piece) (xs : List ℕ) → with_told P content (pieces ++ piece ∷ []) xs ≡ put_at piece.buf_offset (piece_bytes P content piece) (with_told P content pieces xs)
+pub told_push : (P : ℕ) (content : List ℕ) (pieces : List Piece) (piece : Piece) (xs : List ℕ) → with_told P content (pieces ++ piece ∷ []) xs ≡ put_at piece.place (piece_bytes P content piece) (with_told P content pieces xs)
 told_push P content [] piece xs = refl
-told_push P content (first ∷ pieces) piece xs = told_push P content pieces piece (put_at first.buf_offset (piece_bytes P content first) xs)
+told_push P content (first ∷ pieces) piece xs = told_push P content pieces piece (put_at first.place (piece_bytes P content first) xs)
 
 -- ---- what was gathered
 
 -- the pieces lie before the offset
 lacks_room : (P : ℕ) (pages : List ℕ) (room : ℕ) (lacks : List Lack) (xs : List ℕ) → All (IsLack P pages room) lacks → length xs ≡ room → HaveRoom (length xs) (pieces_in lacks)
-lacks_room P pages room [] xs each is = All-nil (λ piece. piece.buf_offset + piece.len ≤ length xs)
+lacks_room P pages room [] xs each is = All-nil (λ piece. piece.place + piece.len ≤ length xs)
 lacks_room P pages room (lack ∷ lacks) xs each is =
-    All-cons (λ piece. piece.buf_offset + piece.len ≤ length xs) lack.piece (pieces_in lacks) (let h = each 0 lack (omega arith) in omega (arith, h.fits, is))
+    All-cons (λ piece. piece.place + piece.len ≤ length xs) lack.piece (pieces_in lacks) (let h = each 0 lack (omega arith) in omega (arith, h.fits, is))
     (lacks_room P pages room lacks xs (λ k d less. each (suc k) d (omega arith)) is)
 
 push_slices : (content : List ℕ) (ranges : List (ℕ × ℕ)) (range : ℕ × ℕ) → flat_map (slice content) (ranges ++ range ∷ []) ≡ flat_map (slice content) ranges ++ slice content range
@@ -172,7 +172,7 @@ piece_is P o n content within =
 -- a part that was added to the batch is gathered
 pub gathered_lacked : (cache : CacheState) (t : Tail) (ranges : List (ℕ × ℕ)) (o n buf_offset : ℕ) (pages more : List ℕ) (lacks added : List Lack) (piece : Piece) (buf part after : List ℕ) → 0 < t.page_size → 0 < n
     → buf_offset ≤ length buf → length part ≡ n → o + n ≤ tail_size t → EndWithin o ranges → (o < t.full_pages * t.page_size → o % t.page_size + n ≤ t.page_size) → is_served cache t (o, n) ≡ false
-    → take (buf_offset + n) after ≡ take buf_offset buf ++ part → piece ≡ record { page = o / t.page_size; skip = o % t.page_size; buf_offset = buf_offset; len = n } → more ≡ with_page piece.page pages
+    → take (buf_offset + n) after ≡ take buf_offset buf ++ part → piece ≡ record { page = o / t.page_size; skip = o % t.page_size; place = buf_offset; len = n } → more ≡ with_page piece.page pages
     → added ≡ lacks ++ record { number = length more - 1; piece = piece } ∷ [] → Gathered cache t ranges buf_offset pages lacks buf → Gathered cache t (ranges ++ (o, n) ∷ []) (buf_offset + n) more added after
 gathered_lacked cache t ranges o n buf_offset pages more lacks added piece buf part after wide some fits size ends before page unserved front piece_eq more_is added_is g =
     let P = t.page_size in
@@ -188,7 +188,7 @@ gathered_lacked cache t ranges o n buf_offset pages more lacks added piece buf p
     let new_is : IsLack P more (buf_offset + n) lack = record {
       page = last;
       within = omega (arith, ap (λ (p : Piece). p.skip + p.len) piece_eq, h.1);
-      fits = omega (arith, ap (λ (p : Piece). p.buf_offset + p.len) piece_eq);
+      fits = omega (arith, ap (λ (p : Piece). p.place + p.len) piece_eq);
     } in
     record {
       wanted = pages_eq ∙ ap (λ (l : List ℕ). with_page q l) g.wanted ∙ sym (missing_page cache t ranges o n wide some before page unserved);
@@ -205,9 +205,9 @@ gathered_lacked cache t ranges o n buf_offset pages more lacks added piece buf p
           ap (λ (l : List Lack). with_told P content (pieces_in l) (take (buf_offset + n) after)) added_is
           ∙ ap (λ (l : List Piece). with_told P content l (take (buf_offset + n) after)) (map-append (λ (l : Lack). l.piece) lacks (lack ∷ []))
           ∙ told_push P content (pieces_in lacks) piece (take (buf_offset + n) after)
-          ∙ ap (λ (l : List ℕ). put_at piece.buf_offset (piece_bytes P content piece) (with_told P content (pieces_in lacks) l)) front
-          ∙ ap (λ (l : List ℕ). put_at piece.buf_offset (piece_bytes P content piece) l) (told_front P content (pieces_in lacks) (take buf_offset buf) part room)
-          ∙ ap (λ (k : ℕ). put_at k (piece_bytes P content piece) (done ++ part)) (ap (λ (p : Piece). p.buf_offset) piece_eq)
+          ∙ ap (λ (l : List ℕ). put_at piece.place (piece_bytes P content piece) (with_told P content (pieces_in lacks) l)) front
+          ∙ ap (λ (l : List ℕ). put_at piece.place (piece_bytes P content piece) l) (told_front P content (pieces_in lacks) (take buf_offset buf) part room)
+          ∙ ap (λ (k : ℕ). put_at k (piece_bytes P content piece) (done ++ part)) (ap (λ (p : Piece). p.place) piece_eq)
           ∙ put_end buf_offset (piece_bytes P content piece) done part long (omega (arith, size, enough, ap length is))
           ∙ ap (λ (l : List ℕ). done ++ l) is
           ∙ ap (λ (l : List ℕ). l ++ slice content (o, n)) (g.bytes d can)

@@ -14,7 +14,7 @@ use Rattle.disk.proofs.Lists.{slice_get-drop}
 
 -- an offset of the buffer lies in a piece
 abbrev pub Covers : Piece → ℕ → Type 0
-Covers piece i = (piece.buf_offset ≤ i) × (i < piece.buf_offset + piece.len)
+Covers piece i = (piece.place ≤ i) × (i < piece.place + piece.len)
 
 -- an offset of the buffer lies in one of these pieces
 abbrev pub SomeCovers : List Piece → ℕ → Type 0
@@ -31,8 +31,8 @@ told_of P content piece = take piece.len (drop piece.skip (page_of_content P con
 
 -- a piece's bytes are the wanted ones at the piece's offset
 pub record Fits (P : ℕ) (content wanted : List ℕ) (piece : Piece) : Type 0 where
-  pub within : piece.buf_offset + piece.len ≤ length wanted
-  pub bytes : told_of P content piece ≡ take piece.len (drop piece.buf_offset wanted)
+  pub within : piece.place + piece.len ≤ length wanted
+  pub bytes : told_of P content piece ≡ take piece.len (drop piece.place wanted)
 
 -- each of these pieces has the wanted bytes
 abbrev pub AllFit : (P : ℕ) → (content wanted : List ℕ) → List Piece → Type 0
@@ -85,38 +85,38 @@ put_here buf_offset n bytes buf wanted i is within size above below =
 
 -- the bytes of a piece make those offsets right
 put_agrees : (Else : ℕ → Type 0) (P : ℕ) (content : List ℕ) (piece : Piece) (buf wanted : List ℕ) → length buf ≡ length wanted → Fits P content wanted piece → AgreesOr (λ i. Covers piece i ⊎ Else i) buf wanted
-    → AgreesOr Else (put_at piece.buf_offset (told_of P content piece) buf) wanted
+    → AgreesOr Else (put_at piece.place (told_of P content piece) buf) wanted
 put_agrees Else P content piece buf wanted size fits agrees i below =
     let bytes = told_of P content piece in
-    let many : length bytes ≡ piece.len = length_of piece.buf_offset piece.len bytes wanted fits.bytes fits.within in
-    let room : piece.buf_offset + length bytes ≤ length buf = omega (arith, many, size, fits.within) in
-    elim (cases_lt i piece.buf_offset) [
+    let many : length bytes ≡ piece.len = length_of piece.place piece.len bytes wanted fits.bytes fits.within in
+    let room : piece.place + length bytes ≤ length buf = omega (arith, many, size, fits.within) in
+    elim (cases_lt i piece.place) [
       | inl before ↦ elim (agrees i below) [
-        | inl right ↦ inl (put_before piece.buf_offset bytes buf i room before ∙ right)
+        | inl right ↦ inl (put_before piece.place bytes buf i room before ∙ right)
         | inr (inl (above, under)) ↦ absurd (omega (arith, before, above))
         | inr (inr other) ↦ inr other
       ]
-      | inr above ↦ elim (cases_lt i (piece.buf_offset + piece.len)) [
-        | inl here ↦ inl (put_here piece.buf_offset piece.len bytes buf wanted i fits.bytes fits.within size above here)
+      | inr above ↦ elim (cases_lt i (piece.place + piece.len)) [
+        | inl here ↦ inl (put_here piece.place piece.len bytes buf wanted i fits.bytes fits.within size above here)
         | inr after ↦ elim (agrees i below) [
-          | inl right ↦ inl (put_after piece.buf_offset bytes buf i room (omega (arith, many, after)) ∙ right)
+          | inl right ↦ inl (put_after piece.place bytes buf i room (omega (arith, many, after)) ∙ right)
           | inr (inl (from, under)) ↦ absurd (omega (arith, after, under))
           | inr (inr other) ↦ inr other
         ]
       ]
     ]
 
-put_size : (P : ℕ) (content : List ℕ) (piece : Piece) (buf wanted : List ℕ) → length buf ≡ length wanted → Fits P content wanted piece → length (put_at piece.buf_offset (told_of P content piece) buf) ≡ length wanted
+put_size : (P : ℕ) (content : List ℕ) (piece : Piece) (buf wanted : List ℕ) → length buf ≡ length wanted → Fits P content wanted piece → length (put_at piece.place (told_of P content piece) buf) ≡ length wanted
 put_size P content piece buf wanted size fits =
-    let many = length_of piece.buf_offset piece.len (told_of P content piece) wanted fits.bytes fits.within in
-    put_length piece.buf_offset (told_of P content piece) buf (omega (arith, many, size, fits.within)) ∙ size
+    let many = length_of piece.place piece.len (told_of P content piece) wanted fits.bytes fits.within in
+    put_length piece.place (told_of P content piece) buf (omega (arith, many, size, fits.within)) ∙ size
 
 -- all these pieces make their offsets right
 pub told_agrees : (P : ℕ) (content : List ℕ) (pieces : List Piece) (buf wanted : List ℕ) → length buf ≡ length wanted → AllFit P content wanted pieces → AgreesOr (SomeCovers pieces) buf wanted
     → with_told P content pieces buf ≡ wanted
 told_agrees P content [] buf wanted size fit agrees = sym (same_elements wanted buf (sym size) (λ i x is. elim (agrees i (slice_get_within wanted i x is)) [ inl right ↦ right ∙ is | inr none ↦ absurd none ]))
 told_agrees P content (piece ∷ pieces) buf wanted size fit agrees =
-    told_agrees P content pieces (put_at piece.buf_offset (told_of P content piece) buf) wanted (put_size P content piece buf wanted size fit.0) fit.1
+    told_agrees P content pieces (put_at piece.place (told_of P content piece) buf) wanted (put_size P content piece buf wanted size fit.0) fit.1
     (put_agrees (SomeCovers pieces) P content piece buf wanted size fit.0 agrees)
 
 -- the pieces of pages that the cache holds have the content's bytes
@@ -159,7 +159,7 @@ held_agrees Else cache id P content (piece ∷ pieces) buf wanted size fit true_
     by_held later (Some page) is =
         let told : page ≡ page_of_content P content piece.page = true_pages.0 page is in
         subst (λ (l : List ℕ). goes (Some l)) (sym told)
-        (later Else (put_at piece.buf_offset (told_of P content piece) buf) (put_size P content piece buf wanted size fit.0)
+        (later Else (put_at piece.place (told_of P content piece) buf) (put_size P content piece buf wanted size fit.0)
         (put_agrees (λ i. SomeCovers pieces i ⊎ Else i) P content piece buf wanted size fit.0 (λ i below. elim (agrees i below) [
           | inl right ↦ inl right
           | inr (inl (inl here)) ↦ inr (inl here)

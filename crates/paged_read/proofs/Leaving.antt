@@ -109,7 +109,7 @@ length-page_at t page readable reach below =
 -- a piece that was copied out of a payload
 pub piece_told : (t : Tail) (readable : List ℕ) (piece : Piece) (buf part : List ℕ) → t.full_pages * (t.page_size + 12) ≤ length readable → IsPieceOf t (length buf) piece
     → part ≡ take (piece.skip + piece.len - piece.skip) (drop piece.skip (take t.page_size (page_at t.page_size piece.page readable)))
-    → put_mid piece.buf_offset (piece.buf_offset + piece.len - piece.buf_offset) buf part ≡ with_told t.page_size (logical_bytes t readable) (piece ∷ []) buf
+    → put_mid piece.place (piece.place + piece.len - piece.place) buf part ≡ with_told t.page_size (logical_bytes t readable) (piece ∷ []) buf
 piece_told t readable piece buf part reach of is =
     let P = t.page_size in
     let payload = take P (page_at P piece.page readable) in
@@ -118,5 +118,5 @@ piece_told t readable piece buf part reach of is =
     let n : piece.skip + piece.len - piece.skip ≡ piece.len = omega arith in
     let bytes = take piece.len (drop piece.skip payload) in
     let many : length bytes ≡ piece.len = length-take-le piece.len (drop piece.skip payload) (omega (arith, length-drop piece.skip payload, whole, of.part.within)) in
-    put_mid_is piece.buf_offset piece.len buf part bytes (is ∙ ap (λ k. take k (drop piece.skip payload)) n) many
-    ∙ ap (λ (l : List ℕ). put_at piece.buf_offset (take piece.len (drop piece.skip l)) buf) (payload_told t readable reach piece.page of.below)
+    put_mid_is piece.place piece.len buf part bytes (is ∙ ap (λ k. take k (drop piece.skip payload)) n) many
+    ∙ ap (λ (l : List ℕ). put_at piece.place (take piece.len (drop piece.skip l)) buf) (payload_told t readable reach piece.page of.below)

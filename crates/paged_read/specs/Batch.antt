@@ -33,7 +33,7 @@ with_page page pages =
 pub record IsLack (P : ℕ) (pages : List ℕ) (room : ℕ) (lack : Lack) : Type 0 where
   pub page : slice_get pages lack.number ≡ Some lack.piece.page
   pub within : lack.piece.skip + lack.piece.len ≤ P
-  pub fits : lack.piece.buf_offset + lack.piece.len ≤ room
+  pub fits : lack.piece.place + lack.piece.len ≤ room
 
 -- the pieces that are lacking
 abbrev pub pieces_in : List Lack → List Piece
@@ -100,7 +100,7 @@ pub record CanPutPiece (at : List ℕ) (out : List (ℕ × List ℕ)) (room : �
   pub number : lack.number < length at
   pub found : slice_index_or at lack.number 0 < length out
   pub within : lack.piece.skip + lack.piece.len ≤ length (bytes_found at out lack.number)
-  pub fits : lack.piece.buf_offset + lack.piece.len ≤ room
+  pub fits : lack.piece.place + lack.piece.len ≤ room
 
 -- the bytes that were found for a piece are the content's
 abbrev pub IsTold : (P : ℕ) → List ℕ → (at : List ℕ) → List (ℕ × List ℕ) → Lack → Type 0

@@ -55,7 +55,7 @@ abbrev pub with_told : (P : ℕ) → List ℕ → List Piece → List ℕ → Li
 with_told P content [] buf = buf
 with_told P content (piece ∷ pieces) buf =
     let bytes = take piece.len (drop piece.skip (page_of_content P content piece.page)) in
-    with_told P content pieces (put_at piece.buf_offset bytes buf)
+    with_told P content pieces (put_at piece.place bytes buf)
 
 -- these pieces are read: each is put in its place, and its page is full
 abbrev pub FetchesPieces : (List ℕ → ℕ) → Tail → List Piece → List ℕ → List ℕ → Life → Life

@@ -14,7 +14,7 @@ piece_of P range buf_offset page =
     record {
       page = page;
       skip = from - page * P;
-      buf_offset = buf_offset + (from - range.0);
+      place = buf_offset + (from - range.0);
       len = end - from;
     }
 

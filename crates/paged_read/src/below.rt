@@ -49,7 +49,7 @@ impl<B: Blob, H: Sum> View<'_, B, H> {
         let payload = &bytes.as_ref()[..usize::from(self.page_size.get())];
         cache.keep(self.id, piece.page, payload);
         let part = &payload[piece.skip..piece.skip + piece.len];
-        buf[piece.buf_offset..piece.buf_offset + piece.len].copy_from_slice(part);
+        buf[piece.place..piece.place + piece.len].copy_from_slice(part);
         Ok(())
     }
 

@@ -15,10 +15,10 @@ ghost use Rattle.paged_read.specs.Puts.{PutsInOrder, PutsSome, delivered_pages};
 
 use crate::View;
 use crate::batch::Batch;
-use crate::full::is_full;
+use crate::full::{FOR_THE_CACHE, is_full};
 use crate::lack::Lack;
 use cache::CacheRef;
-use disk::{Blob, Error, IoBuf, ReadOptions};
+use disk::{Blob, Error, IoBuf};
 use page::{CHECKSUM_SIZE, Sum};
 use std::alloc::Global;
 use std::num::NonZeroU16;
@@ -50,7 +50,7 @@ pub(crate) fn fetch<B: Blob>(
     for page in pages {
         ranges.push((*page * size, size as usize))?;
     }
-    blob.read_many(alloc, &ranges, ReadOptions::default(), &mut out)?;
+    blob.read_many(alloc, &ranges, FOR_THE_CACHE, &mut out)?;
     Ok(out)
 }
 
@@ -125,7 +125,7 @@ fn fill(buf: &mut [u8], lacks: &[Lack], at: &[usize], out: &[(usize, IoBuf)])
         let piece = lack.piece;
         let (_, bytes) = &out[at[lack.number]];
         let part = &bytes.as_ref()[piece.skip..piece.skip + piece.len];
-        buf[piece.buf_offset..piece.buf_offset + piece.len].copy_from_slice(part);
+        buf[piece.place..piece.place + piece.len].copy_from_slice(part);
     }
 }
 

@@ -10,6 +10,9 @@ use page::{CHECKSUM_SIZE, Checksum, Sum};
 use std::alloc::Global;
 use std::num::NonZeroU16;
 
+/// The options of a read of pages that go into the cache: a device needn't keep them too.
+pub(crate) const FOR_THE_CACHE: ReadOptions = ReadOptions { dont_cache: true };
+
 /// Whether a physical page is full.
 pub(crate) fn is_full<H: Sum>(page_size: NonZeroU16, page: &[u8]) -> bool
     requires { length page.now ≡ non_zero_u16_get page_size + 12 }
@@ -42,7 +45,7 @@ pub(crate) fn read_page<B: Blob, H: Sum>(
         OnOk result (length new.present.log ≡ length old.present.log + 1) }
 {
     let size = u64::from(page_size.get()) + CHECKSUM_SIZE as u64;
-    let bytes = blob.read_at(alloc, page * size, size as usize, ReadOptions::default())?;
+    let bytes = blob.read_at(alloc, page * size, size as usize, FOR_THE_CACHE)?;
     if is_full::<H>(page_size, bytes.as_ref()) {
         Ok(bytes)
     } else {

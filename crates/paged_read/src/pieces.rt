@@ -24,7 +24,7 @@ fn piece_at(page_size: NonZeroU16, offset: u64, len: usize, buf_offset: usize, p
     Piece {
         page,
         skip: (from - start) as usize,
-        buf_offset: buf_offset + (from - offset) as usize,
+        place: buf_offset + (from - offset) as usize,
         len: (end - from) as usize,
     }
 }

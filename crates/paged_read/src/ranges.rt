@@ -77,7 +77,7 @@ impl<B, H> View<'_, B, H> {
         batch.add(Piece {
             page: offset / page_size,
             skip: (offset % page_size) as usize,
-            buf_offset,
+            place: buf_offset,
             len,
         })?;
         Ok(false)

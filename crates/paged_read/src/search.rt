@@ -46,6 +46,8 @@ fn is_full(slot: Option<ActiveChecksum>, page_size: NonZeroU16) -> bool
 
 /// The slot that covers the value of the physical page of `size` bytes at `at`. `None` where no
 /// slot of the page verifies.
+// Inlined, with what it calls, since a scan calls it for each page, and pages may be small.
+#[inline(always)]
 fn slot_at<H: Sum>(bytes: &[u8], at: usize, size: usize) -> Option<ActiveChecksum>
     requires { at + size ≤ length bytes.now }
     ensures slot { result ≡ active H.sum_of (size - 12) (take size (drop at bytes.now)) }

@@ -8,7 +8,7 @@ use Rattle.paged_read.proofs.fetch.fill.Goals as goal
 
 pub loop-lack-preserved : goal.loop-lack-preserved
 loop-lack-preserved c = λ P content told.
-    let none : Lack = record { number = 0; piece = record { page = 0; skip = 0; buf_offset = 0; len = 0 } } in
+    let none : Lack = record { number = 0; piece = record { page = 0; skip = 0; place = 0; len = 0 } } in
     let lack = get_or c.args.lacks.now c.loop-lack.lack-index none in
     let ready = c.requires c.loop-lack.lack-index none c.loop-lack-test.true in
     let entry : ℕ × List ℕ = c.index-out-at.result in

@@ -10,7 +10,7 @@ use Rattle.cache.proofs.cache.CacheRef.read_cached_many.Goals.{in-Some, in-None+
 
 pub loop-piece-preserved : goal.loop-piece-preserved
 loop-piece-preserved c =
-    let zero : Piece = record { page = 0; skip = 0; buf_offset = 0; len = 0 } in
+    let zero : Piece = record { page = 0; skip = 0; place = 0; len = 0 } in
     let i : ℕ = c.loop-piece.piece-index in
     let pieces : List Piece = c.args.pieces.now in
     let piece : Piece = slice_index_or pieces i zero in
@@ -20,7 +20,7 @@ loop-piece-preserved c =
           w.in-Some.page.now c.args.buf.now c.loop-piece.buf w.copy_at.new.buf
           c.loop-piece-test.true (sym w.in-Some.ensures.page) c.loop-piece.invariant.1
           c.loop-piece.invariant.2
-          (w.copy_at.ensures.put ∙ ap (λ l. put_at piece.buf_offset (take piece.len l) c.loop-piece.buf)
+          (w.copy_at.ensures.put ∙ ap (λ l. put_at piece.place (take piece.len l) c.loop-piece.buf)
           (take_rest w.in-Some.page.now piece.skip)) in (
             ap length w.buf-is ∙ w.copy_at.ensures.size ∙ c.loop-piece.invariant.0,
             ap (λ v. v.items) w.left-is ∙ step.0,
@@ -39,7 +39,7 @@ loop-piece-preserved c =
 
 pub returns-in_err-push-in-None-clause-copies : goal.returns-in_err-push-in-None-clause-copies
 returns-in_err-push-in-None-clause-copies c =
-    let zero : Piece = record { page = 0; skip = 0; buf_offset = 0; len = 0 } in
+    let zero : Piece = record { page = 0; skip = 0; place = 0; len = 0 } in
     let i : ℕ = c.loop-piece.piece-index in
     let pieces : List Piece = c.args.pieces.now in
     let piece : Piece = slice_index_or pieces i zero in

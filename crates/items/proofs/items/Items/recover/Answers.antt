@@ -18,7 +18,8 @@ pub returns-in_err-recovery-clause-goes : goal.returns-in_err-recovery-clause-go
 returns-in_err-recovery-clause-goes g c =
     let error = err_from_is_err_and c.from_residual.result c.from_residual.ensures.1 in
     rw (error.1, error.2)
-    (recovers_not g.H.Sum.sum_of (non_zero_usize_get c.args.size) c.args.cache.now c.recover.new.cache c.args.capacity (g.B.Blob.life c.args.blob.now) (g.B.Blob.life c.recover.new.blob) c.in_err-recovery.field-0.0 c.in_err-recovery.ensures.goes.answers)
+    (recovers_not g.H.Sum.sum_of (non_zero_usize_get c.args.size) c.args.cache.now c.recover.new.cache c.args.capacity (g.B.Blob.life c.args.blob.now) (g.B.Blob.life c.recover.new.blob) c.in_err-recovery.field-0.0 c.in_err-recovery.ensures.goes.answers
+    (λ passes. cc (c.in_err-recovery.ensures.goes.overflow passes)))
 
 -- where the cut is
 cut : (g : Over) (c : After-truncate g) → c.size.result / c.get-len.result * c.get-len.result ≡ size_of c.in_ok-recovery.recovery / non_zero_usize_get c.args.size * non_zero_usize_get c.args.size
@@ -46,6 +47,7 @@ returns-in-Ok-clause-goes g c =
     let goes = c.in-Ok.ensures in
     recovers_so g.H.Sum.sum_of (non_zero_usize_get c.args.size) c.args.cache.now c.truncate.new.cache c.args.capacity (g.B.Blob.life c.args.blob.now) (g.B.Blob.life c.truncate.new.blob) c.new.result c.args.size.ok (g.met.B.Blob.readable_is_image c.args.blob.now)
     (recovered_items g.H.Sum.sum_of (non_zero_usize_get c.args.size) (c.size.result / c.get-len.result * c.get-len.result) c.args.capacity c.args.cache.now c.truncate.new.cache (g.B.Blob.life c.args.blob.now) (g.B.Blob.life c.recover.new.blob) (g.B.Blob.life c.truncate.new.blob) c.in_ok-recovery.recovery c.in-Ok.recovery c.new.result c.args.size.ok was.goes.answers was.goes.writer.id (cut g at) (c.new.ensures.writer ∙ c.from.ensures) c.new.ensures.size goes.goes.answers (goes.ready is_ready) (goes.goes.left is_ready.sound) (goes.goes.durable is_ready.sound))
+    (λ passes. cc (was.goes.overflow passes))
 
 pub returns-in-Ok-clause-leaves : goal.returns-in-Ok-clause-leaves
 returns-in-Ok-clause-leaves g c = left g (goal.at.returns-in-Ok-clause-leaves g c).After-truncate
@@ -54,6 +56,7 @@ pub returns-in-Err-clause-goes : goal.returns-in-Err-clause-goes
 returns-in-Err-clause-goes g c =
     recovers_not g.H.Sum.sum_of (non_zero_usize_get c.args.size) c.args.cache.now c.truncate.new.cache c.args.capacity (g.B.Blob.life c.args.blob.now) (g.B.Blob.life c.truncate.new.blob) c.in-Err.error
     (cut_refused g.H.Sum.sum_of (c.size.result / c.get-len.result * c.get-len.result) c.args.capacity c.args.cache.now (g.B.Blob.life c.args.blob.now) (g.B.Blob.life c.recover.new.blob) (g.B.Blob.life c.truncate.new.blob) c.in_ok-recovery.recovery c.in-Err.error c.in_ok-recovery.ensures.goes.answers c.in-Err.ensures.goes.answers)
+    (λ passes. absurd (cc (c.in_ok-recovery.ensures.goes.overflow passes)))
 
 pub returns-in-Err-clause-leaves : goal.returns-in-Err-clause-leaves
 returns-in-Err-clause-leaves g c = left g (goal.at.returns-in-Err-clause-leaves g c).After-truncate

@@ -34,9 +34,9 @@ returns-clause-gathered g c = λ ranges ends before.
     let front = take-put_mid buf_offset (buf_offset + len - buf_offset) buf part (buf_offset + len) (omega (arith, size)) (omega (arith, c.requires.room)) in
     let wide : 0 < P = omega (arith, c.get.ensures.value, c.get.ensures.nonzero) in
     let from : c.from-page_size.result ≡ P = c.from-page_size.ensures ∙ c.get.ensures.value in
-    let piece : Piece = record { page = c.args.offset / c.from-page_size.result; skip = c.args.offset % c.from-page_size.result; buf_offset = buf_offset; len = len } in
-    let piece_is : piece ≡ record { page = c.args.offset / P; skip = c.args.offset % P; buf_offset = buf_offset; len = len } =
-    ap (λ (n : ℕ). let p : Piece = record { page = c.args.offset / n; skip = c.args.offset % n; buf_offset = buf_offset; len = len } in p) from in
+    let piece : Piece = record { page = c.args.offset / c.from-page_size.result; skip = c.args.offset % c.from-page_size.result; place = buf_offset; len = len } in
+    let piece_is : piece ≡ record { page = c.args.offset / P; skip = c.args.offset % P; place = buf_offset; len = len } =
+    ap (λ (n : ℕ). let p : Piece = record { page = c.args.offset / n; skip = c.args.offset % n; place = buf_offset; len = len } in p) from in
     gathered_lacked c.args.cache.now t ranges c.args.offset len buf_offset c.args.batch.now.pages.items c.add.new.self.pages.items c.args.batch.now.lacks.items c.add.new.self.lacks.items piece buf part _
     wide c.requires.some (omega (arith, c.requires.room)) size c.requires.ends ends c.requires.within unserved front piece_is c.in_ok-add.ensures.pages c.in_ok-add.ensures.lacks before
 

@@ -34,7 +34,7 @@ returns-in_err-read_piece-clause-reads g c =
     let t = tail_at c.args.self.page_size c.args.self.id c.args.self.tip.now in
     let p = err_from_is_err_and c.from_residual.result c.from_residual.ensures.1 in
     let k = c.loop-piece.piece-index in
-    let d : Piece = record { page = 0; skip = 0; buf_offset = 0; len = 0 } in
+    let d : Piece = record { page = 0; skip = 0; place = 0; len = 0 } in
     let item : Piece = get_or c.args.pieces.now k d in
     let here = piece_among c.args.pieces.now k d c.loop-piece-test.true in
     rw (p.1, p.2) (faults_later g.H.Sum.sum_of t.page_size (item.page ∷ []) (piece_pages c.args.pieces.now) (g.B.Blob.life c.args.blob.now) (g.B.Blob.life c.loop-piece.blob) (g.B.Blob.life c.read_piece.new.blob) c.in_err-read_piece.field-0.0 c.loop-piece.invariant.looked c.loop-piece.invariant.none_failed
@@ -46,7 +46,7 @@ loop-piece-preserved g c =
     let old = g.B.Blob.life c.args.blob.now in
     let mid = g.B.Blob.life c.loop-piece.blob in
     let k = c.loop-piece.piece-index in
-    let d : Piece = record { page = 0; skip = 0; buf_offset = 0; len = 0 } in
+    let d : Piece = record { page = 0; skip = 0; place = 0; len = 0 } in
     let item : Piece = get_or c.args.pieces.now k d in
     let looked = c.loop-piece.invariant.looked in
     record {
