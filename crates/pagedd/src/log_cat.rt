@@ -20,7 +20,7 @@ pub fn cat_log<H: Sum>(
 ) -> Result<Status, Status>
     requires log { IsLog H.sum_of H.sum_of log.old }
 {
-    let keeps_all = keeps_all::<H>(rt, request, log.last_segment())?;
+    let keeps_all = keeps_all::<H>(rt, request, log)?;
     let mut out = or_end(rt, BufWriter::new(rt.alloc(), rt.stdout()))?;
     let are_read = write_segments::<H>(rt, request, log, &mut out)?;
     or_end(rt, out.flush())?;
@@ -29,16 +29,26 @@ pub fn cat_log<H: Sum>(
 
 // Whether a recovery gives up nothing of the manifest and of the open segment. A line names each
 // of these two files of which it gives up something.
-fn keeps_all<H: Sum>(rt: &HostRuntime, request: &Request, last: u64) -> Result<bool, Status> {
+fn keeps_all<H: Sum>(
+    rt: &HostRuntime,
+    request: &Request,
+    log: &LogCopy<H>,
+) -> Result<bool, Status> {
     let manifest = manifest_in(rt.alloc(), request.file)?;
-    let open = segment_in(rt.alloc(), request.file, last)?;
-    let keeps_manifest = keeps::<H>(rt, request, manifest.as_str())?;
-    let keeps_open = keeps::<H>(rt, request, open.as_str())?;
+    let open = segment_in(rt.alloc(), request.file, log.last_segment())?;
+    let keeps_manifest = keeps::<H>(rt, request, manifest.as_str(), log.manifest_size())?;
+    let keeps_open = keeps::<H>(rt, request, open.as_str(), log.size())?;
     Ok(keeps_manifest && keeps_open)
 }
 
-fn keeps<H: Sum>(rt: &HostRuntime, request: &Request, path: &str) -> Result<bool, Status> {
-    let part = Part::of::<H>(rt, request, path)?;
+// Whether a recovery gives up nothing of a file, of whose text `frames` bytes are whole frames.
+fn keeps<H: Sum>(
+    rt: &HostRuntime,
+    request: &Request,
+    path: &str,
+    frames: u64,
+) -> Result<bool, Status> {
+    let part = Part::of::<H>(rt, request, path, frames)?;
     if !part.keeps_all() {
         let words = "a recovery would give up some of its end, which isn't among the records";
         tell(

@@ -23,8 +23,8 @@ pub fn check_log<H: Sum>(
     let last = log.last_segment();
     let manifest_path = manifest_in(rt.alloc(), folder)?;
     let open_path = segment_in(rt.alloc(), folder, last)?;
-    let manifest = Part::of::<H>(rt, request, manifest_path.as_str())?;
-    let open = Part::of::<H>(rt, request, open_path.as_str())?;
+    let manifest = Part::of::<H>(rt, request, manifest_path.as_str(), log.manifest_size())?;
+    let open = Part::of::<H>(rt, request, open_path.as_str(), log.size())?;
     let count = log.len().unwrap_or(u64::MAX);
     if request.json {
         print_heading(rt, request, log.first_segment(), last, &manifest)?;

@@ -3,7 +3,7 @@
 use crate::log_files::{copy_of, manifest_in, open_log, segment_in};
 use crate::log_refusing::refuse_log;
 use crate::look::{Look, looked, read};
-use crate::opening::{allow, open};
+use crate::opening::{Allowed, allow_looked, open};
 use crate::request::Request;
 use crate::status::Status;
 use disk::VecBlob;
@@ -32,21 +32,34 @@ pub fn guard_log<H: Sum>(rt: &HostRuntime, request: &Request) -> Result<GivenUp,
         bytes: 0,
         copy: None,
     };
-    if let Some(number) = open_number::<H>(rt, request)? {
+    if let Some(kept) = kept_of::<H>(rt, request)? {
         let manifest = manifest_in(rt.alloc(), request.file)?;
-        let segment = segment_in(rt.alloc(), request.file, number)?;
-        guard_file::<H>(rt, request, manifest.as_str(), &mut given_up)?;
-        guard_file::<H>(rt, request, segment.as_str(), &mut given_up)?;
+        let segment = segment_in(rt.alloc(), request.file, kept.number)?;
+        guard_file::<H>(rt, request, manifest.as_str(), kept.manifest, &mut given_up)?;
+        guard_file::<H>(rt, request, segment.as_str(), kept.segment, &mut given_up)?;
     }
     Ok(given_up)
 }
 
-// The number of the open segment, by a copy of the log. None where a file isn't there yet, and may
-// be made.
-fn open_number<H: Sum>(rt: &HostRuntime, request: &Request) -> Result<Option<u64>, Status> {
+// What an opening keeps of a log.
+#[derive(Clone, Copy)]
+struct Kept {
+    // The number of the open segment.
+    number: u64,
+    // How many bytes of content the whole frames of the manifest have, and those of that segment.
+    manifest: u64,
+    segment: u64,
+}
+
+// What an opening keeps, by a copy of the log. None where a file isn't there yet, and may be made.
+fn kept_of<H: Sum>(rt: &HostRuntime, request: &Request) -> Result<Option<Kept>, Status> {
     let folder = copy_of(rt, request.file)?;
     match open_log::<FolderCopy, VecBlob, H>(rt.alloc(), request, folder) {
-        Ok(log) => Ok(Some(log.last_segment())),
+        Ok(log) => Ok(Some(Kept {
+            number: log.last_segment(),
+            manifest: log.manifest_size(),
+            segment: log.size(),
+        })),
         Err(error) if !request.read_only && is_not_found(&error) => Ok(None),
         Err(error) => Err(refuse_log(rt, request, &error)),
     }
@@ -64,29 +77,38 @@ fn is_not_found(error: &Error) -> bool {
 // refused. The page size is right, since the manifest was read with it.
 fn may_be_torn(request: &Request, look: &Look) -> bool {
     let survey = look.survey;
-    survey.beyond == 0 || survey.outlook.cut <= request.cut_limit
+    look.cut_len() <= request.cut_limit || survey.beyond == 0 && !look.ends_in_a_frame()
 }
 
-// Adds to `given_up` what a recovery of this file gives up.
+// What an opening may give up of a file, which is held meanwhile.
+fn allow_file<H: Sum>(rt: &HostRuntime, part: &Request, frames: u64) -> Result<Allowed, Status> {
+    let mut blob = open(rt, part.file)?;
+    let look = looked::<FileBlob, H>(rt, part, &mut blob)?.with_frames(frames);
+    allow_looked(rt, part, blob.bytes(), &look)
+}
+
+// Adds to `given_up` what an opening gives up of this file, of whose text `frames` bytes are whole
+// frames.
 fn guard_file<H: Sum>(
     rt: &HostRuntime,
     request: &Request,
     path: &str,
+    frames: u64,
     given_up: &mut GivenUp,
 ) -> Result<(), Status> {
     let mut part = request.about(path);
     let mut copy = read(rt, path)?;
-    let look = looked::<VecBlob, H>(rt, &part, &mut copy)?;
+    let look = looked::<VecBlob, H>(rt, &part, &mut copy)?.with_frames(frames);
     if look.at_stake() == 0 {
         return Ok(());
     }
     part.cut = request.cut || may_be_torn(request, &look);
     let allowed = if request.read_only {
-        allow::<VecBlob, H>(rt, &part, &mut copy)?
+        allow_looked(rt, &part, copy.bytes(), &look)?
     } else {
-        allow::<FileBlob, H>(rt, &part, &mut open(rt, path)?)?
+        allow_file::<H>(rt, &part, frames)?
     };
-    given_up.cut = given_up.cut.saturating_add(look.survey.outlook.cut);
+    given_up.cut = given_up.cut.saturating_add(look.cut_len());
     given_up.bytes = given_up.bytes.saturating_add(allowed.bytes);
     if allowed.copy.is_some() {
         given_up.copy = allowed.copy;

@@ -88,20 +88,25 @@ pub struct Part {
 }
 
 impl Part {
-    /// The state of the file at this path. Where it can't be read, or for want of memory, a line
-    /// says so.
-    pub fn of<H: Sum>(rt: &HostRuntime, request: &Request, path: &str) -> Result<Self, Status> {
+    /// The state of the file at this path, of whose text `frames` bytes are whole frames. Where it
+    /// can't be read, or for want of memory, a line says so.
+    pub fn of<H: Sum>(
+        rt: &HostRuntime,
+        request: &Request,
+        path: &str,
+        frames: u64,
+    ) -> Result<Self, Status> {
         let mut blob = read(rt, path)?;
         let part = request.about(path);
-        let look = looked::<VecBlob, H>(rt, &part, &mut blob)?;
+        let look = looked::<VecBlob, H>(rt, &part, &mut blob)?.with_frames(frames);
         let census = Census::of::<H>(rt, blob.bytes(), &look)?;
-        let outlook = look.survey.outlook;
+        let cut = look.cut_len();
         Ok(Part {
             bytes: look.size,
-            kept: outlook.len,
-            cut: outlook.cut,
+            kept: look.survey.outlook.len.min(frames),
+            cut,
             torn: look.survey.torn,
-            is_whole: outlook.cut == 0 && census.is_empty(),
+            is_whole: cut == 0 && census.is_empty(),
         })
     }
 

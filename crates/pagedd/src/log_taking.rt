@@ -4,7 +4,7 @@ ghost use Rattle.segments.specs.Log.{IsLog};
 use crate::log_answer::{Refusal, write_answer, write_found, write_places, write_refusal};
 use crate::log_records::{Records, length_of, split_record};
 use crate::log_request::{LogRequest, LogTask};
-use crate::log_status::{AT_END, CLOSED, NO_RECORDS, READ_ONLY, refusal_of};
+use crate::log_status::{AT_END, NO_RECORDS, READ_ONLY, refusal_of};
 use disk::Blob;
 use journal::MOST_BYTES;
 use page::Sum;
@@ -84,23 +84,22 @@ fn refuse_closed<W: Write>(
     Ok(())
 }
 
-// Answers a request after an error that left the log as it was, or that closed its manifest alone.
+// Answers a request after an error that left the log as it was: open, or closed by an error before.
 fn refuse_kept<W: Write>(
     alloc: Global,
     client: &Client,
     out: &mut W,
     error: &Error,
-    is_closing: bool,
     failure: Option<&io::Error>,
 ) -> Result<(), Stop> {
-    let is_closing = is_closing || client.lost.is_some();
-    let refusal = refusal_of(error, is_closing, 0, failure);
+    let is_closed = client.lost.is_some();
+    let refusal = refusal_of(error, is_closed, 0, failure);
     write_refusal(alloc, client.version, out, refusal)
 }
 
 // Answers a request that can't be met since the log is closed.
 fn refuse_lost<W: Write>(alloc: Global, client: &Client, out: &mut W) -> Result<(), Stop> {
-    refuse_kept(alloc, client, out, &Error::Closed, true, None)
+    refuse_kept(alloc, client, out, &Error::Closed, None)
 }
 
 fn write_flushed<W: Write>(out: &mut W) -> Result<(), Stop> {
@@ -226,7 +225,7 @@ fn take_read<F: Folder<B> + Drop, B: Blob + Cause + Drop, H: Sum, W: Write>(
             None => write_found(out, found.end, None),
         },
         Ok(None) => refuse(alloc, client, out, AT_END),
-        Err(error) => refuse_kept(alloc, client, out, &error, false, failure_of(log)),
+        Err(error) => refuse_kept(alloc, client, out, &error, failure_of(log)),
     }
 }
 
@@ -251,13 +250,13 @@ fn take_next<F: Folder<B> + Drop, B: Blob + Cause + Drop, H: Sum, W: Write>(
             write_answer(out, &numbers, bytes.as_ref())
         }
         Ok(None) => refuse(alloc, client, out, AT_END),
-        Err(error) => refuse_kept(alloc, client, out, &error, false, failure_of(log)),
+        Err(error) => refuse_kept(alloc, client, out, &error, failure_of(log)),
     }
 }
 
 fn take_drop<F: Folder<B> + Drop, B: Blob + Cause + Drop, H: Sum, W: Write>(
     alloc: Global,
-    client: &Client,
+    client: &mut Client,
     log: &mut SegmentedLog<F, B, H, H>,
     segment: u64,
     out: &mut W,
@@ -268,15 +267,11 @@ fn take_drop<F: Folder<B> + Drop, B: Blob + Cause + Drop, H: Sum, W: Write>(
     match log.drop_before(segment) {
         Ok(()) => write_answer(out, &[], &[]),
         Err(error) => {
-            let is_closing = matches!(error, Error::Layer(_));
-            refuse_kept(
-                alloc,
-                client,
-                out,
-                &error,
-                is_closing,
-                log.manifest_blob().cause(),
-            )
+            let failure = log.manifest_blob().cause();
+            match error {
+                Error::Layer(_) => refuse_closed(alloc, client, out, error, 0, failure),
+                _ => refuse_kept(alloc, client, out, &error, failure),
+            }
         }
     }
 }

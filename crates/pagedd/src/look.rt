@@ -20,6 +20,20 @@ pub struct Look {
     torn: Option<Page>,
     /// The page after those of the text, if the file has one.
     next: Option<Page>,
+    /// Where the frames end, if the file is a log's and its text goes on behind its last whole
+    /// frame. What follows goes in an opening of the log.
+    frames: Option<FramesEnd>,
+}
+
+/// Where the last whole frame of a log's file ends.
+#[derive(Clone, Copy)]
+struct FramesEnd {
+    /// How many bytes of the text follow.
+    rest: u64,
+    /// Where the first of them stands in the file.
+    start: u64,
+    /// Where its page begins.
+    page_start: u64,
 }
 
 /// A blob whose bytes stand in memory.
@@ -77,13 +91,37 @@ impl Look {
                 None
             },
             next: Page::at::<H>(bytes, shape.page_size, pages),
+            frames: None,
+        }
+    }
+
+    /// The look at a file of a log, of whose text so many bytes are whole frames. An opening of the
+    /// log keeps only these.
+    pub fn with_frames(self, len: u64) -> Self {
+        let page_size = u64::from(self.shape.page_size.get());
+        let rest = self.survey.outlook.len.saturating_sub(len);
+        let page_start = (len / page_size).saturating_mul(physical_page_size(self.shape.page_size));
+        let end = FramesEnd {
+            rest,
+            start: page_start.saturating_add(len % page_size),
+            page_start,
+        };
+        Look {
+            frames: (rest > 0).then_some(end),
+            ..self
         }
     }
 
     /// What to do with the file, where at most `cut_limit` bytes may go although a page among them
     /// has a value.
     pub fn verdict(&self, cut_limit: u64) -> Verdict {
-        self.survey.verdict(self.shape.page_size, cut_limit)
+        let verdict = self.survey.verdict(self.shape.page_size, cut_limit);
+        match (verdict, self.frames) {
+            (Verdict::Refuse, _) => Verdict::Refuse,
+            (_, Some(_)) if self.cut_len() > cut_limit => Verdict::Refuse,
+            (_, Some(_)) => Verdict::Keep,
+            (verdict, None) => verdict,
+        }
     }
 
     /// How many whole pages the file has.
@@ -98,18 +136,34 @@ impl Look {
 
     /// The first byte that a recovery would cut.
     pub fn cut_start(&self) -> u64 {
-        self.size.saturating_sub(self.survey.outlook.cut)
+        match self.frames {
+            Some(end) => end.start,
+            None => self.size.saturating_sub(self.survey.outlook.cut),
+        }
     }
 
-    /// How many bytes at the end are to be set aside before a recovery.
+    /// How many bytes at the end a recovery would cut.
+    pub fn cut_len(&self) -> u64 {
+        self.size.saturating_sub(self.cut_start())
+    }
+
+    /// How many bytes at the end are to be set aside before a recovery. They begin with a page.
     pub fn set_aside_len(&self) -> u64 {
-        self.survey.set_aside_len(self.shape.page_size)
+        let len = self.survey.set_aside_len(self.shape.page_size);
+        match self.frames {
+            Some(end) => len.max(self.size.saturating_sub(end.page_start)),
+            None => len,
+        }
     }
 
     /// How many bytes at the end go in a recovery: those that it cuts, and those of a torn last
     /// page.
     pub fn at_stake(&self) -> u64 {
-        self.survey.at_stake(self.shape.page_size)
+        let len = self.survey.at_stake(self.shape.page_size);
+        match self.frames {
+            Some(_) => len.max(self.cut_len()),
+            None => len,
+        }
     }
 
     /// The first of the bytes that are to be set aside.
@@ -117,9 +171,14 @@ impl Look {
         self.size.saturating_sub(self.set_aside_len())
     }
 
+    /// Whether the file is a log's, and its text ends in a frame that isn't whole.
+    pub fn ends_in_a_frame(&self) -> bool {
+        self.frames.is_some()
+    }
+
     /// Whether all that the file holds is in its text.
     pub fn keeps_all(&self) -> bool {
-        self.survey.outlook.cut == 0 && !self.survey.torn
+        self.cut_len() == 0 && !self.survey.torn
     }
 
     /// Whether the survey already shows that the page of this number, which has these bytes, has a
@@ -160,6 +219,12 @@ impl fmt::Display for Look {
             Some(page) => write!(f, "at page {pages}, {}", page.why())?,
             None => write!(f, "with the last of them")?,
         }
+        if let Some(FramesEnd { rest, start, .. }) = self.frames {
+            write!(
+                f,
+                "; its last {rest} bytes, from byte {start} of the file on, are no whole record"
+            )?;
+        }
         match self.survey.beyond {
             1 => write!(f, "; 1 page after it has a value"),
             number => write!(f, "; {number} pages after it have a value"),
@@ -176,7 +241,8 @@ pub struct Lost<'a> {
 
 impl fmt::Display for Lost<'_> {
     fn fmt<W: fmt::Write>(&self, f: &mut fmt::Formatter<W>) -> fmt::Result {
-        let Outlook { pages, cut, .. } = self.look.survey.outlook;
+        let pages = self.look.survey.outlook.pages;
+        let cut = self.look.cut_len();
         if let Some(
             Page {
                 len,
@@ -196,10 +262,13 @@ impl fmt::Display for Lost<'_> {
                 write!(f, "; ")?;
             }
         }
+        let (start, verb) = (self.look.cut_start(), self.verb);
         if cut > 0 {
-            let start = self.look.cut_start();
-            let verb = self.verb;
             write!(f, "{cut} bytes, from byte {start} of the file on, {verb}")?;
+        }
+        if let Some(end) = self.look.frames {
+            let rest = end.rest;
+            write!(f, ": {rest} bytes of content there are no whole record")?;
         }
         Ok(())
     }

@@ -45,9 +45,19 @@ pub fn allow<B: Blob + InMemory, H: Sum>(
     blob: &mut B,
 ) -> Result<Allowed, Status> {
     let look = looked::<B, H>(rt, request, blob)?;
+    allow_looked(rt, request, blob.image(), &look)
+}
+
+/// The same for a file of these bytes that was looked at.
+pub fn allow_looked(
+    rt: &HostRuntime,
+    request: &Request,
+    bytes: &[u8],
+    look: &Look,
+) -> Result<Allowed, Status> {
     let file = request.file;
     let copy = match look.verdict(request.cut_limit) {
-        Verdict::Refuse if !request.cut => return Err(refuse(rt, request, blob.image(), &look)?),
+        Verdict::Refuse if !request.cut => return Err(refuse(rt, request, bytes, look)?),
         _ if request.read_only => {
             let lost = look.lost("aren't served");
             tell(rt, format_args!("{file}: {lost}"));
@@ -61,7 +71,7 @@ pub fn allow<B: Blob + InMemory, H: Sum>(
             );
             None
         }
-        _ => Some(keep(rt, file, blob.image(), &look)?),
+        _ => Some(keep(rt, file, bytes, look)?),
     };
     Ok(Allowed {
         bytes: look.at_stake(),

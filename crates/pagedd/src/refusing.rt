@@ -75,7 +75,7 @@ pub fn refuse(
     let causes = Causes::of(rt.alloc(), bytes, *look)?;
     let shape = look.shape;
     let file = request.file;
-    let cut = look.survey.outlook.cut;
+    let cut = look.cut_len();
     match causes.likely_fit() {
         Some(fit) => tell(
             rt,

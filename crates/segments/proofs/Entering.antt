@@ -1,6 +1,6 @@
 -- An entry that is added to a manifest.
-use Rattle.std.specs.Prelude.{◌≡◌, ◌++◌, ℕ, List, [], ◌∷◌, Some, None, Option, IfSome, Result, Ok, Err, Bool, true, false}
-use Rattle.std.proofs.Common.{ap, sym, ◌∙◌, refl, subst, true≢false, inr}
+use Rattle.std.specs.Prelude.{◌≡◌, ◌++◌, ℕ, List, [], ◌∷◌, Some, None, Option, IfSome, Ok, Err}
+use Rattle.std.proofs.Common.{ap, sym, ◌∙◌, refl, subst, inr}
 use Rattle.disk.specs.Disk.{Life}
 use Rattle.crash.specs.Moments.{through_start}
 use Rattle.writer_state.specs.WriterState.{WriterState}
@@ -9,7 +9,7 @@ use Rattle.journal.proofs.Journals.{between_of, leaves_still}
 use Rattle.segments.specs.declared.entry.Entry.{Entry}
 use Rattle.segments.specs.declared.error.Error.{Error}
 use Rattle.segments.specs.declared.error.Error.TheVariants as errors
-use Rattle.segments.specs.Manifest.{ListingState, entry_bytes, entry_in, listed_in, listed_with, TakesIn}
+use Rattle.segments.specs.Manifest.{ListingState, entry_bytes, entry_in, listed_in, listed_with}
 use Rattle.segments.specs.Owned.{HasJournal, IsAdded, IsOwned, IsOwnedJournal, KeepsJournal, KeepsRecords, OwnedAddGoes, OwnedAddKeeps, OwnedState, records_now, records_of}
 use Rattle.segments.specs.Log.{IsLog, Lists, LogState, Tries}
 use Rattle.segments.proofs.Listings.{listed_more}
@@ -29,37 +29,48 @@ lists_by sum own P entry bytes l m (Some w) (Some now) old new told with lists i
 lists_if : (sum own : List ℕ → ℕ) (P : ℕ) (m : ListingState) (k : Option WriterState) (new : Life) → k ≡ None → IfSome k (λ w. Lists sum own P m w new)
 lists_if sum own P m k new none = subst (λ (k : Option WriterState). IfSome k (λ w. Lists sum own P m w new)) (sym none) tt
 
-lists_then : (sum own : List ℕ → ℕ) (entry : Entry) (bytes : List ℕ) (l m : ListingState) (s t : OwnedState) (result : Result (Unit {0}) Error)
-    → entry_in bytes ≡ Some entry → listed_with s.page_size entry l ≡ Some m → IfSome s.journal (λ w. Lists sum own s.page_size l w s.life)
-    → OwnedAddGoes sum own bytes s t result → IfSome t.journal (λ w. Lists sum own s.page_size m w t.life)
-lists_then sum own entry bytes l m s t (Ok u) told with lists is = lists_by sum own s.page_size entry bytes l m s.journal t.journal s.life t.life told with lists is
-lists_then sum own entry bytes l m s t (Err (errors.Layer e)) told with lists is = lists_if sum own s.page_size m t.journal t.life (none_of s.journal t.journal is) where
+-- an append and a commit that failed leave no journal
+no_journal : (sum own : List ℕ → ℕ) (bytes : List ℕ) (s t : OwnedState) (e : Error) → OwnedAddGoes sum own bytes s t (Err e) → t.journal ≡ None
+no_journal sum own bytes s t (errors.Layer e) is = none_of s.journal t.journal is where
   none_of : (j k : Option WriterState) → HasJournal j (λ w. k ≡ None) → k ≡ None
   none_of None k is = absurd is
   none_of (Some w) k is = is
-lists_then sum own entry bytes l m s t (Err errors.Closed) told with lists is = lists_if sum own s.page_size m t.journal t.life (ap (λ (o : OwnedState). o.journal) is.1 ∙ is.0)
-lists_then sum own entry bytes l m s t (Err (errors.System e)) told with lists is = absurd is
-lists_then sum own entry bytes l m s t (Err (errors.Damaged n)) told with lists is = absurd is
-lists_then sum own entry bytes l m s t (Err (errors.Unlisted n)) told with lists is = absurd is
-lists_then sum own entry bytes l m s t (Err (errors.Missing n)) told with lists is = absurd is
-lists_then sum own entry bytes l m s t (Err errors.Manifest) told with lists is = absurd is
-lists_then sum own entry bytes l m s t (Err (errors.NoSegment n)) told with lists is = absurd is
-lists_then sum own entry bytes l m s t (Err errors.NumbersExhausted) told with lists is = absurd is
+no_journal sum own bytes s t errors.Closed is = ap (λ (o : OwnedState). o.journal) is.1 ∙ is.0
+no_journal sum own bytes s t (errors.System e) is = absurd is
+no_journal sum own bytes s t (errors.Damaged n) is = absurd is
+no_journal sum own bytes s t (errors.Unlisted n) is = absurd is
+no_journal sum own bytes s t (errors.Missing n) is = absurd is
+no_journal sum own bytes s t errors.Manifest is = absurd is
+no_journal sum own bytes s t (errors.NoSegment n) is = absurd is
+no_journal sum own bytes s t errors.NumbersExhausted is = absurd is
 
--- the log stands, whatever the answer
-pub enter_ready : (sum own : List ℕ → ℕ) (entry : Entry) (bytes : List ℕ) (s : LogState) (m : ListingState) (manifest : OwnedState) (result : Result (Unit {0}) Error)
+-- the log stands with an entry more
+pub enter_ready : (sum own : List ℕ → ℕ) (entry : Entry) (bytes : List ℕ) (s : LogState) (m : ListingState) (manifest : OwnedState) (u : Unit {0})
     → IsLog sum own s → IsOwned sum own manifest → manifest.page_size ≡ s.manifest.page_size
     → entry_in bytes ≡ Some entry → listed_with s.page_size entry s.listing ≡ Some m
-    → OwnedAddGoes sum own bytes s.manifest manifest result → IsLog sum own (record s { manifest = manifest; listing = m })
-enter_ready sum own entry bytes s m manifest result log owned pages told with is = record {
+    → OwnedAddGoes sum own bytes s.manifest manifest (Ok u) → IsLog sum own (record s { manifest = manifest; listing = m })
+enter_ready sum own entry bytes s m manifest u log owned pages told with is = record {
   manifest = owned;
   current = log.current;
   manifest_pages = pages ∙ log.manifest_pages;
   current_pages = log.current_pages;
   lists = subst (λ P. IfSome manifest.journal (λ w. Lists sum own P m w manifest.life)) log.manifest_pages
-      (lists_then sum own entry bytes s.listing m s.manifest manifest result told
+      (lists_by sum own s.manifest.page_size entry bytes s.listing m s.manifest.journal manifest.journal s.manifest.life manifest.life told
       (subst (λ P. listed_with P entry s.listing ≡ Some m) (sym log.manifest_pages) with)
       (subst (λ P. IfSome s.manifest.journal (λ w. Lists sum own P s.listing w s.manifest.life)) (sym log.manifest_pages) log.lists) is);
+  loaded = log.loaded;
+}
+
+-- the log stands without it, and its manifest has no journal
+pub enter_failed : (sum own : List ℕ → ℕ) (bytes : List ℕ) (s : LogState) (manifest : OwnedState) (e : Error)
+    → IsLog sum own s → IsOwned sum own manifest → manifest.page_size ≡ s.manifest.page_size
+    → OwnedAddGoes sum own bytes s.manifest manifest (Err e) → IsLog sum own (record s { manifest = manifest })
+enter_failed sum own bytes s manifest e log owned pages is = record {
+  manifest = owned;
+  current = log.current;
+  manifest_pages = pages ∙ log.manifest_pages;
+  current_pages = log.current_pages;
+  lists = lists_if sum own s.page_size s.listing manifest.journal manifest.life (no_journal sum own bytes s.manifest manifest e is);
   loaded = log.loaded;
 }
 
@@ -90,12 +101,6 @@ entered_keeps sum own P bytes these s t page same keeps =
     subst (λ these. IfSome s.journal (λ w. KeepsRecords sum own P (records_now own s ++ these ∷ []) s.life t.life)) same
     (subst (λ P. IfSome s.journal (λ w. KeepsRecords sum own P (records_now own s ++ bytes ∷ []) s.life t.life)) page
     (added_keeps sum own s.page_size bytes s.journal s.life t.life keeps))
-
--- an entry that was taken in
-pub taken : {E : Type 0} (P : ℕ) (entry : Entry) (l m : ListingState) (b : Bool) (result : Result Bool E) → TakesIn P entry l m result → result ≡ Ok b → b ≡ true
-    → listed_with P entry l ≡ Some m
-taken P entry l m true result is ok e = subst (λ r. TakesIn P entry l m r) ok is
-taken P entry l m false result is ok e = absurd (true≢false (sym e))
 
 -- an entry that was asked for
 pub entry_tried : (sum own : List ℕ → ℕ) (entry : Entry) (bytes : List ℕ) (view s t : LogState) (m : ListingState) → view ≡ s → bytes ≡ entry_bytes entry

@@ -58,5 +58,5 @@ enter_refused sum own s m n t next kept e first none has asks last goes =
     let listing : n.listing ≡ m.listing = ap (λ (l : LogState). l.listing) asks in (
       ap (λ (o : OwnedState). o.journal) current ∙ none,
       entry_cause s n t kept e (ap (λ (o : OwnedState). o.journal) manifest)
-          (λ full. has.numbered (ap (λ (l : ListingState). open_in l) (sym listing) ∙ full)) goes.1,
+          (λ full. has.numbered (ap (λ (l : ListingState). open_in l) (sym listing) ∙ full)) goes.2,
     )

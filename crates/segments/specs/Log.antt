@@ -25,7 +25,7 @@ use Rattle.segments.specs.Owned.{HasJournal, IsOwned, IsShut, KeepsRecords, Owne
 use Rattle.segments.specs.Owned.{content_now}
 use Rattle.segments.specs.Owned.{OwnedCloseGoes}
 use Rattle.segments.specs.Owned.{OwnedReadLeaves, OwnedState}
-use Rattle.segments.specs.Owned.{owned_size, records_now}
+use Rattle.segments.specs.Owned.{owned_size, records_now, without_journal}
 
 -- a closed segment that was read into memory: what was kept of it, and its journal
 pub record LoadedState : Type 0 where
@@ -99,11 +99,13 @@ EnterRefused entry s errors.Manifest = listed_with s.page_size entry s.listing �
 EnterRefused entry s errors.Closed = s.manifest.journal ≡ None
 EnterRefused entry s e = ⊥
 
--- an entry, by its answer: after an error the manifest is as it was, or has no journal
+-- an entry, by its answer: after an error the listing is as it was, and the manifest too, or it has
+-- no journal
 abbrev pub EnterGoes : (own : List ℕ → ℕ) → Entry → LogState → LogState → Result (Unit {0}) Error
     → Type 0
 EnterGoes own entry s t (Ok u) = IsEntered own entry s t
-EnterGoes own entry s t (Err e) = ((t ≡ s) ⊎ (t.manifest.journal ≡ None)) × EnterRefused entry s e
+EnterGoes own entry s t (Err e) =
+    (t.listing ≡ s.listing) × ((t ≡ s) ⊎ (t.manifest.journal ≡ None)) × EnterRefused entry s e
 
 -- what was committed of the manifest is so at each moment since, and chance aside (no checksum
 -- collides) a crash at any of these moments leaves only the first of its entries with this one
@@ -433,31 +435,60 @@ listing_from segment l =
 -- the manifest lists this segment as the first one
 pub record IsStartedFrom (segment : ℕ) (s t : LogState) : Type 0 where
   pub listing : t.listing ≡ listing_from segment s.listing
+  pub there : HasJournal t.manifest.journal (λ w. Unit {0})
   pub rest : IsSameButManifest s t
 
 abbrev pub StartFromGoes : ℕ → LogState → LogState → Result (Unit {0}) Error → Type 0
 StartFromGoes segment s t (Ok u) = IsStartedFrom segment s t
 StartFromGoes segment s t (Err e) =
-    IsSameButManifest s t × EnterRefused (Starts segment s.page_size) s e
+    IsSameButManifest s t × (t.listing ≡ s.listing) × EnterRefused (Starts segment s.page_size) s e
 
--- segments were dropped: just those before this one, if there were such
-pub record IsDropped (segment : ℕ) (s t : LogState) : Type 0 where
+-- the log was closed: the open segment has no journal any more. What the manifest lists stays, and
+-- so does all else, except for the manifest's own journal
+pub record IsClosedOff (s t : LogState) : Type 0 where
+  pub current : t.current ≡ without_journal s.current
+  pub listing : t.listing ≡ s.listing
+  pub asked : t.asked ≡ s.asked
+  pub loaded : t.loaded ≡ s.loaded
+  pub page_size : t.page_size ≡ s.page_size
+  pub most : t.most ≡ s.most
+
+-- such an entry by its answer, where an error closes the log
+abbrev pub StartOrCloseGoes : ℕ → LogState → LogState → Result (Unit {0}) Error → Type 0
+StartOrCloseGoes segment s t (Ok u) = IsStartedFrom segment s t
+StartOrCloseGoes segment s t (Err e) =
+    IsClosedOff s t × EnterRefused (Starts segment s.page_size) s e
+
+-- just the segments before this one were dropped, if there were such, and the manifest has that.
+-- The folder was asked only to remove older files than the first that stays
+pub record IsDropping (segment : ℕ) (s t : LogState) : Type 0 where
   pub within : segment ≤ open_in s.listing
   pub listing : ((segment ≤ s.listing.first) × (t.listing ≡ s.listing))
       ⊎ ((s.listing.first < segment) × (t.listing ≡ listing_from segment s.listing))
+  pub there : HasJournal t.manifest.journal (λ w. Unit {0})
   pub current : t.current ≡ s.current
   pub removed : AsksOfOlder t.listing.first s.asked t.asked
+
+-- a drop was done: the names of the files are durable
+pub record IsDropped (segment : ℕ) (s t : LogState) : Type 0 where
+  pub drops : IsDropping segment s t
   pub synced : EndsSynced t.asked
 
--- a drop, by its answer: nothing is done where there is no such segment yet
+-- one of the two journals is gone, since a call before failed
+abbrev pub IsClosedLog : LogState → Type 0
+IsClosedLog s = (s.current.journal ≡ None) ⊎ (s.manifest.journal ≡ None)
+
+-- a drop, by its answer. Nothing is done where the log is closed, or there is no such segment yet.
+-- If the manifest can't be written no file is removed, and the log is closed. If the folder refuses
+-- a call the drop is in the manifest
 abbrev pub LogDropGoes : ℕ → LogState → LogState → Result (Unit {0}) Error → Type 0
 LogDropGoes segment s t (Ok u) = IsDropped segment s t
 LogDropGoes segment s t (Err (errors.NoSegment n)) =
     (t ≡ s) × (n ≡ segment) × (open_in s.listing < segment)
-LogDropGoes segment s t (Err (errors.System e)) = t.current ≡ s.current
-LogDropGoes segment s t (Err (errors.Layer e)) = t.current ≡ s.current
-LogDropGoes segment s t (Err errors.Closed) =
-    (t.current ≡ s.current) × (s.manifest.journal ≡ None)
+LogDropGoes segment s t (Err errors.Closed) = (t ≡ s) × IsClosedLog s
+LogDropGoes segment s t (Err (errors.Layer e)) =
+    IsClosedOff s t × (s.listing.first < segment) × (segment ≤ open_in s.listing)
+LogDropGoes segment s t (Err (errors.System e)) = IsDropping segment s t
 LogDropGoes segment s t (Err e) = ⊥
 
 -- ---- opening

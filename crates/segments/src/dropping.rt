@@ -1,6 +1,7 @@
 // Dropping the oldest segments.
 ghost use Rattle.std.specs.Prelude.{IfOk};
 ghost use Rattle.segments.specs.Log.{AsksOfOlder, EndsSynced, IsLog, LogDropGoes, StartFromGoes};
+ghost use Rattle.segments.specs.Log.{StartOrCloseGoes};
 ghost use Rattle.segments.specs.Log.{Tries};
 ghost use Rattle.segments.specs.Crash.{DropSurvives};
 ghost use Rattle.segments.specs.declared.entry.Entry.TheVariants.{Starts};
@@ -15,15 +16,15 @@ use std::io;
 
 impl<F: Folder<B> + Drop, B: Blob + Drop, H: Sum, R: Sum> SegmentedLog<F, B, H, R> {
     /// Drops the segments before this one, if there are such, and removes their files, the oldest
-    /// first. The drop is written to the manifest before that, so a crash may leave some of the
+    /// first. The drop is durable in the manifest before that, so a crash may leave some of the
     /// files, and no call reads them any more. A later drop removes them too, even one that drops
     /// nothing.
     ///
-    /// `NoSegment` where there is no such segment yet: the open one is never dropped. Nothing is
-    /// done then. `Closed` where a call of the manifest failed before, `Layer` where the device or
-    /// memory failed, `System` where the folder refused a call. After these errors the open segment
-    /// is as it was, and the drop may be tried again. If it answers `Closed` then, open the log
-    /// again to drop segments or to rotate.
+    /// `Closed` where a call before failed, and `NoSegment` where there is no such segment yet: the
+    /// open one is never dropped. Nothing is done then. `Layer` where the device or memory failed as
+    /// the manifest was written: no file is removed, and the log is closed. Whether the drop is in
+    /// the manifest shows once the log is opened again. `System` where the folder refused a call:
+    /// the drop is durable, and some of the files may be left. It may be tried again.
     #[tactic(auto, using(crate::proofs::DropSurvival::drop_still, crate::proofs::DropSurvival::drop_tries))]
     pub fn drop_before(&mut self, segment: u64) -> Result<(), Error>
         requires log { IsLog H.sum_of R.sum_of self.old }
@@ -31,16 +32,36 @@ impl<F: Folder<B> + Drop, B: Blob + Drop, H: Sum, R: Sum> SegmentedLog<F, B, H, 
         ensures ready { IsLog H.sum_of R.sum_of self.new }
         ensures drops { DropSurvives H.sum_of R.sum_of segment self.old self.new }
     {
+        if self.current.is_closed() || self.manifest.is_closed() {
+            return Err(Error::Closed);
+        }
         if self.listing.open() < segment {
             return Err(Error::NoSegment(segment));
         }
         if self.listing.first() < segment {
-            self.start_from(segment)?;
+            self.start_or_close(segment)?;
         }
         let first = self.listing.first();
         match remove_before::<F, B>(&mut self.folder, first) {
             Ok(()) => Ok(()),
             Err(error) => Err(Error::System(error)),
+        }
+    }
+
+    // Adds to the manifest that this segment is the first one. After an error the log is closed.
+    fn start_or_close(&mut self, segment: u64) -> Result<(), Error>
+        requires log { IsLog H.sum_of R.sum_of self.old }
+        ensures goes { StartOrCloseGoes segment self.old self.new result }
+        ensures ready { IsLog H.sum_of R.sum_of self.new }
+        ensures tries { let entry = Starts segment self.old.page_size in
+            Tries H.sum_of R.sum_of entry self.old self.new }
+    {
+        match self.start_from(segment) {
+            Ok(()) => Ok(()),
+            Err(error) => {
+                self.current.forget();
+                Err(error)
+            }
         }
     }
 

@@ -1,6 +1,7 @@
 // What a manifest lists.
 ghost use Rattle.std.specs.Prelude.{◌≡◌, ◌<◌, ◌+◌, ◌^◌, length, IfOk, Some};
-ghost use Rattle.segments.specs.Manifest.{closed_at, closed_count, fitting, listed_in, none_closed, open_in, TakesIn};
+ghost use Rattle.segments.specs.Manifest.{closed_at, closed_count, fitting, listed_in, listed_with};
+ghost use Rattle.segments.specs.Manifest.{none_closed, open_in, TakesIn};
 
 use crate::closed::Closed;
 use crate::entry::{Entry, entry_of};
@@ -105,6 +106,19 @@ impl Listing {
                 Ok(true)
             }
         }
+    }
+
+    /// The listing with an entry more, of a log with pages of so many logical bytes. `None` where
+    /// the entry can't follow those before it.
+    pub fn with(&self, page_size: u16, entry: &Entry) -> Result<Option<Listing>, disk::Error>
+        ensures { IfOk result (λ listing. listing ≡ listed_with page_size entry.now self.now) }
+    {
+        let mut listing = Listing {
+            first: self.first,
+            closed: self.closed.clone()?,
+        };
+        let follows = listing.take_in(page_size, entry)?;
+        Ok(follows.then_some(listing))
     }
 }
 

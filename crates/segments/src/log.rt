@@ -1,8 +1,9 @@
 // The log.
-ghost use Rattle.std.specs.Prelude.{◌≡◌, ◌+◌, IfOk};
+ghost use Rattle.std.specs.Prelude.{◌≡◌, ◌+◌};
 ghost use Rattle.std.specs.Int.NonZero.{non_zero_u16_get};
 ghost use Rattle.segments.specs.Manifest.{closed_at, closed_count, fitting, open_in};
 ghost use Rattle.segments.specs.Log.{EnterGoes, IsLog, IsSameButManifest, Tries};
+ghost use Rattle.segments.specs.Owned.{owned_size};
 
 use crate::closed::Closed;
 use crate::entry::{Entry, bytes_of};
@@ -112,6 +113,22 @@ impl<F: Folder<B> + Drop, B: Blob + Drop, H: Sum, R: Sum> SegmentedLog<F, B, H, 
         self.current.records()
     }
 
+    /// How many logical bytes the frames of the open segment have: its records, and seven bytes for
+    /// each. 0 where the log is closed.
+    pub fn size(&self) -> u64
+        ensures { result ≡ owned_size self.now.current.journal }
+    {
+        self.current.size()
+    }
+
+    /// How many logical bytes the frames of the manifest have. 0 where the log is closed, since the
+    /// manifest couldn't be written.
+    pub fn manifest_size(&self) -> u64
+        ensures { result ≡ owned_size self.now.manifest.journal }
+    {
+        self.manifest.size()
+    }
+
     /// How many records the log has, of those that weren't dropped. `None` where that passes the
     /// greatest `u64`: then the manifest is none that a log has written.
     pub fn len(&self) -> Option<u64>
@@ -128,8 +145,8 @@ impl<F: Folder<B> + Drop, B: Blob + Drop, H: Sum, R: Sum> SegmentedLog<F, B, H, 
         self.listing.closed(segment)
     }
 
-    // Adds an entry to the listing, then to the manifest, and makes it durable. `Manifest` where
-    // the entry can't follow those before it.
+    // Adds an entry to the manifest, and takes it into the listing once it is durable. `Manifest`
+    // where the entry can't follow those before it. After an error the listing is as it was.
     pub(crate) fn enter(&mut self, entry: &Entry) -> Result<(), Error>
         requires log { IsLog H.sum_of R.sum_of self.old }
         ensures goes { EnterGoes R.sum_of entry.now self.old self.new result }
@@ -138,9 +155,15 @@ impl<F: Folder<B> + Drop, B: Blob + Drop, H: Sum, R: Sum> SegmentedLog<F, B, H, 
         ensures tries { Tries H.sum_of R.sum_of entry.now self.old self.new }
     {
         let bytes = bytes_of(self.alloc, entry)?;
-        if !self.listing.take_in(self.options.page_size.get(), entry)? {
+        let Some(listing) = self.listing.with(self.options.page_size.get(), entry)? else {
             return Err(Error::Manifest);
+        };
+        match self.manifest.add(&bytes) {
+            Ok(()) => {
+                self.listing = listing;
+                Ok(())
+            }
+            Err(error) => Err(error),
         }
-        self.manifest.add(&bytes)
     }
 }

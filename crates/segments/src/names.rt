@@ -1,7 +1,7 @@
 // The files of a log in a folder of the system, by their names.
 use crate::folder::Asked;
-use disk::VecBlob;
-use std::alloc::Global;
+use std::fs::DirEntry;
+use std::io::ErrorKind;
 use std::{fs, io};
 
 // What stands after the number in the name of a segment's file.
@@ -55,7 +55,7 @@ impl Names {
     pub fn first(&self) -> io::Result<Option<u64>> {
         let mut first = None;
         for entry in fs::read_dir(&self.rt, self.path.as_str())? {
-            let Some(number) = number_of(entry?.file_name()) else {
+            let Some((number, _)) = segment_of(entry)? else {
                 continue;
             };
             first = match first {
@@ -70,8 +70,7 @@ impl Names {
     pub fn last_with_bytes(&self) -> io::Result<Option<u64>> {
         let mut last = None;
         for entry in fs::read_dir(&self.rt, self.path.as_str())? {
-            let entry = entry?;
-            let Some(number) = number_of(entry.file_name()) else {
+            let Some((number, entry)) = segment_of(entry)? else {
                 continue;
             };
             if entry.metadata()?.len() > 0 && last < Some(number) {
@@ -82,10 +81,24 @@ impl Names {
     }
 }
 
-// The number of a segment, by the name of its file.
+// The number of the segment whose file an entry of the folder is, with the entry. `None` for another
+// file, also for one whose name isn't UTF-8.
+fn segment_of(entry: io::Result<DirEntry>) -> io::Result<Option<(u64, DirEntry)>> {
+    let entry = match entry {
+        Ok(entry) => entry,
+        Err(error) if error.kind() == ErrorKind::InvalidFilename => return Ok(None),
+        Err(error) => return Err(error),
+    };
+    match number_of(entry.file_name()) {
+        Some(number) => Ok(Some((number, entry))),
+        None => Ok(None),
+    }
+}
+
+// The number of a segment, by the name of its file: twenty digits, and no sign in front of fewer.
 fn number_of(name: &str) -> Option<u64> {
     let digits = name.strip_suffix(ENDING)?;
-    if digits.len() != 20 {
+    if digits.len() != 20 || !digits.bytes().all(|byte| byte.is_ascii_digit()) {
         return None;
     }
     digits.parse().ok()

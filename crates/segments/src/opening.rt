@@ -7,6 +7,7 @@ ghost use Rattle.segments.specs.Log.{AreParts, AsksForSegment, HasOpened, HasCur
 ghost use Rattle.segments.specs.Log.{IsLog, LeavesOpened};
 ghost use Rattle.segments.specs.Crash.{IsOpenedLog};
 
+use crate::entry::{Entry, bytes_of};
 use crate::error::Error;
 use crate::folder::{Asked, Folder};
 use crate::listing::{Listing, listing_of};
@@ -182,8 +183,9 @@ fn open_number<F: Folder<B>, B: Blob + Drop, H: Sum, R: Sum>(
     Ok(number)
 }
 
-// The number of the open segment, by a copy of the manifest; `None` where that is missing or has no
-// entry. `Manifest` where it has bytes and no entry, though segments have bytes.
+// The number of the open segment, by a copy of the manifest; `None` where that is missing, or has no
+// entry yet. `Manifest` where it has bytes that are none of a manifest that was begun, or where it
+// has no entry and segments have bytes.
 fn listed_open<F: Folder<B>, B: Blob + Drop, H: Sum, R: Sum>(
     alloc: Global,
     folder: &mut F,
@@ -197,18 +199,28 @@ fn listed_open<F: Folder<B>, B: Blob + Drop, H: Sum, R: Sum>(
         Err(error) if error.kind() == ErrorKind::NotFound => return Ok(None),
         Err(error) => return Err(Error::System(error)),
     };
-    let has_bytes = copy.len() > 0;
+    let bytes = Vec::from_slice(alloc, copy.bytes())?;
     let (_, entries) = recover::<VecBlob, H, R>(alloc, options, copy)?;
     if entries.is_empty() {
         // With another page size the manifest's pages have no text, and so no entry.
-        return if has_bytes && is_used {
-            Err(Error::Manifest)
-        } else {
+        return if bytes.is_empty() || !is_used && is_begun::<H, R>(alloc, options, &bytes)? {
             Ok(None)
+        } else {
+            Err(Error::Manifest)
         };
     }
     let listing = listing_of(alloc, &entries, options.page_size.get())?;
     Ok(Some(listing.open()))
+}
+
+// Whether a crash may have left these bytes of a manifest's first write: each is zero, or the byte
+// that was to stand there. So they are no other file's, and no other page size's.
+fn is_begun<H: Sum, R: Sum>(alloc: Global, options: Options, bytes: &[u8]) -> Result<bool, Error> {
+    let (mut manifest, _) = recover::<VecBlob, H, R>(alloc, options, VecBlob::new(alloc))?;
+    manifest.add(&bytes_of(alloc, &Entry::Starts(0, options.page_size.get()))?)?;
+    let whole = manifest.blob().bytes();
+    let is_left = |(left, written): (&u8, &u8)| *left == 0 || left == written;
+    Ok(bytes.len() <= whole.len() && bytes.iter().zip(whole).all(is_left))
 }
 
 // Opens a segment, and makes its name durable.

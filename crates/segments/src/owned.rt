@@ -1,5 +1,5 @@
 // A blob with a journal on it, and a cache of its own.
-ghost use Rattle.std.specs.Prelude.{◌≡◌, ◌≤◌, ◌∷◌, ◌++◌, [], length, None, IfOk};
+ghost use Rattle.std.specs.Prelude.{◌≡◌, ◌≤◌, ◌∷◌, ◌++◌, [], length, is_none, None, IfOk};
 ghost use Rattle.std.specs.Int.NonZero.{non_zero_u16_get};
 ghost use Rattle.segments.specs.Owned.{IsOwned, OwnedAddGoes, OwnedAddKeeps, OwnedAppendGoes};
 ghost use Rattle.segments.specs.Owned.{OwnedCommitGoes, OwnedLeaves};
@@ -268,8 +268,15 @@ impl<B: Blob + Drop, H: Sum, R: Sum> OwnedJournal<B, H, R> {
         closed
     }
 
-    // Lets the journal go.
-    fn forget(&mut self)
+    /// Whether there is no journal.
+    pub fn is_closed(&self) -> bool
+        ensures { result ≡ is_none self.now.journal }
+    {
+        self.journal.is_none()
+    }
+
+    /// Lets the journal go. What wasn't committed may be lost.
+    pub fn forget(&mut self)
         requires owned { IsOwned H.sum_of R.sum_of self.old }
         ensures lets { self.new ≡ without_journal self.old }
         ensures image { IsImage self.old.life.present self.old.life.present.readable }
