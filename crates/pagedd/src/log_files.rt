@@ -7,7 +7,7 @@ use crate::request::Request;
 use crate::status::Status;
 use disk::Blob;
 use page::Sum;
-use segments::{Error, Folder, FolderCopy, Options, SegmentedLog};
+use segments::{Asked, Error, Folder, FolderCopy, Options, SegmentedLog};
 use std::alloc::{AllocError, Global};
 use std::fs;
 
@@ -22,6 +22,42 @@ pub fn is_folder(rt: &HostRuntime, path: &str) -> bool {
 /// Says why a command isn't for a folder, and answers the status.
 pub fn fail_folder(rt: &HostRuntime, path: &str, advice: &str) -> Status {
     fail(rt, path, format_args!("it is a folder: {advice}"))
+}
+
+/// The folder of the log of which a path names a file: the manifest or a segment, in a folder that
+/// has both. None where it names another file, or the folder can't be read.
+pub fn log_around<'a>(rt: &HostRuntime, path: &'a str) -> Option<&'a str> {
+    let (folder, name) = path.rsplit_once('/').unwrap_or((".", path));
+    if name != "manifest" && !is_segment(name) {
+        return None;
+    }
+    let folder = if folder.is_empty() { "/" } else { folder };
+    has_log(rt, folder).then_some(folder)
+}
+
+fn has_log(rt: &HostRuntime, folder: &str) -> bool {
+    let Ok(mut copy) = FolderCopy::new(rt, folder) else {
+        return false;
+    };
+    copy.has(Asked::Manifest).unwrap_or(false) && matches!(copy.first(), Ok(Some(_)))
+}
+
+// Whether this is the name of a segment's file.
+fn is_segment(name: &str) -> bool {
+    match name.strip_suffix(".segment") {
+        Some(digits) => digits.len() == 20 && digits.bytes().all(|byte| byte.is_ascii_digit()),
+        None => false,
+    }
+}
+
+/// Says that a file is one of a log, and answers the status. Nothing was changed.
+pub fn fail_log_file(rt: &HostRuntime, path: &str, folder: &str) -> Status {
+    let advice = "'pagedd serve-log' changes it";
+    fail(
+        rt,
+        path,
+        format_args!("it is a file of the log in {folder}: {advice}; nothing was changed"),
+    )
 }
 
 /// The path of a log's manifest.

@@ -59,7 +59,7 @@ use crate::cat::cat;
 use crate::check::check;
 use crate::command::{VERSION, command};
 use crate::ending::{end, or_end};
-use crate::log_files::{fail_folder, is_folder};
+use crate::log_files::{fail_folder, fail_log_file, is_folder, log_around};
 use crate::log_serving::serve_log;
 use crate::log_told::tell_log;
 use crate::look::read;
@@ -84,6 +84,11 @@ fn perform<H: Sum>(
     if is_folder(rt, request.file) {
         return perform_on_folder::<H>(rt, request);
     }
+    if may_change(request) {
+        if let Some(folder) = log_around(rt, request.file) {
+            return Err(fail_log_file(rt, request.file, folder));
+        }
+    }
     match request.task {
         Task::ServeLog => serve_log::<H>(rt, request),
         Task::Serve { create } => serve::<H>(rt, request, create),
@@ -94,6 +99,15 @@ fn perform<H: Sum>(
             or_end(rt, println!(rt; "pagedd {VERSION}"))?;
             Ok(Status::Done)
         }
+    }
+}
+
+// Whether a request may change its file.
+fn may_change(request: &Request) -> bool {
+    match request.task {
+        Task::Serve { .. } => !request.read_only,
+        Task::Append { .. } => true,
+        _ => false,
     }
 }
 
