@@ -360,6 +360,13 @@ def torn(program, folder):
     expect((log.size, log.cut, log.given_up) == (1, goes, goes) and contents(log.copy) == before,
            "an opening cuts it, and sets aside first what it cuts, from the page on in which a record begins")
     expect(log.read((0, 0))[0] == bytes(3000) and log.copy in log.end()[1], "what was before it is read")
+    # The file ends with a whole page, in which a record began: no page tells that something is missing.
+    put(path, whole[:4096])
+    status, out, _ = play(program, "check", folder)
+    expect(status == 3 and b"not whole" in out, "check tells a record whose last page is lost")
+    log = Session(program, folder)
+    expect((log.size, log.cut) == (1, 4096 - (3000 + 7)) and contents(log.copy) == whole[:4096] and log.end()[0] == 0,
+           "an opening cuts what is left of it, after a copy was made")
 
 
 def begun(program, folder):

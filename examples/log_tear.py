@@ -13,8 +13,8 @@ folder may be gone until the one above it is synced. Such images are made at eve
 The program is started on each image. It is never refused. Its records must begin with all that were
 committed, and be the beginning of what was appended, each at its place, from the first segment on that
 wasn't dropped; of segments that were being dropped all records are there, or none. The file of a closed
-segment stays as it is. What the opening cuts of the manifest and of the open segment is in a new file
-beside it, and one line for each says so; no other byte is. On every third image the log goes on: it
+segment stays as it is. What the opening cuts of the manifest and of the open segment, also of a record
+that isn't whole, is in a new file beside it, and one line for each says so; no other byte is. On every third image the log goes on: it
 appends, drops, and is opened again. On every tenth one the opening is itself torn, at each of its calls.
 
 A run has several sessions of one log. Between two of them the program ends, or is killed after any of its
@@ -352,9 +352,15 @@ def check_told(shape, before, after, said):
     parts = ["manifest", os.path.basename(segment("", last))]
     wanted, lines = [], 0
     for name in parts:
-        found = survey.survey(before.get(name, b""), shape.page)
+        held = before.get(name, b"")
+        found = survey.survey(held, shape.page)
         count = survey.set_aside(found, shape.page)
-        lines += survey.verdict(found, shape.page) != "whole"
+        text = reader.read(held, shape.page, reader.crc32c)[1]
+        whole = records(text)[1]
+        if whole < len(text):
+            # A record that isn't whole goes too. The copy begins with its page.
+            count = max(count, len(held) - whole // shape.page * (shape.page + 12))
+        lines += whole < len(text) or survey.verdict(found, shape.page) != "whole"
         if count:
             wanted.append((name, before[name][-count:]))
     new = [(name.split(".cut-")[0], data) for name, data in after.items() if ".cut-" in name and name not in before]
