@@ -1,5 +1,6 @@
 pub mod Durable
 pub mod Entries
+pub mod Examples
 pub mod Counts
 pub mod OwnedLaws
 pub mod Closing
