@@ -184,11 +184,11 @@ fn play_kind(
     }
 }
 
-// Whether a refused request doesn't show in a reply as itself: a host in memory fails then, the
-// cache leaves a page out, and requests are answered in bytes.
+// Whether a refused request doesn't show in a reply as itself: a host in memory fails then, and
+// requests are answered in bytes.
 fn hides_refusals(kind: Kind) -> bool {
     match kind {
-        Kind::Cases | Kind::Requests | Kind::Mirror | Kind::Log | Kind::Cache => true,
+        Kind::Cases | Kind::Requests | Kind::Mirror | Kind::Log => true,
         _ => false,
     }
 }
