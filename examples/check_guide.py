@@ -14,7 +14,8 @@ above, an error that is "never of" a call isn't looked for there, and "those of"
 each line of crates.txt that it quotes must stand there, except that of the crate `mine`. docs/DEFINITIONS.md: each word
 must stand in a file of crates/. In every page each link, and each path below crates/, docs/ or examples/, must be
 there. README.md and docs/PROTOCOL.md must have the same table of exit statuses. docs/INDEX.md must be what
-examples/public_items.py writes. It prints what isn't so, and ends with status 1 then.
+examples/public_items.py writes. docs/DECISIONS.md: each edit that it lists as one that stays must have a file in the
+crate's must-fail/. It prints what isn't so, and ends with status 1 then.
 """
 import collections
 import functools
@@ -329,6 +330,15 @@ def wrong_index():
     return wrong, sum(line.startswith("| `") for line in said)
 
 
+def wrong_edits(page):
+    """The edits that a page says stay, and that have no file, and how many there are."""
+    table = read(page).partition("\n## Wrong bodies that stay edits\n")[2].partition("\n## ")[0]
+    rows = re.findall(r"^\| `(\w+)` \| ([^|]+) \|", table, re.M)
+    edits = [f"crates/{crate}/must-fail/{name}.edit" for crate, names in rows for name in re.findall(r"`(\w+)`", names)]
+    wrong = [f"{page}: not there: {edit}" for edit in edits if not os.path.exists(os.path.join(ROOT, edit))]
+    return wrong, len(edits)
+
+
 def main():
     pages = ["README.md"] + sorted(f"docs/{name}" for name in os.listdir(os.path.join(ROOT, "docs")))
     found = {
@@ -341,6 +351,7 @@ def main():
         "links and paths": wrong_places(pages),
         "tables of statuses": wrong_statuses(["README.md", "docs/PROTOCOL.md"]),
         "lines of the index": wrong_index(),
+        "edits that stay": wrong_edits("docs/DECISIONS.md"),
     }
     wrong = [line for lines, _ in found.values() for line in lines]
     for line in wrong:

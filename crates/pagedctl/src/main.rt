@@ -4,8 +4,8 @@
 //!
 //! The script comes on standard input. The exit status is 0 where it was played to its end (a fault
 //! is a reply), 2 where a line can't be read (then nothing was played), and 1 where the input or
-//! the output failed, there was no memory for the script, or the command line isn't understood.
-//! `--help` and `--version` play nothing.
+//! the output failed or there was no memory for the script. `--help` and `--version` play nothing;
+//! other words of the command line are ignored.
 #![tactic(auto)]
 
 use scripts::play;
@@ -24,8 +24,10 @@ many pages the cache may hold, and the checksum function: add, const or crc32c. 
 `start-items P C N S Z` begins a script of items of Z bytes each, which has lines of its own.
 docs/SCRIPT.md has the other lines of both.
 
-Exit status: 0 the script was played to its end; 1 the input or the output failed, there was no
-memory for the script, or the command line isn't understood; 2 a line can't be read.";
+Other words of the command line are ignored.
+
+Exit status: 0 the script was played to its end; 1 the input or the output failed, or there was no
+memory for the script; 2 a line can't be read.";
 
 /// What the words of the command line ask for.
 #[derive(Clone, Copy)]
@@ -33,20 +35,18 @@ enum Task {
     Play,
     Help,
     Version,
-    Unknown,
 }
 
 impl Task {
     // The first word is the program's own name.
     fn of(words: &[String]) -> Self {
-        match words {
-            [] | [_] => Task::Play,
-            [_, word] => match word.as_str() {
-                "-h" | "--help" => Task::Help,
-                "-V" | "--version" => Task::Version,
-                _ => Task::Unknown,
-            },
-            _ => Task::Unknown,
+        let [_, word, ..] = words else {
+            return Task::Play;
+        };
+        match word.as_str() {
+            "-h" | "--help" => Task::Help,
+            "-V" | "--version" => Task::Version,
+            _ => Task::Play,
         }
     }
 }
@@ -58,7 +58,7 @@ fn read_task(rt: &HostRuntime) -> io::Result<Task> {
             Ok(Task::of(&words))
         }
         // A word of the command line isn't UTF-8.
-        Err(error) if error.kind() == ErrorKind::InvalidData => Ok(Task::Unknown),
+        Err(error) if error.kind() == ErrorKind::InvalidData => Ok(Task::Play),
         Err(error) => Err(error),
     }
 }
@@ -72,12 +72,8 @@ fn run(rt: &HostRuntime) -> io::Result<u8> {
             Ok(0)
         }
         Task::Version => {
-            println!(rt; "pagedctl 0.6.0")?;
+            println!(rt; "pagedctl 0.7.0")?;
             Ok(0)
-        }
-        Task::Unknown => {
-            eprintln!(rt; "{USAGE}")?;
-            Ok(1)
         }
     }
 }

@@ -132,7 +132,7 @@ impl<H: Sum> Stage<H> {
     fn step<W: Write>(&mut self, step: Step, out: &mut W) -> io::Result<()> {
         self.crashed = false;
         let Some(cache) = &mut self.cache else {
-            return writeln!(out, "{}", Said(&Reply::Closed));
+            return writeln!(out, "{}", Said(&reply_without_cache(&step)));
         };
         let mut replies = Vec::new(self.alloc);
         match run(
@@ -159,6 +159,21 @@ impl<H: Sum> Stage<H> {
                 writeln!(out, "{}", Said(&Reply::Fault(error)))
             }
         }
+    }
+}
+
+// The reply where no cache could be made: the session is closed, and there has been no snapshot, no
+// replay and no started sync.
+fn reply_without_cache(step: &Step) -> Reply {
+    match step {
+        Step::WaitSync(_)
+        | Step::Snap(..)
+        | Step::DropSnapshot(_)
+        | Step::Ensure(..)
+        | Step::Take(..)
+        | Step::Seek(..)
+        | Step::DropReplay(_) => Reply::NoSuch,
+        _ => Reply::Closed,
     }
 }
 

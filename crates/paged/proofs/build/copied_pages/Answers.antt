@@ -16,7 +16,7 @@ loop-page-preserved g c =
     record {
       bytes = copied_next sum durable c.args.pages.now c.loop-page.page-index page c.to_bytes.result c.loop-page.out.items c.extend_from_slice.new.self.items c.extend_from_slice-in-loop-page.new.self.items _
           (omega (arith, c.loop-page-test.true)) c.page-item.is
-          (c.to_bytes.ensures ∙ c.footer_with.ensures ∙ ap (λ (s : ActiveChecksum). footer (kept_slot durable) (kept_bytes durable) (slot_bytes s.len s.crc)) c.new_slot-new.ensures ∙ ap f c.as_ref.ensures)
+          (c.to_bytes.ensures.value ∙ c.footer_with.ensures ∙ ap (λ (s : ActiveChecksum). footer (kept_slot durable) (kept_bytes durable) (slot_bytes s.len s.crc)) c.new_slot-new.ensures ∙ ap f c.as_ref.ensures)
           (c.in_ok-extend_from_slice.ensures.items ∙ ap (λ (l : List ℕ). c.loop-page.out.items ++ l) c.as_ref-in-loop-page.ensures)
           c.in_ok-extend_from_slice-2.ensures.items c.loop-page.invariant.bytes;
       known = tells_none sum _;

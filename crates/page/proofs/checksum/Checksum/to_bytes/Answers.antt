@@ -1,4 +1,4 @@
-use Rattle.std.proofs.Common.{◌≡◌, ◌∙◌, ap, sym, rules, ℕ, ◌<◌, ◌^◌, List, [], ◌∷◌, get_or}
+use Rattle.std.proofs.Common.{◌≡◌, ◌∙◌, ap, rules, ℕ, ◌<◌, ◌^◌, List, [], ◌∷◌, get_or}
 use Rattle.page.specs.Footer.{footer_bytes, footer_of}
 use Rattle.page.proofs.Footers.{footer_of-footer_bytes}
 use Rattle.page.proofs.checksum.Checksum.to_bytes.Goals as goal
