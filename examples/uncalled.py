@@ -43,7 +43,28 @@ OF_STD = {"append", "as_ref", "as_slice", "bytes", "capacity", "clear", "copy_to
           "cause", "status", "keep", "get", "put", "reserve"}
 
 # Calls that nothing above makes, each with the reason.
-REASONS = {}
+PAST = "a device notes its calls so, as `VecBlob` does, which the cases play"
+LISTING = "a log keeps what its manifest lists in it, and the cases play logs"
+REASONS = {
+    **{f"disk::Past::{name}": PAST for name in ("read", "read_many", "start_read_many", "start_sync", "wait_sync")},
+    "disk::StartedRead::kept": "the devices in memory answer it, and the cases wait for it",
+    "page::EncodeSize::encode_size": "`Writer::try_append_value` asks a value for it",
+    "page::ActiveChecksum::new": "`Checksum::authoritative` answers it",
+    "file::FileHost::new": "`file::open` makes it",
+    "paged::Hand::chunk": "`Replay::chunk` is that of the replay's hand",
+    "paged::Hand::clear": "`Replay::seek_to` clears the replay's hand",
+    "paged::Hand::advance": "`Replay::advance` is that of the replay's hand",
+    "paged::Hand::push": "`Replay::ensure` and `recover_keeping` fill a hand so",
+    "paged::Replay::new": "`Sealed::replay` makes it",
+    "paged::Sealed::new": "`Writer::snapshot` makes it",
+    "items::ItemSession::into_items": "its clause is an equation, and it can't fail",
+    "segments::Closed::of": "`SegmentedLog::rotate` lists a segment so",
+    "segments::Folder::last_with_bytes": "`SegmentedLog::open` asks a folder for it",
+    **{f"segments::Listing::{name}": LISTING
+       for name in ("new", "first", "open", "closed", "records", "reserve", "take_in")},
+    "session::Session::new": "`Session::recover` makes it",
+    "scripts::parse_item_line": "`play_on` reads each line of items so",
+}
 
 
 def read(path):

@@ -4,10 +4,10 @@ use crate::forms::{Arguments, Form, read_step};
 use crate::in_order::len_together;
 use crate::line::Row;
 use crate::subject::Subject;
-use crate::words::{buffer_size, say_done, say_error, say_whether, unreadable};
+use crate::words::{buffer_size, say_bytes, say_done, say_error, say_whether, unreadable};
 use page::{
-    AddSum, Checksum, Slot, adjusted_capacity, page_size, physical_page, too_big_for_buffer,
-    validate_read_ranges,
+    ActiveChecksum, AddSum, Checksum, Slot, adjusted_capacity, page_size, physical_page,
+    too_big_for_buffer, validate_read_ranges,
 };
 use std::alloc::Global;
 use std::io;
@@ -23,17 +23,21 @@ enum Verb {
     TooBig,
     Within,
     Value,
+    Bad,
     Footer,
+    Slot,
 }
 
-const STEPS: [Form<Verb>; 7] = [
+const STEPS: [Form<Verb>; 9] = [
     (b"size", &[Number], Verb::Size),
     (b"place", &[Number, Number], Verb::Place),
     (b"capacity", &[Number, Number], Verb::Capacity),
     (b"too-big", &[Number, Number, Number, Number], Verb::TooBig),
     (b"within", &[Number, Ranges], Verb::Within),
     (b"value", &[Bytes], Verb::Value),
+    (b"bad", &[Bytes], Verb::Bad),
     (b"footer", &[Bytes], Verb::Footer),
+    (b"slot", &[Number, Number], Verb::Slot),
 ];
 
 /// What asks about pages.
@@ -88,21 +92,38 @@ fn say_within(size: u64, ranges: &[(u64, usize)], said: &mut Vec<u8>) -> io::Res
     }
 }
 
+fn name_of(slot: Slot) -> &'static str {
+    match slot {
+        Slot::First => "first",
+        Slot::Second => "second",
+    }
+}
+
 // Which slot gives a page its value under the sum of the bytes, and what that slot holds.
 fn say_value(page: &[u8], said: &mut Vec<u8>) -> io::Result<()> {
     match Checksum::validate_page::<AddSum>(page) {
-        Some(active) => {
-            let word = match active.slot {
-                Slot::First => "first",
-                Slot::Second => "second",
-            };
-            write!(said, "{word} {} {:08x}", active.len, active.crc)
+        Some(ActiveChecksum { slot, len, crc }) => {
+            write!(said, "{} {len} {crc:08x}", name_of(slot))
         }
         None => write!(said, "none"),
     }
 }
 
-// What each slot of a footer holds, if the footer is then written as it was read.
+// Which slot beside the one that gives a page its value is bad.
+fn say_bad(page: &[u8], said: &mut Vec<u8>) -> io::Result<()> {
+    match Checksum::bad_slot::<AddSum>(page) {
+        Some(slot) => write!(said, "{} at {}", name_of(slot), slot.offset()),
+        None => write!(said, "none"),
+    }
+}
+
+fn say_slot(footer: Checksum, slot: Slot, said: &mut Vec<u8>) -> io::Result<()> {
+    let (len, sum) = footer.get_slot(slot);
+    write!(said, "{} {len:04x} {sum:08x} ", name_of(slot))
+}
+
+// What each slot of a footer holds, and which is longer, if the footer is then written as it was
+// read.
 fn say_footer(bytes: &[u8], said: &mut Vec<u8>) -> io::Result<()> {
     let Some((bytes, [])) = bytes.split_first_chunk::<12>() else {
         return Err(unreadable());
@@ -111,12 +132,22 @@ fn say_footer(bytes: &[u8], said: &mut Vec<u8>) -> io::Result<()> {
     if footer.to_bytes() != *bytes {
         return write!(said, "fault other bytes");
     }
-    let (first, first_sum) = footer.get_slot(Slot::First);
-    let (second, second_sum) = footer.get_slot(Slot::Second);
-    write!(
-        said,
-        "first {first:04x} {first_sum:08x} second {second:04x} {second_sum:08x}"
-    )
+    let longer = footer.authoritative().slot;
+    say_slot(footer, longer.other(), said)?;
+    say_slot(footer, longer, said)?;
+    write!(said, "longer")
+}
+
+// The bytes of a slot, if they begin with those of its length.
+fn say_slot_bytes(len: u64, sum: u64, said: &mut Vec<u8>) -> io::Result<()> {
+    let (Ok(len), Ok(sum)) = (u16::try_from(len), u32::try_from(sum)) else {
+        return Err(unreadable());
+    };
+    let bytes = Checksum::slot_bytes(len, sum);
+    if !bytes.starts_with(&Checksum::slot_len_bytes(len)) {
+        return write!(said, "fault other bytes");
+    }
+    say_bytes("bytes", &bytes, said)
 }
 
 impl Subject for Pages {
@@ -132,7 +163,9 @@ impl Subject for Pages {
             Verb::TooBig => say_too_big(&words, said),
             Verb::Within => say_within(first, &words.ranges, said),
             Verb::Value => say_value(words.bytes(), said),
+            Verb::Bad => say_bad(words.bytes(), said),
             Verb::Footer => say_footer(words.bytes(), said),
+            Verb::Slot => say_slot_bytes(first, words.number(1), said),
         }
     }
 }
