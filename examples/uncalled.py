@@ -8,7 +8,8 @@ succeeds. This script looks for the calls by their names. It ends with status 1 
 - **Callers** are the crates with a `main`, `system_tests`, the tests in other crates, and the libraries that stand above
   `paged`. A library's calls count, since its own public calls are looked for too. The libraries below don't count: each
   of their calls is to be made by itself. `conformance` is a program, so what a case can play is called.
-- **A call** of a function is its name before a bracket, and one of a call without `self` is `TYPE::NAME`. A call of a
+- **A call** of a function is its name before a bracket, in a file that names it by a `use` or by its path. One of a
+  call without `self` is `TYPE::NAME`. A call of a
   method is `.NAME(`. If another public type or a type of std has a method of this name too, the receiver decides: the
   last name before the dot has to be one that the file declares with the type (`NAME: TYPE`, `let NAME = TYPE::..`), or
   that stands for the type everywhere (RECEIVERS), if the file declares it with none of these types.
@@ -63,6 +64,7 @@ REASONS = {
     **{f"segments::Listing::{name}": LISTING
        for name in ("new", "first", "open", "closed", "records", "reserve", "take_in")},
     "session::Session::new": "`Session::recover` makes it",
+    "protocol::serve": "`serve_file` serves so, once the file is recovered",
     "scripts::parse_item_line": "`play_on` reads each line of items so",
 }
 
@@ -131,6 +133,12 @@ def declared(name, owners, text):
     return found
 
 
+def imports(text, crate, name):
+    """Whether a file names a function of a crate, by a `use` or by its path."""
+    used = re.findall(rf"^ *use {crate}::([^;]*);", text, re.M)
+    return f"{crate}::{name}" in text or any(re.search(rf"\b{name}\b", words) for words in used)
+
+
 def is_called(call, traits, owners, sources):
     crate, owner, name, takes = call
     generic = r"(?:::<[^;()]*?>)?"
@@ -138,7 +146,7 @@ def is_called(call, traits, owners, sources):
         if caller == crate and caller != "tests":
             continue
         if owner is None:
-            if re.search(rf"(?<!fn )(?<![.\w]){name}{generic}\(", text):
+            if imports(text, crate, name) and re.search(rf"(?<!fn )(?<![.\w]){name}{generic}\(", text):
                 return True
             continue
         if owner in traits:
