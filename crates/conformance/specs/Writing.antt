@@ -9,7 +9,7 @@ use Rattle.paged_read.specs.Tail.{CanRead, Tail}
 use Rattle.paged.specs.Ready.{IsUsable}
 
 -- the writer is usable, and the snapshot and the replay can be read, where they are there
-pub record AreHeld (sum : List ℕ → ℕ) (writer : Option WriterState) (snapshot : Option Tail)
+pub record AreReadable (sum : List ℕ → ℕ) (writer : Option WriterState) (snapshot : Option Tail)
     (replay : Option ReplayState) (cache : CacheState) (life : Life) : Type 0 where
   pub fresh : IsFresh cache
   pub usable : IfSome writer (λ w. IsUsable sum w cache life)

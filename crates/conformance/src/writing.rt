@@ -65,14 +65,14 @@ impl<H: Sum> Drop for Writing<H> {
 
 impl<H: Sum> Model for Writing<H> {
     ghost use Rattle.disk.specs.History.{life_of};
-    ghost use Rattle.conformance.specs.Writing.{AreHeld};
+    ghost use Rattle.conformance.specs.Writing.{AreReadable};
 
     ghost Value = { Unit {0} };
 
     ghost view = { λ s. tt };
 
     ghost invariant = { λ s.
-        AreHeld H.sum_of s.writer s.snapshot s.replay s.cache (life_of s.blob.inner) };
+        AreReadable H.sum_of s.writer s.snapshot s.replay s.cache (life_of s.blob.inner) };
 }
 
 // Room for so many bytes, with bytes that no case has.
@@ -86,6 +86,23 @@ fn room(alloc: Global, len: usize) -> Result<Vec<u8>, Error>
 
 fn joined(alloc: Global, bufs: IoBufs) -> Result<Vec<u8>, Error> {
     Ok(Vec::from_slice(alloc, bufs.coalesce()?.as_ref())?)
+}
+
+// Bytes of which a read said that there are so many.
+fn counted(bytes: Vec<u8>, count: usize) -> Reply {
+    if count == bytes.len() {
+        Reply::Bytes(bytes)
+    } else {
+        Reply::Nothing
+    }
+}
+
+fn if_held(held: bool, bytes: Vec<u8>) -> Reply {
+    if held {
+        Reply::Bytes(bytes)
+    } else {
+        Reply::Nothing
+    }
 }
 
 impl<H: Sum> Writing<H> {
@@ -238,88 +255,98 @@ impl<H: Sum> Writing<H> {
     }
 
     /// The bytes of a range.
+    #[tactic(auto, using(crate::proofs::WritingLaws::after_read))]
     pub fn read_into(&mut self, offset: u64, len: usize) -> Result<Reply, Error> {
         let mut buf = room(self.alloc, len)?;
         let (blob, cache) = (&mut self.blob, &mut self.cache);
         match (self.by, &self.writer, &self.snapshot) {
-            (By::Writer, Some(writer), _) => writer.read_into(blob, cache, &mut buf, offset)?,
+            (By::Writer, Some(writer), _) => {
+                writer.read_into(blob, cache, &mut buf, offset)?;
+                Ok(Reply::Bytes(buf))
+            }
             (By::Snapshot, _, Some(snapshot)) => {
                 snapshot.read_into(blob, cache, &mut buf, offset)?;
+                Ok(Reply::Bytes(buf))
             }
-            _ => return Ok(Reply::NoSuch),
+            _ => Ok(Reply::NoSuch),
         }
-        Ok(Reply::Bytes(buf))
     }
 
     /// The bytes of a range, in buffers of the call's own.
+    #[tactic(auto, using(crate::proofs::WritingLaws::after_read))]
     pub fn read_at(&mut self, offset: u64, len: usize) -> Result<Reply, Error> {
         let (blob, cache) = (&mut self.blob, &mut self.cache);
-        let bufs = match (self.by, &self.writer, &self.snapshot) {
-            (By::Writer, Some(writer), _) => writer.read_at(blob, cache, offset, len)?,
-            (By::Snapshot, _, Some(snapshot)) => snapshot.read_at(blob, cache, offset, len)?,
-            _ => return Ok(Reply::NoSuch),
-        };
-        Ok(Reply::Bytes(joined(self.alloc, bufs)?))
+        match (self.by, &self.writer, &self.snapshot) {
+            (By::Writer, Some(writer), _) => {
+                let bufs = writer.read_at(blob, cache, offset, len)?;
+                Ok(Reply::Bytes(joined(self.alloc, bufs)?))
+            }
+            (By::Snapshot, _, Some(snapshot)) => {
+                let bufs = snapshot.read_at(blob, cache, offset, len)?;
+                Ok(Reply::Bytes(joined(self.alloc, bufs)?))
+            }
+            _ => Ok(Reply::NoSuch),
+        }
     }
 
     /// As many bytes from an offset on as there are, at most so many, in place of two others.
+    #[tactic(auto, using(crate::proofs::WritingLaws::after_read))]
     pub fn read_up_to(&mut self, offset: u64, len: usize) -> Result<Reply, Error> {
         let old = room(self.alloc, 2)?;
         let (blob, cache) = (&mut self.blob, &mut self.cache);
-        let (bytes, count) = match (self.by, &self.writer, &self.snapshot) {
-            (By::Writer, Some(writer), _) => writer.read_up_to(blob, cache, offset, len, old)?,
-            (By::Snapshot, _, Some(snapshot)) => {
-                snapshot.read_up_to(blob, cache, offset, len, old)?
+        match (self.by, &self.writer, &self.snapshot) {
+            (By::Writer, Some(writer), _) => {
+                let (bytes, count) = writer.read_up_to(blob, cache, offset, len, old)?;
+                Ok(counted(bytes, count))
             }
-            _ => return Ok(Reply::NoSuch),
-        };
-        Ok(if count == bytes.len() {
-            Reply::Bytes(bytes)
-        } else {
-            Reply::Nothing
-        })
+            (By::Snapshot, _, Some(snapshot)) => {
+                let (bytes, count) = snapshot.read_up_to(blob, cache, offset, len, old)?;
+                Ok(counted(bytes, count))
+            }
+            _ => Ok(Reply::NoSuch),
+        }
     }
 
     /// The bytes of a range, if that needs no device.
     pub fn try_read(&self, offset: u64, len: usize) -> Result<Reply, Error> {
         let mut buf = room(self.alloc, len)?;
-        let held = match (self.by, &self.writer, &self.snapshot) {
+        match (self.by, &self.writer, &self.snapshot) {
             (By::Writer, Some(writer), _) => {
-                writer.try_read_sync_into(&self.cache, &mut buf, offset)
+                let held = writer.try_read_sync_into(&self.cache, &mut buf, offset);
+                Ok(if_held(held, buf))
             }
             (By::Snapshot, _, Some(snapshot)) => {
-                snapshot.try_read_sync_into(&self.cache, &mut buf, offset)
+                let held = snapshot.try_read_sync_into(&self.cache, &mut buf, offset);
+                Ok(if_held(held, buf))
             }
-            _ => return Ok(Reply::NoSuch),
-        };
-        Ok(if held {
-            Reply::Bytes(buf)
-        } else {
-            Reply::Nothing
-        })
+            _ => Ok(Reply::NoSuch),
+        }
     }
 
     /// The bytes of ranges that have `len` bytes together, and how many of them needed no device.
+    #[tactic(auto, using(crate::proofs::WritingLaws::after_read))]
     pub fn read_ranges(&mut self, ranges: &[(u64, usize)], len: usize) -> Result<Reply, Error>
         requires in_order { AreInOrder ranges.now }
         requires filled { len ≡ sum_by (λ range. range.1) ranges.now }
     {
         let mut buf = room(self.alloc, len)?;
         let (blob, cache) = (&mut self.blob, &mut self.cache);
-        let served = match (self.by, &self.writer, &self.snapshot) {
+        match (self.by, &self.writer, &self.snapshot) {
             (By::Writer, Some(writer), _) => {
-                writer.read_ranges_into(blob, cache, &mut buf, ranges)?
+                let served = writer.read_ranges_into(blob, cache, &mut buf, ranges)?;
+                Ok(Reply::Served(served, buf))
             }
             (By::Snapshot, _, Some(snapshot)) => {
-                snapshot.read_ranges_into(blob, cache, &mut buf, ranges)?
+                let served = snapshot.read_ranges_into(blob, cache, &mut buf, ranges)?;
+                Ok(Reply::Served(served, buf))
             }
-            _ => return Ok(Reply::NoSuch),
-        };
-        Ok(Reply::Served(served, buf))
+            _ => Ok(Reply::NoSuch),
+        }
     }
 
     /// The bytes of ranges of one length, which have `len` bytes together, and how many of them
     /// needed no device.
+    #[tactic(auto, using(crate::proofs::WritingLaws::after_read))]
     pub fn read_many(
         &mut self,
         offsets: &[u64],
@@ -331,16 +358,17 @@ impl<H: Sum> Writing<H> {
     {
         let mut buf = room(self.alloc, len)?;
         let (blob, cache) = (&mut self.blob, &mut self.cache);
-        let served = match (self.by, &self.writer, &self.snapshot) {
+        match (self.by, &self.writer, &self.snapshot) {
             (By::Writer, Some(writer), _) => {
-                writer.read_many_into(blob, cache, &mut buf, offsets, each)?
+                let served = writer.read_many_into(blob, cache, &mut buf, offsets, each)?;
+                Ok(Reply::Served(served, buf))
             }
             (By::Snapshot, _, Some(snapshot)) => {
-                snapshot.read_many_into(blob, cache, &mut buf, offsets, each)?
+                let served = snapshot.read_many_into(blob, cache, &mut buf, offsets, each)?;
+                Ok(Reply::Served(served, buf))
             }
-            _ => return Ok(Reply::NoSuch),
-        };
-        Ok(Reply::Served(served, buf))
+            _ => Ok(Reply::NoSuch),
+        }
     }
 
     /// Which of the ranges, which have `len` bytes together, would need the device.
@@ -349,16 +377,17 @@ impl<H: Sum> Writing<H> {
         requires filled { len ≡ sum_by (λ range. range.1) ranges.now }
     {
         let mut buf = room(self.alloc, len)?;
-        let missed = match (self.by, &self.writer, &self.snapshot) {
-            (By::Writer, Some(writer), _) => {
-                writer.try_read_ranges_sync_into(&self.cache, &mut buf, ranges)?
-            }
-            (By::Snapshot, _, Some(snapshot)) => {
-                snapshot.try_read_ranges_sync_into(&self.cache, &mut buf, ranges)?
-            }
-            _ => return Ok(Reply::NoSuch),
-        };
-        Ok(Reply::Missed(missed))
+        match (self.by, &self.writer, &self.snapshot) {
+            (By::Writer, Some(writer), _) => Ok(Reply::Missed(writer.try_read_ranges_sync_into(
+                &self.cache,
+                &mut buf,
+                ranges,
+            )?)),
+            (By::Snapshot, _, Some(snapshot)) => Ok(Reply::Missed(
+                snapshot.try_read_ranges_sync_into(&self.cache, &mut buf, ranges)?,
+            )),
+            _ => Ok(Reply::NoSuch),
+        }
     }
 
     /// Which of the ranges of one length, which have `len` bytes together, would need the device.
@@ -367,19 +396,25 @@ impl<H: Sum> Writing<H> {
         requires filled { len ≡ length offsets.now * non_zero_usize_get each }
     {
         let mut buf = room(self.alloc, len)?;
-        let missed = match (self.by, &self.writer, &self.snapshot) {
-            (By::Writer, Some(writer), _) => {
-                writer.try_read_many_sync_into(&self.cache, &mut buf, offsets, each)?
-            }
-            (By::Snapshot, _, Some(snapshot)) => {
-                snapshot.try_read_many_sync_into(&self.cache, &mut buf, offsets, each)?
-            }
-            _ => return Ok(Reply::NoSuch),
-        };
-        Ok(Reply::Missed(missed))
+        match (self.by, &self.writer, &self.snapshot) {
+            (By::Writer, Some(writer), _) => Ok(Reply::Missed(writer.try_read_many_sync_into(
+                &self.cache,
+                &mut buf,
+                offsets,
+                each,
+            )?)),
+            (By::Snapshot, _, Some(snapshot)) => Ok(Reply::Missed(snapshot.try_read_many_sync_into(
+                &self.cache,
+                &mut buf,
+                offsets,
+                each,
+            )?)),
+            _ => Ok(Reply::NoSuch),
+        }
     }
 
     /// How many bytes a scan of the flushed pages counts, where the first `proven` count as there.
+    #[tactic(auto, using(crate::proofs::WritingLaws::after_look))]
     pub fn scan(&mut self, proven: u64, by: NonZeroUsize) -> Result<Reply, Error> {
         let Some(writer) = &self.writer else {
             return Ok(Reply::Closed);
@@ -399,6 +434,7 @@ impl<H: Sum> Writing<H> {
     }
 
     /// Has the replay read on until so many bytes are at hand.
+    #[tactic(auto, using(crate::proofs::WritingLaws::after_ensure))]
     pub fn ensure(&mut self, count: usize) -> Result<Reply, Error> {
         let Some(replay) = &mut self.replay else {
             return Ok(Reply::NoSuch);
