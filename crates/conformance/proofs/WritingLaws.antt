@@ -52,11 +52,11 @@ replay_stays None old new looked can = tt
 replay_stays (Some r) old new looked can = replays_on r old new looked can
 
 -- a read
-pub after_read : (sum : List ℕ → ℕ) (writer : Option WriterState) (snapshot : Option Tail)
-    (replay : Option ReplayState) (t : Tail) (cache after : CacheState) (old new : Life)
+pub after_read : {sum : List ℕ → ℕ} {writer : Option WriterState} {snapshot : Option Tail}
+    {replay : Option ReplayState} {t : Tail} {cache after : CacheState} {old new : Life}
     → AreReadable sum writer snapshot replay cache old → ReadLeaves sum t cache after old new
     → AreReadable sum writer snapshot replay after new
-after_read sum writer snapshot replay t cache after old new all leaves =
+after_read {sum = sum} {writer = writer} {snapshot = snapshot} {replay = replay} {cache = cache} {after = after} {old = old} {new = new} all leaves =
     let fresh = leaves.fresh all.fresh in
     record {
       fresh = fresh;
@@ -66,11 +66,11 @@ after_read sum writer snapshot replay t cache after old new all leaves =
     }
 
 -- a call that uses no cache, and only looks
-pub after_look : (sum : List ℕ → ℕ) (writer : Option WriterState) (snapshot : Option Tail)
-    (replay : Option ReplayState) (cache : CacheState) (old new : Life)
+pub after_look : {sum : List ℕ → ℕ} {writer : Option WriterState} {snapshot : Option Tail}
+    {replay : Option ReplayState} {cache : CacheState} {old new : Life}
     → AreReadable sum writer snapshot replay cache old → LookLeaves sum old new
     → AreReadable sum writer snapshot replay cache new
-after_look sum writer snapshot replay cache old new all leaves = record {
+after_look {sum = sum} {writer = writer} {snapshot = snapshot} {replay = replay} {cache = cache} {old = old} {new = new} all leaves = record {
   fresh = all.fresh;
   usable = writer_stays sum writer cache cache old new leaves.looked (leaves.can_read cache) all.fresh all.usable;
   reads = snapshot_stays snapshot cache cache old new (leaves.can_read cache) all.reads;
@@ -78,11 +78,11 @@ after_look sum writer snapshot replay cache old new all leaves = record {
 }
 
 -- a read by the replay
-pub after_ensure : (sum : List ℕ → ℕ) (writer : Option WriterState) (snapshot : Option Tail)
-    (r now : ReplayState) (cache : CacheState) (old new : Life)
+pub after_ensure : {sum : List ℕ → ℕ} {writer : Option WriterState} {snapshot : Option Tail}
+    {r now : ReplayState} {cache : CacheState} {old new : Life}
     → AreReadable sum writer snapshot (Some r) cache old → LookLeaves sum old new
     → CanReplay now new.present → AreReadable sum writer snapshot (Some now) cache new
-after_ensure sum writer snapshot r now cache old new all leaves can = record {
+after_ensure {sum = sum} {writer = writer} {snapshot = snapshot} {cache = cache} {old = old} {new = new} all leaves can = record {
   fresh = all.fresh;
   usable = writer_stays sum writer cache cache old new leaves.looked (leaves.can_read cache) all.fresh all.usable;
   reads = snapshot_stays snapshot cache cache old new (leaves.can_read cache) all.reads;

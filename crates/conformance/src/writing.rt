@@ -23,7 +23,7 @@ use std::num::{NonZeroU16, NonZeroUsize};
 pub enum By {
     /// The writer's.
     Writer,
-    /// The snapshot's.
+    /// The snapshot's, while there is one.
     Snapshot,
 }
 
@@ -84,17 +84,25 @@ fn room(alloc: Global, len: usize) -> Result<Vec<u8>, Error>
     Ok(buf)
 }
 
-fn joined(alloc: Global, bufs: IoBufs) -> Result<Vec<u8>, Error> {
-    Ok(Vec::from_slice(alloc, bufs.coalesce()?.as_ref())?)
+// What a read answers that filled this buffer.
+fn whole(read: Result<(), Error>, buf: Vec<u8>) -> Result<Reply, Error> {
+    read?;
+    Ok(Reply::Bytes(buf))
 }
 
-// Bytes of which a read said that there are so many.
-fn counted(bytes: Vec<u8>, count: usize) -> Reply {
-    if count == bytes.len() {
-        Reply::Bytes(bytes)
-    } else {
-        Reply::Nothing
-    }
+fn joined(alloc: Global, read: Result<IoBufs, Error>) -> Result<Reply, Error> {
+    let buf = read?.coalesce()?;
+    Ok(Reply::Bytes(Vec::from_slice(alloc, buf.as_ref())?))
+}
+
+// Bytes of which the read says that there are so many.
+fn counted(read: Result<(Vec<u8>, usize), Error>) -> Result<Reply, Error> {
+    let (bytes, count) = read?;
+    Ok(if_held(count == bytes.len(), bytes))
+}
+
+fn served(read: Result<usize, Error>, buf: Vec<u8>) -> Result<Reply, Error> {
+    Ok(Reply::Served(read?, buf))
 }
 
 fn if_held(held: bool, bytes: Vec<u8>) -> Reply {
@@ -255,98 +263,84 @@ impl<H: Sum> Writing<H> {
     }
 
     /// The bytes of a range.
-    #[tactic(auto, using(crate::proofs::WritingLaws::after_read))]
     pub fn read_into(&mut self, offset: u64, len: usize) -> Result<Reply, Error> {
         let mut buf = room(self.alloc, len)?;
         let (blob, cache) = (&mut self.blob, &mut self.cache);
-        match (self.by, &self.writer, &self.snapshot) {
-            (By::Writer, Some(writer), _) => {
-                writer.read_into(blob, cache, &mut buf, offset)?;
-                Ok(Reply::Bytes(buf))
-            }
-            (By::Snapshot, _, Some(snapshot)) => {
-                snapshot.read_into(blob, cache, &mut buf, offset)?;
-                Ok(Reply::Bytes(buf))
-            }
-            _ => Ok(Reply::NoSuch),
+        if let (By::Snapshot, Some(snapshot)) = (self.by, &self.snapshot) {
+            let read = snapshot.read_into(blob, cache, &mut buf, offset);
+            return whole(read, buf);
         }
+        let Some(writer) = &self.writer else {
+            return Ok(Reply::NoSuch);
+        };
+        let read = writer.read_into(blob, cache, &mut buf, offset);
+        whole(read, buf)
     }
 
     /// The bytes of a range, in buffers of the call's own.
-    #[tactic(auto, using(crate::proofs::WritingLaws::after_read))]
     pub fn read_at(&mut self, offset: u64, len: usize) -> Result<Reply, Error> {
+        let alloc = self.alloc;
         let (blob, cache) = (&mut self.blob, &mut self.cache);
-        match (self.by, &self.writer, &self.snapshot) {
-            (By::Writer, Some(writer), _) => {
-                let bufs = writer.read_at(blob, cache, offset, len)?;
-                Ok(Reply::Bytes(joined(self.alloc, bufs)?))
-            }
-            (By::Snapshot, _, Some(snapshot)) => {
-                let bufs = snapshot.read_at(blob, cache, offset, len)?;
-                Ok(Reply::Bytes(joined(self.alloc, bufs)?))
-            }
-            _ => Ok(Reply::NoSuch),
+        if let (By::Snapshot, Some(snapshot)) = (self.by, &self.snapshot) {
+            let read = snapshot.read_at(blob, cache, offset, len);
+            return joined(alloc, read);
         }
+        let Some(writer) = &self.writer else {
+            return Ok(Reply::NoSuch);
+        };
+        let read = writer.read_at(blob, cache, offset, len);
+        joined(alloc, read)
     }
 
     /// As many bytes from an offset on as there are, at most so many, in place of two others.
-    #[tactic(auto, using(crate::proofs::WritingLaws::after_read))]
     pub fn read_up_to(&mut self, offset: u64, len: usize) -> Result<Reply, Error> {
         let old = room(self.alloc, 2)?;
         let (blob, cache) = (&mut self.blob, &mut self.cache);
-        match (self.by, &self.writer, &self.snapshot) {
-            (By::Writer, Some(writer), _) => {
-                let (bytes, count) = writer.read_up_to(blob, cache, offset, len, old)?;
-                Ok(counted(bytes, count))
-            }
-            (By::Snapshot, _, Some(snapshot)) => {
-                let (bytes, count) = snapshot.read_up_to(blob, cache, offset, len, old)?;
-                Ok(counted(bytes, count))
-            }
-            _ => Ok(Reply::NoSuch),
+        if let (By::Snapshot, Some(snapshot)) = (self.by, &self.snapshot) {
+            let read = snapshot.read_up_to(blob, cache, offset, len, old);
+            return counted(read);
         }
+        let Some(writer) = &self.writer else {
+            return Ok(Reply::NoSuch);
+        };
+        let read = writer.read_up_to(blob, cache, offset, len, old);
+        counted(read)
     }
 
     /// The bytes of a range, if that needs no device.
     pub fn try_read(&self, offset: u64, len: usize) -> Result<Reply, Error> {
         let mut buf = room(self.alloc, len)?;
-        match (self.by, &self.writer, &self.snapshot) {
-            (By::Writer, Some(writer), _) => {
-                let held = writer.try_read_sync_into(&self.cache, &mut buf, offset);
-                Ok(if_held(held, buf))
-            }
-            (By::Snapshot, _, Some(snapshot)) => {
-                let held = snapshot.try_read_sync_into(&self.cache, &mut buf, offset);
-                Ok(if_held(held, buf))
-            }
-            _ => Ok(Reply::NoSuch),
+        if let (By::Snapshot, Some(snapshot)) = (self.by, &self.snapshot) {
+            let read = snapshot.try_read_sync_into(&self.cache, &mut buf, offset);
+            return Ok(if_held(read, buf));
         }
+        let Some(writer) = &self.writer else {
+            return Ok(Reply::NoSuch);
+        };
+        let read = writer.try_read_sync_into(&self.cache, &mut buf, offset);
+        Ok(if_held(read, buf))
     }
 
     /// The bytes of ranges that have `len` bytes together, and how many of them needed no device.
-    #[tactic(auto, using(crate::proofs::WritingLaws::after_read))]
     pub fn read_ranges(&mut self, ranges: &[(u64, usize)], len: usize) -> Result<Reply, Error>
         requires in_order { AreInOrder ranges.now }
         requires filled { len ≡ sum_by (λ range. range.1) ranges.now }
     {
         let mut buf = room(self.alloc, len)?;
         let (blob, cache) = (&mut self.blob, &mut self.cache);
-        match (self.by, &self.writer, &self.snapshot) {
-            (By::Writer, Some(writer), _) => {
-                let served = writer.read_ranges_into(blob, cache, &mut buf, ranges)?;
-                Ok(Reply::Served(served, buf))
-            }
-            (By::Snapshot, _, Some(snapshot)) => {
-                let served = snapshot.read_ranges_into(blob, cache, &mut buf, ranges)?;
-                Ok(Reply::Served(served, buf))
-            }
-            _ => Ok(Reply::NoSuch),
+        if let (By::Snapshot, Some(snapshot)) = (self.by, &self.snapshot) {
+            let read = snapshot.read_ranges_into(blob, cache, &mut buf, ranges);
+            return served(read, buf);
         }
+        let Some(writer) = &self.writer else {
+            return Ok(Reply::NoSuch);
+        };
+        let read = writer.read_ranges_into(blob, cache, &mut buf, ranges);
+        served(read, buf)
     }
 
     /// The bytes of ranges of one length, which have `len` bytes together, and how many of them
     /// needed no device.
-    #[tactic(auto, using(crate::proofs::WritingLaws::after_read))]
     pub fn read_many(
         &mut self,
         offsets: &[u64],
@@ -358,17 +352,15 @@ impl<H: Sum> Writing<H> {
     {
         let mut buf = room(self.alloc, len)?;
         let (blob, cache) = (&mut self.blob, &mut self.cache);
-        match (self.by, &self.writer, &self.snapshot) {
-            (By::Writer, Some(writer), _) => {
-                let served = writer.read_many_into(blob, cache, &mut buf, offsets, each)?;
-                Ok(Reply::Served(served, buf))
-            }
-            (By::Snapshot, _, Some(snapshot)) => {
-                let served = snapshot.read_many_into(blob, cache, &mut buf, offsets, each)?;
-                Ok(Reply::Served(served, buf))
-            }
-            _ => Ok(Reply::NoSuch),
+        if let (By::Snapshot, Some(snapshot)) = (self.by, &self.snapshot) {
+            let read = snapshot.read_many_into(blob, cache, &mut buf, offsets, each);
+            return served(read, buf);
         }
+        let Some(writer) = &self.writer else {
+            return Ok(Reply::NoSuch);
+        };
+        let read = writer.read_many_into(blob, cache, &mut buf, offsets, each);
+        served(read, buf)
     }
 
     /// Which of the ranges, which have `len` bytes together, would need the device.
@@ -377,17 +369,15 @@ impl<H: Sum> Writing<H> {
         requires filled { len ≡ sum_by (λ range. range.1) ranges.now }
     {
         let mut buf = room(self.alloc, len)?;
-        match (self.by, &self.writer, &self.snapshot) {
-            (By::Writer, Some(writer), _) => Ok(Reply::Missed(writer.try_read_ranges_sync_into(
-                &self.cache,
-                &mut buf,
-                ranges,
-            )?)),
-            (By::Snapshot, _, Some(snapshot)) => Ok(Reply::Missed(
-                snapshot.try_read_ranges_sync_into(&self.cache, &mut buf, ranges)?,
-            )),
-            _ => Ok(Reply::NoSuch),
+        if let (By::Snapshot, Some(snapshot)) = (self.by, &self.snapshot) {
+            let read = snapshot.try_read_ranges_sync_into(&self.cache, &mut buf, ranges);
+            return Ok(Reply::Missed(read?));
         }
+        let Some(writer) = &self.writer else {
+            return Ok(Reply::NoSuch);
+        };
+        let read = writer.try_read_ranges_sync_into(&self.cache, &mut buf, ranges);
+        Ok(Reply::Missed(read?))
     }
 
     /// Which of the ranges of one length, which have `len` bytes together, would need the device.
@@ -396,25 +386,18 @@ impl<H: Sum> Writing<H> {
         requires filled { len ≡ length offsets.now * non_zero_usize_get each }
     {
         let mut buf = room(self.alloc, len)?;
-        match (self.by, &self.writer, &self.snapshot) {
-            (By::Writer, Some(writer), _) => Ok(Reply::Missed(writer.try_read_many_sync_into(
-                &self.cache,
-                &mut buf,
-                offsets,
-                each,
-            )?)),
-            (By::Snapshot, _, Some(snapshot)) => Ok(Reply::Missed(snapshot.try_read_many_sync_into(
-                &self.cache,
-                &mut buf,
-                offsets,
-                each,
-            )?)),
-            _ => Ok(Reply::NoSuch),
+        if let (By::Snapshot, Some(snapshot)) = (self.by, &self.snapshot) {
+            let read = snapshot.try_read_many_sync_into(&self.cache, &mut buf, offsets, each);
+            return Ok(Reply::Missed(read?));
         }
+        let Some(writer) = &self.writer else {
+            return Ok(Reply::NoSuch);
+        };
+        let read = writer.try_read_many_sync_into(&self.cache, &mut buf, offsets, each);
+        Ok(Reply::Missed(read?))
     }
 
     /// How many bytes a scan of the flushed pages counts, where the first `proven` count as there.
-    #[tactic(auto, using(crate::proofs::WritingLaws::after_look))]
     pub fn scan(&mut self, proven: u64, by: NonZeroUsize) -> Result<Reply, Error> {
         let Some(writer) = &self.writer else {
             return Ok(Reply::Closed);
@@ -434,7 +417,6 @@ impl<H: Sum> Writing<H> {
     }
 
     /// Has the replay read on until so many bytes are at hand.
-    #[tactic(auto, using(crate::proofs::WritingLaws::after_ensure))]
     pub fn ensure(&mut self, count: usize) -> Result<Reply, Error> {
         let Some(replay) = &mut self.replay else {
             return Ok(Reply::NoSuch);
@@ -483,7 +465,7 @@ impl<H: Sum> Writing<H> {
             len,
             options,
         )?;
-        Ok(Reply::Bytes(joined(alloc, bufs)?))
+        joined(alloc, Ok(bufs))
     }
 
     /// The last bytes of the blob, as one that nobody opened is read.
@@ -501,7 +483,7 @@ impl<H: Sum> Writing<H> {
             len,
             options,
         )?;
-        Ok(Reply::Bytes(joined(alloc, bufs)?))
+        joined(alloc, Ok(bufs))
     }
 
     /// Recovers the blob, by reads of so many bytes. No writer is left.
