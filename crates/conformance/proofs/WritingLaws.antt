@@ -12,7 +12,8 @@ use Rattle.paged_read.specs.Reads.{LookLeaves, ReadLeaves}
 use Rattle.paged_read.specs.Replay.{CanReplay, ReplayState}
 use Rattle.paged_read.specs.Snapshots.{LeavesAllReads}
 use Rattle.paged_read.specs.Tail.{CanRead, Tail}
-use Rattle.paged.specs.Caches.{tail_of}
+use Rattle.paged.specs.Caches.{KeepsReads, tail_of}
+use Rattle.paged.specs.Calls.{KeepsConsistent}
 use Rattle.paged.specs.Ready.{IsUsable}
 use Rattle.conformance.specs.Writing.{AreReadable}
 
@@ -87,4 +88,20 @@ after_ensure {sum = sum} {writer = writer} {snapshot = snapshot} {cache = cache}
   usable = writer_stays sum writer cache cache old new leaves.looked (leaves.can_read cache) all.fresh all.usable;
   reads = snapshot_stays snapshot cache cache old new (leaves.can_read cache) all.reads;
   replays = can;
+}
+
+-- an append that may only buffer
+pub after_try : {sum : List ℕ → ℕ} {w v : WriterState} {snapshot : Option Tail}
+    {replay : Option ReplayState} {cache : CacheState} {life : Life}
+    → AreReadable sum (Some w) snapshot replay cache life → KeepsConsistent sum w v → KeepsReads w v
+    → AreReadable sum (Some v) snapshot replay cache life
+after_try {cache = cache} {life = life} all consistent reads = record {
+  fresh = all.fresh;
+  usable = record {
+    consistent = consistent life.present all.usable.consistent;
+    can = reads cache life.present all.usable.can;
+    fresh = all.usable.fresh;
+  };
+  reads = all.reads;
+  replays = all.replays;
 }

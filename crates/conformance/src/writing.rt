@@ -23,7 +23,7 @@ use std::num::{NonZeroU16, NonZeroUsize};
 pub enum By {
     /// The writer's.
     Writer,
-    /// The snapshot's, while there is one.
+    /// The snapshot's.
     Snapshot,
 }
 
@@ -266,7 +266,10 @@ impl<H: Sum> Writing<H> {
     pub fn read_into(&mut self, offset: u64, len: usize) -> Result<Reply, Error> {
         let mut buf = room(self.alloc, len)?;
         let (blob, cache) = (&mut self.blob, &mut self.cache);
-        if let (By::Snapshot, Some(snapshot)) = (self.by, &self.snapshot) {
+        if let By::Snapshot = self.by {
+            let Some(snapshot) = &self.snapshot else {
+                return Ok(Reply::NoSuch);
+            };
             let read = snapshot.read_into(blob, cache, &mut buf, offset);
             return whole(read, buf);
         }
@@ -281,7 +284,10 @@ impl<H: Sum> Writing<H> {
     pub fn read_at(&mut self, offset: u64, len: usize) -> Result<Reply, Error> {
         let alloc = self.alloc;
         let (blob, cache) = (&mut self.blob, &mut self.cache);
-        if let (By::Snapshot, Some(snapshot)) = (self.by, &self.snapshot) {
+        if let By::Snapshot = self.by {
+            let Some(snapshot) = &self.snapshot else {
+                return Ok(Reply::NoSuch);
+            };
             let read = snapshot.read_at(blob, cache, offset, len);
             return joined(alloc, read);
         }
@@ -296,7 +302,10 @@ impl<H: Sum> Writing<H> {
     pub fn read_up_to(&mut self, offset: u64, len: usize) -> Result<Reply, Error> {
         let old = room(self.alloc, 2)?;
         let (blob, cache) = (&mut self.blob, &mut self.cache);
-        if let (By::Snapshot, Some(snapshot)) = (self.by, &self.snapshot) {
+        if let By::Snapshot = self.by {
+            let Some(snapshot) = &self.snapshot else {
+                return Ok(Reply::NoSuch);
+            };
             let read = snapshot.read_up_to(blob, cache, offset, len, old);
             return counted(read);
         }
@@ -310,7 +319,10 @@ impl<H: Sum> Writing<H> {
     /// The bytes of a range, if that needs no device.
     pub fn try_read(&self, offset: u64, len: usize) -> Result<Reply, Error> {
         let mut buf = room(self.alloc, len)?;
-        if let (By::Snapshot, Some(snapshot)) = (self.by, &self.snapshot) {
+        if let By::Snapshot = self.by {
+            let Some(snapshot) = &self.snapshot else {
+                return Ok(Reply::NoSuch);
+            };
             let read = snapshot.try_read_sync_into(&self.cache, &mut buf, offset);
             return Ok(if_held(read, buf));
         }
@@ -328,7 +340,10 @@ impl<H: Sum> Writing<H> {
     {
         let mut buf = room(self.alloc, len)?;
         let (blob, cache) = (&mut self.blob, &mut self.cache);
-        if let (By::Snapshot, Some(snapshot)) = (self.by, &self.snapshot) {
+        if let By::Snapshot = self.by {
+            let Some(snapshot) = &self.snapshot else {
+                return Ok(Reply::NoSuch);
+            };
             let read = snapshot.read_ranges_into(blob, cache, &mut buf, ranges);
             return served(read, buf);
         }
@@ -352,7 +367,10 @@ impl<H: Sum> Writing<H> {
     {
         let mut buf = room(self.alloc, len)?;
         let (blob, cache) = (&mut self.blob, &mut self.cache);
-        if let (By::Snapshot, Some(snapshot)) = (self.by, &self.snapshot) {
+        if let By::Snapshot = self.by {
+            let Some(snapshot) = &self.snapshot else {
+                return Ok(Reply::NoSuch);
+            };
             let read = snapshot.read_many_into(blob, cache, &mut buf, offsets, each);
             return served(read, buf);
         }
@@ -369,7 +387,10 @@ impl<H: Sum> Writing<H> {
         requires filled { len ≡ sum_by (λ range. range.1) ranges.now }
     {
         let mut buf = room(self.alloc, len)?;
-        if let (By::Snapshot, Some(snapshot)) = (self.by, &self.snapshot) {
+        if let By::Snapshot = self.by {
+            let Some(snapshot) = &self.snapshot else {
+                return Ok(Reply::NoSuch);
+            };
             let read = snapshot.try_read_ranges_sync_into(&self.cache, &mut buf, ranges);
             return Ok(Reply::Missed(read?));
         }
@@ -386,7 +407,10 @@ impl<H: Sum> Writing<H> {
         requires filled { len ≡ length offsets.now * non_zero_usize_get each }
     {
         let mut buf = room(self.alloc, len)?;
-        if let (By::Snapshot, Some(snapshot)) = (self.by, &self.snapshot) {
+        if let By::Snapshot = self.by {
+            let Some(snapshot) = &self.snapshot else {
+                return Ok(Reply::NoSuch);
+            };
             let read = snapshot.try_read_many_sync_into(&self.cache, &mut buf, offsets, each);
             return Ok(Reply::Missed(read?));
         }
