@@ -44,17 +44,17 @@ const STEPS: [Form<Verb>; 9] = [
 #[derive(Clone, Copy)]
 pub struct Pages;
 
-// The logical bytes of a physical page of so many bytes, if pages can have so many.
-fn logical_size(physical: u64) -> Option<NonZeroU16> {
-    let physical = u32::try_from(physical).unwrap_or(0);
-    if !physical.is_power_of_two() || physical <= 12 || physical > 65_536 {
+// The logical bytes of a physical page of 2^n bytes, if pages can have so many.
+fn logical_size(n: u64) -> Option<NonZeroU16> {
+    let physical = 2u32.checked_pow(u32::try_from(n).ok()?)?;
+    if physical <= 12 || physical > 65_536 {
         return None;
     }
     Some(page_size(physical))
 }
 
-fn say_logical(physical: u64, said: &mut Vec<u8>) -> io::Result<()> {
-    match logical_size(physical) {
+fn say_logical(n: u64, said: &mut Vec<u8>) -> io::Result<()> {
+    match logical_size(n) {
         Some(size) => write!(said, "size {size}"),
         None => Err(unreadable()),
     }
