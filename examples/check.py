@@ -36,7 +36,8 @@ def hexadecimal(word):
 
 
 def scripts_of_case(lines):
-    """The scripts of a case that are played to their end, each with the output that is expected of it."""
+    """The scripts of a case that are played to their end, each with the output that is expected of it; those of items,
+    whose replies tell no content, are left out."""
     found, script, out = [], None, None
     for line in lines:
         if line.startswith("> "):
@@ -49,7 +50,8 @@ def scripts_of_case(lines):
             found.append((script, out))
         else:
             script, out = [], []
-    return [("\n".join(script) + "\n", "\n".join(out) + "\n") for script, out in found]
+    return [("\n".join(script) + "\n", "\n".join(out) + "\n") for script, out in found
+            if not script[0].startswith("start-items ")]
 
 
 def scripts_of_cases():

@@ -1,2 +1,3 @@
 pub mod ItemStage
 pub mod Pair
+pub mod Writing

@@ -5,6 +5,7 @@ ghost use Rattle.cache.specs.CacheState.{IsPiece};
 use crate::forms::Argument::{Bytes, Number};
 use crate::forms::{Arguments, Form, read_step};
 use crate::line::Row;
+use crate::refuse::has_refused;
 use crate::subject::Subject;
 use crate::words::{out_of_memory, say_done, say_size, say_whether, unreadable};
 use cache::{CacheRef, Piece};
@@ -131,11 +132,14 @@ impl Cached {
     }
 }
 
-impl Subject for Cached {
-    fn play(&mut self, alloc: Global, row: &Row, said: &mut Vec<u8>) -> io::Result<()> {
-        let Some((verb, words)) = read_step(alloc, &STEPS, &row.step)? else {
-            return Err(unreadable());
-        };
+impl Cached {
+    fn go(
+        &mut self,
+        alloc: Global,
+        verb: Verb,
+        words: &Arguments,
+        said: &mut Vec<u8>,
+    ) -> io::Result<()> {
         let (first, second, bytes) = (words.number(0), words.number(1), words.bytes());
         match verb {
             Verb::Page => self.say_page(first, said),
@@ -144,10 +148,37 @@ impl Subject for Cached {
             Verb::Keep => self.keep(first, second, bytes, said),
             Verb::Fill => self.fill(alloc, bytes, said),
             Verb::Read => self.read(first, second, said),
-            Verb::Piece => self.read_piece(first, piece_of(&words), said),
+            Verb::Piece => self.read_piece(first, piece_of(words), said),
             Verb::Has => say_whether(self.cache.holds(first, second), said),
             Verb::Len => write!(said, "len {}", self.cache.len()),
             Verb::Skipped => write!(said, "skipped {}", self.cache.skipped()),
         }
+    }
+}
+
+// Whether a step may take memory once it is read and there is room for its reply: of the calls of a
+// cache only a read of many pieces does.
+fn takes_memory(verb: Verb) -> bool {
+    match verb {
+        Verb::Fill | Verb::Piece => true,
+        _ => false,
+    }
+}
+
+// More bytes than most replies have.
+const ROOM: usize = 4096;
+
+impl Subject for Cached {
+    fn play(&mut self, alloc: Global, row: &Row, said: &mut Vec<u8>) -> io::Result<()> {
+        let Some((verb, words)) = read_step(alloc, &STEPS, &row.step)? else {
+            return Err(unreadable());
+        };
+        said.try_reserve(ROOM)?;
+        let before = has_refused(alloc);
+        self.go(alloc, verb, &words, said)?;
+        if !before && has_refused(alloc) && !takes_memory(verb) {
+            said.extend_from_slice(b", but fault memory was asked for")?;
+        }
+        Ok(())
     }
 }

@@ -32,6 +32,8 @@ pub enum Told {
     Recovered(u64),
     /// How many items there are.
     Length(u64),
+    /// How many bytes an item has.
+    Size(usize),
     /// An item.
     Bytes(Vec<u8>),
     /// An item whose bytes are shared with what was read.
@@ -377,6 +379,14 @@ impl<H: Sum> ItemStage<H> {
     pub fn replay_len(&self) -> Told {
         match &self.replay {
             Some(replay) => Told::Length(replay.len()),
+            None => Told::NoSuch,
+        }
+    }
+
+    /// How many bytes an item of the replay has.
+    pub fn replay_item_size(&self) -> Told {
+        match &self.replay {
+            Some(replay) => Told::Size(replay.item_size()),
             None => Told::NoSuch,
         }
     }

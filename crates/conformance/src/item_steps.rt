@@ -35,6 +35,7 @@ enum Verb {
     SnapGetMany,
     Replay,
     ReplayLen,
+    ReplaySize,
     Next,
     Seek,
     Fail,
@@ -42,7 +43,7 @@ enum Verb {
     HoldsItems,
 }
 
-const STEPS: [Form<Verb>; 24] = [
+const STEPS: [Form<Verb>; 25] = [
     (b"recover", &[], Verb::Recover),
     (b"recover", &[Number], Verb::Recover),
     (b"crash", &[Flags], Verb::Crash),
@@ -61,6 +62,7 @@ const STEPS: [Form<Verb>; 24] = [
     (b"snap-get-many", &[Numbers], Verb::SnapGetMany),
     (b"replay", &[Number], Verb::Replay),
     (b"replay-len", &[], Verb::ReplayLen),
+    (b"replay-size", &[], Verb::ReplaySize),
     (b"next", &[], Verb::Next),
     (b"seek", &[Number], Verb::Seek),
     (b"fail", &[Number], Verb::Fail),
@@ -79,6 +81,7 @@ fn say_told(answer: Result<Told, Error>, said: &mut Vec<u8>) -> io::Result<()> {
         Ok(Told::NoSuch) => write!(said, "no-such"),
         Ok(Told::Recovered(count)) => write!(said, "recovered {count}"),
         Ok(Told::Length(count)) => write!(said, "len {count}"),
+        Ok(Told::Size(size)) => write!(said, "size {size}"),
         Ok(Told::Bytes(item)) => say_bytes("bytes", &item, said),
         Ok(Told::Shared(item)) => say_bytes("bytes", item.as_ref(), said),
         Ok(Told::Served(served, items)) => write!(said, "served {served} {}", Hex(&items)),
@@ -134,6 +137,7 @@ fn ask<H: Sum>(
         Verb::SnapGet => stage.snapshot_get(number),
         Verb::SnapGetMany => stage.snapshot_get_many(&words.numbers),
         Verb::ReplayLen => Ok(stage.replay_len()),
+        Verb::ReplaySize => Ok(stage.replay_item_size()),
         Verb::Next => stage.next(),
         Verb::Seek => stage.seek(number),
         _ => Ok(stage.len()),

@@ -47,6 +47,7 @@ enum Verb {
     Wait,
     Read,
     Records,
+    Rotate,
     DropBefore,
     Fail,
     Crash,
@@ -59,7 +60,7 @@ enum Verb {
     Torn,
 }
 
-const STEPS: [Form<Verb>; 18] = [
+const STEPS: [Form<Verb>; 19] = [
     (b"open", &[], Verb::Open),
     (b"close", &[], Verb::Close),
     (b"append", &[Bytes], Verb::Append),
@@ -68,6 +69,7 @@ const STEPS: [Form<Verb>; 18] = [
     (b"wait", &[], Verb::Wait),
     (b"read", &[Number, Number], Verb::Read),
     (b"records", &[], Verb::Records),
+    (b"rotate", &[], Verb::Rotate),
     (b"drop-before", &[Number], Verb::DropBefore),
     (b"fail", &[Number], Verb::Fail),
     (b"crash", &[Flags, Word], Verb::Crash),
@@ -319,6 +321,7 @@ impl<H: Sum> Logs<H> {
                 say_found(log.read(place), said)
             }
             Verb::Records => say_records(records_of::<H>(alloc, log), said),
+            Verb::Rotate => say_log_done(log.rotate(), said),
             Verb::DropBefore => say_log_done(log.drop_before(first), said),
             _ => Err(unreadable()),
         }

@@ -28,7 +28,9 @@ mod memory_folder;
 mod mirrored;
 mod names;
 mod nested;
+mod noted;
 mod opened;
+mod pages;
 mod pair;
 mod pieces;
 mod plain;
@@ -47,6 +49,8 @@ mod subject;
 mod subjects;
 mod views;
 mod words;
+mod writing;
+mod writing_steps;
 
 use crate::case::{Case, read_cases};
 use crate::report::report;

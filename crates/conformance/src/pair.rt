@@ -21,11 +21,13 @@ use std::{io, mem};
 enum Verb {
     Other,
     Has,
+    Len,
 }
 
-const STEPS: [Form<Verb>; 2] = [
+const STEPS: [Form<Verb>; 3] = [
     (b"other", &[], Verb::Other),
     (b"has", &[Number, Number], Verb::Has),
+    (b"len", &[], Verb::Len),
 ];
 
 /// Two blobs in memory on one cache, and a session on each. Steps go to the first of them, until
@@ -154,6 +156,7 @@ impl<H: Sum> Subject for Pair<H> {
             Some((Verb::Has, words)) => {
                 say_whether(self.cache.holds(words.number(0), words.number(1)), said)
             }
+            Some((Verb::Len, _)) => write!(said, "len {}", self.cache.len()),
             None => match parse_line(alloc, &row.step) {
                 Ok(line) => self.play_line(line, said),
                 Err(ReadError::Unreadable) => Err(unreadable()),

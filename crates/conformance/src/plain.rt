@@ -4,8 +4,9 @@ use crate::forms::Argument::{Number, Pieces};
 use crate::forms::{Arguments, Form, read_step};
 use crate::line::Row;
 use crate::subject::Subject;
-use crate::words::{say_bytes, say_done, say_whether};
-use disk::{Blob, Counted, Error, StartedRead, VecBlob};
+use crate::words::{out_of_memory, say_bytes, say_done, say_whether};
+use disk::{Blob, Counted, Error, IoBufs, StartedRead, VecBlob};
+use scripts::Hex;
 use std::alloc::Global;
 use std::io;
 use std::io::Write;
@@ -20,9 +21,10 @@ enum Verb {
     Stopped,
     Reserve,
     WriteDurably,
+    Buffers,
 }
 
-const STEPS: [Form<Verb>; 7] = [
+const STEPS: [Form<Verb>; 8] = [
     (b"counts", &[], Verb::Counts),
     (b"dump", &[], Verb::Dump),
     (b"len", &[], Verb::Len),
@@ -30,6 +32,7 @@ const STEPS: [Form<Verb>; 7] = [
     (b"stopped", &[], Verb::Stopped),
     (b"reserve", &[Number, Number], Verb::Reserve),
     (b"write-durable", &[Number, Pieces], Verb::WriteDurably),
+    (b"buffers", &[Pieces], Verb::Buffers),
 ];
 
 /// A plain blob that counts its calls, and the read that was started last.
@@ -37,6 +40,27 @@ const STEPS: [Form<Verb>; 7] = [
 pub struct Plain {
     blob: Counted<VecBlob>,
     started: Option<StartedRead>,
+}
+
+// Buffers in the memory of these pieces, for which room was made before.
+fn owned_buffers(alloc: Global, pieces: &[Vec<u8>]) -> Result<IoBufs, Error> {
+    let mut bufs = IoBufs::with_capacity(alloc, pieces.len())?;
+    for piece in pieces {
+        bufs.append_front(Vec::from_slice(alloc, piece)?, piece.len())?;
+    }
+    Ok(bufs)
+}
+
+// Writes buffers of these pieces: an empty piece makes none.
+fn say_buffers(alloc: Global, pieces: &[Vec<u8>], said: &mut Vec<u8>) -> io::Result<()> {
+    let Ok(bufs) = owned_buffers(alloc, pieces) else {
+        return Err(out_of_memory());
+    };
+    write!(said, "buffers")?;
+    for buf in bufs.iter().filter(|buf| !buf.is_empty()) {
+        write!(said, " {}", Hex(buf.as_ref()))?;
+    }
+    Ok(())
 }
 
 impl Plain {
@@ -95,6 +119,7 @@ impl Plain {
             Verb::Stopped => say_whether(blob.is_stopped(), said),
             Verb::Reserve => say_done(blob.reserve(offset, words.length(1)), said),
             Verb::WriteDurably => say_done(self.write_durably(alloc, offset, &words.pieces), said),
+            Verb::Buffers => say_buffers(alloc, &words.pieces, said),
         }
     }
 }

@@ -72,28 +72,18 @@ fn name_line(alloc: Global, mut script: &[u8], said: &mut Vec<u8>) -> io::Result
 }
 
 // Whether the lines that were written are the wanted ones, up to the first reply to a refused
-// request for memory. Lines that depend on what the cache holds may differ, since the cache may
-// have had no memory.
+// request for memory.
 fn go_to_refusal(text: &[u8], wanted: &[u8]) -> bool {
     let wanted = wanted.split(|byte| *byte == b'\n');
     for (line, want) in text.split(|byte| *byte == b'\n').zip(wanted) {
         if is_refusal(line) {
             return true;
         }
-        if line != want && !is_of_cache(line) && !is_of_cache(want) {
+        if line != want {
             return false;
         }
     }
     true
-}
-
-// (then another device call fails if a page is read for which the cache had no memory)
-fn lets_fail(script: &[u8]) -> bool {
-    script.windows(6).any(|part| part == b"\nfail ".as_slice())
-}
-
-fn is_of_cache(line: &[u8]) -> bool {
-    line == b"none".as_slice() || line.starts_with(b"missed") || line.starts_with(b"served")
 }
 
 const STOPPED: &[u8] = b", but said of errors\npagedctl: stopped\n";
@@ -103,7 +93,7 @@ const STOPPED: &[u8] = b", but said of errors\npagedctl: stopped\n";
 // can't be read.
 fn is_refused(row: &Row, said: &[u8]) -> bool {
     if let Some(text) = said.strip_prefix(b"status 0, but wrote\n") {
-        return lets_fail(&row.given) || go_to_refusal(text, &row.wanted);
+        return go_to_refusal(text, &row.wanted);
     }
     if let Some(text) = said.strip_prefix(b"status 1, but wrote\n") {
         return match text.strip_suffix(STOPPED) {

@@ -20,10 +20,15 @@ pub fn refuse(alloc: Global, n: u32) {
     }
 }
 
+/// Whether a request was refused. The refusals go on.
+pub fn has_refused(alloc: Global) -> bool {
+    Vec::<u8>::with_capacity(alloc, ASK).is_ok()
+}
+
 /// Ends the refusals, and answers whether a request was refused.
 pub fn was_refused(alloc: Global) -> bool {
     refuse(alloc, 0);
-    Vec::<u8>::with_capacity(alloc, ASK).is_ok()
+    has_refused(alloc)
 }
 
 /// Whether more than n bytes were asked for at once since this was last called. It answers false

@@ -6,8 +6,8 @@ ghost use Rattle.disk.specs.History.{life_of};
 use crate::words::{say_bytes, say_error};
 use disk::{Blob, Error, MemBlob, ReadOptions};
 use page::{ActiveChecksum, AddSum, Slot};
-use paged::physical_page_size;
-use paged_read::for_paged::{Prefix, last_pages, read_range, read_tail, scan};
+use paged::{Writer, physical_page_size};
+use paged_read::for_paged::{Prefix, last_pages, scan};
 use scripts::Hex;
 use std::alloc::Global;
 use std::io;
@@ -101,7 +101,7 @@ pub fn say_range(
     said: &mut Vec<u8>,
 ) -> io::Result<()> {
     let options = ReadOptions::default();
-    let read = read_range::<MemBlob, AddSum>(alloc, blob, page_size, offset, len, options);
+    let read = Writer::<MemBlob, AddSum>::read_range(alloc, blob, page_size, offset, len, options);
     match read.and_then(|bufs| bufs.coalesce()) {
         Ok(buf) => say_bytes("bytes", buf.as_ref(), said),
         Err(error) => say_error(error, said),
@@ -118,7 +118,14 @@ pub fn say_tail(
     said: &mut Vec<u8>,
 ) -> io::Result<()> {
     let options = ReadOptions::default();
-    let read = read_tail::<MemBlob, AddSum>(alloc, blob, physical_size, page_size, len, options);
+    let read = Writer::<MemBlob, AddSum>::read_tail(
+        alloc,
+        blob,
+        physical_size,
+        page_size,
+        len,
+        options,
+    );
     match read.and_then(|(size, bufs)| Ok((size, bufs.coalesce()?))) {
         Ok((size, buf)) => write!(said, "size {size} bytes {}", Hex(buf.as_ref())),
         Err(error) => say_error(error, said),

@@ -8,6 +8,7 @@ use paged::{Outlook, Recovery, Survey, look, survey};
 use session::{Reply, Session, Step, run};
 use std::alloc::Global;
 use std::marker::Model;
+use std::mem;
 use std::num::{NonZeroU16, NonZeroUsize};
 
 /// A blob in memory with its cache, and the session on it. It is handed out in a box.
@@ -158,6 +159,21 @@ impl<H: Sum> Stage<H> {
     pub fn crash(&mut self, keep: &[bool]) -> Result<u64, Error> {
         self.session.crash(&mut self.blob, keep)?;
         Ok(self.blob.len())
+    }
+
+    /// Crashes, with these flags for what isn't durable, recovers, and answers how many logical bytes
+    /// are left.
+    pub fn crash_and_recover(&mut self, keep: &[bool]) -> Result<u64, Error> {
+        let mut session = mem::replace(&mut self.session, Session::closed(self.alloc));
+        session.crash_and_recover(
+            &mut self.blob,
+            keep,
+            self.setting.capacity,
+            &mut self.cache,
+            NonZeroUsize::MIN,
+        )?;
+        self.session = session;
+        Ok(self.session.size().unwrap_or(0))
     }
 
     /// The logical bytes of the content; 0 if there is no writer.

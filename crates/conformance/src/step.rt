@@ -1,6 +1,6 @@
 // The steps of a session, and what they answer.
 use crate::calls::say_calls;
-use crate::forms::Argument::{Bytes, Number};
+use crate::forms::Argument::{Bytes, Flags, Number};
 use crate::forms::{Arguments, Form, read_step};
 use crate::hostile::try_hostile;
 use crate::line::Row;
@@ -24,6 +24,7 @@ use std::{io, mem};
 enum Verb {
     TryAppend,
     Recover,
+    CrashRecover,
     Mark,
     Calls,
     Open,
@@ -38,9 +39,10 @@ enum Verb {
     Hostile,
 }
 
-const STEPS: [Form<Verb>; 15] = [
+const STEPS: [Form<Verb>; 16] = [
     (b"try-append", &[Bytes], Verb::TryAppend),
     (b"recover", &[Number], Verb::Recover),
+    (b"crash-recover", &[Flags], Verb::CrashRecover),
     (b"mark", &[], Verb::Mark),
     (b"calls", &[], Verb::Calls),
     (b"open", &[], Verb::Open),
@@ -195,6 +197,7 @@ fn go<H: Sum>(
     match verb {
         Verb::TryAppend => try_append(alloc, stage, bytes, said),
         Verb::Recover => say_size("recovered", stage.recover(by), said),
+        Verb::CrashRecover => { say_size("recovered", stage.crash_and_recover(&words.flags), said) }
         Verb::Mark => {
             stage.mark();
             Ok(())

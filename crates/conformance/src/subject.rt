@@ -147,13 +147,10 @@ pub fn play_refused<S: Subject>(
     Ok(())
 }
 
-// Whether the reply depends on which pages are in the cache, or on how many device calls it took. A
-// cache that had no memory holds fewer pages.
-fn tells_cache(row: &Row, said: &[u8]) -> bool {
-    let asks = row.step.starts_with(b"ca") || row.step.starts_with(b"has");
-    (asks && !said.starts_with(b"fault"))
-        || said.starts_with(b"served")
-        || said.starts_with(b"read again")
+// Whether the reply says how many of several recoveries went well: one that was refused memory is
+// none of them.
+fn tells_how_many(said: &[u8]) -> bool {
+    said.starts_with(b"read again")
 }
 
 // Plays lines up to the first whose reply isn't as expected, and answers that line and those after
@@ -167,7 +164,7 @@ fn play_to_fault<'a, S: Subject>(
     for (index, row) in rows.iter().enumerate() {
         let mut said = Vec::new(alloc);
         answer(alloc, subject, row, &mut said)?;
-        if !is_as_told(row, &said) && !tells_cache(row, &said) {
+        if !is_as_told(row, &said) && !tells_how_many(&said) {
             fault.extend_from_slice(&said)?;
             return Ok(rows.get(index..).unwrap_or(&[]));
         }
@@ -198,9 +195,7 @@ fn play_again<S: Subject>(
         if said.as_slice() == b"closed".as_slice() {
             return Ok(());
         }
-        if !tells_cache(row, &said) {
-            compare_reply(row, &said, told)?;
-        }
+        compare_reply(row, &said, told)?;
     }
     Ok(())
 }

@@ -9,6 +9,7 @@ use crate::logs::{Logs, read_options};
 use crate::memory::Memory;
 use crate::mirrored::Mirrored;
 use crate::nested::Nested;
+use crate::pages::Pages;
 use crate::pair::Pair;
 use crate::plain::Plain;
 use crate::played::Scripts;
@@ -18,6 +19,7 @@ use crate::setting::{SumName, sum_of};
 use crate::subject::{Subject, play_all, play_refusing};
 use crate::views::Viewed;
 use crate::words::{buffer_size, bytes_of, page_size, unreadable, words};
+use crate::writing::Writing;
 use page::{AddSum, ConstSum};
 use std::alloc::Global;
 use std::io;
@@ -34,12 +36,14 @@ enum Kind {
     Journal,
     Log,
     Pair,
+    Writer,
+    Page,
     Buffer,
     Cache,
     View,
 }
 
-const KINDS: [Form<Kind>; 15] = [
+const KINDS: [Form<Kind>; 17] = [
     (b"cases", &[], Kind::Cases),
     (b"scripts", &[], Kind::Scripts),
     (b"requests", &[], Kind::Requests),
@@ -51,6 +55,8 @@ const KINDS: [Form<Kind>; 15] = [
     (b"journal", &[Word, Number, Number, Number], Kind::Journal),
     (b"log", &[Number, Number, Number], Kind::Log),
     (b"pair", &[Number, Number, Number], Kind::Pair),
+    (b"writer", &[Number, Number, Number], Kind::Writer),
+    (b"page", &[], Kind::Page),
     (b"buffer", &[Number, Number, Number], Kind::Buffer),
     (b"cache", &[Number, Number], Kind::Cache),
     (b"view", &[Number], Kind::View),
@@ -107,7 +113,8 @@ fn over_journal(
     }
 }
 
-// Plays a case of a device, or of a server over one.
+// Plays a case that begins with the bytes of a device: of the device, or of a server or a writer
+// over it.
 fn over_device(
     alloc: Global,
     case: &Case,
@@ -121,6 +128,11 @@ fn over_device(
         Kind::Memory => play_made(alloc, Memory::new(alloc, &bytes), case, refuses, told),
         Kind::Plain => play_made(alloc, Plain::new(alloc, bytes), case, refuses, told),
         Kind::Requests => play_made(alloc, Server::new(alloc, bytes), case, refuses, told),
+        Kind::Writer => {
+            let (size, pages) = (page_size(words.number(0))?, buffer_size(words.number(2)));
+            let made = Writing::<AddSum>::new(alloc, size, words.length(1), pages, &bytes);
+            play_made(alloc, made, case, refuses, told)
+        }
         // (the host's call of the first number fails; its runs have at most as many bytes as the
         // second number, or 16)
         _ => {
@@ -143,6 +155,7 @@ fn play_kind(
     match kind {
         Kind::Cases => play_once(alloc, &mut Nested, case, refuses, told),
         Kind::Scripts => play_once(alloc, &mut Scripts, case, refuses, told),
+        Kind::Page => play_once(alloc, &mut Pages, case, refuses, told),
         Kind::Journal => over_journal(alloc, case, words, refuses, told),
         Kind::Log => {
             let made = Logs::<AddSum>::new(alloc, read_options(words));
@@ -171,11 +184,11 @@ fn play_kind(
     }
 }
 
-// Whether a refused request doesn't show in a reply as itself: a host in memory fails then, the
-// cache leaves a page out, and requests are answered in bytes.
+// Whether a refused request doesn't show in a reply as itself: a host in memory fails then, and
+// requests are answered in bytes.
 fn hides_refusals(kind: Kind) -> bool {
     match kind {
-        Kind::Cases | Kind::Requests | Kind::Mirror | Kind::Log | Kind::Cache => true,
+        Kind::Cases | Kind::Requests | Kind::Mirror | Kind::Log => true,
         _ => false,
     }
 }

@@ -39,12 +39,13 @@ enum Verb {
     Ranges,
     Fours,
     CachedRanges,
+    CachedFours,
     Has,
     Fail,
     Backwards,
 }
 
-const STEPS: [Form<Verb>; 10] = [
+const STEPS: [Form<Verb>; 11] = [
     (b"read-into", &[Number, Number], Verb::ReadInto),
     (b"read-at", &[Number, Number], Verb::ReadAt),
     (b"up-to", &[Number, Number], Verb::UpTo),
@@ -52,6 +53,7 @@ const STEPS: [Form<Verb>; 10] = [
     (b"ranges", &[Ranges], Verb::Ranges),
     (b"fours", &[Numbers], Verb::Fours),
     (b"cached-ranges", &[Ranges], Verb::CachedRanges),
+    (b"cached-fours", &[Numbers], Verb::CachedFours),
     (b"has", &[Number], Verb::Has),
     (b"fail", &[Number], Verb::Fail),
     (b"backwards", &[], Verb::Backwards),
@@ -115,6 +117,17 @@ fn say_count(
         Ok(None) => write!(said, "fault other bytes"),
         Err(error) => say_error(error, said),
     }
+}
+
+fn say_missed(answer: Result<Vec<usize>, Error>, said: &mut Vec<u8>) -> io::Result<()> {
+    let Ok(numbers) = answer else {
+        return Err(out_of_memory());
+    };
+    write!(said, "missed")?;
+    for number in &numbers {
+        write!(said, " {number}")?;
+    }
+    Ok(())
 }
 
 impl Viewed {
@@ -265,6 +278,18 @@ impl Viewed {
         view.try_read_ranges_sync_into(&self.cache, &mut buf, ranges)
     }
 
+    // The numbers of the ranges of 4 bytes that would need the device.
+    fn missed_fours(&self, offsets: &[u64], len: usize) -> Result<Vec<usize>, Error>
+        requires in_order { AreInOrder (ranges_of 4 offsets.now) }
+        requires filled { len ≡ length offsets.now * 4 }
+    {
+        let four = NonZeroUsize::new(4).ok_or(Error::OutOfMemory)?;
+        let mut buf = Vec::new(self.alloc);
+        buf.resize(len, 0)?;
+        let view = View::<MemBlob, AddSum>::new(self.alloc, self.page_size, self.id, &self.tip);
+        view.try_read_many_sync_into(&self.cache, &mut buf, offsets, four)
+    }
+
     fn play_ranges(&mut self, ranges: &[(u64, usize)], said: &mut Vec<u8>) -> io::Result<()> {
         match len_together(ranges) {
             Some(len) => say_count("served", self.read_ranges(ranges, len), said),
@@ -287,14 +312,20 @@ impl Viewed {
         let Some(len) = len_together(ranges) else {
             return Err(unreadable());
         };
-        let Ok(numbers) = self.missed(ranges, len) else {
-            return Err(out_of_memory());
-        };
-        write!(said, "missed")?;
-        for number in &numbers {
-            write!(said, " {number}")?;
+        say_missed(self.missed(ranges, len), said)
+    }
+
+    fn play_missed_fours(
+        &self,
+        alloc: Global,
+        offsets: &[u64],
+        said: &mut Vec<u8>,
+    ) -> io::Result<()> {
+        let ranges = fours(alloc, offsets)?;
+        match (len_together(&ranges), offsets.len().checked_mul(4)) {
+            (Some(_), Some(len)) => say_missed(self.missed_fours(offsets, len), said),
+            _ => Err(unreadable()),
         }
-        Ok(())
     }
 
     fn play_held(&self, offset: u64, len: usize, said: &mut Vec<u8>) -> io::Result<()> {
@@ -319,6 +350,7 @@ impl Subject for Viewed {
             Verb::Ranges => self.play_ranges(&words.ranges, said),
             Verb::Fours => self.play_fours(alloc, &words.numbers, said),
             Verb::CachedRanges => self.play_missed(&words.ranges, said),
+            Verb::CachedFours => self.play_missed_fours(alloc, &words.numbers, said),
             Verb::Has => say_whether(self.cache.holds(self.id, first), said),
             Verb::Fail => {
                 self.blob.fail_at(first.max(1));
