@@ -1,26 +1,49 @@
 // Files in memory, whose names and bytes can be lost in a crash.
 use crate::words::out_of_memory;
 use disk::{Blob, Error, IoBufs, MemBlob, WriteOptions};
-use segments::Asked;
+use segments::{Asked, Known, copy_of};
 use std::alloc::Global;
 use std::io;
 use std::io::{ErrorKind, Write};
+
+/// A file of the folder.
+#[derive(Clone, Copy, PartialEq, Eq)]
+pub enum Name {
+    /// The manifest.
+    Manifest,
+    /// The copy of it.
+    Copy,
+    /// The segment of this number.
+    Segment(u64),
+}
+
+impl Name {
+    /// The name of a file of a log.
+    pub fn of(file: Asked) -> Self {
+        match file {
+            Asked::Manifest => Name::Manifest,
+            Asked::Segment(number) => Name::Segment(number),
+        }
+    }
+}
 
 /// A call of the folder, or of a file in it.
 #[derive(Clone, Copy)]
 pub enum FileCall {
     /// To open a file, and to make it where it is missing.
-    Open(Asked),
+    Open(Name),
     /// To put so many bytes at an offset of a file.
-    Put(Asked, u64, usize),
+    Put(Name, u64, usize),
     /// To set the length of a file in bytes.
-    SetLen(Asked, u64),
+    SetLen(Name, u64),
     /// To make the bytes of a file durable.
-    Sync(Asked),
+    Sync(Name),
     /// To remove a file.
-    Remove(Asked),
+    Remove(Name),
     /// To make the names of the files durable.
     SyncNames,
+    /// To keep a copy of so many bytes of the manifest, with what is known of the open segment.
+    Keep(Known, usize),
 }
 
 // Whether a crash may lose a file, or bring it back.
@@ -36,27 +59,21 @@ enum Standing {
 
 #[derive(Drop)]
 struct Stored {
-    name: Asked,
+    name: Name,
     blob: MemBlob,
     standing: Standing,
 }
 
 /// The files of a folder, and the calls that were made of them. The call of one number fails,
-/// counted from 1.
+/// counted from 1, or that one and each later one.
 #[derive(Drop)]
 pub struct Files {
     alloc: Global,
     files: Vec<Stored>,
     calls: Vec<FileCall>,
     failing: usize,
-}
-
-fn is_same(one: Asked, other: Asked) -> bool {
-    match (one, other) {
-        (Asked::Manifest, Asked::Manifest) => true,
-        (Asked::Segment(one), Asked::Segment(other)) => one == other,
-        _ => false,
-    }
+    // Whether each call from the one that must fail on fails.
+    is_for_good: bool,
 }
 
 // A blob in memory that wasn't made to fail fails only if there is no memory.
@@ -75,6 +92,7 @@ impl Files {
             files: Vec::new(alloc),
             calls: Vec::new(alloc),
             failing: 0,
+            is_for_good: false,
         }
     }
 
@@ -83,30 +101,37 @@ impl Files {
         &self.calls
     }
 
-    /// Makes the nth call from now on fail, counted from 1.
-    pub fn fail_at(&mut self, n: usize) {
+    /// Makes the nth call from now on fail, counted from 1; if it is for good, also each later one.
+    pub fn fail_at(&mut self, n: usize, is_for_good: bool) {
         self.failing = self.calls.len().saturating_add(n);
+        self.is_for_good = is_for_good;
+    }
+
+    /// Whether the call that was to fail was made.
+    pub fn has_failed(&self) -> bool {
+        self.failing > 0 && self.failing <= self.calls.len()
     }
 
     // Notes a call, and fails if it is the one that must fail.
     fn note(&mut self, call: FileCall) -> io::Result<()> {
         self.calls.push(call)?;
-        if self.calls.len() == self.failing {
+        let is_later = self.is_for_good && self.has_failed();
+        if self.calls.len() == self.failing || is_later {
             return Err(ErrorKind::StorageFull.into());
         }
         Ok(())
     }
 
-    fn place_of(&self, name: Asked) -> Option<usize> {
+    fn place_of(&self, name: Name) -> Option<usize> {
         for (index, stored) in self.files.iter().enumerate() {
-            if stored.standing != Standing::Removed && is_same(stored.name, name) {
+            if stored.standing != Standing::Removed && stored.name == name {
                 return Some(index);
             }
         }
         None
     }
 
-    fn blob(&self, name: Asked) -> io::Result<&MemBlob> {
+    fn blob(&self, name: Name) -> io::Result<&MemBlob> {
         let index = self.place_of(name).unwrap_or(usize::MAX);
         match self.files.get(index) {
             Some(stored) => Ok(&stored.blob),
@@ -114,7 +139,7 @@ impl Files {
         }
     }
 
-    fn blob_mut(&mut self, name: Asked) -> io::Result<&mut MemBlob> {
+    fn blob_mut(&mut self, name: Name) -> io::Result<&mut MemBlob> {
         let index = self.place_of(name).unwrap_or(usize::MAX);
         match self.files.get_mut(index) {
             Some(stored) => Ok(&mut stored.blob),
@@ -123,12 +148,12 @@ impl Files {
     }
 
     /// Whether a file is there.
-    pub fn has(&self, name: Asked) -> bool {
+    pub fn has(&self, name: Name) -> bool {
         self.place_of(name).is_some()
     }
 
     /// The bytes of a file. `NotFound` where it is missing.
-    pub fn bytes(&self, name: Asked) -> io::Result<Vec<u8>> {
+    pub fn bytes(&self, name: Name) -> io::Result<Vec<u8>> {
         let blob = self.blob(name)?;
         Ok(Vec::from_slice(self.alloc, blob.bytes())?)
     }
@@ -138,7 +163,7 @@ impl Files {
         let mut numbers = Vec::new(self.alloc);
         for stored in &self.files {
             match stored.name {
-                Asked::Segment(number) if stored.standing != Standing::Removed => {
+                Name::Segment(number) if stored.standing != Standing::Removed => {
                     numbers.push((number, stored.blob.bytes().len()))?;
                 }
                 _ => {}
@@ -148,7 +173,7 @@ impl Files {
     }
 
     /// Opens a file, and makes it where it is missing. Its bytes are durable then.
-    pub fn open(&mut self, name: Asked) -> io::Result<Vec<u8>> {
+    pub fn open(&mut self, name: Name) -> io::Result<Vec<u8>> {
         self.note(FileCall::Open(name))?;
         if !self.has(name) {
             self.files.push(Stored {
@@ -162,28 +187,28 @@ impl Files {
     }
 
     /// Puts bytes at an offset of a file.
-    pub fn put(&mut self, name: Asked, offset: u64, bufs: &IoBufs) -> io::Result<()> {
+    pub fn put(&mut self, name: Name, offset: u64, bufs: &IoBufs) -> io::Result<()> {
         self.note(FileCall::Put(name, offset, bufs.len()))?;
         let blob = self.blob_mut(name)?;
         done(blob.write_at(offset, bufs, WriteOptions::default()))
     }
 
     /// Sets the length of a file in bytes.
-    pub fn set_len(&mut self, name: Asked, len: u64) -> io::Result<()> {
+    pub fn set_len(&mut self, name: Name, len: u64) -> io::Result<()> {
         self.note(FileCall::SetLen(name, len))?;
         done(self.blob_mut(name)?.resize(len))
     }
 
     /// Makes the bytes of a file durable.
-    pub fn sync(&mut self, name: Asked) -> io::Result<()> {
+    pub fn sync(&mut self, name: Name) -> io::Result<()> {
         self.note(FileCall::Sync(name))?;
         done(self.blob_mut(name)?.sync())
     }
 
     /// Removes the file of a segment.
     pub fn remove(&mut self, segment: u64) -> io::Result<()> {
-        self.note(FileCall::Remove(Asked::Segment(segment)))?;
-        let index = self.place_of(Asked::Segment(segment)).unwrap_or(usize::MAX);
+        self.note(FileCall::Remove(Name::Segment(segment)))?;
+        let index = self.place_of(Name::Segment(segment)).unwrap_or(usize::MAX);
         match self.files.get_mut(index) {
             Some(stored) => {
                 stored.standing = Standing::Removed;
@@ -198,6 +223,27 @@ impl Files {
         self.note(FileCall::SyncNames)?;
         self.settle_names();
         Ok(())
+    }
+
+    /// Keeps a copy of these bytes of the manifest, which is durable then. Half of the copy is there
+    /// after a call that failed.
+    pub fn keep(&mut self, manifest: &[u8], known: Known) -> io::Result<()> {
+        let noted = self.note(FileCall::Keep(known, manifest.len()));
+        let Ok(mut copy) = copy_of(self.alloc, known, manifest) else {
+            return Err(out_of_memory());
+        };
+        if noted.is_err() {
+            copy.truncate(copy.len() / 2);
+        }
+        if !self.has(Name::Copy) {
+            self.files.push(Stored {
+                name: Name::Copy,
+                blob: MemBlob::new(self.alloc),
+                standing: Standing::Named,
+            })?;
+        }
+        self.replace(Name::Copy, &copy)?;
+        noted
     }
 
     // The files that stand there are named, and the others are gone.
@@ -233,7 +279,7 @@ impl Files {
     }
 
     /// Gives a file these bytes, all of them durable, as somebody else may do.
-    pub fn replace(&mut self, name: Asked, bytes: &[u8]) -> io::Result<()> {
+    pub fn replace(&mut self, name: Name, bytes: &[u8]) -> io::Result<()> {
         let Ok(blob) = MemBlob::from_bytes(self.alloc, bytes) else {
             return Err(out_of_memory());
         };
@@ -242,8 +288,8 @@ impl Files {
     }
 
     /// Takes a file away, as somebody else may do.
-    pub fn lose(&mut self, name: Asked) {
-        self.files.retain(|stored| !is_same(stored.name, name));
+    pub fn lose(&mut self, name: Name) {
+        self.files.retain(|stored| stored.name != name);
     }
 
     /// The same files, with all that can be read durable, of which no call was made yet.
@@ -266,15 +312,16 @@ impl Files {
     }
 }
 
-/// Writes the name of a file: `manifest`, or the number of a segment.
-pub fn say_name(name: Asked, said: &mut Vec<u8>) -> io::Result<()> {
+/// Writes the name of a file: `manifest`, `copy`, or the number of a segment.
+pub fn say_name(name: Name, said: &mut Vec<u8>) -> io::Result<()> {
     match name {
-        Asked::Manifest => write!(said, "manifest"),
-        Asked::Segment(number) => write!(said, "{number}"),
+        Name::Manifest => write!(said, "manifest"),
+        Name::Copy => write!(said, "copy"),
+        Name::Segment(number) => write!(said, "{number}"),
     }
 }
 
-fn say_call(word: &str, name: Asked, said: &mut Vec<u8>) -> io::Result<()> {
+fn say_call(word: &str, name: Name, said: &mut Vec<u8>) -> io::Result<()> {
     write!(said, "{word} ")?;
     say_name(name, said)
 }
@@ -293,6 +340,9 @@ fn say_one(call: FileCall, said: &mut Vec<u8>) -> io::Result<()> {
         FileCall::Sync(name) => say_call("sync", name, said),
         FileCall::Remove(name) => say_call("remove", name, said),
         FileCall::SyncNames => write!(said, "sync names"),
+        FileCall::Keep(known, len) => {
+            write!(said, "keep {} {} {len}", known.segment, known.len)
+        }
     }
 }
 

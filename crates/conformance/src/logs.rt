@@ -2,7 +2,7 @@
 ghost use Rattle.std.specs.Prelude.{IfOk};
 ghost use Rattle.segments.specs.Log.{IsLog};
 
-use crate::files::{Files, say_file_calls, say_name};
+use crate::files::{Files, Name, say_file_calls, say_name};
 use crate::forms::Argument::{Bytes, Flags, Number, Word};
 use crate::forms::{Arguments, Form, read_step};
 use crate::line::Row;
@@ -13,7 +13,7 @@ use disk::IoBuf;
 use journal::Found;
 use page::Sum;
 use scripts::Hex;
-use segments::{Asked, Error, Options, Place, SegmentedLog};
+use segments::{Error, Options, Place, SegmentedLog};
 use std::alloc::Global;
 use std::cell::RefCell;
 use std::io;
@@ -58,9 +58,11 @@ enum Verb {
     Copy,
     Lose,
     Torn,
+    TornDrop,
+    TornOpen,
 }
 
-const STEPS: [Form<Verb>; 19] = [
+const STEPS: [Form<Verb>; 21] = [
     (b"open", &[], Verb::Open),
     (b"close", &[], Verb::Close),
     (b"append", &[Bytes], Verb::Append),
@@ -80,6 +82,8 @@ const STEPS: [Form<Verb>; 19] = [
     (b"copy", &[Word, Word], Verb::Copy),
     (b"lose", &[Word], Verb::Lose),
     (b"torn", &[Bytes], Verb::Torn),
+    (b"torn-drop", &[Number], Verb::TornDrop),
+    (b"torn-open", &[], Verb::TornOpen),
 ];
 
 // More flags than a case has bytes that aren't durable, and more calls than an append makes.
@@ -134,11 +138,12 @@ impl<H: Sum> Model for Logs<H> {
     ghost invariant = { λ l. IfSome l.log (λ log. IsLog H.sum_of H.sum_of log) };
 }
 
-// The file of a name: `manifest`, or the number of a segment.
-fn file_of(word: Option<&[u8]>) -> io::Result<Asked> {
+// The file of a name: `manifest`, `copy`, or the number of a segment.
+fn file_of(word: Option<&[u8]>) -> io::Result<Name> {
     match word {
-        Some(b"manifest") => Ok(Asked::Manifest),
-        Some(word) => Ok(Asked::Segment(number(word)?)),
+        Some(b"manifest") => Ok(Name::Manifest),
+        Some(b"copy") => Ok(Name::Copy),
+        Some(word) => Ok(Name::Segment(number(word)?)),
         None => Err(unreadable()),
     }
 }
@@ -220,13 +225,15 @@ fn say_records(records: Result<Vec<IoBuf>, Error>, said: &mut Vec<u8>) -> io::Re
     }
 }
 
-// Writes the files with their sizes: the manifest, and then the segments.
+// Writes the files with their sizes: the manifest, its copy, and then the segments.
 fn say_files(files: &Files, said: &mut Vec<u8>) -> io::Result<()> {
     write!(said, "files")?;
-    if let Ok(bytes) = files.bytes(Asked::Manifest) {
-        write!(said, " ")?;
-        say_name(Asked::Manifest, said)?;
-        write!(said, ":{}", bytes.len())?;
+    for name in [Name::Manifest, Name::Copy] {
+        if let Ok(bytes) = files.bytes(name) {
+            write!(said, " ")?;
+            say_name(name, said)?;
+            write!(said, ":{}", bytes.len())?;
+        }
     }
     for (number, len) in files.segments()? {
         write!(said, " {number}:{len}")?;
@@ -234,34 +241,66 @@ fn say_files(files: &Files, said: &mut Vec<u8>) -> io::Result<()> {
     Ok(())
 }
 
-// Appends a record and commits it.
-fn append_and_commit<H: Sum>(log: &mut Log<H>, bytes: &[u8]) -> Result<(), Error>
+// What is done to a log while a call fails.
+#[derive(Clone, Copy)]
+enum Act<'a> {
+    // A record is appended and committed, unless it is longer than a record may be.
+    Append(&'a [u8]),
+    DropBefore(u64),
+    // The log is opened.
+    Open,
+}
+
+// Does it, to a log that was opened.
+fn act_on<H: Sum>(log: &mut Log<H>, act: Act<'_>) -> Result<(), Error>
     requires log { IsLog H.sum_of H.sum_of log.old }
     ensures log { IsLog H.sum_of H.sum_of log.new }
 {
-    if bytes.len() > 65535 {
-        return Ok(());
+    match act {
+        Act::Append(bytes) if bytes.len() <= 65535 => {
+            log.append(bytes)?;
+            log.commit()
+        }
+        Act::DropBefore(segment) => log.drop_before(segment),
+        _ => Ok(()),
     }
-    log.append(bytes)?;
-    log.commit()
 }
 
-// Whether the records after a crash are those before the append, and the appended one, if there is
-// one more. It must be there if its commit answered `Ok`.
-fn are_left(before: &[IoBuf], bytes: &[u8], after: &[IoBuf], is_committed: bool) -> bool {
-    let Some((front, more)) = after.split_at_checked(before.len()) else {
-        return false;
-    };
-    let is_front = front
-        .iter()
-        .zip(before)
-        .all(|(one, other)| one.as_ref() == other.as_ref());
-    let is_more = match more {
-        [] => !is_committed,
-        [record] => record.as_ref() == bytes,
-        _ => false,
-    };
-    is_front && is_more
+// Which call fails, counted from 1, and whether each later one does.
+#[derive(Clone, Copy)]
+struct Failing {
+    call: usize,
+    is_for_good: bool,
+}
+
+// What was done while a call failed, and the records after a crash.
+#[derive(Drop)]
+struct Torn {
+    // Whether the call that was to fail was made.
+    has_failed: bool,
+    // Whether what was done answered `Ok`.
+    is_done: bool,
+    records: Vec<IoBuf>,
+}
+
+fn are_same(one: &[IoBuf], other: &[IoBuf]) -> bool {
+    let mut pairs = one.iter().zip(other);
+    one.len() == other.len() && pairs.all(|(one, other)| one.as_ref() == other.as_ref())
+}
+
+// The records before something is done, and after it was done with no call failing.
+#[derive(Drop)]
+struct Around {
+    before: Vec<IoBuf>,
+    after: Vec<IoBuf>,
+}
+
+impl Around {
+    // Whether a crash may leave these: those before, unless it answered `Ok`, or those after it.
+    fn may_leave(&self, torn: &Torn) -> bool {
+        let is_undone = !torn.is_done && are_same(&torn.records, &self.before);
+        is_undone || are_same(&torn.records, &self.after)
+    }
 }
 
 impl<H: Sum> Logs<H> {
@@ -358,76 +397,110 @@ impl<H: Sum> Logs<H> {
         lent(&self.files)?.crash(&words.flags, &bytes)
     }
 
-    // Opens a copy of the files, makes the call of this number fail, appends a record, and commits
-    // it. Then all crashes with these flags, and is opened again. Answers whether no call failed,
-    // and the records then.
+    // Does something to a copy of the log while a call fails. Answers the copy, and whether that
+    // answered `Ok`.
+    fn act_once(
+        &self,
+        alloc: Global,
+        act: Act<'_>,
+        failing: Failing,
+    ) -> Result<(Shared, bool), Error> {
+        let copy = lent(&self.files)?.copy()?;
+        let files: Shared = Rc::new(alloc, RefCell::new(copy))?;
+        let Failing { call, is_for_good } = failing;
+        if let Act::Open = act {
+            lent(&files)?.fail_at(call, is_for_good);
+            let is_done = open_log::<H>(alloc, files.clone()?, self.options).is_ok();
+            return Ok((files, is_done));
+        }
+        let mut log = open_log::<H>(alloc, files.clone()?, self.options)?;
+        lent(&files)?.fail_at(call, is_for_good);
+        let is_done = act_on::<H>(&mut log, act).is_ok();
+        Ok((files, is_done))
+    }
+
+    // Does it while a call fails. Then all crashes with these flags, and is opened again.
     fn tear_once(
         &self,
         alloc: Global,
-        record: &[u8],
-        call: usize,
+        act: Act<'_>,
+        failing: Failing,
         names: &[bool],
         bytes: &[bool],
-    ) -> Result<(bool, Vec<IoBuf>), Error> {
-        let copy = lent(&self.files)?.copy()?;
-        let files: Shared = Rc::new(alloc, RefCell::new(copy))?;
-        let mut log = open_log::<H>(alloc, files.clone()?, self.options)?;
-        lent(&files)?.fail_at(call);
-        let is_committed = append_and_commit::<H>(&mut log, record).is_ok();
-        drop(log);
+    ) -> Result<Torn, Error> {
+        let (files, is_done) = self.act_once(alloc, act, failing)?;
+        let has_failed = lent(&files)?.has_failed();
         lent(&files)?.crash(names, bytes)?;
         let mut log = open_log::<H>(alloc, files, self.options)?;
-        Ok((is_committed, records_of::<H>(alloc, &mut log)?))
+        Ok(Torn {
+            has_failed,
+            is_done,
+            records: records_of::<H>(alloc, &mut log)?,
+        })
     }
 
     // The same for each choice of what the crash keeps: the names or not, and of the bytes none,
-    // all, or each second one. Answers whether no call failed; `None` after it has written which
-    // crash leaves something else than `before`, with the new record or without it.
+    // all, or each second one. Answers whether the call was made; `None` after it has written which
+    // crash leaves other records than those before or after.
     fn tear_call(
         &self,
         alloc: Global,
-        record: &[u8],
-        call: usize,
-        before: &[IoBuf],
+        act: Act<'_>,
+        failing: Failing,
+        around: &Around,
         said: &mut Vec<u8>,
     ) -> io::Result<Option<bool>> {
-        let mut is_committed = false;
+        let mut has_failed = false;
+        let Failing { call, is_for_good } = failing;
         for (choice, (names, bytes)) in CHOICES.iter().enumerate() {
             let bytes = kept_bytes(alloc, *bytes)?;
-            let torn = self.tear_once(alloc, record, call, names, &bytes);
+            let torn = self.tear_once(alloc, act, failing, names, &bytes);
             match torn {
-                Ok((is, after)) if are_left(before, record, &after, is) => is_committed = is,
-                Ok((_, after)) => {
-                    write!(said, "fault call {call} choice {choice}: ")?;
-                    say_records(Ok(after), said)?;
+                Ok(torn) if around.may_leave(&torn) => has_failed = torn.has_failed,
+                Ok(torn) => {
+                    write!(said, "fault call {call} {is_for_good} choice {choice}: ")?;
+                    say_records(Ok(torn.records), said)?;
                     return Ok(None);
                 }
                 Err(error) => {
-                    write!(said, "fault call {call} choice {choice}: {error}")?;
+                    write!(said, "fault call {call} {is_for_good} choice {choice}: {error}")?;
                     return Ok(None);
                 }
             }
         }
-        Ok(Some(is_committed))
+        Ok(Some(has_failed))
     }
 
-    // Appends and commits a record once for each call of that, with that call failing, and once
-    // with none failing. Writes how many calls there are.
-    fn tear(&mut self, alloc: Global, record: &[u8], said: &mut Vec<u8>) -> io::Result<()> {
-        self.log = None;
-        let before = match open_log::<H>(alloc, self.files.clone()?, self.options) {
-            Ok(mut log) => records_of::<H>(alloc, &mut log),
-            Err(error) => Err(error),
+    // The records before it is done, and after it.
+    fn around(&self, alloc: Global, act: Act<'_>) -> Result<Around, Error> {
+        let none = Failing {
+            call: MOST,
+            is_for_good: false,
         };
-        let before = match before {
-            Ok(before) => before,
+        let before = self.tear_once(alloc, Act::Open, none, &[], &[])?;
+        let after = self.tear_once(alloc, act, none, &[], &[])?;
+        Ok(Around {
+            before: before.records,
+            after: after.records,
+        })
+    }
+
+    // Does something once for each of its calls, with that call failing, and once more with each
+    // later one failing too. Writes how many calls there are.
+    fn tear(&mut self, alloc: Global, act: Act<'_>, said: &mut Vec<u8>) -> io::Result<()> {
+        self.log = None;
+        let around = match self.around(alloc, act) {
+            Ok(around) => around,
             Err(error) => return say_log_error(&error, said),
         };
         for call in 1..MOST {
-            match self.tear_call(alloc, record, call, &before, said)? {
-                Some(true) => return write!(said, "calls {}", call - 1),
-                Some(false) => {}
-                None => return Ok(()),
+            for is_for_good in [false, true] {
+                let failing = Failing { call, is_for_good };
+                match self.tear_call(alloc, act, failing, &around, said)? {
+                    Some(false) => return write!(said, "calls {}", call - 1),
+                    Some(true) => {}
+                    None => return Ok(()),
+                }
             }
         }
         Ok(())
@@ -446,7 +519,7 @@ impl<H: Sum> Subject for Logs<H> {
                 write!(said, "ok")
             }
             Verb::Fail => {
-                lent(&self.files)?.fail_at(words.length(0));
+                lent(&self.files)?.fail_at(words.length(0), false);
                 write!(said, "ok")
             }
             Verb::Crash => {
@@ -464,7 +537,9 @@ impl<H: Sum> Subject for Logs<H> {
                 self.harm(verb, &words)?;
                 write!(said, "ok")
             }
-            Verb::Torn => self.tear(alloc, words.bytes(), said),
+            Verb::Torn => self.tear(alloc, Act::Append(words.bytes()), said),
+            Verb::TornDrop => self.tear(alloc, Act::DropBefore(words.number(0)), said),
+            Verb::TornOpen => self.tear(alloc, Act::Open, said),
             _ => self.go(alloc, verb, &words, said),
         }
     }

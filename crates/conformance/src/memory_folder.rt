@@ -5,10 +5,10 @@ ghost use Rattle.paged.specs.Recovery.{IsDurable};
 ghost use Rattle.segments.specs.FolderEvents.{plain_event, opening_outcome};
 ghost use Rattle.segments.specs.Folders.{call_for};
 
-use crate::files::Files;
+use crate::files::{Files, Name};
 use disk::{IoBufs, Past, VecBlob};
 use file::{Host, Mirror};
-use segments::{Asked, Folder, FolderCall, FolderPast};
+use segments::{Asked, Folder, FolderCall, FolderPast, Known};
 use std::cell::{RefCell, RefMut};
 use std::io;
 use std::io::ErrorKind;
@@ -31,7 +31,7 @@ pub fn lent(files: &Shared) -> io::Result<RefMut<'_, Files>> {
 #[derive(Drop)]
 pub struct MemoryHost {
     files: Shared,
-    name: Asked,
+    name: Name,
     past: Snapshot<Past>,
 }
 
@@ -46,7 +46,7 @@ impl Model for MemoryHost {
 
 impl MemoryHost {
     // A host over a file that holds these bytes.
-    fn new(files: Shared, name: Asked, bytes: &Vec<u8>) -> Self
+    fn new(files: Shared, name: Name, bytes: &Vec<u8>) -> Self
         ensures { result ≡ [] }
     {
         MemoryHost {
@@ -122,8 +122,9 @@ impl MemoryFolder {
     fn open_file(&self, file: Asked) -> io::Result<MemoryFile>
         ensures { IfOk result (λ blob. IsDurable (life_of blob.kept.history).present) }
     {
-        let bytes = lent(&self.files)?.open(file)?;
-        let host = MemoryHost::new(self.files.clone()?, file, &bytes);
+        let name = Name::of(file);
+        let bytes = lent(&self.files)?.open(name)?;
+        let host = MemoryHost::new(self.files.clone()?, name, &bytes);
         Ok(Mirror::new(host, bytes))
     }
 
@@ -170,11 +171,11 @@ impl Folder<MemoryFile> for MemoryFolder {
     }
 
     fn read(&mut self, file: Asked) -> io::Result<VecBlob> {
-        Ok(VecBlob::from_vec(lent(&self.files)?.bytes(file)?))
+        Ok(VecBlob::from_vec(lent(&self.files)?.bytes(Name::of(file))?))
     }
 
     fn has(&mut self, file: Asked) -> io::Result<bool> {
-        Ok(lent(&self.files)?.has(file))
+        Ok(lent(&self.files)?.has(Name::of(file)))
     }
 
     fn first(&mut self) -> io::Result<Option<u64>> {
@@ -208,5 +209,22 @@ impl Folder<MemoryFile> for MemoryFolder {
         };
         self.note(FolderCall::Syncs, synced.is_err());
         synced
+    }
+
+    fn keep(&mut self, manifest: &MemoryFile, known: Known) -> io::Result<()> {
+        let kept = match lent(&self.files) {
+            Ok(mut files) => files.keep(manifest.bytes(), known),
+            Err(error) => Err(error),
+        };
+        self.past = FolderPast::kept(&self.past, manifest, known, kept.is_err());
+        kept
+    }
+
+    fn kept(&mut self) -> io::Result<Option<Known>> {
+        match lent(&self.files)?.bytes(Name::Copy) {
+            Ok(bytes) => Ok(Known::of(&bytes)),
+            Err(error) if error.kind() == ErrorKind::NotFound => Ok(None),
+            Err(error) => Err(error),
+        }
     }
 }

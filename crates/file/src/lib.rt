@@ -8,12 +8,14 @@
 #![tactic(auto)]
 
 mod host;
+mod keeping;
 mod mirror;
 mod opening;
 mod replacing;
 mod runs;
 
 pub use host::{FileHost, Host};
+pub use keeping::keep;
 pub use mirror::Mirror;
 pub use opening::{open, read};
 pub use replacing::{replace, set_aside};

@@ -1,6 +1,6 @@
 -- A log that begins.
 use Rattle.std.specs.Prelude.{◌≡◌, ◌-◌, ◌++◌, ℕ, List, [], ◌∷◌, drop, Some, None, Result, Ok, Err, IfOk}
-use Rattle.std.proofs.Common.{ap, sym, ◌∙◌, subst, arith, append_assoc}
+use Rattle.std.proofs.Common.{ap, sym, ◌∙◌, subst, refl, arith, append_assoc}
 use Rattle.page.specs.Page.{text}
 use Rattle.journal.specs.Frame.{records}
 use Rattle.journal.specs.Journal.{CommitsAll, OnlyRecords}
@@ -8,9 +8,9 @@ use Rattle.segments.specs.declared.error.Error.{Error}
 use Rattle.segments.specs.declared.call.FolderCall.TheVariants as calls
 use Rattle.segments.specs.FolderEvents.{FolderEvent, opening_with}
 use Rattle.segments.specs.Manifest.{ListingState, listed_in, open_in}
-use Rattle.segments.specs.Owned.{HasJournal, OwnedState, content_now, records_now}
-use Rattle.segments.specs.Log.{AreParts, events_for, IsStartedFrom, LogState, StartFromGoes, closed_records, listing_from, log_records}
-use Rattle.segments.specs.Crash.{AsksForLog, IsOpenedLog, records_by, records_left}
+use Rattle.segments.specs.Owned.{HasJournal, OwnedState, content_now, owned_size, records_now}
+use Rattle.segments.specs.Log.{AreParts, HasKept, events_for, IsStartedFrom, LogState, StartFromGoes, closed_records, listing_from, log_records}
+use Rattle.segments.specs.Crash.{AsksForLog, HasOpenedFiles, IsOpenedLog, records_by, records_left}
 
 from_first : (first : ℕ) (l : ListingState) → first ≡ l.first → listing_from first l ≡ l
 from_first first l is =
@@ -28,8 +28,8 @@ left_by sum own manifest bytes s listed told held file same =
     ∙ ap (λ b. Some (before ++ records own (text sum s.page_size b))) same
     ∙ ap (λ rs. Some (before ++ rs)) (sym told)
 
-opened : (sum own : List ℕ → ℕ) (first : ℕ) (before : List FolderEvent) (s t : LogState) → IsOpenedLog sum own before s → first ≡ s.listing.first → IsStartedFrom first s t
-    → IsOpenedLog sum own before t
+opened : (sum own : List ℕ → ℕ) (first : ℕ) (before : List FolderEvent) (s t : LogState) → HasOpenedFiles sum own before s.asked s → first ≡ s.listing.first → IsStartedFrom first s t
+    → HasOpenedFiles sum own before s.asked t
 opened sum own first before s t log is started =
     let same : t.listing ≡ s.listing = started.listing ∙ from_first first s.listing is in
     let pages = sym started.rest.page_size in
@@ -39,8 +39,7 @@ opened sum own first before s t log is started =
     record {
       manifest = log.manifest;
       bytes = log.bytes;
-      asked = subst (λ l. AsksForLog log.manifest (open_in l) log.bytes before t.asked) (sym same)
-          (subst (λ es. AsksForLog log.manifest (open_in s.listing) log.bytes before es) (sym started.rest.asked) log.asked);
+      asked = subst (λ l. AsksForLog log.manifest (open_in l) log.bytes before s.asked) (sym same) log.asked;
       listed = listed;
       left = left_by sum own log.manifest log.bytes t listed told;
       there = subst (λ (o : OwnedState). HasJournal o.journal (λ w. Unit {0})) current log.there;
@@ -49,18 +48,21 @@ opened sum own first before s t log is started =
           (subst (λ (o : OwnedState). CommitsAll sum own s.page_size (content_now o) o.life.present) current log.committed);
       only = subst (λ P. OnlyRecords sum own P (records_now own t.current) t.current.life.present) pages
           (subst (λ (o : OwnedState). OnlyRecords sum own s.page_size (records_now own o) o.life.present) current log.only);
+      known = started.known ∙ log.known ∙ ap (λ (o : OwnedState). owned_size o.journal) current;
     }
 
-pub begin_opened : (sum own : List ℕ → ℕ) (first : ℕ) (before : List FolderEvent) (view s t : LogState) (result : Result (Unit {0}) Error) → view ≡ s → IsOpenedLog sum own before s
+pub begin_opened : (sum own : List ℕ → ℕ) (first : ℕ) (before : List FolderEvent) (view s t : LogState) (result : Result (Unit {0}) Error) → view ≡ s → HasOpenedFiles sum own before s.asked s
     → first ≡ view.listing.first → StartFromGoes first s t result → IfOk result (λ u. IsOpenedLog sum own before t)
-begin_opened sum own first before view s t (Ok u) same log is started = opened sum own first before s t log (is ∙ ap (λ (l : LogState). l.listing.first) same) started
+begin_opened sum own first before view s t (Ok u) same log is started =
+    record { calls = s.asked; files = opened sum own first before s t log (is ∙ ap (λ (l : LogState). l.listing.first) same) started; kept = started.kept }
 begin_opened sum own first before view s t (Err e) same log is started = tt
 
 -- a log over the manifest and the segment that were opened
-pub parts_open : (sum own : List ℕ → ℕ) (P most : ℕ) (before after : List FolderEvent) (manifest current : OwnedState) (l : ListingState) → AreParts sum own P manifest current l before after
-    → IsOpenedLog sum own before (record { manifest = manifest; current = current; listing = l; asked = after; loaded = None; page_size = P; most = most })
-parts_open sum own P most before after manifest current l parts =
-    let s : LogState = record { manifest = manifest; current = current; listing = l; asked = after; loaded = None; page_size = P; most = most } in
+pub parts_open : (sum own : List ℕ → ℕ) (P most known : ℕ) (before after : List FolderEvent) (manifest current : OwnedState) (l : ListingState) → AreParts sum own P manifest current l before after → known ≡ owned_size current.journal
+    → HasOpenedFiles sum own before after
+    (record { manifest = manifest; current = current; listing = l; asked = after; loaded = None; page_size = P; most = most; known = known })
+parts_open sum own P most known before after manifest current l parts all =
+    let s : LogState = record { manifest = manifest; current = current; listing = l; asked = after; loaded = None; page_size = P; most = most; known = known } in
     let first = opening_with calls.OpensManifest parts.lists.bytes in
     let events = events_for (open_in l) parts.stands.bytes in
     record {
@@ -73,4 +75,24 @@ parts_open sum own P most before after manifest current l parts =
       records = parts.stands.told;
       committed = parts.stands.committed;
       only = parts.stands.only;
+      known = all;
     }
+
+same_files : (sum own : List ℕ → ℕ) (before calls asked : List FolderEvent) (s : LogState) → HasOpenedFiles sum own before calls s → HasOpenedFiles sum own before calls (record s { asked = asked })
+same_files sum own before calls asked s files = record {
+  manifest = files.manifest;
+  bytes = files.bytes;
+  asked = files.asked;
+  listed = files.listed;
+  left = files.left;
+  there = files.there;
+  records = files.records;
+  committed = files.committed;
+  only = files.only;
+  known = files.known;
+}
+
+-- the log of a manifest that has entries, once a copy was to be kept
+pub begin_kept : (sum own : List ℕ → ℕ) (before : List FolderEvent) (s t : LogState) → HasOpenedFiles sum own before s.asked s → HasKept s t → IsOpenedLog sum own before t
+begin_kept sum own before s t files has =
+    record { calls = s.asked; files = subst (λ t. HasOpenedFiles sum own before s.asked t) (sym has.rest) (same_files sum own before s.asked t.asked s files); kept = has.kept }

@@ -40,16 +40,18 @@ no_journal sum own bytes s t (errors.System e) is = absurd is
 no_journal sum own bytes s t (errors.Damaged n) is = absurd is
 no_journal sum own bytes s t (errors.Unlisted n) is = absurd is
 no_journal sum own bytes s t (errors.Missing n) is = absurd is
+no_journal sum own bytes s t (errors.Short n) is = absurd is
+no_journal sum own bytes s t (errors.Outdated n) is = absurd is
 no_journal sum own bytes s t errors.Manifest is = absurd is
 no_journal sum own bytes s t (errors.NoSegment n) is = absurd is
 no_journal sum own bytes s t errors.NumbersExhausted is = absurd is
 
 -- the log stands with an entry more
-pub enter_ready : (sum own : List ℕ → ℕ) (entry : Entry) (bytes : List ℕ) (s : LogState) (m : ListingState) (manifest : OwnedState) (u : Unit {0})
+pub enter_ready : (sum own : List ℕ → ℕ) (entry : Entry) (bytes : List ℕ) (s : LogState) (m : ListingState) (manifest : OwnedState) (known : ℕ) (u : Unit {0})
     → IsLog sum own s → IsOwned sum own manifest → manifest.page_size ≡ s.manifest.page_size
     → entry_in bytes ≡ Some entry → listed_with s.page_size entry s.listing ≡ Some m
-    → OwnedAddGoes sum own bytes s.manifest manifest (Ok u) → IsLog sum own (record s { manifest = manifest; listing = m })
-enter_ready sum own entry bytes s m manifest u log owned pages told with is = record {
+    → OwnedAddGoes sum own bytes s.manifest manifest (Ok u) → IsLog sum own (record s { manifest = manifest; listing = m; known = known })
+enter_ready sum own entry bytes s m manifest known u log owned pages told with is = record {
   manifest = owned;
   current = log.current;
   manifest_pages = pages ∙ log.manifest_pages;
@@ -103,12 +105,13 @@ entered_keeps sum own P bytes these s t page same keeps =
     (added_keeps sum own s.page_size bytes s.journal s.life t.life keeps))
 
 -- an entry that was asked for
-pub entry_tried : (sum own : List ℕ → ℕ) (entry : Entry) (bytes : List ℕ) (view s t : LogState) (m : ListingState) → view ≡ s → bytes ≡ entry_bytes entry
+pub entry_tried : (sum own : List ℕ → ℕ) (entry : Entry) (bytes : List ℕ) (view s t : LogState) (m : ListingState) (manifest : OwnedState) → t.manifest ≡ manifest → view ≡ s → bytes ≡ entry_bytes entry
     → entry_in bytes ≡ Some entry → listed_with view.page_size entry view.listing ≡ Some m → view.manifest.page_size ≡ view.page_size
-    → OwnedAddKeeps sum own bytes view.manifest t.manifest → Tries sum own entry s t
-entry_tried sum own entry bytes view s t m is same told follows pages keeps = subst (λ s. Tries sum own entry s t) is (inr (record {
+    → OwnedAddKeeps sum own bytes view.manifest manifest → Tries sum own entry s t
+entry_tried sum own entry bytes view s t m manifest now is same told follows pages keeps = subst (λ s. Tries sum own entry s t) is (inr (record {
   listing = m;
   told = subst (λ bytes. entry_in bytes ≡ Some entry) same told;
   follows = follows;
-  keeps = entered_keeps sum own view.page_size bytes (entry_bytes entry) view.manifest t.manifest pages same keeps;
+  keeps = entered_keeps sum own view.page_size bytes (entry_bytes entry) view.manifest t.manifest pages same
+      (subst (λ (o : OwnedState). OwnedAddKeeps sum own bytes view.manifest o) (sym now) keeps);
 }))

@@ -63,6 +63,7 @@ leaves_joins sum own s m t first second = record {
   asked = second.asked ∙ first.asked;
   page_size = second.page_size ∙ first.page_size;
   most = second.most ∙ first.most;
+  known = second.known ∙ first.known;
   current = elim (first.current) [
     | inl same ↦ subst (λ o. (t.current ≡ o) ⊎ OwnedReadLeaves sum own o t.current) same second.current
     | inr one ↦ elim (second.current) [
@@ -82,6 +83,7 @@ leaves_start sum own s = record {
   asked = refl;
   page_size = refl;
   most = refl;
+  known = refl;
   current = inl refl;
   holds = refl;
   journal = refl;
@@ -101,6 +103,7 @@ leaves_current sum own s t rest leaves = record {
   asked = rest.asked;
   page_size = rest.page_size;
   most = rest.most;
+  known = rest.known;
   current = inr leaves;
   holds = ap (λ j. content_of j t.current.life) leaves.journal ∙ content_by sum own s.current.journal s.current.cache t.current.cache s.current.life t.current.life leaves.call;
   journal = leaves.journal;

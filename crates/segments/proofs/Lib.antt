@@ -18,6 +18,8 @@ pub mod Opened
 pub mod Turning
 pub mod Stepping
 pub mod Joining
+pub mod Keeping
+pub mod CopiesTold
 pub mod Loading
 pub mod Refusing
 pub mod DropSurvival

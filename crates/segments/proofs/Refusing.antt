@@ -18,6 +18,8 @@ close_cause sum own s t (errors.System e) is = absurd is
 close_cause sum own s t (errors.Damaged n) is = absurd is
 close_cause sum own s t (errors.Unlisted n) is = absurd is
 close_cause sum own s t (errors.Missing n) is = absurd is
+close_cause sum own s t (errors.Short n) is = absurd is
+close_cause sum own s t (errors.Outdated n) is = absurd is
 close_cause sum own s t errors.Manifest is = absurd is
 close_cause sum own s t (errors.NoSegment n) is = absurd is
 close_cause sum own s t errors.NumbersExhausted is = absurd is
@@ -44,6 +46,8 @@ entry_cause s n t kept (errors.System e) same numbered is = absurd is
 entry_cause s n t kept (errors.Damaged k) same numbered is = absurd is
 entry_cause s n t kept (errors.Unlisted k) same numbered is = absurd is
 entry_cause s n t kept (errors.Missing k) same numbered is = absurd is
+entry_cause s n t kept (errors.Short k) same numbered is = absurd is
+entry_cause s n t kept (errors.Outdated k) same numbered is = absurd is
 entry_cause s n t kept errors.Manifest same numbered is = absurd (follows n.page_size kept n.listing numbered is)
 entry_cause s n t kept (errors.NoSegment k) same numbered is = absurd is
 entry_cause s n t kept errors.NumbersExhausted same numbered is = absurd is
@@ -58,5 +62,5 @@ enter_refused sum own s m n t next kept e first none has asks last goes =
     let listing : n.listing ≡ m.listing = ap (λ (l : LogState). l.listing) asks in (
       ap (λ (o : OwnedState). o.journal) current ∙ none,
       entry_cause s n t kept e (ap (λ (o : OwnedState). o.journal) manifest)
-          (λ full. has.numbered (ap (λ (l : ListingState). open_in l) (sym listing) ∙ full)) goes.2,
+          (λ full. has.numbered (ap (λ (l : ListingState). open_in l) (sym listing) ∙ full)) goes.refused,
     )

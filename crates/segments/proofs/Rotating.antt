@@ -4,7 +4,7 @@ use Rattle.std.proofs.Common.{ap, sym, ◌∙◌, subst, refl, arith}
 use Rattle.disk.specs.Disk.{Life}
 use Rattle.segments.specs.declared.closed.Closed.{Closed}
 use Rattle.segments.specs.declared.entry.Entry.TheVariants.{Closes}
-use Rattle.segments.specs.FolderEvents.{FolderEvent}
+use Rattle.segments.specs.FolderEvents.{FolderEvent, keeping_event}
 use Rattle.segments.specs.Manifest.{ListingState, entry_bytes, listed_with, open_in}
 use Rattle.paged.specs.Recovery.{IsDurable}
 use Rattle.journal.specs.Journal.{OnlyRecords}
@@ -74,9 +74,11 @@ rotated sum own s m n e next kept closed first has asks entered last =
       listed = entered.there;
       there = has.there;
       none = has.none;
-      asked = last.asked ∙ has.asked
-          ∙ ap (λ (l : ListingState). m.asked ++ events_for (open_in l + 1) []) first.listing
-          ∙ ap (λ (events : List FolderEvent). events ++ events_for (open_in s.listing + 1) []) first.asked;
+      copied = record { failed = entered.kept.failed; asked = entered.kept.asked
+          ∙ ap (λ (events : List FolderEvent). events ++ keeping_event (open_in e.listing) e.known e.manifest.life.present.readable entered.kept.failed ∷ [])
+          (has.asked ∙ ap (λ (l : ListingState). m.asked ++ events_for (open_in l + 1) []) first.listing
+          ∙ ap (λ (events : List FolderEvent). events ++ events_for (open_in s.listing + 1) []) first.asked) };
+      known = entered.known;
       loaded = last.loaded ∙ same_loaded;
       page_size = last.page_size ∙ same_size;
       most = last.most ∙ ap (λ (l : LogState). l.most) asks ∙ first.most;

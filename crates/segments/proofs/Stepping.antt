@@ -278,6 +278,8 @@ refused_back sum own s m segment (errors.System e) leaves is = (is.0, ap (λ (l 
 refused_back sum own s m segment (errors.Damaged n) leaves is = (is.0, (is.1.0, ap (λ (l : ListingState). closed_at l segment) (sym leaves.listing) ∙ is.1.1))
 refused_back sum own s m segment (errors.Unlisted n) leaves is = absurd is
 refused_back sum own s m segment (errors.Missing n) leaves is = absurd is
+refused_back sum own s m segment (errors.Short n) leaves is = absurd is
+refused_back sum own s m segment (errors.Outdated n) leaves is = absurd is
 refused_back sum own s m segment errors.Manifest leaves is = absurd is
 refused_back sum own s m segment (errors.NoSegment n) leaves is =
     (is.0, λ same. is.1 (same ∙ sym (ap (λ (l : ListingState). open_in l) leaves.listing)), ap (λ (l : ListingState). closed_at l segment) (sym leaves.listing) ∙ is.2)

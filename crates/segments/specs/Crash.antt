@@ -13,9 +13,9 @@ use Rattle.segments.specs.declared.call.FolderCall.TheVariants as calls
 use Rattle.segments.specs.Digests.{IsOf}
 use Rattle.segments.specs.FolderEvents.{FolderEvent, opening_with}
 use Rattle.segments.specs.Manifest.{ListingState, listed_in, open_in}
-use Rattle.segments.specs.Owned.{HasJournal, content_now, records_now}
-use Rattle.segments.specs.Log.{HasCollision, LogState, closed_records, events_for, listing_from}
-use Rattle.segments.specs.Log.{log_records}
+use Rattle.segments.specs.Owned.{HasJournal, content_now, owned_size, records_now}
+use Rattle.segments.specs.Log.{HasCollision, IsKept, LogState, closed_records, events_for}
+use Rattle.segments.specs.Log.{listing_from, log_records}
 
 -- the records of a log whose manifest lists this, and whose files hold these bytes; each closed
 -- segment held what `held` gives for its number
@@ -149,14 +149,14 @@ abbrev pub AsksForLog : (manifest : List ℕ) → ℕ → (segment : List ℕ) �
 AsksForLog manifest number segment old new =
     new ≡ old ++ opening_with calls.OpensManifest manifest ∷ events_for number segment
 
--- the log of a folder was opened, which had been asked for these calls before. The log has what the
--- files of the manifest and of the open segment gave. All of it is committed, and chance aside a
--- crash leaves nothing else. An empty manifest gets its first entry, and lists no segment
-pub record IsOpenedLog (sum own : List ℕ → ℕ) (before : List FolderEvent) (s : LogState)
+-- the files of a log were opened, of a folder that had been asked for these calls before. The log
+-- has what the files of the manifest and of the open segment gave. All of it is committed, and
+-- chance aside a crash leaves nothing else
+pub record HasOpenedFiles (sum own : List ℕ → ℕ) (before calls : List FolderEvent) (s : LogState)
     : Type 0 where
   pub manifest : List ℕ
   pub bytes : List ℕ
-  pub asked : AsksForLog manifest (open_in s.listing) bytes before s.asked
+  pub asked : AsksForLog manifest (open_in s.listing) bytes before calls
   pub listed : listed_in s.page_size (records own (text sum s.page_size manifest))
       ≡ Some s.listing
   -- so it has the records that are left of a log whose files hold these bytes
@@ -166,3 +166,13 @@ pub record IsOpenedLog (sum own : List ℕ → ℕ) (before : List FolderEvent) 
   pub records : records_now own s.current ≡ records own (text sum s.page_size bytes)
   pub committed : CommitsAll sum own s.page_size (content_now s.current) s.current.life.present
   pub only : OnlyRecords sum own s.page_size (records_now own s.current) s.current.life.present
+  -- all of the open segment's bytes are known then
+  pub known : s.known ≡ owned_size s.current.journal
+
+-- the log of a folder was opened. An empty manifest gets its first entry, and lists no segment. Last
+-- a copy of the manifest was to be kept
+pub record IsOpenedLog (sum own : List ℕ → ℕ) (before : List FolderEvent) (s : LogState)
+    : Type 0 where
+  pub calls : List FolderEvent
+  pub files : HasOpenedFiles sum own before calls s
+  pub kept : IsKept calls s

@@ -2,12 +2,25 @@
 use Rattle.std.specs.Prelude.{ℕ, List, [], Bool, false, true, Result, Ok, Err}
 use Rattle.disk.specs.Disk.{Life}
 use Rattle.segments.specs.declared.call.FolderCall.{FolderCall}
+use Rattle.segments.specs.declared.call.FolderCall.TheVariants as calls
 
--- a call, whether it failed, and the bytes that an opened file gave; no bytes for another call
+-- a call, whether it failed, and the bytes that an opened file gave, or that were to be kept; no
+-- bytes for another call
 pub record FolderEvent : Type 0 where
   pub call : FolderCall
   pub failed : Bool
   pub given : List ℕ
+
+-- a copy of these bytes of the manifest was to be kept, with the number of the open segment, and
+-- with how many logical bytes of that one were durable
+abbrev pub keeping_event : (segment len : ℕ) → List ℕ → Bool → FolderEvent
+keeping_event segment len manifest failed =
+    record { call = calls.Keeps segment len; failed = failed; given = manifest }
+
+-- such a call with the outcome that it answered
+abbrev pub keeping_outcome : {T E : Type 0} → (segment len : ℕ) → List ℕ → Result T E → FolderEvent
+keeping_outcome segment len manifest (Ok _) = keeping_event segment len manifest false
+keeping_outcome segment len manifest (Err _) = keeping_event segment len manifest true
 
 -- a call that gives no bytes, with this outcome
 abbrev pub plain_event : FolderCall → Bool → FolderEvent

@@ -2,8 +2,8 @@
 use Rattle.std.specs.Prelude.{List, [], ◌∷◌, ◌++◌}
 use Rattle.disk.specs.Disk.{Life}
 use Rattle.segments.specs.declared.past.Last.{Last}
-use Rattle.segments.specs.declared.past.Last.TheVariants.{Nothing, After, Opened}
-use Rattle.segments.specs.FolderEvents.{FolderEvent, plain_event, opening_with}
+use Rattle.segments.specs.declared.past.Last.TheVariants.{Nothing, After, Opened, Kept}
+use Rattle.segments.specs.FolderEvents.{FolderEvent, keeping_event, plain_event, opening_with}
 
 -- a ghost past as a list of calls, the oldest first
 abbrev pub events_of : {B : Type 0} → (B → Life) → Last B → List FolderEvent
@@ -11,3 +11,6 @@ events_of life Nothing = []
 events_of life (After before call failed) = before.value.value ++ plain_event call failed ∷ []
 events_of life (Opened before call blob) =
     before.value.value ++ opening_with call (life blob.value).present.readable ∷ []
+events_of life (Kept before segment len manifest failed) =
+    let bytes = (life manifest.value).present.readable in
+    before.value.value ++ keeping_event segment len bytes failed ∷ []

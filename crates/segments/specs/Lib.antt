@@ -5,5 +5,6 @@ pub mod FolderPast
 pub mod Folders
 pub mod Owned
 pub mod Log
+pub mod Copies
 pub mod Crash
 pub mod Scan

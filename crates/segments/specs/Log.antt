@@ -1,5 +1,6 @@
 -- A log in segments: what it has, and what stands between its calls.
-use Rattle.std.specs.Prelude.{◌≡◌, ◌≢◌, ◌⊎◌, ℕ, suc, List, [], ◌∷◌, ◌++◌, length}
+use Rattle.std.specs.Prelude.{◌≡◌, ◌≢◌, ◌⊎◌, ℕ, suc, List, [], ◌∷◌, ◌++◌, length, Bool}
+use Rattle.std.specs.Prelude.{◌==◌, if◌then◌else◌}
 use Rattle.std.specs.Prelude.{Option, Some, None, IfSome}
 use Rattle.std.specs.Prelude.{Result, Ok, Err, ◌+◌, ◌-◌, ◌<◌, ◌≤◌, false, true, drop}
 use Rattle.disk.specs.Disk.{Life}
@@ -18,7 +19,7 @@ use Rattle.segments.specs.declared.error.Error.{Error}
 use Rattle.segments.specs.declared.place.Place.{Place}
 use Rattle.segments.specs.declared.error.Error.TheVariants as errors
 use Rattle.segments.specs.Digests.{Collide, IsOf, SameKept}
-use Rattle.segments.specs.FolderEvents.{FolderEvent, plain_event, opening_with}
+use Rattle.segments.specs.FolderEvents.{FolderEvent, keeping_event, plain_event, opening_with}
 use Rattle.segments.specs.Manifest.{ListingState, closed_at, entry_bytes, entry_in, listed_in}
 use Rattle.segments.specs.Manifest.{listed_with, open_in}
 use Rattle.segments.specs.Owned.{HasJournal, IsOwned, IsShut, KeepsRecords, OwnedAppendGoes}
@@ -33,7 +34,7 @@ pub record LoadedState : Type 0 where
   pub owned : OwnedState
 
 -- a log as contracts see it: the manifest, the open segment, what the manifest lists, what the
--- folder was asked for, and the closed segment that was read last
+-- folder was asked for, the closed segment that was read last, and what is known of the open one
 pub record LogState : Type 0 where
   pub manifest : OwnedState
   pub current : OwnedState
@@ -43,6 +44,12 @@ pub record LogState : Type 0 where
   pub page_size : ℕ
   -- from how many bytes on a segment is closed
   pub most : ℕ
+  -- how many logical bytes of the open segment were durable as the log was opened or rotated
+  pub known : ℕ
+
+-- from how many bytes on a segment is closed: no empty one is
+abbrev pub most_for : (segment_size : ℕ) → ℕ
+most_for segment_size = if segment_size == 0 then 1 else segment_size
 
 -- a content is the whole frames of bytes of which this was kept
 pub record HoldsClosed (sum : List ℕ → ℕ) (P : ℕ) (kept : Closed) (held : List ℕ) : Type 0 where
@@ -76,20 +83,38 @@ pub record IsLog (sum own : List ℕ → ℕ) (s : LogState) : Type 0 where
 
 -- ---- an entry
 
--- the log is the same, except for the manifest and what it lists
+-- the log is the same, except for the manifest, what it lists, and its copy
 pub record IsSameButManifest (s t : LogState) : Type 0 where
   pub current : t.current ≡ s.current
-  pub asked : t.asked ≡ s.asked
   pub loaded : t.loaded ≡ s.loaded
   pub page_size : t.page_size ≡ s.page_size
   pub most : t.most ≡ s.most
 
--- an entry was added to the manifest, and is durable
+-- the last call that the folder was asked for, after these, was to keep a copy of the manifest as it
+-- is now, with what is known of the open segment. If that failed the log goes on
+pub record IsKept (before : List FolderEvent) (t : LogState) : Type 0 where
+  pub failed : Bool
+  pub asked : t.asked ≡ before ++ keeping_event (open_in t.listing) t.known
+      t.manifest.life.present.readable failed ∷ []
+
+-- a copy of the manifest was to be kept, and nothing else was done
+pub record HasKept (s t : LogState) : Type 0 where
+  pub kept : IsKept s.asked t
+  pub rest : t ≡ record s { asked = t.asked }
+
+-- what is known of the open segment after an entry: the next one has no byte yet
+abbrev pub known_with : Entry → ℕ → ℕ
+known_with (Starts first page_size) known = known
+known_with (Closes kept) known = 0
+
+-- an entry was added to the manifest, and is durable; then a copy was to be kept
 pub record IsEntered (own : List ℕ → ℕ) (entry : Entry) (s t : LogState) : Type 0 where
   pub listing : listed_with s.page_size entry s.listing ≡ Some t.listing
   pub there : HasJournal t.manifest.journal (λ w. Unit {0})
   pub records : records_now own t.manifest
       ≡ records_now own s.manifest ++ entry_bytes entry ∷ []
+  pub known : t.known ≡ known_with entry s.known
+  pub kept : IsKept s.asked t
 
 -- an entry is refused: it can't follow those before it; or a call of the manifest failed, now or
 -- before; or memory failed
@@ -99,13 +124,20 @@ EnterRefused entry s errors.Manifest = listed_with s.page_size entry s.listing �
 EnterRefused entry s errors.Closed = s.manifest.journal ≡ None
 EnterRefused entry s e = ⊥
 
--- an entry, by its answer: after an error the listing is as it was, and the manifest too, or it has
--- no journal
+-- after an error the listing is as it was, and the manifest too, or it has no journal. The folder
+-- was asked for nothing
+pub record IsNotEntered (entry : Entry) (s t : LogState) (e : Error) : Type 0 where
+  pub listing : t.listing ≡ s.listing
+  pub asked : t.asked ≡ s.asked
+  pub known : t.known ≡ s.known
+  pub left : (t ≡ s) ⊎ (t.manifest.journal ≡ None)
+  pub refused : EnterRefused entry s e
+
+-- an entry, by its answer
 abbrev pub EnterGoes : (own : List ℕ → ℕ) → Entry → LogState → LogState → Result (Unit {0}) Error
     → Type 0
 EnterGoes own entry s t (Ok u) = IsEntered own entry s t
-EnterGoes own entry s t (Err e) =
-    (t.listing ≡ s.listing) × ((t ≡ s) ⊎ (t.manifest.journal ≡ None)) × EnterRefused entry s e
+EnterGoes own entry s t (Err e) = IsNotEntered entry s t e
 
 -- what was committed of the manifest is so at each moment since, and chance aside (no checksum
 -- collides) a crash at any of these moments leaves only the first of its entries with this one
@@ -136,6 +168,7 @@ pub record IsSameButCurrent (s t : LogState) : Type 0 where
   pub loaded : t.loaded ≡ s.loaded
   pub page_size : t.page_size ≡ s.page_size
   pub most : t.most ≡ s.most
+  pub known : t.known ≡ s.known
 
 -- the open segment was closed: this is what is kept of it, and all of it is durable
 pub record IsClosedWith (sum own : List ℕ → ℕ) (s t : LogState) (kept : Closed) : Type 0 where
@@ -228,7 +261,9 @@ pub record IsRotated (sum own : List ℕ → ℕ) (s t : LogState) : Type 0 wher
   pub listed : HasJournal t.manifest.journal (λ w. Unit {0})
   pub there : HasJournal t.current.journal (λ w. Unit {0})
   pub none : records_now own t.current ≡ []
-  pub asked : t.asked ≡ s.asked ++ events_for (open_in s.listing + 1) []
+  -- the next file, its name, and then the manifest with its entry
+  pub copied : IsKept (s.asked ++ events_for (open_in s.listing + 1) []) t
+  pub known : t.known ≡ 0
   pub loaded : t.loaded ≡ s.loaded
   pub page_size : t.page_size ≡ s.page_size
   pub most : t.most ≡ s.most
@@ -365,6 +400,7 @@ pub record LeavesReading (sum own : List ℕ → ℕ) (s t : LogState) : Type 0 
   pub asked : t.asked ≡ s.asked
   pub page_size : t.page_size ≡ s.page_size
   pub most : t.most ≡ s.most
+  pub known : t.known ≡ s.known
   pub current : (t.current ≡ s.current) ⊎ OwnedReadLeaves sum own s.current t.current
   pub holds : content_now t.current ≡ content_now s.current
   pub journal : t.current.journal ≡ s.current.journal
@@ -403,6 +439,7 @@ pub record IsSameButLoaded (s t : LogState) : Type 0 where
   pub asked : t.asked ≡ s.asked
   pub page_size : t.page_size ≡ s.page_size
   pub most : t.most ≡ s.most
+  pub known : t.known ≡ s.known
 
 -- ---- dropping
 
@@ -437,11 +474,14 @@ pub record IsStartedFrom (segment : ℕ) (s t : LogState) : Type 0 where
   pub listing : t.listing ≡ listing_from segment s.listing
   pub there : HasJournal t.manifest.journal (λ w. Unit {0})
   pub rest : IsSameButManifest s t
+  pub known : t.known ≡ s.known
+  pub kept : IsKept s.asked t
 
+-- such an entry by its answer
 abbrev pub StartFromGoes : ℕ → LogState → LogState → Result (Unit {0}) Error → Type 0
 StartFromGoes segment s t (Ok u) = IsStartedFrom segment s t
 StartFromGoes segment s t (Err e) =
-    IsSameButManifest s t × (t.listing ≡ s.listing) × EnterRefused (Starts segment s.page_size) s e
+    IsSameButManifest s t × IsNotEntered (Starts segment s.page_size) s t e
 
 -- the log was closed: the open segment has no journal any more. What the manifest lists stays, and
 -- so does all else, except for the manifest's own journal
@@ -452,6 +492,7 @@ pub record IsClosedOff (s t : LogState) : Type 0 where
   pub loaded : t.loaded ≡ s.loaded
   pub page_size : t.page_size ≡ s.page_size
   pub most : t.most ≡ s.most
+  pub known : t.known ≡ s.known
 
 -- such an entry by its answer, where an error closes the log
 abbrev pub StartOrCloseGoes : ℕ → LogState → LogState → Result (Unit {0}) Error → Type 0
@@ -459,15 +500,21 @@ StartOrCloseGoes segment s t (Ok u) = IsStartedFrom segment s t
 StartOrCloseGoes segment s t (Err e) =
     IsClosedOff s t × EnterRefused (Starts segment s.page_size) s e
 
--- just the segments before this one were dropped, if there were such, and the manifest has that.
--- The folder was asked only to remove older files than the first that stays
+-- there was no such segment; or the manifest lists this one as the first
+abbrev pub StartsAt : ℕ → LogState → LogState → Type 0
+StartsAt segment s m = ((segment ≤ s.listing.first) × (m ≡ s))
+    ⊎ ((s.listing.first < segment) × IsStartedFrom segment s m)
+
+-- just the segments before this one were dropped, if there were such: the manifest has that, a copy
+-- of it was to be kept, and only then the folder was asked to remove files, all of them older than
+-- the first that stays
 pub record IsDropping (segment : ℕ) (s t : LogState) : Type 0 where
   pub within : segment ≤ open_in s.listing
-  pub listing : ((segment ≤ s.listing.first) × (t.listing ≡ s.listing))
-      ⊎ ((s.listing.first < segment) × (t.listing ≡ listing_from segment s.listing))
+  pub mid : LogState
+  pub starts : StartsAt segment s mid
   pub there : HasJournal t.manifest.journal (λ w. Unit {0})
-  pub current : t.current ≡ s.current
-  pub removed : AsksOfOlder t.listing.first s.asked t.asked
+  pub rest : IsSameButAsked mid t
+  pub removed : AsksOfOlder t.listing.first mid.asked t.asked
 
 -- a drop was done: the names of the files are durable
 pub record IsDropped (segment : ℕ) (s t : LogState) : Type 0 where
@@ -478,13 +525,19 @@ pub record IsDropped (segment : ℕ) (s t : LogState) : Type 0 where
 abbrev pub IsClosedLog : LogState → Type 0
 IsClosedLog s = (s.current.journal ≡ None) ⊎ (s.manifest.journal ≡ None)
 
+-- the log is open, and has no such segment yet, so nothing was done
+pub record IsBeyond (segment n : ℕ) (s t : LogState) : Type 0 where
+  pub same : t ≡ s
+  pub named : n ≡ segment
+  pub beyond : open_in s.listing < segment
+  pub stays : IsClosedLog s → ⊥
+
 -- a drop, by its answer. Nothing is done where the log is closed, or there is no such segment yet.
 -- If the manifest can't be written no file is removed, and the log is closed. If the folder refuses
 -- a call the drop is in the manifest
 abbrev pub LogDropGoes : ℕ → LogState → LogState → Result (Unit {0}) Error → Type 0
 LogDropGoes segment s t (Ok u) = IsDropped segment s t
-LogDropGoes segment s t (Err (errors.NoSegment n)) =
-    (t ≡ s) × (n ≡ segment) × (open_in s.listing < segment)
+LogDropGoes segment s t (Err (errors.NoSegment n)) = IsBeyond segment n s t
 LogDropGoes segment s t (Err errors.Closed) = (t ≡ s) × IsClosedLog s
 LogDropGoes segment s t (Err (errors.Layer e)) =
     IsClosedOff s t × (s.listing.first < segment) × (segment ≤ open_in s.listing)

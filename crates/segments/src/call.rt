@@ -10,4 +10,7 @@ pub enum FolderCall {
     Removes(u64),
     /// The names of the files were made durable.
     Syncs,
+    /// The copy of the manifest was made to hold the manifest's bytes. With them it has the number of
+    /// the open segment, and how many logical bytes of that one were durable.
+    Keeps(u64, u64),
 }

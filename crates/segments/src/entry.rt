@@ -2,6 +2,7 @@
 ghost use Rattle.std.specs.Prelude.{◌≡◌, ◌≤◌, ◌+◌, length, drop, IfOk, IsOkUnless, Some};
 ghost use Rattle.std.specs.Int.{w64, from_be_bytes};
 ghost use Rattle.segments.specs.Manifest.{entry_bytes, entry_in};
+ghost use Rattle.segments.specs.Log.{known_with};
 ghost use Rattle.segments.specs.declared.entry.Entry.TheVariants.{Starts, Closes};
 
 use crate::closed::Closed;
@@ -17,8 +18,21 @@ pub enum Entry {
     Closes(Closed),
 }
 
-// A number of eight bytes, the highest first, that stands at an offset.
-fn number_at(bytes: &[u8], at: usize) -> u64
+impl Entry {
+    /// What is known of the open segment's logical bytes after this entry, if so many were before: a
+    /// segment that follows has none yet.
+    pub fn known_with(&self, known: u64) -> u64
+        ensures { result ≡ known_with self.now known }
+    {
+        match self {
+            Entry::Starts(_, _) => known,
+            Entry::Closes(_) => 0,
+        }
+    }
+}
+
+/// A number of eight bytes, the highest first, that stands at an offset.
+pub fn number_at(bytes: &[u8], at: usize) -> u64
     requires { at + 8 ≤ length bytes.now }
     ensures { result ≡ from_be_bytes w64 (drop at bytes.now) }
 {

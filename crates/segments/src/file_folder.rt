@@ -7,11 +7,13 @@ ghost use Rattle.segments.specs.Folders.{call_for};
 
 use crate::call::FolderCall;
 use crate::folder::{Asked, Folder};
+use crate::known::{Known, copy_of};
 use crate::names::Names;
 use crate::past::FolderPast;
 use disk::VecBlob;
 use file::FileBlob;
 use std::fs::File;
+use std::io::ErrorKind;
 use std::marker::Model;
 use std::snapshot::Snapshot;
 use std::{fs, io};
@@ -59,6 +61,16 @@ impl FileFolder {
 
     fn sync_names(&self) -> io::Result<()> {
         File::open(self.names.rt(), self.names.folder())?.sync_all()
+    }
+
+    // Keeps a copy of these bytes of the manifest.
+    fn write_copy(&self, manifest: &[u8], known: Known) -> io::Result<()> {
+        let rt = self.names.rt();
+        let bytes = match copy_of(rt.alloc(), known, manifest) {
+            Ok(bytes) => bytes,
+            Err(_) => return Err(ErrorKind::OutOfMemory.into()),
+        };
+        file::keep(rt, self.names.copy_path()?.as_str(), &bytes)
     }
 
     // Notes one call more.
@@ -121,5 +133,19 @@ impl Folder<FileBlob> for FileFolder {
         let synced = self.sync_names();
         self.note(FolderCall::Syncs, synced.is_err());
         synced
+    }
+
+    fn keep(&mut self, manifest: &FileBlob, known: Known) -> io::Result<()> {
+        let kept = self.write_copy(manifest.bytes(), known);
+        self.past = FolderPast::kept(&self.past, manifest, known, kept.is_err());
+        kept
+    }
+
+    fn kept(&mut self) -> io::Result<Option<Known>> {
+        match file::read(self.names.rt(), self.names.copy_path()?.as_str()) {
+            Ok(copy) => Ok(Known::of(copy.bytes())),
+            Err(error) if error.kind() == ErrorKind::NotFound => Ok(None),
+            Err(error) => Err(error),
+        }
     }
 }

@@ -4,9 +4,11 @@ ghost use Rattle.disk.specs.History.{life_of, begun};
 ghost use Rattle.paged.specs.Recovery.{IsDurable};
 ghost use Rattle.segments.specs.Folders.{call_for};
 ghost use Rattle.segments.specs.FolderEvents.{FolderEvent, folder_outcome, opening_outcome};
+ghost use Rattle.segments.specs.FolderEvents.{keeping_outcome};
 ghost use Rattle.segments.specs.declared.call.FolderCall.TheVariants as calls;
 
 use crate::call::FolderCall;
+use crate::known::Known;
 use disk::{Blob, VecBlob};
 use std::io;
 
@@ -75,4 +77,16 @@ pub trait Folder<B: Blob> {
     /// Makes the names of the files durable.
     fn sync(&mut self) -> io::Result<()>
         ensures asked { asked self.new ≡ asked self.old ++ folder_outcome calls.Syncs result ∷ [] };
+
+    /// Makes the copy of the manifest hold these bytes of the manifest and what is known of the open
+    /// segment, and makes that durable. After an error the copy may hold anything.
+    fn keep(&mut self, manifest: &B, known: Known) -> io::Result<()>
+        ensures asked { let bytes = (B.life manifest.now).present.readable in
+            let event = keeping_outcome known.segment known.len bytes result in
+            asked self.new ≡ asked self.old ++ event ∷ [] };
+
+    /// What was known of the open segment as a copy of the manifest was kept last. `None` where
+    /// there is no copy, or where it isn't whole.
+    fn kept(&mut self) -> io::Result<Option<Known>>
+        ensures asked { asked self.new ≡ asked self.old };
 }

@@ -7,6 +7,7 @@ ghost use Rattle.segments.specs.Folders.{call_for};
 
 use crate::call::FolderCall;
 use crate::folder::{Asked, Folder};
+use crate::known::Known;
 use crate::names::Names;
 use crate::past::FolderPast;
 use disk::VecBlob;
@@ -110,5 +111,16 @@ impl Folder<VecBlob> for FolderCopy {
     fn sync(&mut self) -> io::Result<()> {
         self.note(FolderCall::Syncs, false);
         Ok(())
+    }
+
+    /// Does nothing: no file is changed.
+    fn keep(&mut self, manifest: &VecBlob, known: Known) -> io::Result<()> {
+        self.past = FolderPast::kept(&self.past, manifest, known, false);
+        Ok(())
+    }
+
+    /// Nothing: a log over a copy is for reading what there is.
+    fn kept(&mut self) -> io::Result<Option<Known>> {
+        Ok(None)
     }
 }

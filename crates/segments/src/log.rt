@@ -2,19 +2,21 @@
 ghost use Rattle.std.specs.Prelude.{◌≡◌, ◌+◌};
 ghost use Rattle.std.specs.Int.NonZero.{non_zero_u16_get};
 ghost use Rattle.segments.specs.Manifest.{closed_at, closed_count, fitting, open_in};
-ghost use Rattle.segments.specs.Log.{EnterGoes, IsLog, IsSameButManifest, Tries};
+ghost use Rattle.segments.specs.Log.{EnterGoes, HasKept, IsLog, IsSameButManifest, Tries};
 ghost use Rattle.segments.specs.Owned.{owned_size};
 
 use crate::closed::Closed;
 use crate::entry::{Entry, bytes_of};
 use crate::error::Error;
 use crate::folder::Folder;
+use crate::known::Known;
 use crate::listing::Listing;
 use crate::loaded::Loaded;
 use crate::owned::OwnedJournal;
 use disk::Blob;
 use page::Sum;
 use std::alloc::Global;
+use std::io;
 use std::marker::Model;
 use std::num::{NonZeroU16, NonZeroUsize};
 
@@ -29,7 +31,8 @@ pub struct Options {
     pub pages: NonZeroUsize,
     /// How many bytes an opening reads at once.
     pub buffer_size: NonZeroUsize,
-    /// An append rotates where the frames of the open segment have so many logical bytes or more.
+    /// An append rotates where the frames of the open segment have so many logical bytes or more. 0
+    /// counts as 1: no segment is closed that has no record.
     pub segment_size: u64,
 }
 
@@ -42,6 +45,10 @@ pub struct SegmentedLog<F: Folder<B>, B: Blob, H: Sum, R: Sum> {
     pub(crate) current: OwnedJournal<B, H, R>,
     pub(crate) listing: Listing,
     pub(crate) loaded: Option<Loaded<H, R>>,
+    // How many logical bytes of the open segment were durable as the log was opened or rotated.
+    pub(crate) known: u64,
+    // Why the copy of the manifest couldn't be kept last.
+    pub(crate) unkept: Option<io::Error>,
 }
 
 // By hand, so that an owner lets one go by one call: of a derived drop, a proof follows each field
@@ -56,6 +63,8 @@ impl<F: Folder<B> + Drop, B: Blob + Drop, H: Sum, R: Sum> Drop for SegmentedLog<
             current: _,
             listing: _,
             loaded: _,
+            known: _,
+            unkept: _,
         } = self;
     }
 }
@@ -74,6 +83,7 @@ impl<F: Folder<B>, B: Blob, H: Sum, R: Sum> Model for SegmentedLog<F, B, H, R> {
       loaded = l.loaded;
       page_size = non_zero_u16_get l.options.page_size;
       most = l.options.segment_size;
+      known = l.known;
     } };
 }
 
@@ -145,8 +155,30 @@ impl<F: Folder<B> + Drop, B: Blob + Drop, H: Sum, R: Sum> SegmentedLog<F, B, H, 
         self.listing.closed(segment)
     }
 
-    // Adds an entry to the manifest, and takes it into the listing once it is durable. `Manifest`
-    // where the entry can't follow those before it. After an error the listing is as it was.
+    /// Why the copy of the manifest couldn't be kept last, as the log was opened or as the last
+    /// entry was added; `None` where it was kept. The log goes on without one: the manifest itself is
+    /// durable. But until a copy is kept again, a manifest that is damaged can't be had back whole.
+    pub fn copy_failure(&self) -> Option<&io::Error> {
+        self.unkept.as_ref()
+    }
+
+    // Has the folder keep a copy of the manifest. The log goes on where that fails.
+    #[tactic(auto, using(crate::proofs::Keeping::kept_ready))]
+    pub(crate) fn keep(&mut self)
+        ensures has { HasKept self.old self.new }
+        ensures ready { IsLog H.sum_of R.sum_of self.old → IsLog H.sum_of R.sum_of self.new }
+    {
+        let known = Known {
+            segment: self.listing.open(),
+            len: self.known,
+        };
+        let kept = self.folder.keep(self.manifest.blob(), known);
+        self.unkept = kept.err();
+    }
+
+    // Adds an entry to the manifest, takes it into the listing once it is durable, and then has a
+    // copy of the manifest kept. `Manifest` where the entry can't follow those before it. After an
+    // error the listing is as it was.
     pub(crate) fn enter(&mut self, entry: &Entry) -> Result<(), Error>
         requires log { IsLog H.sum_of R.sum_of self.old }
         ensures goes { EnterGoes R.sum_of entry.now self.old self.new result }
@@ -161,6 +193,8 @@ impl<F: Folder<B> + Drop, B: Blob + Drop, H: Sum, R: Sum> SegmentedLog<F, B, H, 
         match self.manifest.add(&bytes) {
             Ok(()) => {
                 self.listing = listing;
+                self.known = entry.known_with(self.known);
+                self.keep();
                 Ok(())
             }
             Err(error) => Err(error),

@@ -46,6 +46,13 @@ impl Names {
         Ok(name)
     }
 
+    /// The path of the manifest's copy.
+    pub fn copy_path(&self) -> io::Result<String> {
+        let path = self.path.as_str();
+        let name = format!(in self.rt.alloc(); "{path}/manifest.copy")?;
+        Ok(name)
+    }
+
     /// Whether a file is there.
     pub fn has(&self, file: Asked) -> io::Result<bool> {
         fs::exists(&self.rt, self.path_of(file)?.as_str())

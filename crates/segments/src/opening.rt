@@ -4,8 +4,8 @@ ghost use Rattle.std.specs.Int.NonZero.{non_zero_u16_get};
 ghost use Rattle.paged.specs.Recovery.{IsDurable};
 ghost use Rattle.segments.specs.FolderEvents.{FolderEvent};
 ghost use Rattle.segments.specs.Log.{AreParts, AsksForSegment, HasOpened, HasCurrent, HasManifest};
-ghost use Rattle.segments.specs.Log.{IsLog, LeavesOpened};
-ghost use Rattle.segments.specs.Crash.{IsOpenedLog};
+ghost use Rattle.segments.specs.Log.{IsLog, LeavesOpened, most_for};
+ghost use Rattle.segments.specs.Crash.{HasOpenedFiles, IsOpenedLog};
 
 use crate::entry::{Entry, bytes_of};
 use crate::error::Error;
@@ -24,8 +24,9 @@ impl<F: Folder<B> + Drop, B: Blob + Drop, H: Sum, R: Sum> SegmentedLog<F, B, H, 
     /// Before anything is changed, a copy of the manifest is read and compared with the files that
     /// are there. `Manifest` where the manifest can't be read, as with another page size.
     /// `Unlisted` where a segment after the open one has bytes, or where a segment has bytes and
-    /// there is no manifest: the manifest may be an old one, or be lost. `Missing` where the open
-    /// segment isn't there. `System` where the system refuses a file, and `Layer` where the device
+    /// there is no manifest: the manifest may be an old one, or be lost. `Outdated` where a copy of the
+    /// manifest knows a later segment. `Missing` where the open segment isn't there, and `Short` where
+    /// it has fewer bytes than it had as it was opened last. `System` where the system refuses a file, and `Layer` where the device
     /// or memory failed. After an error the blobs are gone, so no clause says what their files hold:
     /// each recovery of a journal on the way keeps what was committed (`leaves` of
     /// [`journal::Journal::recover`]).
@@ -36,7 +37,12 @@ impl<F: Folder<B> + Drop, B: Blob + Drop, H: Sum, R: Sum> SegmentedLog<F, B, H, 
             IfOk result (λ log. IsOpenedLog H.sum_of R.sum_of before log) }
         ensures page_size { IfOk result (λ log.
             log.page_size ≡ non_zero_u16_get options.page_size) }
+        ensures most { IfOk result (λ log. log.most ≡ most_for options.segment_size) }
     {
+        let options = Options {
+            segment_size: options.segment_size.max(1),
+            ..options
+        };
         let mut folder = folder;
         match open_parts::<F, B, H, R>(alloc, &mut folder, options) {
             Ok(parts) => {
@@ -46,6 +52,7 @@ impl<F: Folder<B> + Drop, B: Blob + Drop, H: Sum, R: Sum> SegmentedLog<F, B, H, 
                     listing,
                     is_new,
                 } = parts;
+                let known = current.size();
                 let mut log = SegmentedLog {
                     alloc,
                     options,
@@ -54,6 +61,8 @@ impl<F: Folder<B> + Drop, B: Blob + Drop, H: Sum, R: Sum> SegmentedLog<F, B, H, 
                     current,
                     listing,
                     loaded: None,
+                    known,
+                    unkept: None,
                 };
                 match log.begin(is_new) {
                     Ok(()) => Ok(log),
@@ -64,16 +73,18 @@ impl<F: Folder<B> + Drop, B: Blob + Drop, H: Sum, R: Sum> SegmentedLog<F, B, H, 
         }
     }
 
-    // Gives a new manifest its first entry.
+    // Gives a new manifest its first entry, and has a copy of it kept.
     fn begin(&mut self, is_new: bool) -> Result<(), Error>
         requires log { IsLog H.sum_of R.sum_of self.old }
         ensures log { IfOk result (λ u. IsLog H.sum_of R.sum_of self.new) }
         ensures opens { (before : List FolderEvent)
-            → IsOpenedLog H.sum_of R.sum_of before self.old
+            → HasOpenedFiles H.sum_of R.sum_of before self.old.asked self.old
             → IfOk result (λ u. IsOpenedLog H.sum_of R.sum_of before self.new) }
         ensures page_size { self.new.page_size ≡ self.old.page_size }
+        ensures most { self.new.most ≡ self.old.most }
     {
         if !is_new {
+            self.keep();
             return Ok(());
         }
         let first = self.listing.first();
@@ -169,7 +180,7 @@ fn open_number<F: Folder<B>, B: Blob + Drop, H: Sum, R: Sum>(
     let Some(number) = listed_open::<F, B, H, R>(alloc, folder, options, is_used)? else {
         return match last {
             Some(number) => Err(Error::Unlisted(number)),
-            None => Ok(0),
+            None => is_known::<F, B, H, R>(alloc, folder, options, 0),
         };
     };
     if let Some(last) = last {
@@ -179,6 +190,34 @@ fn open_number<F: Folder<B>, B: Blob + Drop, H: Sum, R: Sum>(
     }
     if !folder.has(Asked::Segment(number))? {
         return Err(Error::Missing(number));
+    }
+    is_known::<F, B, H, R>(alloc, folder, options, number)
+}
+
+// Answers the number of the open segment again, unless what was known as a copy of the manifest was
+// kept last is against it: `Outdated` where a later one was open, and `Short` where this one had more
+// bytes, by a copy of its file. It changes nothing.
+fn is_known<F: Folder<B>, B: Blob + Drop, H: Sum, R: Sum>(
+    alloc: Global,
+    folder: &mut F,
+    options: Options,
+    number: u64,
+) -> Result<u64, Error>
+    ensures { F.asked folder.new ≡ F.asked folder.old }
+{
+    let Some(known) = folder.kept()? else {
+        return Ok(number);
+    };
+    if number < known.segment {
+        return Err(Error::Outdated(known.segment));
+    }
+    if known.segment < number || known.len == 0 {
+        return Ok(number);
+    }
+    let copy = folder.read(Asked::Segment(number))?;
+    let (current, _) = recover::<VecBlob, H, R>(alloc, options, copy)?;
+    if current.size() < known.len {
+        return Err(Error::Short(number));
     }
     Ok(number)
 }

@@ -1,8 +1,9 @@
 // What a folder was asked for, as ghost data: nothing of it is left at run time.
 ghost use Rattle.std.specs.Prelude.{◌≡◌, [], ◌∷◌, ◌++◌};
-ghost use Rattle.segments.specs.FolderEvents.{plain_event, opening_with};
+ghost use Rattle.segments.specs.FolderEvents.{keeping_event, plain_event, opening_with};
 
 use crate::call::FolderCall;
+use crate::known::Known;
 use disk::Blob;
 use std::marker::Model;
 use std::snapshot::Snapshot;
@@ -23,6 +24,7 @@ enum Last<B: Blob> {
     Nothing,
     After(Snapshot<Snapshot<FolderPast<B>>>, FolderCall, bool),
     Opened(Snapshot<Snapshot<FolderPast<B>>>, FolderCall, Snapshot<B>),
+    Kept(Snapshot<Snapshot<FolderPast<B>>>, u64, u64, Snapshot<B>, bool),
 }
 
 impl<B: Blob> Model for FolderPast<B> {
@@ -70,6 +72,25 @@ impl<B: Blob> FolderPast<B> {
     {
         let past = FolderPast {
             last: Last::Opened(Snapshot::of(before), call, Snapshot::of(blob)),
+        };
+        Snapshot::of(&past)
+    }
+
+    /// This past and one call more that was to keep a copy of the manifest, which is this blob, and
+    /// with it these two numbers.
+    pub fn kept(
+        before: &Snapshot<Self>,
+        manifest: &B,
+        known: Known,
+        failed: bool,
+    ) -> Snapshot<Self>
+        ensures { let bytes = (B.life manifest.now).present.readable in
+            result.value
+            ≡ before.now.value ++ keeping_event known.segment known.len bytes failed ∷ [] }
+    {
+        let before = Snapshot::of(before);
+        let past = FolderPast {
+            last: Last::Kept(before, known.segment, known.len, Snapshot::of(manifest), failed),
         };
         Snapshot::of(&past)
     }

@@ -1,6 +1,6 @@
-use Rattle.std.proofs.Common.{◌∙◌, sym, subst}
+use Rattle.std.proofs.Common.{◌∙◌, ap, refl, sym, subst}
 use Rattle.std.specs.Prelude.{◌≡◌, Err, Ok, Some}
-use Rattle.segments.specs.Log.{IsLog}
+use Rattle.segments.specs.Log.{IsLog, LogState}
 use Rattle.segments.specs.Manifest.{listed_with}
 use Rattle.segments.specs.Owned.{OwnedAddGoes, OwnedAddKeeps}
 use Rattle.segments.proofs.Entering.{enter_failed, enter_ready, entry_tried}
@@ -11,10 +11,10 @@ returns-in-Ok-clause-ready g c =
     let sum = g.H.Sum.sum_of in
     let own = g.R.Sum.sum_of in
     let log = subst (λ s. IsLog sum own s) (sym c.self.view_is) c.requires.log in
-    enter_ready sum own c.args.entry.now c.in_ok-bytes.bytes.items _ c.in-Some.listing c.add.new.self tt log c.add.ensures.ready c.add.ensures.page_size
+    c.keep.ensures.ready (enter_ready sum own c.args.entry.now c.in_ok-bytes.bytes.items _ c.in-Some.listing c.add.new.self _ tt log c.add.ensures.ready c.add.ensures.page_size
     c.in_ok-bytes.ensures.told
     (subst (λ P. listed_with P c.args.entry.now c.self.inside.listing ≡ Some c.in-Some.listing) c.get.ensures.value (sym c.in_ok-listing.ensures ∙ c.in-Some.is))
-    (subst (λ bytes. OwnedAddGoes sum own bytes c.self.inside.manifest c.add.new.self (Ok tt)) c.deref.ensures.value c.in-Ok.ensures.goes)
+    (subst (λ bytes. OwnedAddGoes sum own bytes c.self.inside.manifest c.add.new.self (Ok tt)) c.deref.ensures.value c.in-Ok.ensures.goes))
 
 pub returns-clause-ready : goal.returns-clause-ready
 returns-clause-ready g c =
@@ -29,7 +29,7 @@ returns-in-Ok-clause-tries g c =
     let sum = g.H.Sum.sum_of in
     let own = g.R.Sum.sum_of in
     let log = subst (λ s. IsLog sum own s) (sym c.self.view_is) c.requires.log in
-    entry_tried sum own c.args.entry.now c.in_ok-bytes.bytes.items _ c.args.self.now _ c.in-Some.listing c.self.view_is c.in_ok-bytes.ensures.bytes
+    entry_tried sum own c.args.entry.now c.in_ok-bytes.bytes.items _ c.args.self.now _ c.in-Some.listing c.add.new.self (ap (λ (l : LogState). l.manifest) c.keep.ensures.has.rest) c.self.view_is c.in_ok-bytes.ensures.bytes
     c.in_ok-bytes.ensures.told
     (subst (λ P. listed_with P c.args.entry.now c.self.inside.listing ≡ Some c.in-Some.listing) c.get.ensures.value (sym c.in_ok-listing.ensures ∙ c.in-Some.is))
     log.manifest_pages
@@ -40,7 +40,7 @@ returns-clause-tries g c =
     let sum = g.H.Sum.sum_of in
     let own = g.R.Sum.sum_of in
     let log = subst (λ s. IsLog sum own s) (sym c.self.view_is) c.requires.log in
-    entry_tried sum own c.args.entry.now c.in_ok-bytes.bytes.items _ c.args.self.now _ c.in-Some.listing c.self.view_is c.in_ok-bytes.ensures.bytes
+    entry_tried sum own c.args.entry.now c.in_ok-bytes.bytes.items _ c.args.self.now _ c.in-Some.listing c.add.new.self refl c.self.view_is c.in_ok-bytes.ensures.bytes
     c.in_ok-bytes.ensures.told
     (subst (λ P. listed_with P c.args.entry.now c.self.inside.listing ≡ Some c.in-Some.listing) c.get.ensures.value (sym c.in_ok-listing.ensures ∙ c.in-Some.is))
     log.manifest_pages
