@@ -9,6 +9,7 @@ use disk::{Blob, Error};
 use file::FileBlob;
 use page::Sum;
 use paged::Verdict;
+use std::{fs, io};
 
 /// Opens a file, or makes it. Where that fails, a line says why.
 pub fn open(rt: &HostRuntime, path: &str) -> Result<FileBlob, Status> {
@@ -64,7 +65,7 @@ pub fn allow_looked(
             None
         }
         _ if look.set_aside_len() == 0 => {
-            let lost = look.lost("are cut");
+            let lost = look.lost("are to be cut");
             tell(
                 rt,
                 format_args!("{file}: {lost}: they are whole pages of zeros, and no copy was made"),
@@ -79,13 +80,35 @@ pub fn allow_looked(
     })
 }
 
+/// Sets aside bytes of the file at a path, as `PATH.cut-N`, and answers the new file's name. If the
+/// last such file has just these bytes, nothing is made, and its name is the answer: so a start
+/// that is refused again and again leaves one.
+pub fn set_aside_once(rt: &HostRuntime, path: &str, bytes: &[u8]) -> io::Result<String> {
+    let mut last = None;
+    for number in 1..u64::MAX {
+        let name = format!(in rt.alloc(); "{path}.cut-{number}")?;
+        if !fs::exists(rt, name.as_str())? {
+            break;
+        }
+        last = Some(name);
+    }
+    if let Some(name) = last {
+        if let Ok(kept) = fs::read(rt, name.as_str()) {
+            if kept.as_slice() == bytes {
+                return Ok(name);
+            }
+        }
+    }
+    file::set_aside(rt, path, bytes)
+}
+
 // Sets aside what a recovery gives up at the end of a file of these bytes, and says where that is.
 // Answers the copy's name.
 fn keep(rt: &HostRuntime, file: &str, bytes: &[u8], look: &Look) -> Result<String, Status> {
-    let lost = look.lost("are cut");
+    let lost = look.lost("are to be cut");
     let start = look.set_aside_start();
     let given_up = bytes.get(start as usize..).unwrap_or_default();
-    match file::set_aside(rt, file, given_up) {
+    match set_aside_once(rt, file, given_up) {
         Ok(name) => {
             tell(
                 rt,
