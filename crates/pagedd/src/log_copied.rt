@@ -298,9 +298,7 @@ impl<'a> Target<'a> {
         let told = println!(rt;
             "{} has segments {first} to {open}: {copied} copied, {} there already, {dropped} dropped; \
              segment {open} is the open one, with {} records",
-            self.out,
-            staged.kept,
-            staged.records
+            self.out, staged.kept, staged.records
         );
         or_end(rt, told)
     }

@@ -66,7 +66,10 @@ fn copy_to<H: Sum>(rt: &HostRuntime, request: &Request, out: &str) -> Result<Sta
 
 // Says why a log isn't copied, and answers the status.
 fn refuse(rt: &HostRuntime, folder: &str, flaw: &Flaw) -> Status {
-    tell(rt, format_args!("{folder}: {flaw}: the copy was not made, or is as it was"));
+    tell(
+        rt,
+        format_args!("{folder}: {flaw}: the copy was not made, or is as it was"),
+    );
     Status::NotWhole
 }
 
@@ -83,7 +86,11 @@ fn listed<H: Sum>(rt: &HostRuntime, request: &Request) -> Result<Known, Status> 
             }
             Ok(known)
         }
-        Ok(None) => Err(fail(rt, folder, "there is no log in it, or its manifest is missing")),
+        Ok(None) => Err(fail(
+            rt,
+            folder,
+            "there is no log in it, or its manifest is missing",
+        )),
         Err(error) => Err(fail(rt, folder, error)),
     }
 }

@@ -222,8 +222,13 @@ impl Sources {
 
     /// Whether the copy has more entries than the manifest.
     pub fn takes_copy(&self) -> bool {
-        let entries = self.manifest.as_ref().map_or(0, |known: &Known| known.entries);
-        self.copy.whole().is_some_and(|copy| copy.known.entries > entries)
+        let entries = self
+            .manifest
+            .as_ref()
+            .map_or(0, |known: &Known| known.entries);
+        self.copy
+            .whole()
+            .is_some_and(|copy| copy.known.entries > entries)
     }
 
     /// What lists more of the log.

@@ -155,7 +155,9 @@ fn begin<H: Sum>(
     if first > 0 {
         tell(
             rt,
-            format_args!("{folder}: segments before {first} count as dropped, as they have no file"),
+            format_args!(
+                "{folder}: segments before {first} count as dropped, as they have no file"
+            ),
         );
         enter::<H>(rt, request, known, &Entry::Starts(first, page_size))?;
     }

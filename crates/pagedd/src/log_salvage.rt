@@ -123,7 +123,9 @@ fn tell_sources(rt: &HostRuntime, request: &Request, source: &Source<'_>) {
             let (first, open) = (known.listing.first(), known.listing.open());
             tell(
                 rt,
-                format_args!("{folder}: {name} lists segments {first} to {open}; {open} is the open one"),
+                format_args!(
+                    "{folder}: {name} lists segments {first} to {open}; {open} is the open one"
+                ),
             );
         }
         _ => tell(
@@ -187,15 +189,34 @@ fn salvage_segment<H: Sum>(
     let bytes = match fs::read(rt, path.as_str()) {
         Ok(bytes) => bytes,
         Err(error) => {
-            tell(rt, format_args!("{path}: {error}: nothing of it is salvaged"));
+            tell(
+                rt,
+                format_args!("{path}: {error}: nothing of it is salvaged"),
+            );
             return skip(rt, request, number, Fate::Unread, salvaged);
         }
     };
     let text = Text::of::<H>(rt.alloc(), request.shape, bytes.as_slice())?;
     let before = salvaged.records;
-    append_text::<H>(rt, request, source, number, text.bytes.as_slice(), log, salvaged)?;
+    append_text::<H>(
+        rt,
+        request,
+        source,
+        number,
+        text.bytes.as_slice(),
+        log,
+        salvaged,
+    )?;
     tell_short(rt, request, source, number, text.bytes.len(), salvaged)?;
-    end_segment(rt, request, source, number, bytes.as_slice(), before, salvaged)
+    end_segment(
+        rt,
+        request,
+        source,
+        number,
+        bytes.as_slice(),
+        before,
+        salvaged,
+    )
 }
 
 // What becomes of a segment whose file is there, by what lists it.
@@ -316,7 +337,10 @@ fn end_segment(
     before: u64,
     salvaged: &mut Salvaged,
 ) -> Result<(), Status> {
-    let closed = source.sources.best().and_then(|known| known.listing.closed(number));
+    let closed = source
+        .sources
+        .best()
+        .and_then(|known| known.listing.closed(number));
     let fate = match closed {
         Some(closed) if closed.is_of(bytes) => Fate::Whole,
         _ => fate_of(source, number),

@@ -249,9 +249,7 @@ impl Salvaged {
         for gap in &self.gaps {
             print!(rt;
                 "{mark}{{\"segment\":{},\"offset\":{},\"bytes\":{}}}",
-                gap.segment,
-                gap.offset,
-                gap.bytes
+                gap.segment, gap.offset, gap.bytes
             )?;
             mark = ",";
         }

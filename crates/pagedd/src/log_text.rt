@@ -33,7 +33,8 @@ impl Text {
         for (number, page) in bytes.chunks(size).enumerate() {
             let (len, is_whole) = extent_of::<H>(page, size, full, number == last);
             text.is_whole = text.is_whole && is_whole;
-            text.bytes.extend_from_slice(page.get(..len).unwrap_or(page))?;
+            text.bytes
+                .extend_from_slice(page.get(..len).unwrap_or(page))?;
         }
         Ok(text)
     }

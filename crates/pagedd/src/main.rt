@@ -69,8 +69,8 @@ use crate::cat::cat;
 use crate::check::check;
 use crate::command::{VERSION, command};
 use crate::ending::{end, fail, or_end};
-use crate::log_files::{fail_folder, fail_log_file, is_folder, log_around};
 use crate::log_copying::copy_log;
+use crate::log_files::{fail_folder, fail_log_file, is_folder, log_around};
 use crate::log_rebuild::rebuild;
 use crate::log_salvage::salvage_log;
 use crate::log_serving::serve_log;
@@ -113,7 +113,11 @@ fn perform<H: Sum>(
         }
         Task::Salvage { out, .. } => salvage::<H>(rt, request, set_aside, out),
         Task::Rebuild | Task::Copy { .. } => {
-            Err(fail(rt, request.file, "it is no folder, or isn't there: name the folder of a log"))
+            Err(fail(
+                rt,
+                request.file,
+                "it is no folder, or isn't there: name the folder of a log",
+            ))
         }
         Task::Version => {
             or_end(rt, println!(rt; "pagedd {VERSION}"))?;
