@@ -80,9 +80,9 @@ impl Staged {
 
 /// The folder of a copy.
 #[derive(Clone, Copy)]
-pub struct Target<'a> {
+pub struct Target<'a, 'b> {
     folder: &'a str,
-    out: &'a str,
+    out: &'b str,
 }
 
 // The name of a file before it has its own.
@@ -98,13 +98,13 @@ fn has_closed(rt: &HostRuntime, path: &str, closed: &Closed) -> bool {
     }
 }
 
-impl<'a> Target<'a> {
+impl<'a, 'b> Target<'a, 'b> {
     /// The folder of a copy of a log that lists `known`, unless it has something else.
     pub fn of<H: Sum>(
         rt: &HostRuntime,
         request: &Request<'a>,
         known: &Known,
-        out: &'a str,
+        out: &'b str,
     ) -> Result<Self, Status> {
         let target = Target {
             folder: request.file,

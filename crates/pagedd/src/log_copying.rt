@@ -23,6 +23,7 @@ const TRIES: u32 = 8;
 pub fn copy_log<H: Sum>(rt: &HostRuntime, request: &Request, out: &str) -> Result<Status, Status> {
     let names = FolderNames::of(rt, request.file)?;
     refuse_other_shape::<H>(rt, request, &names)?;
+    drop(listed::<H>(rt, request)?);
     begin_out(rt, request.file, out)?;
     let lock = lock_folder(rt, out, false)?;
     let ended = copy_to::<H>(rt, request, out);
@@ -100,7 +101,7 @@ fn copy_once<H: Sum>(
     rt: &HostRuntime,
     request: &Request,
     known: &Known,
-    target: &Target<'_>,
+    target: &Target<'_, '_>,
 ) -> Result<Option<Flaw>, Status> {
     if known.goes_on {
         return Ok(Some(Flaw::Manifest));
@@ -130,7 +131,7 @@ fn copy_open<H: Sum>(
     rt: &HostRuntime,
     request: &Request,
     number: u64,
-    target: &Target<'_>,
+    target: &Target<'_, '_>,
     staged: &mut Staged,
 ) -> Result<Option<Flaw>, Status> {
     let mut flaw = None;
@@ -147,7 +148,7 @@ fn copy_open_once<H: Sum>(
     rt: &HostRuntime,
     request: &Request,
     number: u64,
-    target: &Target<'_>,
+    target: &Target<'_, '_>,
     staged: &mut Staged,
 ) -> Result<Option<Flaw>, Status> {
     let path = segment_in(rt.alloc(), request.file, number)?;

@@ -18,6 +18,9 @@ use page::Sum;
 use segments::{Error, FileFolder, SegmentedLog};
 use std::fs;
 
+/// At most so many segments that are missing one after another are counted.
+const MOST_MISSING: u64 = 1000;
+
 /// The log that is made.
 type NewLog<H> = SegmentedLog<FileFolder, FileBlob, H, H>;
 
@@ -128,15 +131,25 @@ fn tell_sources(rt: &HostRuntime, request: &Request, source: &Source<'_>) {
                 ),
             );
         }
-        _ => tell(
-            rt,
-            format_args!("{folder}: no manifest can be read: segments are taken by their numbers"),
-        ),
+        _ => tell_first(rt, folder, source),
     }
 }
 
-// Says which segments that are listed have no file, from the last one that was counted to before
-// this one.
+// Says that no manifest can be read, and what isn't known then.
+fn tell_first(rt: &HostRuntime, folder: &str, source: &Source<'_>) {
+    let words = "no manifest can be read, so segments are taken by their numbers";
+    match source.names.numbers.first() {
+        Some(first) if *first > 0 => tell(
+            rt,
+            format_args!(
+                "{folder}: {words}: whether those before {first} were dropped isn't known"
+            ),
+        ),
+        _ => tell(rt, format_args!("{folder}: {words}")),
+    }
+}
+
+// Says which segments have no file, from the last one that was counted to before this one.
 fn tell_missing(
     rt: &HostRuntime,
     request: &Request,
@@ -144,29 +157,48 @@ fn tell_missing(
     before: u64,
     salvaged: &mut Salvaged,
 ) -> Result<(), Status> {
-    let Some(known) = source.sources.best() else {
-        return Ok(());
-    };
-    if known.is_empty() {
+    let (from, to) = missing_between(source, before, salvaged);
+    if from >= to {
         return Ok(());
     }
-    let listing = &known.listing;
-    let from = listing.first().max(salvaged.next());
-    for number in from..before.min(listing.open().saturating_add(1)) {
-        let closed = listing.closed(number);
-        let folder = request.file;
+    let folder = request.file;
+    let last = to.saturating_sub(1);
+    if from == last {
         tell(
             rt,
-            format_args!("{folder}: segment {number}: its file is missing"),
+            format_args!("{folder}: segment {from}: its file is missing"),
         );
-        let part = Part {
-            segment: number,
-            fate: Fate::Missing,
-            records: 0,
-        };
-        salvaged.end(rt, folder, part, closed)?;
+    } else {
+        tell(
+            rt,
+            format_args!("{folder}: segments {from} to {last}: their files are missing"),
+        );
+    }
+    for number in from..to.min(from.saturating_add(MOST_MISSING)) {
+        skip(rt, request, number, Fate::Missing, salvaged)?;
     }
     Ok(())
+}
+
+// From which number to before which one segments have no file, where the next file is that of the
+// segment `before`. Those of the listing count, and those between two files.
+fn missing_between(source: &Source<'_>, before: u64, salvaged: &Salvaged) -> (u64, u64) {
+    let (first, start, end) = match source.sources.best() {
+        Some(known) if !known.is_empty() => {
+            let (first, open) = (known.listing.first(), known.listing.open());
+            (first, first, open.saturating_add(1))
+        }
+        _ => (0, u64::MAX, 0),
+    };
+    let from = match salvaged.next() {
+        Some(next) => next.max(first),
+        None => start,
+    };
+    if before == u64::MAX {
+        (from, end)
+    } else {
+        (from, before)
+    }
 }
 
 // Appends the records of a segment to the new log.
@@ -350,6 +382,10 @@ fn end_segment(
         fate,
         records: salvaged.records.saturating_sub(before),
     };
+    let is_last = source.names.numbers.last() == Some(&number);
+    if fate == Fate::Unlisted && bytes.is_empty() && !is_last {
+        salvaged.lack_all(rt, request.file, number);
+    }
     salvaged.end(rt, request.file, part, closed)?;
     Ok(())
 }

@@ -136,6 +136,15 @@ impl Salvaged {
         Ok(())
     }
 
+    /// Says that the file of a segment has no byte, though others come after it.
+    pub fn lack_all(&mut self, rt: &HostRuntime, folder: &str, segment: u64) {
+        tell(
+            rt,
+            format_args!("{folder}: segment {segment}: its file is empty"),
+        );
+        self.lacks = true;
+    }
+
     /// Counts a segment of which so many records were salvaged, and says what is missing of it by
     /// what was kept when it was closed.
     pub fn end(
@@ -166,12 +175,9 @@ impl Salvaged {
         Ok(())
     }
 
-    /// The number after that of the last segment that was counted.
-    pub fn next(&self) -> u64 {
-        match self.parts.last() {
-            Some(part) => part.segment.saturating_add(1),
-            None => 0,
-        }
+    /// The number after that of the last segment that was counted, if one was.
+    pub fn next(&self) -> Option<u64> {
+        self.parts.last().map(|part| part.segment.saturating_add(1))
     }
 
     /// Whether nothing is missing.
@@ -198,13 +204,15 @@ impl Salvaged {
         if request.json {
             return self.print_object(rt, request, out);
         }
-        let told = println!(rt;
-            "{out} has {} records, of {} segments; {} bytes in {} places are in no record",
-            self.records,
-            self.segments(),
-            self.missing(),
-            self.gaps.len()
-        );
+        let (records, segments) = (self.records, self.segments());
+        let told = match self.missing() {
+            0 => println!(rt; "{out} has {records} records, of {segments} segments"),
+            missing => println!(rt;
+                "{out} has {records} records, of {segments} segments; {missing} bytes in {} places are \
+                 in no record",
+                self.gaps.len()
+            ),
+        };
         or_end(rt, told)
     }
 
