@@ -3,6 +3,7 @@ use crate::ending::fail;
 use crate::status::Status;
 use std::fs::{self, File, OpenOptions};
 use std::io::{self, Write};
+use std::path::PathBuf;
 
 /// Writes a file with these bytes, durably. A file that is there gets them instead.
 pub fn write_file(rt: &HostRuntime, path: &str, bytes: &[u8]) -> Result<(), Status> {
@@ -41,4 +42,11 @@ pub fn sync_names(rt: &HostRuntime, folder: &str) -> Result<(), Status> {
 
 fn sync(rt: &HostRuntime, folder: &str) -> io::Result<()> {
     File::open(rt, folder)?.sync_all()
+}
+
+/// Makes the names durable in the folder above a path.
+pub fn sync_above(rt: &HostRuntime, path: &str) -> io::Result<()> {
+    let mut above: PathBuf = fs::canonicalize(rt, path)?;
+    above.pop();
+    sync(rt, above.as_str())
 }

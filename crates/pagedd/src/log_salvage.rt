@@ -7,7 +7,7 @@ use crate::log_known::Sources;
 use crate::log_lock::{begin_folder, lock_folder};
 use crate::log_names::FolderNames;
 use crate::log_refusing::{refuse_log, refuse_other_shape};
-use crate::log_salvaged::{Fate, Gap, Part, Salvaged};
+use crate::log_salvaged::{Fate, Gap, Listed, Part, Salvaged};
 use crate::log_serving::keep_name;
 use crate::log_text::{Frames, Text};
 use crate::request::Request;
@@ -91,14 +91,17 @@ fn fill_log<H: Sum>(
     requires log { IsLog H.sum_of H.sum_of log.old }
 {
     let mut salvaged = Salvaged::new(rt.alloc());
-    tell_sources(rt, request, source);
+    let listed = listed_by(source);
+    if listed.by.is_empty() {
+        tell_first(rt, request.file, source);
+    }
     for number in &source.names.numbers {
         tell_missing(rt, request, source, *number, &mut salvaged)?;
         salvage_segment::<H>(rt, request, source, *number, log, &mut salvaged)?;
     }
     tell_missing(rt, request, source, u64::MAX, &mut salvaged)?;
     match log.commit() {
-        Ok(()) => salvaged.print(rt, request, source.out)?,
+        Ok(()) => salvaged.print(rt, request, source.out, listed)?,
         Err(error) => return Err(fail_made(rt, source.out, &error)),
     }
     Ok(Status::of_file(salvaged.is_whole()))
@@ -113,25 +116,24 @@ fn fail_made(rt: &HostRuntime, out: &str, error: &Error) -> Status {
     )
 }
 
-// Says by what the segments are listed.
-fn tell_sources(rt: &HostRuntime, request: &Request, source: &Source<'_>) {
-    let folder = request.file;
+// What lists the segments.
+fn listed_by(source: &Source<'_>) -> Listed {
+    let by = if source.sources.takes_copy() {
+        "manifest.copy"
+    } else {
+        "manifest"
+    };
     match source.sources.best() {
-        Some(known) if !known.is_empty() => {
-            let name = if source.sources.takes_copy() {
-                "manifest.copy"
-            } else {
-                "manifest"
-            };
-            let (first, open) = (known.listing.first(), known.listing.open());
-            tell(
-                rt,
-                format_args!(
-                    "{folder}: {name} lists segments {first} to {open}; {open} is the open one"
-                ),
-            );
-        }
-        _ => tell_first(rt, folder, source),
+        Some(known) if !known.is_empty() => Listed {
+            by,
+            first: known.listing.first(),
+            open: known.listing.open(),
+        },
+        _ => Listed {
+            by: "",
+            first: 0,
+            open: 0,
+        },
     }
 }
 

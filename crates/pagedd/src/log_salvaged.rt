@@ -72,6 +72,27 @@ impl fmt::Display for Gap {
     }
 }
 
+/// What lists the segments of a log.
+#[derive(Clone, Copy)]
+pub struct Listed {
+    /// The name of the file that does; empty if there is none that can be read.
+    pub by: &'static str,
+    /// The first segment that wasn't dropped.
+    pub first: u64,
+    /// The open one.
+    pub open: u64,
+}
+
+impl fmt::Display for Listed {
+    fn fmt<W: fmt::Write>(&self, f: &mut fmt::Formatter<W>) -> fmt::Result {
+        let Listed { by, first, open } = self;
+        write!(
+            f,
+            "{by} lists segments {first} to {open}, and {open} is the open one"
+        )
+    }
+}
+
 /// What was salvaged of a log.
 pub struct Salvaged {
     parts: Vec<Part>,
@@ -158,14 +179,15 @@ impl Salvaged {
         let listed = closed.map_or(part.records, |closed: Closed| closed.records);
         match part.fate {
             Fate::Missing | Fate::Unread => self.lacks = true,
-            Fate::Damaged if part.records != listed => {
+            Fate::Damaged => {
                 self.lacks = true;
+                let found = part.records;
+                let words = "it isn't what it was when it was closed";
                 tell(
                     rt,
                     format_args!(
-                        "{folder}: segment {segment} had {listed} records when it was closed, and {} \
-                         were found",
-                        part.records
+                        "{folder}: segment {segment}: {words}: it had {listed} records, and {found} were \
+                         found"
                     ),
                 );
             }
@@ -199,10 +221,19 @@ impl Salvaged {
         self.parts.iter().filter(|part| part.records > 0).count()
     }
 
-    /// Prints in a line, or as a JSON object, what is in the new log.
-    pub fn print(&self, rt: &HostRuntime, request: &Request, out: &str) -> Result<(), Status> {
+    /// Prints in lines, or as a JSON object, what is in the new log.
+    pub fn print(
+        &self,
+        rt: &HostRuntime,
+        request: &Request,
+        out: &str,
+        listed: Listed,
+    ) -> Result<(), Status> {
         if request.json {
-            return self.print_object(rt, request, out);
+            return self.print_object(rt, request, out, listed);
+        }
+        if !listed.by.is_empty() {
+            or_end(rt, println!(rt; "{}: {listed}", request.file))?;
         }
         let (records, segments) = (self.records, self.segments());
         let told = match self.missing() {
@@ -216,14 +247,21 @@ impl Salvaged {
         or_end(rt, told)
     }
 
-    fn print_object(&self, rt: &HostRuntime, request: &Request, out: &str) -> Result<(), Status> {
+    fn print_object(
+        &self,
+        rt: &HostRuntime,
+        request: &Request,
+        out: &str,
+        listed: Listed,
+    ) -> Result<(), Status> {
         let file = quoted(rt, request.file)?;
         let out = quoted(rt, out)?;
         let page_size = request.shape.page_size;
         let checksum = request.shape.checksum.name();
+        let Listed { by, first, open } = listed;
         let printed = print!(rt;
             "{{\"file\":{file},\"out\":{out},\"page_size\":{page_size},\"checksum\":\"{checksum}\",\
-             \"segments\":["
+             \"listed_by\":\"{by}\",\"first\":{first},\"open\":{open},\"segments\":["
         );
         or_end(rt, printed)?;
         or_end(rt, self.print_parts(rt))?;

@@ -7,6 +7,7 @@ use crate::log_files::{copy_of, is_folder, open_log};
 use crate::log_guard::{GivenUp, guard_log};
 use crate::log_hello::{Hello, greet, greet_refused, read_opening, tell_opening};
 use crate::log_lock::lock_folder;
+use crate::log_put::sync_above;
 use crate::log_refusing::refuse_log;
 use crate::log_request::{LogRequest, read_request};
 use crate::log_status::{status_of, status_of_flaw};
@@ -23,7 +24,6 @@ use segments::{Error, FileFolder, Folder, FolderCopy, SegmentedLog};
 use std::alloc::Global;
 use std::fs::{self, File};
 use std::io::{self, BufReader, BufWriter, Read, Write};
-use std::path::PathBuf;
 
 /// Serves the log of a folder, or for reading alone a copy of it in memory. A folder that is
 /// missing is made, except for reading alone.
@@ -86,13 +86,6 @@ pub fn keep_name(rt: &HostRuntime, folder: &str) -> Result<(), Status> {
         Ok(()) => Ok(()),
         Err(error) => Err(fail(rt, folder, error)),
     }
-}
-
-// Makes the names durable in the folder above a path.
-fn sync_above(rt: &HostRuntime, path: &str) -> io::Result<()> {
-    let mut above: PathBuf = fs::canonicalize(rt, path)?;
-    above.pop();
-    File::open(rt, above.as_str())?.sync_all()
 }
 
 // Serves the log of a folder.

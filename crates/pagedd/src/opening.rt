@@ -1,6 +1,7 @@
 // Opening a file for a writer. Before a recovery cuts any of it, a line on standard error says what
 // goes, and a copy of what may have been synced is set aside.
 use crate::ending::{fail, tell};
+use crate::log_put::sync_above;
 use crate::look::{InMemory, Look, looked};
 use crate::refusing::refuse;
 use crate::request::Request;
@@ -9,7 +10,8 @@ use disk::{Blob, Error};
 use file::FileBlob;
 use page::Sum;
 use paged::Verdict;
-use std::{fs, io};
+use std::fs::{self, File};
+use std::io;
 
 /// Opens a file, or makes it. Where that fails, a line says why.
 pub fn open(rt: &HostRuntime, path: &str) -> Result<FileBlob, Status> {
@@ -92,14 +94,22 @@ pub fn set_aside_once(rt: &HostRuntime, path: &str, bytes: &[u8]) -> io::Result<
         }
         last = Some(name);
     }
-    if let Some(name) = last {
-        if let Ok(kept) = fs::read(rt, name.as_str()) {
-            if kept.as_slice() == bytes {
-                return Ok(name);
-            }
+    match last {
+        Some(name) if has_bytes(rt, name.as_str(), bytes) => {
+            File::open(rt, name.as_str())?.sync_all()?;
+            sync_above(rt, name.as_str())?;
+            Ok(name)
         }
+        _ => file::set_aside(rt, path, bytes),
     }
-    file::set_aside(rt, path, bytes)
+}
+
+// Whether a file has just these bytes.
+fn has_bytes(rt: &HostRuntime, path: &str, bytes: &[u8]) -> bool {
+    match fs::read(rt, path) {
+        Ok(kept) => kept.as_slice() == bytes,
+        Err(_) => false,
+    }
 }
 
 // Sets aside what a recovery gives up at the end of a file of these bytes, and says where that is.
