@@ -167,6 +167,7 @@ fn copy_open_once<H: Sum>(
         return Ok(Some(Flaw::Open(number)));
     }
     staged.records = front.records;
+    staged.rest = text.bytes.len().saturating_sub(front.len) as u64;
     let content = text.bytes.get(..front.len).unwrap_or_default();
     target.stage_open::<H>(rt, request, number, content, staged)?;
     Ok(None)

@@ -14,7 +14,6 @@ use std::{fs, io};
 const IN_FRONT: usize = 20;
 
 /// What a manifest lists, as far as it can be read.
-#[derive(Drop)]
 pub struct Known {
     pub listing: Listing,
     /// How many entries it has.
@@ -25,6 +24,20 @@ pub struct Known {
     pub is_whole: bool,
     /// Whether a frame that fits comes after these entries, so that others are missing.
     pub goes_on: bool,
+}
+
+// By hand, so that an owner lets one go by one call: of a derived drop, a proof follows each field
+// at each exit.
+impl Drop for Known {
+    fn drop(self) {
+        let Known {
+            listing: _,
+            entries: _,
+            frames: _,
+            is_whole: _,
+            goes_on: _,
+        } = self;
+    }
 }
 
 impl Known {
