@@ -60,8 +60,8 @@ struct Appender<B, H> {
 }
 
 /// Appends standard input to a file as it comes, and makes it durable: all that came whenever no
-/// more is at hand, each 4 MiB, and at the end, and where `each_line` asks after each line too. So a
-/// signal that ends the program loses no more than was read last.
+/// more is at hand, each 4 MiB, and at the end, and where `each_line` asks after each line too. So
+/// a signal that ends the program while it waits for more loses nothing that came.
 pub fn append<H: Sum>(
     rt: &HostRuntime,
     request: &Request,
@@ -188,8 +188,8 @@ fn append_piece<B: Blob, H: Sum>(
 }
 
 // Whether to sync after a piece of the input: where it is short, since no more had come when it was
-// read; where so many bytes aren't synced that a signal is to lose no more; and where a line ends in
-// it and `each_line` asks.
+// read; where so many bytes aren't synced that a signal is to lose no more; and where a line ends
+// in it and `each_line` asks.
 fn is_due(bytes: &[u8], each_line: bool, unsynced: u64) -> bool {
     bytes.len() < PIECE || unsynced >= MOST_UNSYNCED || each_line && bytes.contains(&b'\n')
 }

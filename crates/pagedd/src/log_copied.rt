@@ -261,7 +261,8 @@ impl<'a, 'b> Target<'a, 'b> {
         name_file(rt, new.as_str(), path)
     }
 
-    /// Gives all files their names, the manifest's last, and removes the segments that were dropped.
+    /// Gives all files their names, the manifest's last, and removes the segments that were
+    /// dropped.
     pub fn finish<H: Sum>(
         &self,
         rt: &HostRuntime,

@@ -17,9 +17,9 @@ use std::io::ErrorKind;
 /// So often a copy begins again, where the log changes meanwhile.
 const TRIES: u32 = 8;
 
-/// Copies the log in a folder to the folder `out`, or brings a copy there up to date. The log may be
-/// served meanwhile: the manifest is read first, then the segments that it lists, and of the open
-/// one what is whole.
+/// Copies the log in a folder to the folder `out`, or brings a copy there up to date. The log may
+/// be served meanwhile: the manifest is read first, then the segments that it lists, and of the
+/// open one what is whole.
 pub fn copy_log<H: Sum>(rt: &HostRuntime, request: &Request, out: &str) -> Result<Status, Status> {
     let names = FolderNames::of(rt, request.file)?;
     refuse_other_shape::<H>(rt, request, &names)?;
@@ -125,8 +125,8 @@ fn copy_once<H: Sum>(
     Ok(None)
 }
 
-// Stages what is whole of the open segment. A page that is read while it is written may have no value,
-// and one behind it may: so it is read again then.
+// Stages what is whole of the open segment. A page that is read while it is written may have no
+// value, and one behind it may: so it is read again then.
 fn copy_open<H: Sum>(
     rt: &HostRuntime,
     request: &Request,
@@ -173,7 +173,8 @@ fn copy_open_once<H: Sum>(
     Ok(None)
 }
 
-// Sees that the manifest lists each segment that has bytes, if not when it was read first, then now.
+// Sees that the manifest lists each segment that has bytes, if not when it was read first, then
+// now.
 fn look_behind<H: Sum>(
     rt: &HostRuntime,
     request: &Request,

@@ -172,8 +172,9 @@ fn damaged_len<H: Sum>(bytes: &[u8]) -> usize {
     }
 }
 
-// Whether a frame with a record that isn't empty is at the front of these bytes, perhaps behind some
-// with empty ones. Six zeros and a byte 1 are an empty record's frame, and stand in other bytes too.
+// Whether a frame with a record that isn't empty is at the front of these bytes, perhaps behind
+// some with empty ones. Six zeros and a byte 1 are an empty record's frame, and stand in other
+// bytes too.
 fn leads_on<H: Sum>(bytes: &[u8]) -> bool {
     let mut rest = bytes;
     for _ in 0..EMPTY {

@@ -9,8 +9,8 @@
 //! `pagedd serve-log FOLDER` serves a log of records in the same way, as `docs/LOG_PROTOCOL.md`
 //! describes.
 //!
-//! `append` takes standard input as content. `check`, `map`, `cat` and `salvage` read a file, or the
-//! folder of a log, and change nothing of it. `copy` copies a log, also one that is served, and
+//! `append` takes standard input as content. `check`, `map`, `cat` and `salvage` read a file, or
+//! the folder of a log, and change nothing of it. `copy` copies a log, also one that is served, and
 //! `rebuild` makes its manifest anew.
 //!
 //! [`Status`](status::Status) lists the exit statuses. Where the status is neither 0 nor 141,
