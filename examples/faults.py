@@ -25,6 +25,7 @@ import reader
 import survey
 import usage
 from client import APPEND, CLOSE, READ, SIZE
+from log_client import Log
 from served import Refused, Served
 from statuses import (CLOSING, PAGE, PAYLOAD, README, a_blob, a_page, a_torn_blob, contents, flipped, play, put, some,
                       table)
@@ -506,6 +507,37 @@ def a_copy(program, folder):
            "a copy that has that segment stays whole", "it has the listed digest")
 
 
+def a_salvage(program, folder):
+    made = log_statuses.Made(program, os.path.join(folder, "log"))
+    log = made.folder
+    path = os.path.join(log, made.closed)
+    flipped(path, 100)
+    status, out, said = play(program, "salvage", "--json", log, os.path.join(folder, "out"))
+    told = json.loads(out)
+    number, held_there = int(made.closed[:20]), len(log_statuses.record(log_statuses.MANY))
+    (gap,), (part,) = told["gaps"], [it for it in told["segments"] if it["segment"] == number]
+    expect(status == 3 and (gap["segment"], gap["offset"], gap["bytes"]) == (number, 0, held_there + 7)
+           and (told["records"], told["missing_bytes"], told["whole"]) == (len(made.records) - 1, gap["bytes"], False)
+           and (part["state"], part["records"]) == ("damaged", 49) and told["listed_by"] in ("manifest", "manifest.copy"),
+           "salvage --json tells the one record that a flipped bit costs, and where it stood", "its checksum fails")
+    expect(all(word in said for word in (f"segment {number}: {gap['bytes']} bytes at offset 0", "it had 50 records")),
+           "so do its lines", "they are for a reader")
+    flipped(path, 100)
+    first = contents(os.path.join(log, log_statuses.segment(0)))
+    served = Log(program, log)
+    served.drop_before(1)
+    served.close()
+    put(os.path.join(log, log_statuses.segment(0)), first)
+    for options, count in ((["--dropped"], len(made.records)), ([], len(made.records) - 1)):
+        out = os.path.join(folder, f"dropped{count}")
+        status, told, _ = play(program, "salvage", "--json", *options, log, out)
+        found = play(program, "cat", out)[1].split(b"\n")[:-1]
+        expect(status == 0 and json.loads(told)["segments"][0]["state"] == "dropped"
+               and found == made.records[len(made.records) - count:],
+               "a dropped segment's record is salvaged with --dropped" if options else "without it it isn't",
+               "the file was left")
+
+
 def for_programs(program, folder):
     path = os.path.join(folder, 'a "name"')
     a_torn_blob(program, path)
@@ -546,7 +578,7 @@ def the_log_table(program, _):
 
 FAULTS = (a_good_blob, a_wrong_file, a_flipped_bit, a_last_page, a_torn_page, salvage_of_copies, outputs,
           another_page_size, reading_alone, an_empty_file, a_torn_tail, a_part_of_a_request, a_lost_writer,
-          mistyped_commands, names, permissions, a_size_limit, a_cause, appending, signals, for_programs, a_copy,
+          mistyped_commands, names, permissions, a_size_limit, a_cause, appending, signals, for_programs, a_salvage, a_copy,
           the_table, the_log_table)
 
 
