@@ -3,7 +3,8 @@
 Files that lost bytes once, or could, are given to each command. Of each it says what is expected, why,
 and what version 0.2.0 did where that was another thing; the first that isn't so ends it. A file that is
 refused is compared with what it was. Last it plays each command on each kind of file, and compares that
-with the table of README.md, which `--table` prints.
+with the table of README.md, which `--table` prints; and on logs with each kind of damage, for the table
+of docs/LOG_PROTOCOL.md, which `--log-table` prints.
 """
 import errno
 import json
@@ -11,6 +12,7 @@ import os
 import re
 import resource
 import select
+import shutil
 import signal
 import struct
 import subprocess
@@ -18,10 +20,12 @@ import sys
 import tempfile
 import time
 
+import log_statuses
 import reader
 import survey
 import usage
 from client import APPEND, CLOSE, READ, SIZE
+from log_client import Log
 from served import Refused, Served
 from statuses import (CLOSING, PAGE, PAYLOAD, README, a_blob, a_page, a_torn_blob, contents, flipped, play, put, some,
                       table)
@@ -460,6 +464,80 @@ def appending(program, folder):
            "not all of it came")
 
 
+def held(path):
+    """The content of a file that may not be there yet."""
+    return reader.read(contents(path), PAYLOAD, reader.crc32c)[1] if os.path.exists(path) else b""
+
+
+def signals(program, folder):
+    for number in (signal.SIGINT, signal.SIGTERM):
+        path = os.path.join(folder, f"ended-{number}")
+        with subprocess.Popen([program, "append", path], stdin=subprocess.PIPE, stdout=subprocess.DEVNULL) as process:
+            for line in (b"first\n", b"second\n"):
+                process.stdin.write(line)
+                process.stdin.flush()
+                deadline = time.time() + 20
+                while not held(path).endswith(line) and time.time() < deadline:
+                    time.sleep(0.01)
+            process.send_signal(number)
+            process.wait()
+            process.stdin.close()
+        expect(process.returncode == -number and play(program, "cat", path)[1] == b"first\nsecond\n",
+               f"append that waits for more keeps what came at signal {int(number)}", "it syncs before it waits",
+               "nothing of it")
+
+
+def a_copy(program, folder):
+    made = log_statuses.Made(program, os.path.join(folder, "log"))
+    log, out = made.folder, os.path.join(folder, "out")
+    for what in ("a log is copied", "it is copied again"):
+        status, _, said = play(program, "copy", log, out)
+        expect((status, said) == (0, "") and log_statuses.given(made, program, out) == (0, "all")
+               and play(program, "check", out)[0] == 0, what, "its segments are whole")
+    first = os.path.join(out, log_statuses.segment(3))
+    put(first, b"")
+    expect(play(program, "copy", log, out)[0] == 0 and contents(first) == made.data(log_statuses.segment(3)),
+           "a segment that the copy lacks is copied anew", "it hasn't the listed digest")
+    flipped(os.path.join(log, made.closed), 100)
+    before = log_statuses.image(out)
+    shutil.rmtree(os.path.join(folder, "new"), ignore_errors=True)
+    expect(play(program, "copy", log, os.path.join(folder, "new"))[0] == 3, "a log with a damaged segment isn't copied",
+           "the copy wouldn't be whole")
+    expect(play(program, "copy", log, out)[0] == 0 and log_statuses.image(out) == before,
+           "a copy that has that segment stays whole", "it has the listed digest")
+
+
+def a_salvage(program, folder):
+    made = log_statuses.Made(program, os.path.join(folder, "log"))
+    log = made.folder
+    path = os.path.join(log, made.closed)
+    flipped(path, 100)
+    status, out, said = play(program, "salvage", "--json", log, os.path.join(folder, "out"))
+    told = json.loads(out)
+    number, held_there = int(made.closed[:20]), len(log_statuses.record(log_statuses.MANY))
+    (gap,), (part,) = told["gaps"], [it for it in told["segments"] if it["segment"] == number]
+    expect(status == 3 and (gap["segment"], gap["offset"], gap["bytes"]) == (number, 0, held_there + 7)
+           and (told["records"], told["missing_bytes"], told["whole"]) == (len(made.records) - 1, gap["bytes"], False)
+           and (part["state"], part["records"]) == ("damaged", 49) and told["listed_by"] in ("manifest", "manifest.copy"),
+           "salvage --json tells the one record that a flipped bit costs, and where it stood", "its checksum fails")
+    expect(all(word in said for word in (f"segment {number}: {gap['bytes']} bytes at offset 0", "it had 50 records")),
+           "so do its lines", "they are for a reader")
+    flipped(path, 100)
+    first = contents(os.path.join(log, log_statuses.segment(0)))
+    served = Log(program, log)
+    served.drop_before(1)
+    served.close()
+    put(os.path.join(log, log_statuses.segment(0)), first)
+    for options, count in ((["--dropped"], len(made.records)), ([], len(made.records) - 1)):
+        out = os.path.join(folder, f"dropped{count}")
+        status, told, _ = play(program, "salvage", "--json", *options, log, out)
+        found = play(program, "cat", out)[1].split(b"\n")[:-1]
+        expect(status == 0 and json.loads(told)["segments"][0]["state"] == "dropped"
+               and found == made.records[len(made.records) - count:],
+               "a dropped segment's record is salvaged with --dropped" if options else "without it it isn't",
+               "the file was left")
+
+
 def for_programs(program, folder):
     path = os.path.join(folder, 'a "name"')
     a_torn_blob(program, path)
@@ -487,16 +565,32 @@ def the_table(program, _):
     expect(played in page, "each command on each kind of file ends as the table of README.md says", "it was played")
 
 
+def the_log_table(program, _):
+    with open(log_statuses.PAGE_OF_TABLE, encoding="utf-8") as file:
+        page = file.read()
+    played = log_statuses.table(program)
+    for line in played.splitlines():
+        if line not in page.splitlines():
+            print("not in LOG_PROTOCOL.md: " + line)
+    expect(played in page, "each command on each kind of damaged log ends as the table of LOG_PROTOCOL.md says",
+           "it was played")
+
+
 FAULTS = (a_good_blob, a_wrong_file, a_flipped_bit, a_last_page, a_torn_page, salvage_of_copies, outputs,
           another_page_size, reading_alone, an_empty_file, a_torn_tail, a_part_of_a_request, a_lost_writer,
-          mistyped_commands, names, permissions, a_size_limit, a_cause, appending, for_programs, the_table)
+          mistyped_commands, names, permissions, a_size_limit, a_cause, appending, signals, for_programs, a_salvage, a_copy,
+          the_table, the_log_table)
 
 
 def main():
     parser = usage.parser(__doc__)
     parser.add_argument("PAGEDD", type=usage.program)
     parser.add_argument("--table", action="store_true", help="print the table of README.md, and end")
+    parser.add_argument("--log-table", action="store_true", help="print the table of LOG_PROTOCOL.md, and end")
     given = parser.parse_args()
+    if given.log_table:
+        sys.stdout.write(log_statuses.table(given.PAGEDD))
+        return
     if given.table:
         sys.stdout.write(table(given.PAGEDD))
         return

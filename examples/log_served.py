@@ -454,8 +454,11 @@ def commands(program, folder):
     a_log(program, folder)
     file = put(folder + "-file", b"")
     before = image(folder)
-    for words in (["serve-log", file], ["append", folder], ["salvage", folder, folder + "-out"], ["serve", folder],
-                  [folder], ["cat", "--from", "3", folder], ["cat", "--len", "3", folder],
+    manifest, out = os.path.join(folder, "manifest"), folder + "-out"
+    for words in (["serve-log", file], ["append", folder], ["salvage", manifest, out], ["salvage", folder, folder],
+                  ["salvage", folder, out, "CUT"], ["salvage", "--json", file, out], ["rebuild", file],
+                  ["copy", file, out], ["copy", folder, os.path.join(folder, "in")], ["copy", folder, file],
+                  ["serve", folder], [folder], ["cat", "--from", "3", folder], ["cat", "--len", "3", folder],
                   ["map", "--from", "99", folder]):
         status, out, said = play(program, *words)
         expect((status, out, said.count("\n")) == (1, b"", 1), f"pagedd {words[0]} is refused: {said.strip()}")

@@ -14,8 +14,10 @@ The program is started on each image. It is never refused. Its records must begi
 committed, and be the beginning of what was appended, each at its place, from the first segment on that
 wasn't dropped; of segments that were being dropped all records are there, or none. The file of a closed
 segment stays as it is. What the opening cuts of the manifest and of the open segment, also of a record
-that isn't whole, is in a new file beside it, and one line for each says so; no other byte is. On every third image the log goes on: it
-appends, drops, and is opened again. On every tenth one the opening is itself torn, at each of its calls.
+that isn't whole, is in a new file beside it, unless the last such file has just these bytes, and one line
+for each says so; no other byte is. On every third image the log goes on: it appends, drops, and is opened
+again. On every tenth one the opening is itself torn, at each of its calls. Every second image is salvaged
+too: all that was committed comes out, in order, and nothing that wasn't appended.
 
 A run has several sessions of one log. Between two of them the program ends, or is killed after any of its
 calls, or an image of a crash takes the place of the folder. So openings are torn that follow a crash, and
@@ -364,6 +366,10 @@ def check_told(shape, before, after, said):
         if count:
             wanted.append((name, before[name][-count:]))
     new = [(name.split(".cut-")[0], data) for name, data in after.items() if ".cut-" in name and name not in before]
+    for name, data in wanted:
+        # What an opening that ended early set aside isn't set aside again.
+        if (name, data) not in new and data in [before[it] for it in before if it.startswith(name + ".cut-")]:
+            new.append((name, data))
     if sorted(new) != sorted(wanted):
         raise Wrong(f"set aside are {[(name, len(data)) for name, data in new]} bytes, and should be "
                     f"{[(name, len(data)) for name, data in wanted]}")
@@ -428,6 +434,30 @@ def go_on(program, folder, shape, found, dropped, rng):
     left = {number for number in numbers_of(os.listdir(folder)) if number < asked.dropped}
     if left:
         raise Wrong(f"a drop before {asked.dropped} leaves the files of {sorted(left)}")
+
+
+def salvage(program, folder, shape, files, due):
+    """Salvages an image, and holds what comes out against what was asked: all that was committed, in order."""
+    if not files:
+        return
+    place_in(folder, files)
+    out, size = folder + "-out", options(shape)[0]
+    shutil.rmtree(out, ignore_errors=True)
+    ended = subprocess.run([program, "salvage", size, folder, out], capture_output=True, check=False)
+    if not numbers_of(os.listdir(folder)):
+        return
+    if ended.returncode not in (0, 3) or image(folder) != files:
+        raise Wrong(f"salvage ends with {ended.returncode}: {ended.stderr.decode()}")
+    log = Session(program, out, size, "--read-only")
+    found = [data for _, data in log.records()]
+    log.end()
+    wanted = [data for place, data in due.records[:due.committed] if place[0] >= due.tried]
+    rest = iter(found)
+    if not all(data in rest for data in wanted):
+        raise Wrong(f"salvage has {len(found)} records, and not all {len(wanted)} that were committed, in order")
+    sent = {data for _, data in due.records}
+    if any(data not in sent for data in found):
+        raise Wrong("salvage has a record that wasn't appended")
 
 
 def keep(moments, at, files, error):
@@ -541,6 +571,8 @@ class Trials:
             found, copies, dropped = hold(self.program, self.folder, run.shape, files, moment.due)
             if goes_on:
                 go_on(self.program, self.folder, run.shape, found, dropped, self.rng)
+            if self.images % 2 == 0:
+                salvage(self.program, self.folder, run.shape, files, moment.due)
             self.most = max(self.most, listed(files.get("manifest", b""), run.shape.page)[1] + 1 if files else 0)
         except FAILURES as error:
             keep(run.moments, at, files, error)

@@ -99,6 +99,11 @@ def short(program, path):
     put(path, contents(path)[:-100])
 
 
+def worn(program, path):
+    a_blob(program, path, 90 * PAYLOAD)
+    flipped(path, 10 * PAGE + 10)
+
+
 def damaged(program, path):
     a_blob(program, path, 300 * PAYLOAD)
     flipped(path, 10 * PAGE + 10)
@@ -144,6 +149,7 @@ FILES = {
     "rotten: a byte of the last page flipped, and no slot fits": rotten,
     "short: cut off inside its last page": short,
     "a page of zeros after the last one": zeros,
+    "worn: page 10 of 90 has no slot that fits, and less than the cut limit follows": worn,
     "damaged: page 10 of 300 has no slot that fits": damaged,
     "wrong: a text": wrong,
     "another page size": another,

@@ -20,6 +20,9 @@ use std::io::{ErrorKind, Read};
 /// So many bytes of the input are appended at once.
 const PIECE: usize = 1 << 16;
 
+/// At most so many bytes of the input are appended and not synced.
+const MOST_UNSYNCED: u64 = 1 << 22;
+
 /// Standard input, piece by piece.
 #[derive(Drop)]
 struct Pieces {
@@ -56,8 +59,9 @@ struct Appender<B, H> {
     cache: CacheRef,
 }
 
-/// Appends standard input to a file as it comes, and makes it durable at the end, and where
-/// `each_line` asks after each line too.
+/// Appends standard input to a file as it comes, and makes it durable: all that came whenever no
+/// more is at hand, each 4 MiB, and at the end, and where `each_line` asks after each line too. So
+/// a signal that ends the program while it waits for more loses nothing that came.
 pub fn append<H: Sum>(
     rt: &HostRuntime,
     request: &Request,
@@ -176,10 +180,18 @@ fn append_piece<B: Blob, H: Sum>(
 {
     let step = Step::Append(Vec::from_slice(alloc, bytes)?);
     take(alloc, appender, blob, step)?;
-    if each_line && bytes.contains(&b'\n') {
+    let now = appender.session.size().unwrap_or(*synced);
+    if is_due(bytes, each_line, now.saturating_sub(*synced)) {
         return sync(alloc, appender, blob, synced);
     }
     Ok(())
+}
+
+// Whether to sync after a piece of the input: where it is short, since no more had come when it was
+// read; where so many bytes aren't synced that a signal is to lose no more; and where a line ends
+// in it and `each_line` asks.
+fn is_due(bytes: &[u8], each_line: bool, unsynced: u64) -> bool {
+    bytes.len() < PIECE || unsynced >= MOST_UNSYNCED || each_line && bytes.contains(&b'\n')
 }
 
 // Makes all that was appended durable, and counts it in `synced`.

@@ -19,7 +19,7 @@ Exit status:
   141  the output was closed by its reader";
 
 /// The commands, and what each does.
-const COMMANDS: [(&str, &str); 8] = [
+const COMMANDS: [(&str, &str); 10] = [
     ("serve", "serves FILE, and makes it where it is missing"),
     (
         "serve-log",
@@ -43,7 +43,16 @@ const COMMANDS: [(&str, &str); 8] = [
     ),
     (
         "salvage",
-        "puts all that verifies, also after a bad page, into a new blob OUT",
+        "puts all that verifies, also after a bad page, into a new blob OUT, or all records of a \
+         log's folder that fit into a new log OUT",
+    ),
+    (
+        "rebuild",
+        "makes the manifest of the log in FOLDER anew, if its segments are whole",
+    ),
+    (
+        "copy",
+        "copies the log in FOLDER, also one that is served, to OUT, or brings a copy up to date",
     ),
     ("version", "prints the version"),
 ];
@@ -80,27 +89,27 @@ struct Row {
 }
 
 /// The options, in the order in which help has them.
-const ROWS: [Row; 21] = [
+const ROWS: [Row; 23] = [
     Row {
         name: "FILE",
         takes: Takes::Word,
         default: None,
         help: "the file of the blob",
-        commands: &["pagedd", "serve", "append", "salvage"],
+        commands: &["pagedd", "serve", "append"],
     },
     Row {
         name: "FILE",
         takes: Takes::Word,
         default: None,
         help: "the file of the blob, or the folder of a log",
-        commands: &["check", "map", "cat"],
+        commands: &["check", "map", "cat", "salvage"],
     },
     Row {
         name: "FOLDER",
         takes: Takes::Word,
         default: None,
         help: "the folder of the log",
-        commands: &["serve-log"],
+        commands: &["serve-log", "rebuild", "copy"],
     },
     Row {
         name: "page-size",
@@ -127,15 +136,22 @@ const ROWS: [Row; 21] = [
         name: "segment-size",
         takes: Takes::Length,
         default: Some("67108864"),
-        help: "from how many content bytes on a segment is closed",
-        commands: &["serve-log"],
+        help: "from how many content bytes on a segment of a log is closed",
+        commands: &["serve-log", "salvage"],
     },
     Row {
         name: "OUT",
         takes: Takes::Word,
         default: None,
-        help: "a file that isn't there yet",
+        help: "a file that isn't there yet; of a log, a folder that isn't there yet, or is empty",
         commands: &["salvage"],
+    },
+    Row {
+        name: "OUT",
+        takes: Takes::Word,
+        default: None,
+        help: "the folder of the copy",
+        commands: &["copy"],
     },
     Row {
         name: "CUT",
@@ -222,16 +238,23 @@ const ROWS: [Row; 21] = [
         commands: &["map"],
     },
     Row {
+        name: "dropped",
+        takes: Takes::Nothing,
+        default: None,
+        help: "takes the records of segments that were dropped, and whose files were left, too",
+        commands: &["salvage"],
+    },
+    Row {
         name: "json",
         takes: Takes::Nothing,
         default: None,
-        help: "prints one JSON object",
-        commands: &["check", "map"],
+        help: "prints one JSON object; of salvage, for a log alone",
+        commands: &["check", "map", "salvage"],
     },
 ];
 
 /// The commands that are about a file or a folder.
-const WITH_PAGES: [&str; 8] = [
+const WITH_PAGES: [&str; 10] = [
     "pagedd",
     "serve",
     "serve-log",
@@ -240,6 +263,8 @@ const WITH_PAGES: [&str; 8] = [
     "map",
     "cat",
     "salvage",
+    "rebuild",
+    "copy",
 ];
 
 /// The commands that may write to a file or a folder.

@@ -1,9 +1,11 @@
 // Reporting what the folder of a log holds.
 use crate::ending::or_end;
 use crate::log_files::{copy_of, manifest_in, segment_in};
+use crate::log_known::{CopyState, copy_state_of};
+use crate::log_names::FolderNames;
 use crate::log_parts::{Kept, Part};
 use crate::log_refusing::{Why, fit_of, refuse_log};
-use crate::log_report::{print_closed, print_ending, print_heading, print_unopened};
+use crate::log_report::{print_closed, print_ending, print_heading, print_names, print_unopened};
 use crate::log_told::LogCopy;
 use crate::request::Request;
 use crate::status::Status;
@@ -36,14 +38,18 @@ pub fn check_log<H: Sum>(
         )?;
     }
     let are_whole = check_closed::<H>(rt, request, log)?;
+    let names = FolderNames::of(rt, folder)?;
+    let copy = copy_state_of::<H>(rt, request)?;
     if request.json {
         print_ending(rt, last, log.records(), &open, count)?;
+        print_names(rt, &names, copy.name())?;
     } else {
         or_end(
             rt,
             tell_open(rt, last, log.records(), &open, open_path.as_str()),
         )?;
         or_end(rt, println!(rt; "in all: {} records", count))?;
+        or_end(rt, tell_names(rt, &names, &copy))?;
     }
     Ok(Status::of_file(are_whole && manifest.is_whole && open.is_whole))
 }
@@ -74,6 +80,26 @@ fn tell_open(
 ) -> io::Result<()> {
     print!(rt; "segment {number}: open, {records} records; ")?;
     tell_part(rt, "its file", part, path)
+}
+
+// Prints what else the folder has: what isn't the log's, and copies of what was cut. If the copy of
+// the manifest isn't whole, a line says so.
+fn tell_names(rt: &HostRuntime, names: &FolderNames, copy: &CopyState) -> io::Result<()> {
+    match copy {
+        CopyState::Whole(_) => {}
+        CopyState::Missing => println!(rt; "manifest.copy: missing, so the manifest stands once")?,
+        CopyState::Bad => println!(rt; "manifest.copy: not whole, so the manifest stands once")?,
+    }
+    if names.cut_count > 0 {
+        println!(rt;
+            "set aside: {} files *.cut-N, of what was cut",
+            names.cut_count
+        )?;
+    }
+    if names.other_count > 0 {
+        println!(rt; "not of the log: {names}")?;
+    }
+    Ok(())
 }
 
 // Prints the state of each closed segment, and answers whether all are whole.

@@ -28,7 +28,7 @@ pub fn fail_folder(rt: &HostRuntime, path: &str, advice: &str) -> Status {
 /// has both. None where it names another file, or the folder can't be read.
 pub fn log_around<'a>(rt: &HostRuntime, path: &'a str) -> Option<&'a str> {
     let (folder, name) = path.rsplit_once('/').unwrap_or((".", path));
-    if name != "manifest" && !is_segment(name) {
+    if name != "manifest" && name != "manifest.copy" && number_of(name).is_none() {
         return None;
     }
     let folder = if folder.is_empty() { "/" } else { folder };
@@ -42,17 +42,17 @@ fn has_log(rt: &HostRuntime, folder: &str) -> bool {
     copy.has(Asked::Manifest).unwrap_or(false) && matches!(copy.first(), Ok(Some(_)))
 }
 
-// Whether this is the name of a segment's file.
-fn is_segment(name: &str) -> bool {
-    match name.strip_suffix(".segment") {
-        Some(digits) => digits.len() == 20 && digits.bytes().all(|byte| byte.is_ascii_digit()),
-        None => false,
+/// The number of the segment whose file has this name. `None` for another name.
+pub fn number_of(name: &str) -> Option<u64> {
+    let digits = name.strip_suffix(".segment")?;
+    if digits.len() != 20 || !digits.bytes().all(|byte| byte.is_ascii_digit()) {
+        return None;
     }
+    digits.parse().ok()
 }
 
 /// Says that a file is one of a log, and answers the status. Nothing was changed.
-pub fn fail_log_file(rt: &HostRuntime, path: &str, folder: &str) -> Status {
-    let advice = "'pagedd serve-log' changes it";
+pub fn fail_log_file(rt: &HostRuntime, path: &str, folder: &str, advice: &str) -> Status {
     fail(
         rt,
         path,
@@ -63,6 +63,11 @@ pub fn fail_log_file(rt: &HostRuntime, path: &str, folder: &str) -> Status {
 /// The path of a log's manifest.
 pub fn manifest_in(alloc: Global, folder: &str) -> Result<String, AllocError> {
     format!(in alloc; "{folder}/manifest")
+}
+
+/// The path of the copy of a log's manifest.
+pub fn manifest_copy_in(alloc: Global, folder: &str) -> Result<String, AllocError> {
+    format!(in alloc; "{folder}/manifest.copy")
 }
 
 /// The path of a segment.

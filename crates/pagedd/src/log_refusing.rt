@@ -1,13 +1,17 @@
 // The words with which a log isn't opened.
 use crate::ending::{fail, tell};
 use crate::fits::{Fit, other_fits};
-use crate::log_files::manifest_in;
+use crate::log_files::{manifest_in, segment_in};
+use crate::log_names::FolderNames;
 use crate::look::read;
+use crate::pages::value_of;
 use crate::request::Request;
 use crate::status::Status;
+use page::Sum;
+use paged::physical_page_size;
 use segments::Error;
-use std::fmt;
 use std::io::ErrorKind;
+use std::{fmt, fs};
 
 /// Why a log isn't opened, in words.
 #[derive(Clone, Copy)]
@@ -72,4 +76,38 @@ pub fn fit_of(rt: &HostRuntime, request: &Request, path: &str) -> Result<Option<
     let copy = read(rt, path)?;
     let fits = other_fits(rt.alloc(), copy.bytes(), request.shape)?;
     Ok(fits.first().copied())
+}
+
+/// Refuses a log whose first file verifies with another page size or checksum alone.
+pub fn refuse_other_shape<H: Sum>(
+    rt: &HostRuntime,
+    request: &Request,
+    names: &FolderNames,
+) -> Result<(), Status> {
+    let path = match names.numbers.first() {
+        _ if names.has_manifest => manifest_in(rt.alloc(), request.file)?,
+        Some(number) => segment_in(rt.alloc(), request.file, *number)?,
+        None => return Ok(()),
+    };
+    let bytes = fs::read(rt, path.as_str()).unwrap_or(Vec::new(rt.alloc()));
+    if has_page::<H>(request, bytes.as_slice()) {
+        return Ok(());
+    }
+    let fits = other_fits(rt.alloc(), bytes.as_slice(), request.shape)?;
+    let Some(fit) = fits.first() else {
+        return Ok(());
+    };
+    let shape = fit.shape;
+    tell(
+        rt,
+        format_args!("{path}: {fit}; nothing was done; try again with {shape}"),
+    );
+    Err(Status::NotWhole)
+}
+
+// Whether a page of a file of these bytes has a value.
+fn has_page<H: Sum>(request: &Request, bytes: &[u8]) -> bool {
+    let size = physical_page_size(request.shape.page_size) as usize;
+    let has_value = |page: &[u8]| !value_of::<H>(page).is_empty();
+    bytes.chunks_exact(size).any(has_value)
 }

@@ -1,5 +1,6 @@
 // What check and map answer of a log in JSON: one line, whose members stand in a fixed order.
 use crate::ending::or_end;
+use crate::log_names::FolderNames;
 use crate::log_parts::{Kept, Part};
 use crate::log_refusing::Why;
 use crate::report::quoted;
@@ -75,8 +76,24 @@ pub fn print_ending(
     count: u64,
 ) -> Result<(), Status> {
     let open = PartMembers(open);
+    let printed = print!(rt;
+        "],\"open\":{{\"segment\":{last},\"records\":{records},{open}}},\"records\":{count},"
+    );
+    or_end(rt, printed)
+}
+
+/// Prints what else the folder has, and ends the object.
+pub fn print_names(rt: &HostRuntime, names: &FolderNames, copy: &str) -> Result<(), Status> {
+    or_end(rt, print!(rt; "\"manifest_copy\":\"{copy}\",\"others\":["))?;
+    let mut mark = "";
+    for name in &names.others {
+        let name = quoted(rt, name.as_str())?;
+        or_end(rt, print!(rt; "{mark}{name}"))?;
+        mark = ",";
+    }
     let printed = println!(rt;
-        "],\"open\":{{\"segment\":{last},\"records\":{records},{open}}},\"records\":{count}}}"
+        "],\"other_count\":{},\"cut_count\":{}}}",
+        names.other_count, names.cut_count
     );
     or_end(rt, printed)
 }

@@ -6,6 +6,8 @@ use crate::log_answer::{Refusal, write_refusal};
 use crate::log_files::{copy_of, is_folder, open_log};
 use crate::log_guard::{GivenUp, guard_log};
 use crate::log_hello::{Hello, greet, greet_refused, read_opening, tell_opening};
+use crate::log_lock::lock_folder;
+use crate::log_put::sync_above;
 use crate::log_refusing::refuse_log;
 use crate::log_request::{LogRequest, read_request};
 use crate::log_status::{status_of, status_of_flaw};
@@ -22,7 +24,6 @@ use segments::{Error, FileFolder, Folder, FolderCopy, SegmentedLog};
 use std::alloc::Global;
 use std::fs::{self, File};
 use std::io::{self, BufReader, BufWriter, Read, Write};
-use std::path::PathBuf;
 
 /// Serves the log of a folder, or for reading alone a copy of it in memory. A folder that is
 /// missing is made, except for reading alone.
@@ -34,6 +35,24 @@ pub fn serve_log<H: Sum>(rt: &HostRuntime, request: &Request) -> Result<Status, 
     if !request.read_only {
         keep_name(rt, folder)?;
     }
+    // From the look on, so that nobody changes the log between it and the opening.
+    let lock = lock_for(rt, request)?;
+    let ended = guard_and_serve::<H>(rt, request);
+    drop(lock);
+    ended
+}
+
+// Locks the folder, except for reading alone.
+fn lock_for(rt: &HostRuntime, request: &Request) -> Result<Option<File>, Status> {
+    if request.read_only {
+        return Ok(None);
+    }
+    lock_folder(rt, request.file, false)
+}
+
+// Looks at the log in a folder, and serves it.
+fn guard_and_serve<H: Sum>(rt: &HostRuntime, request: &Request) -> Result<Status, Status> {
+    let folder = request.file;
     let given_up = guard_log::<H>(rt, request)?;
     if request.read_only {
         let copy = copy_of(rt, folder)?;
@@ -60,20 +79,13 @@ fn make_folder(rt: &HostRuntime, request: &Request) -> Result<(), Status> {
     }
 }
 
-// Makes the folder's name durable, each time: a program that made the folder may have ended before
-// it did so.
-fn keep_name(rt: &HostRuntime, folder: &str) -> Result<(), Status> {
+/// Makes the folder's name durable, each time: a program that made the folder may have ended before
+/// it did so.
+pub fn keep_name(rt: &HostRuntime, folder: &str) -> Result<(), Status> {
     match sync_above(rt, folder) {
         Ok(()) => Ok(()),
         Err(error) => Err(fail(rt, folder, error)),
     }
-}
-
-// Makes the names durable in the folder above a path.
-fn sync_above(rt: &HostRuntime, path: &str) -> io::Result<()> {
-    let mut above: PathBuf = fs::canonicalize(rt, path)?;
-    above.pop();
-    File::open(rt, above.as_str())?.sync_all()
 }
 
 // Serves the log of a folder.

@@ -9,8 +9,9 @@
 //! `pagedd serve-log FOLDER` serves a log of records in the same way, as `docs/LOG_PROTOCOL.md`
 //! describes.
 //!
-//! `append` takes standard input as content. `check`, `map`, `cat` and `salvage` read a file and
-//! change nothing of it. The first three do so for the folder of a log too.
+//! `append` takes standard input as content. `check`, `map`, `cat` and `salvage` read a file, or
+//! the folder of a log, and change nothing of it. `copy` copies a log, also one that is served, and
+//! `rebuild` makes its manifest anew.
 //!
 //! [`Status`](status::Status) lists the exit statuses. Where the status is neither 0 nor 141,
 //! standard error says why. For `check` its own output says why.
@@ -26,19 +27,29 @@ mod fits;
 mod log_answer;
 mod log_cat;
 mod log_check;
+mod log_copied;
+mod log_copying;
 mod log_files;
 mod log_guard;
 mod log_hello;
 mod log_input;
+mod log_known;
+mod log_lock;
 mod log_map;
+mod log_names;
 mod log_parts;
+mod log_put;
+mod log_rebuild;
 mod log_records;
 mod log_refusing;
 mod log_report;
 mod log_request;
+mod log_salvage;
+mod log_salvaged;
 mod log_serving;
 mod log_status;
 mod log_taking;
+mod log_text;
 mod log_told;
 mod look;
 mod map;
@@ -58,8 +69,11 @@ use crate::appending::append;
 use crate::cat::cat;
 use crate::check::check;
 use crate::command::{VERSION, command};
-use crate::ending::{end, or_end};
+use crate::ending::{end, fail, or_end};
+use crate::log_copying::copy_log;
 use crate::log_files::{fail_folder, fail_log_file, is_folder, log_around};
+use crate::log_rebuild::rebuild;
+use crate::log_salvage::salvage_log;
 use crate::log_serving::serve_log;
 use crate::log_told::tell_log;
 use crate::look::read;
@@ -82,11 +96,11 @@ fn perform<H: Sum>(
     set_aside: &[&str],
 ) -> Result<Status, Status> {
     if is_folder(rt, request.file) {
-        return perform_on_folder::<H>(rt, request);
+        return perform_on_folder::<H>(rt, request, set_aside);
     }
-    if may_change(request) {
+    if let Some(advice) = advice_for_log(request) {
         if let Some(folder) = log_around(rt, request.file) {
-            return Err(fail_log_file(rt, request.file, folder));
+            return Err(fail_log_file(rt, request.file, folder, advice));
         }
     }
     match request.task {
@@ -94,7 +108,18 @@ fn perform<H: Sum>(
         Task::Serve { create } => serve::<H>(rt, request, create),
         Task::Append { each_line } => append::<H>(rt, request, each_line),
         Task::Tell(told) => tell_of::<H>(rt, request, told, &mut read(rt, request.file)?),
-        Task::Salvage { out } => salvage::<H>(rt, request, set_aside, out),
+        Task::Salvage { dropped, .. } if dropped || request.json => {
+            let words = "--dropped and --json are for the folder of a log";
+            Err(fail(rt, request.file, words))
+        }
+        Task::Salvage { out, .. } => salvage::<H>(rt, request, set_aside, out),
+        Task::Rebuild | Task::Copy { .. } => {
+            Err(fail(
+                rt,
+                request.file,
+                "it is no folder, or isn't there: name the folder of a log",
+            ))
+        }
         Task::Version => {
             or_end(rt, println!(rt; "pagedd {VERSION}"))?;
             Ok(Status::Done)
@@ -102,17 +127,24 @@ fn perform<H: Sum>(
     }
 }
 
-// Whether a request may change its file.
-fn may_change(request: &Request) -> bool {
+// What is to be done in place of a request that isn't for a file of a log. None where it is.
+fn advice_for_log(request: &Request) -> Option<&'static str> {
     match request.task {
-        Task::Serve { .. } => !request.read_only,
-        Task::Append { .. } => true,
-        _ => false,
+        Task::Serve { .. } if request.read_only => None,
+        Task::Serve { .. } | Task::Append { .. } => Some("'pagedd serve-log' changes it"),
+        Task::Salvage { .. } => {
+            Some("'pagedd salvage FOLDER OUT' takes all its records, also behind a bad page")
+        }
+        _ => None,
     }
 }
 
 // Performs a request whose file is a folder, as that of a log.
-fn perform_on_folder<H: Sum>(rt: &HostRuntime, request: &Request) -> Result<Status, Status> {
+fn perform_on_folder<H: Sum>(
+    rt: &HostRuntime,
+    request: &Request,
+    set_aside: &[&str],
+) -> Result<Status, Status> {
     let folder = request.file;
     match request.task {
         Task::Tell(Told::Cat { from, len }) if from > 0 || len < u64::MAX => {
@@ -129,13 +161,12 @@ fn perform_on_folder<H: Sum>(rt: &HostRuntime, request: &Request) -> Result<Stat
                 "append isn't supported for a log: 'pagedd serve-log' appends its records",
             ))
         }
-        Task::Salvage { .. } => {
-            Err(fail_folder(
-                rt,
-                folder,
-                "salvage isn't supported for a log: 'pagedd cat' writes the records that are whole",
-            ))
+        Task::Salvage { .. } if !set_aside.is_empty() => {
+            Err(fail_folder(rt, folder, "CUT is for a file, not for a log"))
         }
+        Task::Salvage { out, dropped } => salvage_log::<H>(rt, request, out, dropped),
+        Task::Rebuild => rebuild::<H>(rt, request),
+        Task::Copy { out } => copy_log::<H>(rt, request, out),
         Task::ServeLog => serve_log::<H>(rt, request),
         Task::Version => Ok(Status::Done),
     }

@@ -1,6 +1,7 @@
 // Opening a file for a writer. Before a recovery cuts any of it, a line on standard error says what
 // goes, and a copy of what may have been synced is set aside.
 use crate::ending::{fail, tell};
+use crate::log_put::sync_above;
 use crate::look::{InMemory, Look, looked};
 use crate::refusing::refuse;
 use crate::request::Request;
@@ -9,6 +10,8 @@ use disk::{Blob, Error};
 use file::FileBlob;
 use page::Sum;
 use paged::Verdict;
+use std::fs::{self, File};
+use std::io;
 
 /// Opens a file, or makes it. Where that fails, a line says why.
 pub fn open(rt: &HostRuntime, path: &str) -> Result<FileBlob, Status> {
@@ -64,7 +67,7 @@ pub fn allow_looked(
             None
         }
         _ if look.set_aside_len() == 0 => {
-            let lost = look.lost("are cut");
+            let lost = look.lost("are to be cut");
             tell(
                 rt,
                 format_args!("{file}: {lost}: they are whole pages of zeros, and no copy was made"),
@@ -79,13 +82,43 @@ pub fn allow_looked(
     })
 }
 
+/// Sets aside bytes of the file at a path, as `PATH.cut-N`, and answers the new file's name. If the
+/// last such file has just these bytes, nothing is made, and its name is the answer: so a start
+/// that is refused again and again leaves one.
+pub fn set_aside_once(rt: &HostRuntime, path: &str, bytes: &[u8]) -> io::Result<String> {
+    let mut last = None;
+    for number in 1..u64::MAX {
+        let name = format!(in rt.alloc(); "{path}.cut-{number}")?;
+        if !fs::exists(rt, name.as_str())? {
+            break;
+        }
+        last = Some(name);
+    }
+    match last {
+        Some(name) if has_bytes(rt, name.as_str(), bytes) => {
+            File::open(rt, name.as_str())?.sync_all()?;
+            sync_above(rt, name.as_str())?;
+            Ok(name)
+        }
+        _ => file::set_aside(rt, path, bytes),
+    }
+}
+
+// Whether a file has just these bytes.
+fn has_bytes(rt: &HostRuntime, path: &str, bytes: &[u8]) -> bool {
+    match fs::read(rt, path) {
+        Ok(kept) => kept.as_slice() == bytes,
+        Err(_) => false,
+    }
+}
+
 // Sets aside what a recovery gives up at the end of a file of these bytes, and says where that is.
 // Answers the copy's name.
 fn keep(rt: &HostRuntime, file: &str, bytes: &[u8], look: &Look) -> Result<String, Status> {
-    let lost = look.lost("are cut");
+    let lost = look.lost("are to be cut");
     let start = look.set_aside_start();
     let given_up = bytes.get(start as usize..).unwrap_or_default();
-    match file::set_aside(rt, file, given_up) {
+    match set_aside_once(rt, file, given_up) {
         Ok(name) => {
             tell(
                 rt,

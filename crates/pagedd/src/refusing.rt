@@ -1,6 +1,7 @@
 // The words with which a file is refused.
 use crate::ending::tell;
 use crate::fits::{Fit, other_fits};
+use crate::log_files::log_around;
 use crate::look::Look;
 use crate::pages::Pages;
 use crate::request::Request;
@@ -84,13 +85,25 @@ pub fn refuse(
                 fit.shape
             ),
         ),
-        None => tell(
-            rt,
-            format_args!(
-                "{file}: {causes}; nothing was cut; with {shape} it {look}; see 'pagedd check', then \
-                 use 'pagedd salvage FILE OUT', or --cut, which cuts {cut} bytes and keeps a copy"
-            ),
-        ),
+        None => {
+            let what = salvaged(rt, file);
+            tell(
+                rt,
+                format_args!(
+                    "{file}: {causes}; nothing was cut; with {shape} it {look}; see 'pagedd check', \
+                     then use 'pagedd salvage {what} OUT', or --cut, which cuts {cut} bytes and keeps a \
+                     copy"
+                ),
+            );
+        }
     }
     Ok(Status::NotWhole)
+}
+
+// What is to be salvaged where a file is refused: if it is a log's, the log's folder.
+fn salvaged(rt: &HostRuntime, file: &str) -> &'static str {
+    match log_around(rt, file) {
+        Some(_) => "FOLDER",
+        None => "FILE",
+    }
 }

@@ -49,8 +49,13 @@ pub enum Task<'a> {
     Append { each_line: bool },
     /// Read it into memory, and report this about it.
     Tell(Told),
-    /// Put all that verifies into a new file of this name.
-    Salvage { out: &'a str },
+    /// Put all that verifies into a new file of this name. Of a log, all records whose frames fit
+    /// into a new folder, where `dropped` asks those of dropped segments too.
+    Salvage { out: &'a str, dropped: bool },
+    /// Make the manifest of the log in a folder anew.
+    Rebuild,
+    /// Copy the log in a folder to this folder, or bring the copy there up to date.
+    Copy { out: &'a str },
     /// Print the program's version.
     Version,
 }
@@ -145,6 +150,11 @@ fn task_of<'a>(name: &str, words: &ArgMatches<'a>) -> Task<'a> {
             len: words.get_one::<u64>("len").unwrap_or(u64::MAX),
         }),
         "salvage" => Task::Salvage {
+            out: words.get_str("OUT").unwrap_or_default(),
+            dropped: words.get_flag("dropped"),
+        },
+        "rebuild" => Task::Rebuild,
+        "copy" => Task::Copy {
             out: words.get_str("OUT").unwrap_or_default(),
         },
         "serve-log" => Task::ServeLog,

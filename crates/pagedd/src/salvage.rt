@@ -160,14 +160,22 @@ fn keep<H: Sum>(
     content: &[u8],
 ) -> Result<(), Error> {
     let mut cache = CacheRef::new(rt.alloc(), request.shape.page_size, request.cache)?;
-    write::<H>(rt.alloc(), request, blob, &mut cache, content)
+    write::<FileBlob, H>(rt.alloc(), request, blob, &mut cache, content)
+}
+
+/// The bytes of a file with this content.
+pub fn blob_of<H: Sum>(alloc: Global, request: &Request, content: &[u8]) -> Result<VecBlob, Error> {
+    let mut blob = VecBlob::new(alloc);
+    let mut cache = CacheRef::new(alloc, request.shape.page_size, request.cache)?;
+    write::<VecBlob, H>(alloc, request, &mut blob, &mut cache, content)?;
+    Ok(blob)
 }
 
 // Appends the content to a new blob, and syncs it.
-fn write<H: Sum>(
+fn write<B: Blob, H: Sum>(
     alloc: Global,
     request: &Request,
-    blob: &mut FileBlob,
+    blob: &mut B,
     cache: &mut CacheRef,
     content: &[u8],
 ) -> Result<(), Error>
@@ -175,8 +183,8 @@ fn write<H: Sum>(
 {
     let size = blob.len();
     let buffer = request.buffer;
-    let recovery = paged::recover::<_, H>(alloc, blob, size, buffer.get(), cache, buffer)?;
-    let writer: Writer<FileBlob, H> = Writer::from(recovery);
+    let recovery = paged::recover::<B, H>(alloc, blob, size, buffer.get(), cache, buffer)?;
+    let writer: Writer<B, H> = Writer::from(recovery);
     let (writer, _) = writer.append(blob, cache, content)?;
     writer.sync(blob, cache)?;
     Ok(())

@@ -8,7 +8,7 @@ use std::{env, fs, str};
 use strsim::levenshtein;
 
 /// The commands.
-const COMMANDS: [&str; 9] = [
+const COMMANDS: [&str; 11] = [
     "serve",
     "serve-log",
     "append",
@@ -16,18 +16,21 @@ const COMMANDS: [&str; 9] = [
     "map",
     "cat",
     "salvage",
+    "rebuild",
+    "copy",
     "version",
     "help",
 ];
 
 /// The options that take no value.
-const FLAGS: [&str; 10] = [
+const FLAGS: [&str; 11] = [
     "--create",
     "--read-only",
     "--cut",
     "--each-line",
     "--long",
     "--json",
+    "--dropped",
     "--help",
     "-h",
     "--version",

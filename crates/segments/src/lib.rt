@@ -28,6 +28,7 @@ mod scanning;
 
 pub use call::FolderCall;
 pub use closed::Closed;
+pub use entry::{Entry, bytes_of, entry_of};
 pub use error::Error;
 pub use file_folder::FileFolder;
 pub use folder::{Asked, Folder};
