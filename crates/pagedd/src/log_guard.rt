@@ -1,5 +1,6 @@
 // A look at a log before it is opened. Before the opening cuts any of it, a line on standard error
 // says what goes, and a copy of what may have been synced is set aside.
+use crate::log_durable::{missing_of, tell_missing};
 use crate::log_files::{copy_of, manifest_in, open_log, segment_in};
 use crate::log_refusing::refuse_log;
 use crate::look::{Look, looked, read};
@@ -55,13 +56,30 @@ struct Kept {
 fn kept_of<H: Sum>(rt: &HostRuntime, request: &Request) -> Result<Option<Kept>, Status> {
     let folder = copy_of(rt, request.file)?;
     match open_log::<FolderCopy, VecBlob, H>(rt.alloc(), request, folder) {
-        Ok(log) => Ok(Some(Kept {
-            number: log.last_segment(),
-            manifest: log.manifest_size(),
-            segment: log.size(),
-        })),
+        Ok(log) => {
+            let kept = Kept {
+                number: log.last_segment(),
+                manifest: log.manifest_size(),
+                segment: log.size(),
+            };
+            refuse_missing(rt, request, kept)?;
+            Ok(Some(kept))
+        }
         Err(error) if !request.read_only && is_not_found(&error) => Ok(None),
         Err(error) => Err(refuse_log(rt, request, &error)),
+    }
+}
+
+// Refuses a log of which something is missing, by the copy of its manifest. For reading alone a line
+// says so.
+fn refuse_missing(rt: &HostRuntime, request: &Request, kept: Kept) -> Result<(), Status> {
+    if request.read_only {
+        tell_missing(rt, request, kept.number, kept.segment)?;
+        return Ok(());
+    }
+    match missing_of(rt, request.file, kept.number, kept.segment)? {
+        Some(error) => Err(refuse_log(rt, request, &error)),
+        None => Ok(()),
     }
 }
 

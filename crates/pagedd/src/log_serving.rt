@@ -1,7 +1,7 @@
 // Serving a log to the program's input and output.
 ghost use Rattle.segments.specs.Log.{IsLog};
 
-use crate::ending::{fail, fail_stop, or_end};
+use crate::ending::{fail, fail_stop, or_end, tell};
 use crate::log_answer::{Refusal, write_refusal};
 use crate::log_files::{copy_of, is_folder, open_log};
 use crate::log_guard::{GivenUp, guard_log};
@@ -138,11 +138,27 @@ fn serve_streams<F: Folder<B> + Drop, B: Blob + Cause + Drop, H: Sum>(
         lost: None,
     };
     let hello = hello_of(request, given_up, log.len().unwrap_or(u64::MAX));
+    tell_unkept(rt, request, log.copy_failure());
+    let was_kept = log.copy_failure().is_none();
     let Streams { input, out } = streams;
     let served = serve_client(rt.alloc(), &hello, &mut client, log, input, out);
+    if was_kept {
+        tell_unkept(rt, request, log.copy_failure());
+    }
     match flushed(served, &mut streams.out) {
         Ok(()) => end(rt, request, &client),
         Err(stop) => Err(tell_stop(rt, request, stop, streams)),
+    }
+}
+
+// Says why the copy of the manifest couldn't be kept, if it couldn't.
+fn tell_unkept(rt: &HostRuntime, request: &Request, failure: Option<&io::Error>) {
+    if let Some(error) = failure {
+        let words = "so the manifest stands once, until an opening can write its copy";
+        tell(
+            rt,
+            format_args!("{}/manifest.copy: {error}: {words}", request.file),
+        );
     }
 }
 

@@ -49,7 +49,7 @@ pub fn status_of(error: &Error) -> u8 {
         Error::System(_) => 40,
         Error::Unlisted(_) => 41,
         Error::NumbersExhausted => 42,
-        Error::Missing(_) | Error::Manifest => 43,
+        Error::Missing(_) | Error::Short(_) | Error::Outdated(_) | Error::Manifest => 43,
     }
 }
 
@@ -75,6 +75,8 @@ fn advice_after(error: &Error, is_closing: bool) -> u8 {
         | Error::Unlisted(_)
         | Error::NumbersExhausted
         | Error::Missing(_)
+        | Error::Short(_)
+        | Error::Outdated(_)
         | Error::Manifest => 2,
         _ if is_closing => 2,
         Error::System(_) => 1,

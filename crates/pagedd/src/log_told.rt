@@ -3,6 +3,7 @@ ghost use Rattle.segments.specs.Log.{IsLog};
 
 use crate::log_cat::cat_log;
 use crate::log_check::{check_log, check_unopened};
+use crate::log_durable::tell_missing;
 use crate::log_files::{copy_of, open_log};
 use crate::log_map::{Drawn, map_log};
 use crate::log_refusing::refuse_log;
@@ -32,11 +33,16 @@ fn tell_opened<H: Sum>(
 ) -> Result<Status, Status>
     requires log { IsLog H.sum_of H.sum_of log.old }
 {
-    match told {
+    let has_all = tell_missing(rt, request, log.last_segment(), log.size())?;
+    let status = match told {
         Told::Check => check_log::<H>(rt, request, log),
         Told::Map { from, to, long } => map_log::<H>(rt, request, log, Drawn { from, to, long }),
         Told::Cat { .. } => cat_log::<H>(rt, request, log),
-    }
+    }?;
+    Ok(match status {
+        Status::Done if !has_all => Status::NotWhole,
+        status => status,
+    })
 }
 
 // Reports why a log can't be opened.

@@ -29,6 +29,7 @@ mod log_cat;
 mod log_check;
 mod log_copied;
 mod log_copying;
+mod log_durable;
 mod log_files;
 mod log_guard;
 mod log_hello;

@@ -28,6 +28,16 @@ pub fn copy_of(alloc: Global, known: Known, manifest: &[u8]) -> Result<Vec<u8>, 
     ensures bytes { IfOk result (λ bytes. bytes.items ≡ copy_bytes known manifest.now) }
     ensures told { IfOk result (λ bytes. known_in bytes.items ≡ Some known) }
 {
+    match summed(alloc, known, manifest) {
+        Ok(bytes) => Ok(bytes),
+        Err(error) => Err(error),
+    }
+}
+
+// The bytes of a copy.
+fn summed(alloc: Global, known: Known, manifest: &[u8]) -> Result<Vec<u8>, Error>
+    ensures { IfOk result (λ bytes. bytes.items ≡ copy_bytes known manifest.now) }
+{
     let mut body = Vec::new(alloc);
     body.extend_from_slice(&known.segment.to_be_bytes())?;
     body.extend_from_slice(&known.len.to_be_bytes())?;
