@@ -60,7 +60,7 @@ SHORT = [
 ]
 
 # The crates whose public calls the page of contracts has with all their clauses.
-WHOLE = ["paged", "session", "journal", "items"]
+WHOLE = ["paged", "session", "journal", "store", "items"]
 
 # The tables of calls with their errors: page, heading, and the crates in which a call is looked for, the first that has
 # one of this name.

@@ -1,25 +1,24 @@
-//! Keeps a map in a journal: puts, commits, crashes, and opens again.
+//! Keeps a map in a journal: puts, deletes, commits, crashes, and opens again.
 #![tactic(auto)]
 
-mod map;
-mod store;
-
-use crate::store::{OpenError, Store, crash_and_open};
 use crc32c::Crc32c;
 use disk::{Blob, MemBlob};
 use paged::recommended_cache;
 use std::alloc::Global;
 use std::io;
+use store::{OpenError, Store, crash_and_open};
 
 type Settings = Store<MemBlob, Crc32c, Crc32c>;
 
-/// Puts two settings and commits them, and puts one of them again.
+/// Puts three settings, takes one of them away again, commits, and puts one of them again.
 fn keep(alloc: Global, blob: &mut MemBlob) -> Result<Settings, OpenError> {
     let mut cache = recommended_cache(alloc)?;
     let size = blob.len();
     let store: Settings = Store::open(alloc, blob, size, &mut cache)?;
     let store = store.put(blob, &mut cache, b"name", b"lamp")?;
     let store = store.put(blob, &mut cache, b"light", b"on")?;
+    let store = store.put(blob, &mut cache, b"heat", b"low")?;
+    let store = store.delete(blob, &mut cache, b"heat")?;
     let store = store.commit(blob, &mut cache)?;
     Ok(store.put(blob, &mut cache, b"light", b"off")?)
 }
