@@ -46,6 +46,7 @@ SHORT = [
     ("let w = self.now in let P = w.page_size in", "let w = self.now in"),
     ("(non_zero_u16_get page_size)", "P"),
     ("let old = life_of blob.old in", ""),
+    ("let new = life_of blob.new in", ""),
     ("(life_of blob.old)", "old"),
     ("(life_of blob.new)", "new"),
     ("let t = tail_of self.now in", ""),
