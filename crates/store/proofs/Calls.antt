@@ -1,8 +1,8 @@
 -- What a call of a store does and leaves, from what the journal's does and leaves.
-use Rattle.std.proofs.Common.{◌≡◌, ℕ, ◌<◌, List, [], ◌∷◌, ◌++◌, length, inl, inr, refl, sym, ap, ap₂, subst, ◌∙◌, append-nil}
+use Rattle.std.proofs.Common.{◌≡◌, ℕ, List, [], ◌∷◌, ◌++◌, length, inl, inr, refl, sym, ap, ap₂, subst, ◌∙◌, append-nil}
 use Rattle.std.specs.Prelude.{Result, Ok, Err}
 use Rattle.std.specs.Result.{IsErrAnd}
-use Rattle.std.specs.FinMap.{empty, get}
+use Rattle.std.specs.FinMap.{empty}
 use Rattle.disk.specs.Disk.{Disk, Life}
 use Rattle.disk.specs.declared.error.Error.{Error}
 use Rattle.disk.specs.declared.error.Error.TheVariants.{OutOfMemory}
@@ -19,7 +19,7 @@ use Rattle.journal.specs.Journal.{AppendRecordGoes, BringsOnlyRecords, BringsRec
 use Rattle.journal.proofs.Journals.{only_records}
 use Rattle.store.specs.declared.store.OpenError.{OpenError}
 use Rattle.store.specs.declared.store.OpenError.TheVariants.{ForeignRecord, Refused}
-use Rattle.store.specs.Changes.{AreChanges, Bytes, ByteMap, ComesBack, after_changes, given, key_of, updated}
+use Rattle.store.specs.Changes.{AreChanges, Bytes, ByteMap, after_changes, given, key_of, updated}
 use Rattle.store.specs.Store.{AreCommitted, BringsBack, ChangeGoes, ChangeLeaves, CommitLeaves, CrashAndOpenLeaves, HasChanged, HasComeBack, HasCommitted, HasOpenedStore, IsStore, KeepsStore, MapGoes, OpenStoreGoes, StoreState, WasRecovered, changes_of}
 use Rattle.store.proofs.Back.{comes_back}
 use Rattle.store.proofs.Changes.{after_changes-one, begins, changes_kept}

@@ -1,11 +1,11 @@
 -- Each definition of changes and of stores: what it holds of, and what it refuses. The key is "l", and a put gives it "1" or
 -- "0".
-use Rattle.std.proofs.Common.{◌≡◌, ℕ, zero, suc, ◌<◌, ◌≤◌, ◌+◌, List, [], ◌∷◌, ◌++◌, length, take, get_or, inl, inr, refl, sym, ap, subst, ◌∙◌, arith, true, false, lit<, lit≤, length-append}
+use Rattle.std.proofs.Common.{◌≡◌, ℕ, zero, suc, ◌<◌, ◌≤◌, List, [], ◌∷◌, ◌++◌, length, take, get_or, inl, inr, refl, sym, ap, subst, ◌∙◌, arith, false, lit<, lit≤, length-append}
 use Rattle.std.specs.Prelude.{Bool, Option, Some, None, Ok, Err, Vec}
 use Rattle.std.specs.declared.alloc.Global.{Global}
 use Rattle.std.specs.Coded.{coded_list, coded_ℕ}
 use Rattle.std.specs.Cmp.Lexicographic.{slice_cmp, nat_list_cmp_total}
-use Rattle.std.specs.FinMap.{code, empty, get, get-empty, get-insert, get-remove, insert, remove}
+use Rattle.std.specs.FinMap.{code, empty, get, get-empty, get-insert, get-remove, insert}
 use Rattle.std.specs.Ordering.{nat_cmp}
 use Rattle.std.proofs.Math.Seq.{take-nil}
 use Rattle.disk.specs.Disk.{Disk, Life, HasFailed, next}
@@ -18,14 +18,13 @@ use Rattle.cache.specs.CacheState.{CacheState}
 use Rattle.cache.specs.Pages.{IsFresh}
 use Rattle.crash.specs.Moments.{through_end, through_start}
 use Rattle.crash.proofs.Disks.{base_is_image}
-use Rattle.crash.specs.Distinct.{IsDistinct}
 use Rattle.writer_state.specs.Sound.{content}
 use Rattle.writer_state.specs.WriterState.{WriterState}
 use Rattle.writer_state.specs.declared.sync_state.SyncState.TheVariants.{Clean}
 use Rattle.paged.specs.Calls.{IsSameWriter}
 use Rattle.journal.specs.Calls.{JournalCallLeaves, JournalCrashLeaves}
-use Rattle.journal.specs.Frame.{IsPrefix, frame, frames, records}
-use Rattle.journal.specs.Journal.{IsJournal, JournalHasRecovered, OnlyRecords, records_in}
+use Rattle.journal.specs.Frame.{frame, frames, records}
+use Rattle.journal.specs.Journal.{IsJournal, JournalHasRecovered, records_in}
 use Rattle.store.specs.declared.store.OpenError.TheVariants.{ForeignRecord, Refused}
 use Rattle.store.specs.Pairs.{pairs_of}
 use Rattle.store.specs.Changes.{AreChanges, ByteMap, Bytes, ComesBack, HasForeign, IsChange, IsDelete, IsGiven, IsPut, after_changes, delete_record, given, is_delete, key_of, map_code, mark_of, put_record, updated}
