@@ -1,10 +1,10 @@
-"""Lists the definitions that the promise, or the clauses of a complete crate, reach and that lack an example or a
-refutation, and counts them for the other crates: python3 examples/unexampled.py, or with --all to list these too.
+"""Lists the definitions that the promise, or a complete crate, has and that lack an example or a refutation, and counts
+them for the other crates: python3 examples/unexampled.py, or with --all to list these too.
 
-It begins at `Promises` in crates/session/specs/Promise.antt, and at each public clause of each crate with a library: the
-clauses of the calls that its src/lib.rt gives out, those of the traits that it gives out, and the ghost members of these.
-From there it goes from each definition to those of the specs of all crates that it names, by the imports of its file. A
-definition counts for the crate in whose specs it stands. An example or a refutation is a lemma in a file of
+It begins at `Promises` in crates/session/specs/Promise.antt, and at each public clause of each crate with a library:
+the clauses of the calls that its src/lib.rt gives out, those of the traits that it gives out, and the ghost members of
+these. From there it goes from each definition to those of the specs of all crates that it names, by the imports of its
+file. A definition counts for the crate in whose specs it stands. An example or a refutation is a lemma in a file of
 crates/*/proofs whose name ends in Examples.antt. Its statement counts, that is its type, and its proof doesn't:
 
 - A lemma whose statement ends in `→ ⊥` refutes the word with which the premise before the `⊥` begins:
@@ -12,13 +12,13 @@ crates/*/proofs whose name ends in Examples.antt. Its statement counts, that is 
 - Each other lemma is an example of each definition that its conclusion names, or that an abbreviation there names, if a
   file of examples has that abbreviation.
 
-A relation needs an example and a refutation. It is a definition whose result is a type, a record with a proposition among
-its fields, or an indexed family. A function that computes a value needs an example alone, since an equation leaves no other
-value; and so does a type of data. Whether what is refuted is nearly right, a reader has to judge. A sentence is one of
-docs/DEFINITIONS.md that has the definition's name in bold.
+A relation needs an example and a refutation. It is a definition with arguments whose result is a type, a record with a
+proposition among its fields, or an indexed family. A function that computes a value needs an example alone, since an
+equation leaves no other value; and so does a type of data. Whether what is refuted is nearly right, a reader has to
+judge. A sentence is one of docs/DEFINITIONS.md that has the definition's name in bold.
 
-It ends with status 1 if a definition that the promise reaches lacks an example, a refutation or a sentence, or if one in
-the specs of a crate of COMPLETE lacks an example or a refutation.
+It ends with status 1 if a definition that the promise reaches lacks an example, a refutation or a sentence, or if one
+in the specs of a crate of COMPLETE, whether a public clause reaches it or not, lacks an example or a refutation.
 """
 import glob
 import os
@@ -131,7 +131,7 @@ def relations(found):
         elif re.match(r"(?:pub )?data ", body):
             if "→" in re.split(r"\n", body)[0].split(" : ", 1)[-1]:
                 are.add(name)
-        elif re.search(r"(?:→|\)) Type 0$", re.sub(r"\s+", " ", head.split("\n" + name[3] + " ")[0].split(" = ")[0]).strip()):
+        elif re.search(r"[→)] Type 0$", re.sub(r"\s+", " ", head.split(" = ")[0]).strip()):
             are.add(name)
     growing = True
     while growing:
