@@ -46,6 +46,7 @@ SHORT = [
     ("let w = self.now in let P = w.page_size in", "let w = self.now in"),
     ("(non_zero_u16_get page_size)", "P"),
     ("let old = life_of blob.old in", ""),
+    ("let new = life_of blob.new in", ""),
     ("(life_of blob.old)", "old"),
     ("(life_of blob.new)", "new"),
     ("let t = tail_of self.now in", ""),
@@ -60,7 +61,7 @@ SHORT = [
 ]
 
 # The crates whose public calls the page of contracts has with all their clauses.
-WHOLE = ["paged", "session", "journal", "items"]
+WHOLE = ["paged", "session", "journal", "store", "items"]
 
 # The tables of calls with their errors: page, heading, and the crates in which a call is looked for, the first that has
 # one of this name.

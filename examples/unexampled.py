@@ -1,26 +1,37 @@
-"""Lists the definitions that the promise reaches and that lack an example, a refutation or a sentence: python3
-examples/unexampled.py.
+"""Lists the definitions that the promise, or a complete crate, has and that lack an example or a refutation, and counts
+them for the other crates: python3 examples/unexampled.py, or with --all to list these too.
 
-It begins at `Promises` in crates/session/specs/Promise.antt, and goes from each definition to those of the specs of all
-crates that it names, by the imports of its file. An example or a refutation is a lemma in a file of crates/*/proofs whose
-name ends in Examples.antt. Its statement counts, that is its type, and its proof doesn't:
+It begins at `Promises` in crates/session/specs/Promise.antt, and at each public clause of each crate with a library:
+the clauses of the calls that its src/lib.rt gives out, those of the traits that it gives out, and the ghost members of
+these. From there it goes from each definition to those of the specs of all crates that it names, by the imports of its
+file. A definition counts for the crate in whose specs it stands. An example or a refutation is a lemma in a file of
+crates/*/proofs whose name ends in Examples.antt. Its statement counts, that is its type, and its proof doesn't:
 
 - A lemma whose statement ends in `→ ⊥` refutes the word with which the premise before the `⊥` begins:
   `RunIsExact .. → EachStepIsExact .. → ⊥` refutes `EachStepIsExact`.
 - Each other lemma is an example of each definition that its conclusion names, or that an abbreviation there names, if a
   file of examples has that abbreviation.
 
-A relation needs an example and a refutation. It is a definition whose result is a type, a record with a proposition among
-its fields, or an indexed family. A function that computes a value needs an example alone, since an equation leaves no other
-value; and so does a type of data. Whether what is refuted is nearly right, a reader has to judge. A sentence is one of
-docs/DEFINITIONS.md that has the definition's name in bold.
+A relation needs an example and a refutation. It is a definition with arguments whose result is a type, a record with a
+proposition among its fields, or an indexed family. A function that computes a value needs an example alone, since an
+equation leaves no other value; and so does a type of data. Whether what is refuted is nearly right, a reader has to
+judge. A sentence is one of docs/DEFINITIONS.md that has the definition's name in bold.
+
+It ends with status 1 if a definition that the promise reaches lacks an example, a refutation or a sentence, or if one
+in the specs of a crate of COMPLETE, whether a public clause reaches it or not, lacks an example or a refutation.
 """
 import glob
 import os
 import re
+import sys
+
+import public_items
 
 ROOT = os.path.join(os.path.dirname(os.path.abspath(__file__)), "..")
 START = ("session", "specs", "Promise", "Promises")
+
+# The crates of whose definitions each has its examples: none may lack one.
+COMPLETE = ["segments", "store"]
 HEAD = re.compile(r"^((?:(?:abbrev|opaque|unfoldable|pub|record|data) )+)([^\s:()]+)", re.M)
 LEMMA = re.compile(
     r"^((?:(?:abbrev|pub) )*)([^\s:()]+) : ([^\n]*(?:\n +[^\n]*)*)\n"
@@ -61,7 +72,7 @@ def definitions():
     """The definitions of the specs: each with its text, and the definitions that it names."""
     found = {}
     for crate, module, text, known in modules("crates/*/specs/*.antt"):
-        heads = list(HEAD.finditer(text))
+        heads = list(HEAD.finditer(text)) if module != "Lib" else []
         for head in heads:
             known.setdefault(head[2], (crate, "specs", module, head[2]))
         for place, head in enumerate(heads):
@@ -72,8 +83,36 @@ def definitions():
     return found
 
 
-def reached(found):
-    todo, seen = [START], set()
+def clauses(text):
+    """The clauses and the ghost members of a text, each with its braces."""
+    for match in re.finditer(r"\b(?:(?:requires|ensures)\*?(?: \w+)?|ghost \w+(?: =|:[^{;\n]*)) ?(?=\{)", text):
+        yield public_items.block(text, match.end())
+
+
+def given_out(text, names):
+    """The parts of a file that are public: calls and traits of these names, and the public calls of their types."""
+    for part in re.split(r"^(?=impl\b|pub (?:const )?fn |pub trait )", text, flags=re.M)[1:]:
+        head = re.match(r"impl(?:<[^>]*>)? (\w+)|pub (?:const )?fn (\w+)|pub trait (\w+)", part)
+        if head and head[3] in names:
+            yield re.split(r"^\}", part, flags=re.M)[0]
+        elif head and (head[1] or head[2]) in names:
+            yield from re.findall(r"^ *pub (?:const )?fn \w+.*?^ *\{$", part, re.M | re.S)
+
+
+def public_words():
+    """The definitions that the public clauses of the crates name."""
+    words = set()
+    for path in glob.glob(os.path.join(ROOT, "crates", "*", "src", "lib.rt")):
+        for crate, name in public_items.Crate(path.split(os.sep)[-3]).given_out:
+            for text in public_items.sources(crate):
+                known = imports(re.sub(r"^ *ghost use ", "use ", text, flags=re.M))
+                for part in given_out(text, {name}):
+                    words |= {known[word] for clause in clauses(part) for word in words_in(clause) if word in known}
+    return words
+
+
+def reached(found, start):
+    todo, seen = list(start), set()
     while todo:
         name = todo.pop()
         if name not in seen and name in found:
@@ -92,7 +131,7 @@ def relations(found):
         elif re.match(r"(?:pub )?data ", body):
             if "→" in re.split(r"\n", body)[0].split(" : ", 1)[-1]:
                 are.add(name)
-        elif re.search(r"Type 0$", head.split(" = ")[0].strip()):
+        elif re.search(r"[→)] Type 0$", re.sub(r"\s+", " ", head.split(" = ")[0]).strip()):
             are.add(name)
     growing = True
     while growing:
@@ -153,9 +192,24 @@ def sentences():
     return {name for names in bold for name in re.findall(r"`([^`]+)`", names)}
 
 
+def missing(names, are, shown, refuted):
+    """Those of some definitions that lack an example, and those that lack a refutation."""
+    return sorted(names - shown), sorted((names & are) - refuted)
+
+
+def report(what, names):
+    for crate, folder, module, name in names:
+        print(f"crates/{crate}/{folder}/{module}.antt: {name} has no {what}")
+
+
+def counted(names, are, bare, open_ones):
+    return (f"{len(names)} definitions, {len(names & are)} of them relations: {len(bare)} without an example, "
+            f"{len(open_ones)} without a refutation")
+
+
 def main():
     found = definitions()
-    names, are = reached(found), relations(found)
+    are = relations(found)
     shorts, stated = lemmas()
     shown, refuted = set(), set()
     for statement, known in stated:
@@ -164,15 +218,29 @@ def main():
             refuted.add(known.get((words_in(parts[-2]) or [""])[0]))
         else:
             shown |= named(parts[-1], known, shorts)
-    bare = sorted(names - shown)
-    open_ones = sorted((names & are) - refuted)
+    names = reached(found, [START])
+    bare, open_ones = missing(names, are, shown, refuted)
     told = sentences()
     mute = sorted(name for name in names if name[3] not in told)
-    for what, missing in ("example", bare), ("refutation", open_ones), ("sentence", mute):
-        for crate, folder, module, name in missing:
-            print(f"crates/{crate}/{folder}/{module}.antt: {name} has no {what}")
-    print(f"{len(names)} definitions, {len(names & are)} of them relations: {len(bare)} without an example, "
-          f"{len(open_ones)} without a refutation, {len(mute)} without a sentence")
+    report("example", bare)
+    report("refutation", open_ones)
+    report("sentence", mute)
+    wrong = len(bare) + len(open_ones) + len(mute)
+    public = reached(found, public_words())
+    rows = []
+    for crate in sorted({name[0] for name in public} | set(COMPLETE)):
+        its = {name for name in (found if crate in COMPLETE else public) if name[0] == crate}
+        lacking = missing(its, are, shown, refuted)
+        if crate in COMPLETE or "--all" in sys.argv:
+            report("example", lacking[0])
+            report("refutation", lacking[1])
+        if crate in COMPLETE:
+            wrong += len(lacking[0]) + len(lacking[1])
+        silent = sum(name[3] not in told for name in its)
+        rows.append(f"{crate}: {counted(its, are, *lacking)}, {silent} without a sentence")
+    print(f"the promise: {counted(names, are, bare, open_ones)}, {len(mute)} without a sentence")
+    print("\n".join(rows))
+    sys.exit(1 if wrong else 0)
 
 
 main()

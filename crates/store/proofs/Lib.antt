@@ -1,3 +1,5 @@
 pub mod Maps
-pub mod Puts
+pub mod Changes
+pub mod Back
 pub mod Calls
+pub mod Examples

@@ -1,6 +1,6 @@
 -- A map in memory as a finite map.
 use Rattle.std.proofs.Common.{◌≡◌, ℕ, List, [], ◌∷◌, refl, sym, ap, subst, ◌∙◌, true, false, Bool, true≢false}
-use Rattle.std.specs.Prelude.{Option, Some, Vec, cond, option_map}
+use Rattle.std.specs.Prelude.{Option, Some, None, Vec, cond, option_map}
 use Rattle.std.specs.declared.alloc.Global.{Global}
 use Rattle.std.specs.declared.cmp.Ordering.{Ordering}
 use Rattle.std.specs.declared.cmp.Ordering.TheVariants.{Less, Equal, Greater}
@@ -8,7 +8,7 @@ use Rattle.std.specs.BTreeMap as tree
 use Rattle.std.specs.BTreeMap.{BTreeMap}
 use Rattle.std.specs.Cmp.{eq_by_cmp_equiv}
 use Rattle.std.specs.Cmp.Lexicographic.{slice_cmp, nat_list_cmp_total}
-use Rattle.std.specs.FinMap.{find, from_entries, get, get-from_entries, get-insert, insert, same_map}
+use Rattle.std.specs.FinMap.{find, from_entries, get, get-from_entries, get-insert, get-remove, insert, remove, same_map}
 use Rattle.std.specs.Map.{lookup, IsKeyTest, AreApart, KeepsOthers}
 use Rattle.std.specs.Ordering.{is_eq, nat_cmp}
 use Rattle.std.proofs.lemmas.Map.Lookups.{exact_bytes}
@@ -38,7 +38,7 @@ find-pairs q (e ∷ es) = one (at q e.0) (find-pairs q es)
 pub get-pairs : (es : List (Key × Key)) (q : List ℕ) → get (from_entries {R = order} (pairs_of es)) q ≡ option_map value (lookup (at q) es)
 get-pairs es q = get-from_entries nat_list_cmp_total (pairs_of es) q ∙ find-pairs q es
 
-is_equal : (r : Ordering) → is_eq r ≡ true → r ≡ Equal
+pub is_equal : (r : Ordering) → is_eq r ≡ true → r ≡ Equal
 is_equal Less e = absurd (true≢false (sym e))
 is_equal Equal e = refl
 is_equal Greater e = absurd (true≢false (sym e))
@@ -74,5 +74,20 @@ inserted m n key v h = same_map nat_list_cmp_total exact_bytes _ _ (λ q.
     ∙ ap (cond (is_eq (order q key.items)) (Some v.items)) (get-pairs m.entries q)))
   where
     over : (b : Bool) (found : Option Key) → option_map value (cond b (Some v) found) ≡ cond b (Some v.items) (option_map value found)
+    over true found = refl
+    over false found = refl
+
+-- a remove takes the value at the key away
+pub removed : (m n : BTreeMap Key Key) (key : List ℕ) → tree.UpdatesBy (λ x y. order x.items y.items) (λ k. order key k.items) m n None
+    → from_entries {R = order} (pairs_of n.entries) ≡ remove (from_entries (pairs_of m.entries)) key
+removed m n key h = same_map nat_list_cmp_total exact_bytes _ _ (λ q.
+    get-pairs n.entries q
+    ∙ ap (option_map value) (changed m n key None h q)
+    ∙ over (is_eq (order key q)) (lookup (at q) m.entries)
+    ∙ ap (λ (b : Bool). cond b None (option_map value (lookup (at q) m.entries))) ((eq_by_cmp_equiv nat_list_cmp_total).symm key q)
+    ∙ sym (get-remove nat_list_cmp_total (from_entries (pairs_of m.entries)) key q
+    ∙ ap (cond (is_eq (order q key)) None) (get-pairs m.entries q)))
+  where
+    over : (b : Bool) (found : Option Key) → option_map value (cond b None found) ≡ cond b None (option_map value found)
     over true found = refl
     over false found = refl

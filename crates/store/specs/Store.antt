@@ -1,12 +1,9 @@
--- A map that a journal keeps. Each record of the journal is a put: a key, and the value that it has
--- from then on. The map is what the puts make of an empty one, in turn.
-use Rattle.std.specs.Prelude.{◌≡◌, ◌⊎◌, ◌<◌, ◌≤◌, ◌+◌, ◌++◌, ℕ, List, [], ◌∷◌, length, take, drop}
-use Rattle.std.specs.Prelude.{get_or, Bool, Option, Some, None, Result, Ok, Err}
-use Rattle.std.specs.Cmp.Lexicographic.{slice_cmp}
-use Rattle.std.specs.Coded.{Coded, coded_list, coded_ℕ}
-use Rattle.std.specs.FinMap.{FinMap, code, empty, insert}
-use Rattle.std.specs.Int.{w16, to_be_bytes, from_be_bytes}
-use Rattle.std.specs.Ordering.{nat_cmp}
+-- A map that a journal keeps: what its calls do, and what a crash leaves. Each record of the journal
+-- is a change of the map, a put or a delete. The map is what the changes make of an empty one, in
+-- turn.
+use Rattle.std.specs.Prelude.{◌≡◌, ◌⊎◌, ◌≤◌, ◌+◌, ◌++◌, ℕ, List, [], ◌∷◌, length}
+use Rattle.std.specs.Prelude.{Bool, Option, Some, None, Result, Ok, Err}
+use Rattle.std.specs.FinMap.{empty, get}
 use Rattle.disk.specs.Disk.{Disk, Life}
 use Rattle.disk.specs.History.{begun}
 use Rattle.disk.specs.Torn.{torn}
@@ -24,220 +21,198 @@ use Rattle.journal.specs.Frame.{IsPrefix, frame, records}
 use Rattle.journal.specs.Journal.{AppendRecordGoes, CommitGoes, CommitsAll, IsJournal}
 use Rattle.journal.specs.Journal.{JournalHasRecovered, OnlyRecords, RecoversJournal, records_in}
 use Rattle.store.specs.declared.store.OpenError.{OpenError}
-use Rattle.store.specs.declared.store.OpenError.TheVariants.{NoPut, Refused}
-
--- a map from keys to values, both of them bytes
-abbrev pub Bytes : Type 0
-Bytes = List ℕ
-
-abbrev pub ByteMap : Type 0
-ByteMap = FinMap (slice_cmp nat_cmp) Bytes
-
--- a map is data: what tells two maps apart are their entries
-abbrev pub map_code : Coded ByteMap
-map_code = code (coded_list coded_ℕ) (coded_list coded_ℕ)
+use Rattle.store.specs.declared.store.OpenError.TheVariants.{ForeignRecord, Refused}
+use Rattle.store.specs.Changes.{AreChanges, ByteMap, Bytes, ComesBack, HasForeign, IsChange}
+use Rattle.store.specs.Changes.{after_changes, given, key_of}
 
 -- a store as contracts see it: its map, and its journal
 pub record StoreState : Type 0 where
   pub map : ByteMap
   pub journal : WriterState
 
--- ---- puts
+-- the changes that a store's journal has, oldest first
+abbrev pub changes_of : (own : List ℕ → ℕ) → StoreState → Life → List Bytes
+changes_of own s life = records_in own s.journal life
 
--- the record of a put: the length of the key in two bytes, the key, and the value
-abbrev pub put_record : (key value : Bytes) → Bytes
-put_record key value = to_be_bytes w16 (length key) ++ key ++ value
-
--- the key of a put
-abbrev pub key_of : Bytes → Bytes
-key_of put = take (from_be_bytes w16 (take 2 put)) (drop 2 put)
-
--- the value of a put
-abbrev pub put_value : Bytes → Bytes
-put_value put = drop (from_be_bytes w16 (take 2 put)) (drop 2 put)
-
--- a record is a put if it is long enough for its key
-abbrev pub IsPut : Bytes → Type 0
-IsPut put = 2 + from_be_bytes w16 (take 2 put) ≤ length put
-
--- each of these records is a put
-abbrev pub ArePuts : List Bytes → Type 0
-ArePuts [] = Unit {0}
-ArePuts (put ∷ puts) = IsPut put × ArePuts puts
-
--- one of them is too short to be one
-abbrev pub HasNoPut : List Bytes → Type 0
-HasNoPut puts = (i : ℕ) × (i < length puts)
-    × (length (get_or puts i []) < 2 + from_be_bytes w16 (take 2 (get_or puts i [])))
-
--- the map after these puts
-abbrev pub after_puts : ByteMap → List Bytes → ByteMap
-after_puts map [] = map
-after_puts map (put ∷ puts) = after_puts (insert map (key_of put) (put_value put)) puts
-
--- the puts of a store, oldest first
-abbrev pub puts_of : (own : List ℕ → ℕ) → StoreState → Life → List Bytes
-puts_of own s life = records_in own s.journal life
-
--- a store between two calls: its map is what its puts make; and its cache serves other blobs too
+-- a store between two calls: its map is what its changes make, chance aside a crash leaves only the
+-- first of them, and its cache serves other blobs too
 pub record IsStore (sum own : List ℕ → ℕ) (s : StoreState) (cache : CacheState) (life : Life)
     : Type 0 where
   pub journal : IsJournal sum s.journal cache life
   pub fresh : IsFresh cache
-  pub held : s.map ≡ after_puts empty (puts_of own s life)
+  pub held : s.map ≡ after_changes empty (changes_of own s life)
+  pub only : OnlyRecords sum own s.journal.page_size (changes_of own s life) life.present
 
 -- ---- what a crash leaves
 
--- these puts are committed: whatever a crash leaves, a recovery brings them back
-pub record AreCommitted (sum own : List ℕ → ℕ) (P : ℕ) (puts : List Bytes) (d : Disk)
+-- these changes are committed: whatever a crash leaves, a recovery brings them back
+pub record AreCommitted (sum own : List ℕ → ℕ) (P : ℕ) (changes : List Bytes) (d : Disk)
     : Type 0 where
   pub content : List ℕ
-  pub are : records own content ≡ puts
+  pub are : records own content ≡ changes
   pub all : CommitsAll sum own P content d
 
--- puts that were committed as a call began are committed at each moment since
-abbrev pub KeepsPuts : (sum own : List ℕ → ℕ) → ℕ → Life → Life → Type 0
-KeepsPuts sum own P old new =
-    (puts : List Bytes) → AreCommitted sum own P puts old.present
-    → Through (AreCommitted sum own P puts) old new
+-- changes that were committed at one moment still are at a later one
+abbrev pub ChangesStay : (sum own : List ℕ → ℕ) → ℕ → Disk → Disk → Type 0
+ChangesStay sum own P was is =
+    (changes : List Bytes) → AreCommitted sum own P changes was
+    → AreCommitted sum own P changes is
+
+-- changes that were committed as a call began are committed at each moment since
+abbrev pub KeepsChanges : (sum own : List ℕ → ℕ) → ℕ → Life → Life → Type 0
+KeepsChanges sum own P old new =
+    (changes : List Bytes) → AreCommitted sum own P changes old.present
+    → Through (AreCommitted sum own P changes) old new
 
 -- a call that the journal took: it left what the journal's call leaves (`only` of it: chance aside
--- a crash at any moment since the call began leaves only the first of these puts); and what was
+-- a crash at any moment since the call began leaves only the first of these changes); and what was
 -- committed is so at each of these moments, also now that the call has ended
-pub record KeepsStore (sum own : List ℕ → ℕ) (w : WriterState) (puts : List Bytes)
+pub record KeepsStore (sum own : List ℕ → ℕ) (w : WriterState) (changes : List Bytes)
     (cache after : CacheState) (old new : Life) : Type 0 where
-  pub journal : JournalCallLeaves sum own w puts cache after old new
-  pub kept : KeepsPuts sum own w.page_size old new
-  pub stays : (committed : List Bytes) → AreCommitted sum own w.page_size committed old.present
-      → AreCommitted sum own w.page_size committed new.present
+  pub journal : JournalCallLeaves sum own w changes cache after old new
+  pub kept : KeepsChanges sum own w.page_size old new
+  pub stays : ChangesStay sum own w.page_size old.present new.present
 
--- what a put leaves, whatever it answers: memory was refused before anything was done; or the
--- journal took the call
-abbrev pub PutLeaves : (sum own : List ℕ → ℕ) → WriterState → List Bytes
+-- what a put or a delete leaves, whatever it answers: memory was refused before anything was done;
+-- or the journal took the call
+abbrev pub ChangeLeaves : (sum own : List ℕ → ℕ) → StoreState → (change : Bytes)
     → (cache after : CacheState) → Life → Life → Type 0
-PutLeaves sum own w puts cache after old new =
-    ((new ≡ old) × (after ≡ cache)) ⊎ KeepsStore sum own w puts cache after old new
+ChangeLeaves sum own s change cache after old new =
+    ((new ≡ old) × (after ≡ cache))
+    ⊎ KeepsStore sum own s.journal (changes_of own s old ++ change ∷ []) cache after old new
 
 -- what a commit leaves, whatever it answers
-abbrev pub CommitPutsLeaves : (sum own : List ℕ → ℕ) → StoreState → (cache after : CacheState)
+abbrev pub CommitLeaves : (sum own : List ℕ → ℕ) → StoreState → (cache after : CacheState)
     → Life → Life → Type 0
-CommitPutsLeaves sum own s cache after old new =
-    KeepsStore sum own s.journal (puts_of own s old) cache after old new
+CommitLeaves sum own s cache after old new =
+    KeepsStore sum own s.journal (changes_of own s old) cache after old new
 
 -- ---- what each call does
 
--- a value was put at a key: the map has it there, and at each other key what it had
-pub record HasStored (sum own : List ℕ → ℕ) (s : StoreState) (at value : Bytes)
+-- a change was made: the map is this one, the journal has the change after those before, and what
+-- was committed still is
+pub record HasChanged (sum own : List ℕ → ℕ) (s : StoreState) (change : Bytes) (made : ByteMap)
     (after : CacheState) (old new : Life) (now : StoreState) : Type 0 where
   pub store : IsStore sum own now after new
   pub same : IsSameWriter s.journal now.journal
-  pub map : now.map ≡ insert s.map at value
-  pub puts : puts_of own now new ≡ puts_of own s old ++ put_record at value ∷ []
+  pub map : now.map ≡ made
+  pub changes : changes_of own now new ≡ changes_of own s old ++ change ∷ []
+  pub stays : ChangesStay sum own s.journal.page_size old.present new.present
 
--- a put, by its answer; an error is one of the journal's append, or memory was refused
-abbrev pub StorePutGoes : (sum own : List ℕ → ℕ) → StoreState → (at value : Bytes) → CacheState
-    → Life → Life → Result StoreState Error → Type 0
-StorePutGoes sum own s at value after old new (Ok now) =
-    HasStored sum own s at value after old new now
-StorePutGoes sum own s at value after old new (Err e) =
-    (e ≡ OutOfMemory)
-    ⊎ AppendRecordGoes sum own s.journal (put_record at value) after old new (Err e)
+-- a put or a delete, by its answer. At an error memory was refused before anything was done, or the
+-- journal refused the record
+abbrev pub ChangeGoes : (sum own : List ℕ → ℕ) → StoreState → (change : Bytes) → ByteMap
+    → (cache after : CacheState) → Life → Life → Result StoreState Error → Type 0
+ChangeGoes sum own s change made cache after old new (Ok now) =
+    HasChanged sum own s change made after old new now
+ChangeGoes sum own s change made cache after old new (Err e) =
+    ((e ≡ OutOfMemory) × (new ≡ old) × (after ≡ cache))
+    ⊎ AppendRecordGoes sum own s.journal change after old new (Err e)
 
--- all puts were committed, and the map is as it was
+-- all changes were committed, the map is as it was, and what was committed before still is
 pub record HasCommitted (sum own : List ℕ → ℕ) (s : StoreState) (after : CacheState)
     (old new : Life) (now : StoreState) : Type 0 where
   pub store : IsStore sum own now after new
   pub same : IsSameWriter s.journal now.journal
   pub map : now.map ≡ s.map
-  pub puts : puts_of own now new ≡ puts_of own s old
-  pub committed : AreCommitted sum own now.journal.page_size (puts_of own now new) new.present
+  pub changes : changes_of own now new ≡ changes_of own s old
+  pub committed : AreCommitted sum own now.journal.page_size (changes_of own now new) new.present
+  pub stays : ChangesStay sum own s.journal.page_size old.present new.present
 
 -- a commit, by its answer; an error is one of the journal's commit
-abbrev pub CommitPutsGoes : (sum own : List ℕ → ℕ) → StoreState → CacheState → Life → Life
+abbrev pub CommitStoreGoes : (sum own : List ℕ → ℕ) → StoreState → CacheState → Life → Life
     → Result StoreState Error → Type 0
-CommitPutsGoes sum own s after old new (Ok now) = HasCommitted sum own s after old new now
-CommitPutsGoes sum own s after old new (Err e) = CommitGoes sum own s.journal after old new (Err e)
+CommitStoreGoes sum own s after old new (Ok now) = HasCommitted sum own s after old new now
+CommitStoreGoes sum own s after old new (Err e) =
+    CommitGoes sum own s.journal after old new (Err e)
 
--- a store was opened: its puts are the records of what could be read, they begin with all that were
--- committed, and they are committed now
+-- whatever changes were committed, a map comes back with them, of all that its journal has
+abbrev pub BringsBack : (sum own : List ℕ → ℕ) → ℕ → Disk → Life → StoreState → Type 0
+BringsBack sum own P was new now =
+    (committed : List Bytes) → AreCommitted sum own P committed was
+    → ComesBack committed (changes_of own now new) (get now.map)
+
+-- a store was opened: its changes are the records of what could be read, they begin with all that
+-- were committed, and they are committed now
 pub record HasOpenedStore (sum own : List ℕ → ℕ) (P : ℕ) (after : CacheState) (was : Disk)
     (new : Life) (now : StoreState) : Type 0 where
   pub store : IsStore sum own now after new
   pub page_size : now.journal.page_size ≡ P
-  pub whole : ArePuts (puts_of own now new)
-  pub puts : puts_of own now new ≡ records own (text sum P was.readable)
-  pub committed : AreCommitted sum own P (puts_of own now new) new.present
-  pub back : (puts : List Bytes) → AreCommitted sum own P puts was
-      → IsPrefix puts (puts_of own now new)
+  pub whole : AreChanges (changes_of own now new)
+  pub changes : changes_of own now new ≡ records own (text sum P was.readable)
+  pub committed : AreCommitted sum own P (changes_of own now new) new.present
+  pub back : BringsBack sum own P was new now
 
--- the journal was recovered, and brought these puts
+-- the journal was recovered, and brought these records
 abbrev pub WasRecovered : (sum own : List ℕ → ℕ) → (cache after : CacheState) → Life → Life
     → Type 0
-WasRecovered sum own cache after old new = (w : WriterState) × (puts : List Bytes)
-    × JournalHasRecovered sum own cache after old new w puts
+WasRecovered sum own cache after old new = (w : WriterState) × (found : List Bytes)
+    × JournalHasRecovered sum own cache after old new w found
 
--- an opening, by its answer: the journal was recovered, and a record of the blob is no put, or
+-- an opening, by its answer: the journal was recovered, and a record of the blob is no change, or
 -- memory for the map was refused; or the journal wasn't recovered
 abbrev pub OpenStoreGoes : (sum own : List ℕ → ℕ) → (cache after : CacheState) → (capacity : ℕ)
     → Life → Life → Result StoreState OpenError → Type 0
 OpenStoreGoes sum own cache after capacity old new (Ok now) =
     HasOpenedStore sum own cache.page_size after old.present new now
-OpenStoreGoes sum own cache after capacity old new (Err NoPut) =
+OpenStoreGoes sum own cache after capacity old new (Err ForeignRecord) =
     WasRecovered sum own cache after old new
-    × HasNoPut (records own (text sum cache.page_size old.present.readable))
+    × HasForeign (records own (text sum cache.page_size old.present.readable))
 OpenStoreGoes sum own cache after capacity old new (Err (Refused e)) =
     (WasRecovered sum own cache after old new × (e ≡ OutOfMemory))
     ⊎ RecoversJournal sum own cache after capacity old new (Err e)
 
--- a store came back after a crash that left this image: its puts are the records of the image, and
--- are committed now; they begin with all that were committed as the crash came, whatever the
--- checksum functions; and where no checksum collides in the image they are the first of those that
--- had been made
+-- a store came back after a crash that left this image: its changes are the records of the image,
+-- and are committed now. They begin with all that were committed as the crash came, whatever the
+-- checksum functions (`back`). Where no checksum collides in the image they are the first of all
+-- that were made (`only`); so of what was made each key has what its last committed change gave, or
+-- a later one (`values`)
 pub record HasComeBack (sum own : List ℕ → ℕ) (P : ℕ) (after : CacheState) (was : Disk)
     (image : List ℕ) (new : Life) (now : StoreState) : Type 0 where
   pub store : IsStore sum own now after new
   pub page_size : now.journal.page_size ≡ P
-  pub whole : ArePuts (puts_of own now new)
-  pub puts : puts_of own now new ≡ records own (text sum P image)
-  pub committed : AreCommitted sum own P (puts_of own now new) new.present
-  pub back : (puts : List Bytes) → AreCommitted sum own P puts was
-      → IsPrefix puts (puts_of own now new)
+  pub whole : AreChanges (changes_of own now new)
+  pub changes : changes_of own now new ≡ records own (text sum P image)
+  pub committed : AreCommitted sum own P (changes_of own now new) new.present
+  pub back : BringsBack sum own P was new now
   pub only : IsDistinct sum P was image → (all : List Bytes) → OnlyRecords sum own P all was
-      → IsPrefix (puts_of own now new) all
+      → IsPrefix (changes_of own now new) all
+  pub values : IsDistinct sum P was image → (committed all : List Bytes)
+      → AreCommitted sum own P committed was → OnlyRecords sum own P all was
+      → ComesBack committed all (get now.map)
 
 -- a crash and an opening, by their answer: the journal was recovered from what the crash left, and
--- a record is no put, or memory for the map was refused; or the recovery was refused, or memory
+-- a record is no change, or memory for the map was refused; or the recovery was refused, or memory
 -- for the crash, and then nothing changed
 abbrev pub CrashAndOpenGoes : (sum own : List ℕ → ℕ) → (cache after : CacheState) → (capacity : ℕ)
     → List Bool → Life → Life → Result StoreState OpenError → Type 0
 CrashAndOpenGoes sum own cache after capacity keep old new (Ok now) =
     let d = old.present in let image = torn keep d.since d.base in
     HasComeBack sum own cache.page_size after d image new now
-CrashAndOpenGoes sum own cache after capacity keep old new (Err NoPut) =
+CrashAndOpenGoes sum own cache after capacity keep old new (Err ForeignRecord) =
     let d = old.present in let image = torn keep d.since d.base in
     WasRecovered sum own cache after (begun image d.log) new
-    × HasNoPut (records own (text sum cache.page_size image))
+    × HasForeign (records own (text sum cache.page_size image))
 CrashAndOpenGoes sum own cache after capacity keep old new (Err (Refused e)) =
     let d = old.present in let image = torn keep d.since d.base in
     (WasRecovered sum own cache after (begun image d.log) new × (e ≡ OutOfMemory))
     ⊎ CrashRecoversJournal sum own cache after capacity keep old new (Err e)
 
 -- what a crash and an opening leave, whatever they answer: what the journal's crash and recovery
--- leave; and puts that were committed still are
+-- leave; and changes that were committed still are
 pub record CrashAndOpenLeaves (sum own : List ℕ → ℕ) (cache after : CacheState) (was is : Disk)
     : Type 0 where
   pub journal : JournalCrashLeaves sum own cache after was is
-  pub stays : (puts : List Bytes) → AreCommitted sum own cache.page_size puts was
-      → AreCommitted sum own cache.page_size puts is
+  pub stays : ChangesStay sum own cache.page_size was is
 
 -- ---- what each call asks of the device
 
--- a put makes at most three device calls, one of which waits for a commit that was started; and
--- none where the record fits what the journal may hold back
-pub record PutCosts (own : List ℕ → ℕ) (w : WriterState) (put : Bytes) (old new : Life) : Type 0
-  where
-    pub calls : AsksAtMost (wait_calls w.sync + 2) old new
-    pub buffered : length w.tip + length (frame own put) ≤ w.capacity → new ≡ old
+-- a put or a delete makes at most three device calls, one of which waits for a commit that was
+-- started; and none where the record fits what the journal may hold back
+pub record ChangeCosts (own : List ℕ → ℕ) (w : WriterState) (change : Bytes) (old new : Life)
+    : Type 0 where
+  pub calls : AsksAtMost (wait_calls w.sync + 2) old new
+  pub buffered : length w.tip + length (frame own change) ≤ w.capacity → new ≡ old
 
 -- a commit makes at most two device calls, and none where all is durable
 pub record CommitCosts (w : WriterState) (old new : Life) : Type 0 where
@@ -246,13 +221,13 @@ pub record CommitCosts (w : WriterState) (old new : Life) : Type 0 where
 
 -- ---- inside
 
--- the parts of a put, by the answer
-abbrev pub PartsGoes : Bytes → Option (Bytes × Bytes) → Type 0
-PartsGoes put (Some r) = IsPut put × (r.0 ≡ key_of put) × (r.1 ≡ put_value put)
-PartsGoes put None = length put < 2 + from_be_bytes w16 (take 2 put)
+-- the key of a record, and the value that it gives the key, by the answer
+abbrev pub ReadsChange : Bytes → Option (Bytes × Option Bytes) → Type 0
+ReadsChange bytes (Some r) = IsChange bytes × (r.0 ≡ key_of bytes) × (r.1 ≡ given bytes)
+ReadsChange bytes None = IsChange bytes → ⊥
 
--- the map of these puts, by the answer
+-- the map of these records, by the answer
 abbrev pub MapGoes : List Bytes → Result ByteMap OpenError → Type 0
-MapGoes puts (Ok map) = ArePuts puts × (map ≡ after_puts empty puts)
-MapGoes puts (Err NoPut) = HasNoPut puts
-MapGoes puts (Err (Refused e)) = e ≡ OutOfMemory
+MapGoes found (Ok map) = AreChanges found × (map ≡ after_changes empty found)
+MapGoes found (Err ForeignRecord) = HasForeign found
+MapGoes found (Err (Refused e)) = e ≡ OutOfMemory

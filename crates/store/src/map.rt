@@ -1,6 +1,7 @@
 // The map of a store, in memory.
 ghost use Rattle.std.specs.Prelude.{◌≡◌, IsOkUnless, OnOk, option_map};
 ghost use Rattle.std.specs.FinMap as map;
+ghost use Rattle.store.specs.Changes.{updated};
 
 use disk::Error;
 use std::alloc::Global;
@@ -57,5 +58,25 @@ impl Map {
         let value = Vec::from_slice(alloc, value)?;
         self.entries.insert(key, value)?;
         Ok(())
+    }
+    /// Takes the value at a key away, if there is one.
+    pub fn remove(&mut self, key: &[u8])
+        ensures { self.new ≡ map.remove self.old key.now }
+    {
+        let _ = self.entries.remove(key);
+    }
+
+    /// Puts a value at a key, or takes away what is there. It answers `OutOfMemory` alone.
+    pub fn set(&mut self, alloc: Global, key: &[u8], value: Option<&[u8]>) -> Result<(), Error>
+        ensures set { OnOk result (self.new ≡ updated self.old key.now (option_map (λ v. v.now) value.entry)) }
+        ensures err { IsOkUnless result Error.OutOfMemory }
+    {
+        match value {
+            Some(value) => self.insert(alloc, key, value),
+            None => {
+                self.remove(key);
+                Ok(())
+            }
+        }
     }
 }

@@ -1,5 +1,5 @@
-use Rattle.store.proofs.Puts.{map_refused}
+use Rattle.store.proofs.Changes.{map_refused}
 use Rattle.store.proofs.store.map_of.Goals as goal
 
-pub returns-in_err-insert : goal.returns-in_err-insert
-returns-in_err-insert c = map_refused c.args.puts.now c.from_residual.result c.in_err-insert.field-0.0 c.from_residual.ensures.1 c.in_err-insert.ensures.err
+pub returns-in_err-set : goal.returns-in_err-set
+returns-in_err-set c = map_refused c.args.records.now c.from_residual.result c.in_err-set.field-0.0 c.from_residual.ensures.1 c.in_err-set.ensures.err
