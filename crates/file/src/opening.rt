@@ -162,7 +162,7 @@ fn check_named(rt: &HostRuntime, path: &str, file: &File) -> io::Result<()> {
 }
 
 // Memory for all bytes of a file, and for one byte more, so that a read at their end needs none.
-fn room_for(alloc: Global, file: &File) -> io::Result<Vec<u8>> {
+pub fn room_for(alloc: Global, file: &File) -> io::Result<Vec<u8>> {
     let len = file.metadata()?.len();
     match Vec::with_capacity(alloc, (len as usize).saturating_add(1)) {
         Ok(room) => Ok(room),
@@ -175,7 +175,7 @@ fn room_for(alloc: Global, file: &File) -> io::Result<Vec<u8>> {
 
 // Reads all bytes of a file, or fails: after a read that ends early a recovery would cut bytes that
 // are there.
-fn read_all(mut file: &File, bytes: &mut Vec<u8>) -> io::Result<()> {
+pub fn read_all(mut file: &File, bytes: &mut Vec<u8>) -> io::Result<()> {
     file.read_to_end(bytes)?;
     if file.metadata()?.len() == bytes.len() as u64 {
         return Ok(());

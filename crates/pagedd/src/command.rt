@@ -19,7 +19,7 @@ Exit status:
   141  the output was closed by its reader";
 
 /// The commands, and what each does.
-const COMMANDS: [(&str, &str); 8] = [
+const COMMANDS: [(&str, &str); 9] = [
     ("serve", "serves FILE, and makes it where it is missing"),
     (
         "serve-log",
@@ -44,6 +44,10 @@ const COMMANDS: [(&str, &str); 8] = [
     (
         "salvage",
         "puts all that verifies, also after a bad page, into a new blob OUT",
+    ),
+    (
+        "rewrite",
+        "puts a synced copy of FILE, or of each file of a log's folder, in its place",
     ),
     ("version", "prints the version"),
 ];
@@ -93,7 +97,7 @@ const ROWS: [Row; 21] = [
         takes: Takes::Word,
         default: None,
         help: "the file of the blob, or the folder of a log",
-        commands: &["check", "map", "cat"],
+        commands: &["check", "map", "cat", "rewrite"],
     },
     Row {
         name: "FOLDER",

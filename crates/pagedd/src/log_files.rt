@@ -42,8 +42,8 @@ fn has_log(rt: &HostRuntime, folder: &str) -> bool {
     copy.has(Asked::Manifest).unwrap_or(false) && matches!(copy.first(), Ok(Some(_)))
 }
 
-// Whether this is the name of a segment's file.
-fn is_segment(name: &str) -> bool {
+/// Whether this is the name of a segment's file.
+pub fn is_segment(name: &str) -> bool {
     match name.strip_suffix(".segment") {
         Some(digits) => digits.len() == 20 && digits.bytes().all(|byte| byte.is_ascii_digit()),
         None => false,
@@ -63,6 +63,11 @@ pub fn fail_log_file(rt: &HostRuntime, path: &str, folder: &str) -> Status {
 /// The path of a log's manifest.
 pub fn manifest_in(alloc: Global, folder: &str) -> Result<String, AllocError> {
     format!(in alloc; "{folder}/manifest")
+}
+
+/// The path of the copy of a log's manifest, where there is one.
+pub fn manifest_copy_in(alloc: Global, folder: &str) -> Result<String, AllocError> {
+    format!(in alloc; "{folder}/manifest.copy")
 }
 
 /// The path of a segment.

@@ -10,7 +10,8 @@
 //! describes.
 //!
 //! `append` takes standard input as content. `check`, `map`, `cat` and `salvage` read a file and
-//! change nothing of it. The first three do so for the folder of a log too.
+//! change nothing of it. The first three do so for the folder of a log too. `rewrite` puts a copy of
+//! a file, or of each file of a log, in its place, after a sync of it failed.
 //!
 //! [`Status`](status::Status) lists the exit statuses. Where the status is neither 0 nor 141,
 //! standard error says why. For `check` its own output says why.
@@ -47,6 +48,7 @@ mod pages;
 mod refusing;
 mod report;
 mod request;
+mod rewrite;
 mod salvage;
 mod salvaged;
 mod serving;
@@ -65,6 +67,7 @@ use crate::log_told::tell_log;
 use crate::look::read;
 use crate::map::map;
 use crate::request::{Checksum, Request, Task, Told, set_aside_in};
+use crate::rewrite::rewrite;
 use crate::salvage::salvage;
 use crate::serving::serve;
 use crate::status::Status;
@@ -95,6 +98,7 @@ fn perform<H: Sum>(
         Task::Append { each_line } => append::<H>(rt, request, each_line),
         Task::Tell(told) => tell_of::<H>(rt, request, told, &mut read(rt, request.file)?),
         Task::Salvage { out } => salvage::<H>(rt, request, set_aside, out),
+        Task::Rewrite => rewrite(rt, request),
         Task::Version => {
             or_end(rt, println!(rt; "pagedd {VERSION}"))?;
             Ok(Status::Done)
@@ -137,6 +141,7 @@ fn perform_on_folder<H: Sum>(rt: &HostRuntime, request: &Request) -> Result<Stat
             ))
         }
         Task::ServeLog => serve_log::<H>(rt, request),
+        Task::Rewrite => rewrite(rt, request),
         Task::Version => Ok(Status::Done),
     }
 }

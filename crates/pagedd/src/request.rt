@@ -51,6 +51,8 @@ pub enum Task<'a> {
     Tell(Told),
     /// Put all that verifies into a new file of this name.
     Salvage { out: &'a str },
+    /// Put a synced copy of it in its place.
+    Rewrite,
     /// Print the program's version.
     Version,
 }
@@ -147,6 +149,7 @@ fn task_of<'a>(name: &str, words: &ArgMatches<'a>) -> Task<'a> {
         "salvage" => Task::Salvage {
             out: words.get_str("OUT").unwrap_or_default(),
         },
+        "rewrite" => Task::Rewrite,
         "serve-log" => Task::ServeLog,
         "version" => Task::Version,
         _ => Task::Serve { create: true },

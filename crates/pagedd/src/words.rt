@@ -8,7 +8,7 @@ use std::{env, fs, str};
 use strsim::levenshtein;
 
 /// The commands.
-const COMMANDS: [&str; 9] = [
+const COMMANDS: [&str; 10] = [
     "serve",
     "serve-log",
     "append",
@@ -16,6 +16,7 @@ const COMMANDS: [&str; 9] = [
     "map",
     "cat",
     "salvage",
+    "rewrite",
     "version",
     "help",
 ];
