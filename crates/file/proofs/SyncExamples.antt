@@ -1,8 +1,7 @@
 -- What a host's record tells of a failed sync, at a few calls.
-use Rattle.std.proofs.Common.{◌≡◌, [], ◌∷◌, Bool, true, false, refl}
+use Rattle.std.proofs.Common.{◌≡◌, [], ◌∷◌, true, false, refl}
 use Rattle.disk.specs.declared.action.Action.{Action}
 use Rattle.disk.specs.declared.action.Action.TheVariants as actions
-use Rattle.disk.specs.declared.action.Event.{Event}
 use Rattle.std.specs.Prelude.{Some, None}
 use Rattle.file.specs.Asked.{ends_in_failed_sync, event, is_sync}
 use Rattle.file.specs.declared.mirror.Failure.{Failure}

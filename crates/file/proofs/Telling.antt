@@ -1,5 +1,5 @@
 -- How a mirror tells a failed sync of its host.
-use Rattle.std.proofs.Common.{◌≡◌, List, [], ◌∷◌, ◌++◌, Bool, true, false, Ok, Err, refl, sym, ap, ◌∙◌, subst}
+use Rattle.std.proofs.Common.{◌≡◌, List, [], ◌∷◌, ◌++◌, true, false, Ok, Err, sym, ap, ◌∙◌}
 use Rattle.std.specs.Prelude.{Result, Option, None, Some, IfErr, is_some}
 use Rattle.disk.specs.declared.action.Action.{Action}
 use Rattle.disk.specs.declared.action.Event.{Event}

@@ -4,8 +4,9 @@ ghost use Rattle.std.specs.Fd.{file_raw_fd};
 ghost use Rattle.disk.specs.History.{life_of, begun};
 ghost use Rattle.file.specs.Names.{IsNumbered};
 
-use crate::opening::{Lock, beyond_streams, open_locked, sync_folder, take_lock};
-use crate::opening::{read_all, room_for};
+use crate::opening::{
+    Lock, beyond_streams, open_locked, read_all, room_for, sync_folder, take_lock,
+};
 use crate::runs::RUN_SIZE;
 use crate::{FileBlob, FileHost, Mirror};
 use std::fs::{File, OpenOptions, Permissions};

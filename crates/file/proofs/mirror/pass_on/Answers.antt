@@ -1,5 +1,4 @@
-use Rattle.std.proofs.Common.{sym, ap, ◌∙◌}
-use Rattle.std.specs.Prelude.{is_some}
+use Rattle.std.proofs.Common.{sym, ◌∙◌}
 use Rattle.file.specs.Mirror.{requested}
 use Rattle.file.proofs.Telling.{told_done}
 use Rattle.file.proofs.mirror.pass_on.Goals as goal
