@@ -1,5 +1,5 @@
 -- What a host was asked for, with one event more.
-use Rattle.std.proofs.Common.{◌≡◌, ℕ, List, [], ◌∷◌, ◌++◌, Bool, true, false, Ok, Err, refl, sym, ap, ◌∙◌, subst, append-nil, append_assoc}
+use Rattle.std.proofs.Common.{◌≡◌, ◌&&◌, ℕ, List, [], ◌∷◌, ◌++◌, Bool, true, false, Ok, Err, refl, sym, ap, ◌∙◌, subst, append-nil, append_assoc}
 use Rattle.std.specs.Prelude.{Result}
 use Rattle.disk.specs.declared.action.Action.{Action}
 use Rattle.disk.specs.declared.action.Event.{Event}
@@ -10,7 +10,7 @@ use Rattle.disk.specs.declared.started_sync.StartedSync.TheVariants.{Named}
 use Rattle.disk.specs.Past.{history_with}
 use Rattle.disk.specs.VecBlob.{VecState, Tells, TellsStart, TellsWait}
 use Rattle.disk.specs.declared.action.Action.TheVariants as actions
-use Rattle.file.specs.Asked.{event, requests_of, all_done, asked_by, HaveOutcome, WasAsked, Passes}
+use Rattle.file.specs.Asked.{event, outcome, requests_of, all_done, asked_by, HaveOutcome, WasAsked, Passes, is_sync, ends_in_failed_sync}
 
 asked_more : (es : List Event) (e : Event) → asked_by (es ++ e ∷ []) ≡ asked_by es ++ all_done (requests_of e.action)
 asked_more [] e = append-nil (all_done (requests_of e.action))
@@ -96,3 +96,27 @@ pub waits : (name started : ℕ) (was mid now : VecState) (asked more : List Eve
     → now.stopped ≡ mid.stopped → WasAsked now.stopped now.history.events more
 waits name started was mid now asked more (Ok u) w same p t stopped = calls (actions.WaitSync name) was mid now asked more w same p (t.2 ∙ ap (λ b. history_with (actions.WaitSync name) b mid.history) (sym t.0)) stopped
 waits name started was mid now asked more (Err e) w same p t stopped = calls (actions.WaitSync name) was mid now asked more w same p t.1 stopped
+
+-- ---- whether the last call was a sync that failed
+
+-- the last call is the one that was added
+pub ends_more : (events : List Event) (e : Event) → ends_in_failed_sync (events ++ e ∷ []) ≡ is_sync e.action && e.failed
+ends_more [] e = refl
+ends_more (x ∷ []) e = refl
+ends_more (x ∷ y ∷ events) e = ends_more (y ∷ events) e
+
+-- after calls that were done, none is a sync that failed
+pub ends_done : (actions : List Action) (events : List Event) → ends_in_failed_sync events ≡ false → ends_in_failed_sync (events ++ all_done actions) ≡ false
+ends_done [] events none = ap ends_in_failed_sync (append-nil events) ∙ none
+ends_done (a ∷ actions) events none =
+    ap ends_in_failed_sync (sym (append_assoc events (event a false ∷ []) (all_done actions)))
+    ∙ ends_done actions (events ++ event a false ∷ []) (ends_more events (event a false) ∙ and_false (is_sync a))
+  where
+    and_false : (b : Bool) → (b && false) ≡ false
+    and_false true = refl
+    and_false false = refl
+
+-- what a call that was done, or failed, and that is no sync, leaves
+pub ends_other : {T E : Type 0} (a : Action) (events : List Event) (result : Result T E) → is_sync a ≡ false → ends_in_failed_sync (events ++ outcome a result ∷ []) ≡ false
+ends_other a events (Ok x) other = ends_more events (event a false) ∙ ap (λ (b : Bool). b && false) other
+ends_other a events (Err e) other = ends_more events (event a true) ∙ ap (λ (b : Bool). b && true) other

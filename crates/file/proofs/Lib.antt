@@ -1,3 +1,5 @@
 pub mod Asking
 mod Running
+mod Telling
 mod RunExamples
+mod SyncExamples

@@ -1,6 +1,6 @@
 -- What the host of a device is asked for.
 use Rattle.std.specs.Prelude.{◌≡◌, ◌⊎◌, List, [], ◌∷◌, ◌++◌, Bool, true, false}
-use Rattle.std.specs.Prelude.{if◌then◌else◌, Result, Ok, Err}
+use Rattle.std.specs.Prelude.{if◌then◌else◌, ◌&&◌, Result, Ok, Err}
 use Rattle.disk.specs.declared.action.Action.{Action}
 use Rattle.disk.specs.declared.action.Action.TheVariants as actions
 use Rattle.disk.specs.declared.action.Event.{Event}
@@ -87,3 +87,14 @@ Passes false true actions old new =
     (last : List Event) × (new ≡ old ++ last) × FailsIn actions last
 Passes true true actions old new = new ≡ old
 Passes true false actions old new = ⊥
+
+-- whether an action is a sync
+abbrev pub is_sync : Action → Bool
+is_sync actions.Sync = true
+is_sync action = false
+
+-- whether the last call of a host is a sync that failed
+abbrev pub ends_in_failed_sync : List Event → Bool
+ends_in_failed_sync [] = false
+ends_in_failed_sync (e ∷ []) = is_sync e.action && e.failed
+ends_in_failed_sync (e ∷ next ∷ events) = ends_in_failed_sync (next ∷ events)

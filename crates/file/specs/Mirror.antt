@@ -1,10 +1,11 @@
 -- A device that keeps its bytes in memory and passes its calls on to a host.
-use Rattle.std.specs.Prelude.{List, [], ◌∷◌, if◌then◌else◌, false}
+use Rattle.std.specs.Prelude.{List, [], ◌∷◌, if◌then◌else◌, Bool, false, Option, Some, None}
 use Rattle.std.specs.List.{concat}
 use Rattle.disk.specs.declared.action.Action.{Action}
 use Rattle.disk.specs.declared.action.Action.TheVariants as actions
 use Rattle.disk.specs.declared.action.Event.{Event}
 use Rattle.disk.specs.VecBlob.{VecState}
+use Rattle.file.specs.declared.mirror.Failure.{Failure}
 use Rattle.file.specs.declared.mirror.Request.{Request}
 use Rattle.file.specs.declared.mirror.Request.TheVariants.{Write, Resize, Sync}
 
@@ -19,3 +20,8 @@ requested (Write offset bufs sync) =
     actions.Write offset (concat bufs.now) false ∷ (if sync then actions.Sync ∷ [] else [])
 requested (Resize len) = actions.Resize len ∷ []
 requested Sync = actions.Sync ∷ []
+
+-- whether a failure, if there is one, is that of a sync
+abbrev pub tells_failed_sync : Option Failure → Bool
+tells_failed_sync None = false
+tells_failed_sync (Some failure) = failure.is_sync

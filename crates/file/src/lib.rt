@@ -18,7 +18,7 @@ pub use host::{FileHost, Host};
 pub use keeping::keep;
 pub use mirror::Mirror;
 pub use opening::{open, read};
-pub use replacing::{replace, set_aside};
+pub use replacing::{replace, rewrite, set_aside};
 pub use runs::{RUN_SIZE, Sink, put_runs};
 
 /// A blob over a file of the system.

@@ -1,11 +1,13 @@
 // A blob whose bytes stand in memory, and whose calls are passed on to a host.
-ghost use Rattle.std.specs.Prelude.{◌≡◌, [], length, is_some, false};
+ghost use Rattle.std.specs.Prelude.{◌≡◌, [], ◌∷◌, ◌++◌, length, is_some, is_ok, IfErr};
+ghost use Rattle.std.specs.Prelude.{true, false};
 ghost use Rattle.std.specs.List.{concat};
 ghost use Rattle.disk.specs.Disk.{DeviceReadGoes, DeviceReadManyGoes, WriteGoes, ResizeGoes};
 ghost use Rattle.disk.specs.Disk.{SyncGoes, StartReadGoes, StartGoes, WaitStartedGoes};
 ghost use Rattle.disk.specs.History.{life_of, begun};
-ghost use Rattle.file.specs.Asked.{Answers, Passes, WasAsked};
-ghost use Rattle.file.specs.Mirror.{requested};
+ghost use Rattle.disk.specs.declared.action.Action.TheVariants as actions;
+ghost use Rattle.file.specs.Asked.{Answers, Passes, WasAsked, ends_in_failed_sync, outcome};
+ghost use Rattle.file.specs.Mirror.{requested, tells_failed_sync};
 
 use crate::Host;
 use disk::{
@@ -28,11 +30,20 @@ use std::marker::Model;
 /// sync fails. The host is asked for nothing more. After a failed write the host may hold any part
 /// of that write, so a later sync that answers `Ok` would call durable what isn't there. After a
 /// failed sync a system may have dropped what it was to write. [`failure`](Mirror::failure) reports
-/// why the host failed. Open the host anew then, and recover.
+/// why the host failed, and [`failed_sync`](Mirror::failed_sync) whether that was a sync. After a
+/// failed write or resize open the host anew, and recover. After a failed sync that isn't enough:
+/// the host is to be replaced by a new one with the same bytes, and then recovered.
 pub struct Mirror<S: Host> {
     host: S,
     kept: VecBlob,
-    failure: Option<io::Error>,
+    failure: Option<Failure>,
+}
+
+// Why a host failed, and whether the call that failed was a sync.
+#[derive(Drop)]
+struct Failure {
+    error: io::Error,
+    is_sync: bool,
 }
 
 // By hand, so that an owner lets one go by one call: of a derived drop, a proof follows each field
@@ -49,15 +60,16 @@ impl<S: Host + Drop> Drop for Mirror<S> {
 
 impl<S: Host> Model for Mirror<S> {
     ghost use Rattle.std.specs.Prelude.{◌≡◌, is_some};
-    ghost use Rattle.file.specs.Asked.{WasAsked};
-    ghost use Rattle.file.specs.Mirror.{MirrorState};
+    ghost use Rattle.file.specs.Asked.{WasAsked, ends_in_failed_sync};
+    ghost use Rattle.file.specs.Mirror.{MirrorState, tells_failed_sync};
 
     ghost Value = { MirrorState };
 
     ghost view = { λ m. record { kept = m.kept; asked = S.asked m.host } };
 
     ghost invariant = { λ m. WasAsked m.kept.stopped m.kept.history.events (S.asked m.host)
-        × (is_some m.failure ≡ m.kept.stopped) };
+        × (is_some m.failure ≡ m.kept.stopped)
+        × (tells_failed_sync m.failure ≡ ends_in_failed_sync (S.asked m.host)) };
 }
 
 // What a host is to be asked for.
@@ -95,7 +107,26 @@ impl<S: Host> Mirror<S> {
     pub fn failure(&self) -> Option<&io::Error>
         ensures { is_some result ≡ self.now.kept.stopped }
     {
-        self.failure.as_ref()
+        match &self.failure {
+            Some(failure) => Some(&failure.error),
+            None => None,
+        }
+    }
+
+    /// Whether the call of the host that failed was a sync: that of a sync, of a wait for a started
+    /// one, or of a write that was to be durable. The error of such a write is `WriteFailed`, as of
+    /// any other, so this alone tells its failed sync from a failed write.
+    ///
+    /// After a failed sync nobody knows which bytes of the host are durable, and a later sync may
+    /// answer `Ok` without them. So put a new file with the same bytes in its place
+    /// ([`replace`](crate::replace)) before it is recovered.
+    pub fn failed_sync(&self) -> bool
+        ensures { result ≡ ends_in_failed_sync self.now.asked }
+    {
+        match &self.failure {
+            Some(failure) => failure.is_sync,
+            None => false,
+        }
     }
 
     /// The host. It was asked for exactly the writes, resizes and syncs that the blob's life needs,
@@ -114,35 +145,68 @@ impl<S: Host> Mirror<S> {
 fn pass_on<S: Host>(
     host: &mut S,
     kept: &mut VecBlob,
-    failure: &mut Option<io::Error>,
+    failure: &mut Option<Failure>,
     request: Request<'_>,
 )
     requires failure { is_some failure.old ≡ kept.old.stopped }
+    requires told { tells_failed_sync failure.old ≡ ends_in_failed_sync (S.asked host.old) }
     ensures history { kept.new.history ≡ kept.old.history }
     ensures room { kept.new.room ≡ kept.old.room }
     ensures failure { is_some failure.new ≡ kept.new.stopped }
     ensures passes { Passes kept.old.stopped kept.new.stopped (requested request.entry)
         (S.asked host.old) (S.asked host.new) }
+    ensures told { tells_failed_sync failure.new ≡ ends_in_failed_sync (S.asked host.new) }
 {
     if kept.is_stopped() {
         return;
     }
-    if let Err(error) = ask(host, request) {
+    if let Err(failed) = ask(host, request) {
         kept.stop();
-        *failure = Some(error);
+        *failure = Some(failed);
     }
 }
 
-fn ask<S: Host>(host: &mut S, request: Request<'_>) -> io::Result<()>
-    ensures { Answers (requested request.entry) (S.asked host.old) (S.asked host.new) result }
+// Asks the host for what a request needs, up to the first call that fails.
+fn ask<S: Host>(host: &mut S, request: Request<'_>) -> Result<(), Failure>
+    ensures answers { Answers (requested request.entry) (S.asked host.old) (S.asked host.new)
+        result }
+    ensures told { IfErr result (λ failed.
+        failed.is_sync ≡ ends_in_failed_sync (S.asked host.new)) }
 {
     match request {
         Request::Write(offset, bufs, sync) => {
-            host.put(offset, bufs)?;
-            if sync { host.sync() } else { Ok(()) }
+            other_call(host.put(offset, bufs))?;
+            if sync { ask_sync(host) } else { Ok(()) }
         }
-        Request::Resize(len) => host.set_len(len),
-        Request::Sync => host.sync(),
+        Request::Resize(len) => other_call(host.set_len(len)),
+        Request::Sync => ask_sync(host),
+    }
+}
+
+fn ask_sync<S: Host>(host: &mut S) -> Result<(), Failure>
+    ensures asked { S.asked host.new ≡ S.asked host.old ++ outcome actions.Sync result ∷ [] }
+    ensures told { IfErr result (λ failed. failed.is_sync ≡ true) }
+{
+    match host.sync() {
+        Ok(()) => Ok(()),
+        Err(error) => Err(Failure {
+            error,
+            is_sync: true,
+        }),
+    }
+}
+
+// The answer of a call of the host that is no sync.
+fn other_call(answer: io::Result<()>) -> Result<(), Failure>
+    ensures ok { is_ok result ≡ is_ok answer }
+    ensures told { IfErr result (λ failed. failed.is_sync ≡ false) }
+{
+    match answer {
+        Ok(()) => Ok(()),
+        Err(error) => Err(Failure {
+            error,
+            is_sync: false,
+        }),
     }
 }
 

@@ -4,7 +4,9 @@ ghost use Rattle.std.specs.Fd.{file_raw_fd};
 ghost use Rattle.disk.specs.History.{life_of, begun};
 ghost use Rattle.file.specs.Names.{IsNumbered};
 
-use crate::opening::{Lock, beyond_streams, open_locked, sync_folder, take_lock};
+use crate::opening::{
+    Lock, beyond_streams, open_locked, read_all, room_for, sync_folder, take_lock,
+};
 use crate::runs::RUN_SIZE;
 use crate::{FileBlob, FileHost, Mirror};
 use std::fs::{File, OpenOptions, Permissions};
@@ -35,11 +37,50 @@ pub fn replace(rt: &HostRuntime, path: &str, bytes: &[u8]) -> io::Result<FileBlo
     let kept = Vec::from_slice(rt.alloc(), bytes)?;
     let room = Vec::with_capacity(rt.alloc(), RUN_SIZE)?;
     let place: PathBuf = fs::canonicalize(rt, path)?;
-    let path = place.as_str();
+    let old = open_old(rt, place.as_str())?;
+    put_in_place(rt, place.as_str(), old, kept, room)
+}
+
+/// Puts a copy of a file in its place, and answers the copy, opened as a blob: [`replace`] with the
+/// file's own bytes. The file stays locked from the read on, so no other process writes to it
+/// meanwhile. It serves after a failed sync.
+///
+/// After an error the path names the old file, untouched, or the copy, whole, as after that of
+/// [`replace`]. The errors are the same.
+pub fn rewrite(rt: &HostRuntime, path: &str) -> io::Result<FileBlob>
+    ensures rests { IfOk result (λ blob. let life = life_of blob.kept.history in
+        life ≡ begun life.present.readable []) }
+    ensures asked { IfOk result (λ blob. blob.asked ≡ []) }
+    ensures well { IfOk result (λ blob. blob.kept.stopped ≡ false) }
+{
+    let room = Vec::with_capacity(rt.alloc(), RUN_SIZE)?;
+    let place: PathBuf = fs::canonicalize(rt, path)?;
+    let old = open_old(rt, place.as_str())?;
+    let mut bytes = room_for(rt.alloc(), &old)?;
+    read_all(&old, &mut bytes)?;
+    put_in_place(rt, place.as_str(), old, bytes, room)
+}
+
+// Opens the file that is to be replaced, and locks it.
+fn open_old(rt: &HostRuntime, path: &str) -> io::Result<File> {
     let mut options = OpenOptions::new();
     options.read(true);
-    let old = open_locked(rt, path, &options, Lock::Exclusive)?;
-    let Beside { file, name } = write_beside(rt, path, "new", bytes)?;
+    open_locked(rt, path, &options, Lock::Exclusive)
+}
+
+// Puts a new file with these bytes in the place of the old one at a path, which is locked.
+fn put_in_place(
+    rt: &HostRuntime,
+    path: &str,
+    old: File,
+    kept: Vec<u8>,
+    room: Vec<u8>,
+) -> io::Result<FileBlob>
+    ensures life { IfOk result (λ blob. life_of blob.kept.history ≡ begun kept.items []) }
+    ensures asked { IfOk result (λ blob. blob.asked ≡ []) }
+    ensures well { IfOk result (λ blob. blob.kept.stopped ≡ false) }
+{
+    let Beside { file, name } = write_beside(rt, path, "new", &kept)?;
     if let Err(error) = fs::rename(rt, &name, path) {
         let _ = fs::remove_file(rt, &name);
         return Err(error);

@@ -6,6 +6,8 @@ use crate::ending::{fail, fail_stop};
 use crate::look::InMemory;
 use crate::opening::{allow, open};
 use crate::request::Request;
+use crate::rewrite::Unsynced;
+use crate::serving::fail_file;
 use crate::status::Status;
 use crate::streams::Input;
 use cache::CacheRef;
@@ -254,7 +256,7 @@ fn tell_appended(rt: &HostRuntime, input: &Input, start: u64, end: u64) -> Resul
 // Says why the file couldn't be recovered.
 fn tell_refused(rt: &HostRuntime, request: &Request, blob: &FileBlob, stop: Stop) -> Status {
     match blob.failure() {
-        Some(error) => fail(rt, request.file, error),
+        Some(error) => fail_file(rt, request.file, error, blob.failed_sync()),
         None => fail_stop(rt, request.file, stop),
     }
 }
@@ -269,6 +271,11 @@ fn tell_lost(
 ) -> Status {
     let kept = "what was synced is kept: the content up to byte";
     if let Some(error) = blob.failure() {
+        if blob.failed_sync() {
+            let how = Unsynced(request.file);
+            let words = format_args!("{error}; {kept} {synced}; {how}");
+            return fail(rt, request.file, words);
+        }
         return fail(rt, request.file, format_args!("{error}; {kept} {synced}"));
     }
     let why = match error {

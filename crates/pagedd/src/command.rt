@@ -19,7 +19,7 @@ Exit status:
   141  the output was closed by its reader";
 
 /// The commands, and what each does.
-const COMMANDS: [(&str, &str); 10] = [
+const COMMANDS: [(&str, &str); 11] = [
     ("serve", "serves FILE, and makes it where it is missing"),
     (
         "serve-log",
@@ -53,6 +53,10 @@ const COMMANDS: [(&str, &str); 10] = [
     (
         "copy",
         "copies the log in FOLDER, also one that is served, to OUT, or brings a copy up to date",
+    ),
+    (
+        "rewrite",
+        "puts a synced copy of FILE, or of each file of a log's folder, in its place",
     ),
     ("version", "prints the version"),
 ];
@@ -102,7 +106,7 @@ const ROWS: [Row; 23] = [
         takes: Takes::Word,
         default: None,
         help: "the file of the blob, or the folder of a log",
-        commands: &["check", "map", "cat", "salvage"],
+        commands: &["check", "map", "cat", "salvage", "rewrite"],
     },
     Row {
         name: "FOLDER",

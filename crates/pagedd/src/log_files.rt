@@ -51,6 +51,11 @@ pub fn number_of(name: &str) -> Option<u64> {
     digits.parse().ok()
 }
 
+/// Whether this is the name of a segment's file.
+pub fn is_segment(name: &str) -> bool {
+    number_of(name).is_some()
+}
+
 /// Says that a file is one of a log, and answers the status. Nothing was changed.
 pub fn fail_log_file(rt: &HostRuntime, path: &str, folder: &str, advice: &str) -> Status {
     fail(
@@ -65,7 +70,7 @@ pub fn manifest_in(alloc: Global, folder: &str) -> Result<String, AllocError> {
     format!(in alloc; "{folder}/manifest")
 }
 
-/// The path of the copy of a log's manifest.
+/// The path of the copy of a log's manifest, where there is one.
 pub fn manifest_copy_in(alloc: Global, folder: &str) -> Result<String, AllocError> {
     format!(in alloc; "{folder}/manifest.copy")
 }

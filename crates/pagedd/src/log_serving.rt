@@ -3,16 +3,17 @@ ghost use Rattle.segments.specs.Log.{IsLog};
 
 use crate::ending::{fail, fail_stop, or_end, tell};
 use crate::log_answer::{Refusal, write_refusal};
-use crate::log_files::{copy_of, is_folder, open_log};
+use crate::log_files::{copy_of, is_folder, manifest_in, open_log, segment_in};
 use crate::log_guard::{GivenUp, guard_log};
 use crate::log_hello::{Hello, greet, greet_refused, read_opening, tell_opening};
 use crate::log_lock::lock_folder;
 use crate::log_put::sync_above;
 use crate::log_refusing::refuse_log;
 use crate::log_request::{LogRequest, read_request};
-use crate::log_status::{status_of, status_of_flaw};
-use crate::log_taking::{Client, take_request};
+use crate::log_status::{is_failed_sync, status_of, status_of_flaw};
+use crate::log_taking::{Client, take_request, unsynced_of};
 use crate::request::Request;
+use crate::rewrite::Unsynced;
 use crate::serving::{flushed, tell_stop};
 use crate::status::Status;
 use crate::streams::Streams;
@@ -20,8 +21,8 @@ use disk::{Blob, VecBlob};
 use file::FileBlob;
 use page::Sum;
 use protocol::{Cause, Stop, Version};
-use segments::{Error, FileFolder, Folder, FolderCopy, SegmentedLog};
-use std::alloc::Global;
+use segments::{Asked, Error, FileFolder, Folder, FolderCopy, SegmentedLog};
+use std::alloc::{AllocError, Global};
 use std::fs::{self, File};
 use std::io::{self, BufReader, BufWriter, Read, Write};
 
@@ -106,6 +107,11 @@ fn refuse(rt: &HostRuntime, request: &Request, error: &Error) -> Status {
     if let Error::Layer(why) = error {
         // Where the output fails too, standard error still says why.
         let _ = greet_refused(&mut rt.stdout(), status_of(error));
+        if is_failed_sync(error) {
+            let how = Unsynced(request.file);
+            let words = format_args!("the recovery failed: {error}: {how}");
+            return fail(rt, request.file, words);
+        }
         return fail_stop(rt, request.file, Stop::Refused(*why));
     }
     refuse_log(rt, request, error)
@@ -146,7 +152,7 @@ fn serve_streams<F: Folder<B> + Drop, B: Blob + Cause + Drop, H: Sum>(
         tell_unkept(rt, request, log.copy_failure());
     }
     match flushed(served, &mut streams.out) {
-        Ok(()) => end(rt, request, &client),
+        Ok(()) => end(rt, request, &client, unsynced_of(log)),
         Err(stop) => Err(tell_stop(rt, request, stop, streams)),
     }
 }
@@ -178,19 +184,44 @@ fn hello_of<'a>(request: &'a Request, given_up: &'a GivenUp, records: u64) -> He
     }
 }
 
-// How the program ends after all requests were answered.
-fn end(rt: &HostRuntime, request: &Request, client: &Client) -> Result<Status, Status> {
-    match &client.lost {
-        None => Ok(Status::Done),
-        Some(error) => {
-            let words = "what was appended since the last sync may be lost";
+// How the program ends after all requests were answered. `unsynced` is the file of the log of which
+// a sync failed, if one did.
+fn end(
+    rt: &HostRuntime,
+    request: &Request,
+    client: &Client,
+    unsynced: Option<Asked>,
+) -> Result<Status, Status> {
+    let folder = request.file;
+    let words = "what was appended since the last sync may be lost";
+    match (&client.lost, unsynced) {
+        (_, Some(file)) => Err(fail_unsynced(rt, folder, file)?),
+        (Some(error), None) if client.is_unsynced() => {
+            let how = Unsynced(folder);
             Err(fail(
                 rt,
-                request.file,
-                format_args!("the log was closed: {error}: {words}"),
+                folder,
+                format_args!("the log was closed: {error}: {how}"),
             ))
         }
+        (Some(error), None) => Err(fail(
+            rt,
+            folder,
+            format_args!("the log was closed: {error}: {words}"),
+        )),
+        (None, None) => Ok(Status::Done),
     }
+}
+
+// Says that a sync of a file of the log failed, and how to go on.
+fn fail_unsynced(rt: &HostRuntime, folder: &str, file: Asked) -> Result<Status, AllocError> {
+    let path = match file {
+        Asked::Manifest => manifest_in(rt.alloc(), folder)?,
+        Asked::Segment(number) => segment_in(rt.alloc(), folder, number)?,
+    };
+    let how = Unsynced(folder);
+    let words = format_args!("the log was closed: SyncFailed of {path}: {how}");
+    Ok(fail(rt, folder, words))
 }
 
 // Greets a client, agrees on a version, and serves it.

@@ -19,24 +19,55 @@ pub const CLOSED: u8 = 17;
 /// No version of an offer is known.
 pub const NO_VERSION: u8 = 24;
 
+// What a client may do after a sync of a file failed: replace the log's files by copies.
+const REPLACE: u8 = 3;
+
 // The last status of a call of a file that failed.
 const LAST_OF_FILE: u8 = 4;
 
+/// How the files of a log fared.
+#[derive(Clone, Copy)]
+pub struct Failure<'a> {
+    /// Why one of them failed, if one did.
+    pub error: Option<&'a io::Error>,
+    /// Whether a sync of one of them failed: they have to be replaced.
+    pub sync_failed: bool,
+}
+
 /// The refusal of a request after an error of the log, once `taken` records of the request were
-/// appended. `is_closing` says whether the error closed the log, and `failure` why a file of the
-/// log failed, if one did.
+/// appended. `is_closing` says whether the error closed the log, and `failure` how its files fared.
 pub fn refusal_of<'a>(
     error: &'a Error,
     is_closing: bool,
     taken: u64,
-    failure: Option<&'a io::Error>,
+    failure: Failure<'a>,
 ) -> Refusal<'a> {
     Refusal {
-        status: status_of(error),
-        advice: advice_after(error, is_closing),
+        status: told_status(error, failure.sync_failed),
+        advice: if failure.sync_failed {
+            REPLACE
+        } else {
+            advice_after(error, is_closing)
+        },
         taken,
-        cause: cause_of(error, failure),
+        cause: cause_of(error, failure.error),
     }
+}
+
+// The status of an error as a client is told it. After a failed sync, what the layer answers as a
+// failed write, or a failed change of the size, was that sync.
+fn told_status(error: &Error, sync_failed: bool) -> u8 {
+    match error {
+        Error::Layer(disk::Error::WriteFailed | disk::Error::ResizeFailed) if sync_failed => {
+            disk::Error::SyncFailed.number()
+        }
+        _ => status_of(error),
+    }
+}
+
+/// Whether this error is that of a failed sync.
+pub fn is_failed_sync(error: &Error) -> bool {
+    matches!(error, Error::Layer(disk::Error::SyncFailed))
 }
 
 /// The status of an error.
@@ -66,10 +97,10 @@ pub fn status_of_flaw(flaw: Flaw) -> u8 {
 }
 
 // What a client may do next: 0 is to ask for something else, 1 to ask again, 2 to open anew, 3 to
-// give up what wasn't committed, since nobody knows what of it is durable.
+// replace the log's files first, each by a copy of itself, since nobody knows what is durable.
 fn advice_after(error: &Error, is_closing: bool) -> u8 {
     match error {
-        Error::Layer(disk::Error::SyncFailed) => 3,
+        error if is_failed_sync(error) => REPLACE,
         Error::NoSegment(_) | Error::Damaged(_) => 0,
         Error::Closed
         | Error::Unlisted(_)

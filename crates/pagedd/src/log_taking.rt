@@ -4,14 +4,14 @@ ghost use Rattle.segments.specs.Log.{IsLog};
 use crate::log_answer::{Refusal, write_answer, write_found, write_places, write_refusal};
 use crate::log_records::{Records, length_of, split_record};
 use crate::log_request::{LogRequest, LogTask};
-use crate::log_status::{AT_END, NO_RECORDS, READ_ONLY, refusal_of};
+use crate::log_status::{AT_END, Failure, NO_RECORDS, READ_ONLY, is_failed_sync, refusal_of};
 use disk::Blob;
 use journal::MOST_BYTES;
 use page::Sum;
 use protocol::{Cause, Stop, Version};
-use segments::{Error, Folder, Place, SegmentedLog};
+use segments::{Asked, Error, Folder, Place, SegmentedLog};
 use std::alloc::Global;
-use std::io::{self, Write};
+use std::io::Write;
 
 /// The client to whom a log is served, and how.
 #[derive(Drop)]
@@ -20,6 +20,16 @@ pub struct Client {
     pub read_only: bool,
     /// The first error that closed the log, if one did.
     pub lost: Option<Error>,
+}
+
+impl Client {
+    /// Whether a failed sync closed the log, be it one of a file that the log let go of since.
+    pub fn is_unsynced(&self) -> bool {
+        match &self.lost {
+            Some(error) => is_failed_sync(error),
+            None => false,
+        }
+    }
 }
 
 /// Takes a request, unless it is refused, and writes its answer.
@@ -60,11 +70,28 @@ fn refuse<W: Write>(alloc: Global, client: &Client, out: &mut W, status: u8) -> 
 // manifest.
 fn failure_of<F: Folder<B> + Drop, B: Blob + Cause + Drop, H: Sum>(
     log: &SegmentedLog<F, B, H, H>,
-) -> Option<&io::Error> {
-    match log.blob().cause() {
+) -> Failure<'_> {
+    let error = match log.blob().cause() {
         Some(error) => Some(error),
         None => log.manifest_blob().cause(),
+    };
+    Failure {
+        error,
+        sync_failed: unsynced_of(log).is_some(),
     }
+}
+
+/// The file of the log of which a sync failed, if one did.
+pub fn unsynced_of<F: Folder<B> + Drop, B: Blob + Cause + Drop, H: Sum>(
+    log: &SegmentedLog<F, B, H, H>,
+) -> Option<Asked> {
+    if log.blob().failed_sync() {
+        return Some(Asked::Segment(log.last_segment()));
+    }
+    if log.manifest_blob().failed_sync() {
+        return Some(Asked::Manifest);
+    }
+    None
 }
 
 // Answers a request whose error closed the log after so many of its records were appended.
@@ -74,7 +101,7 @@ fn refuse_closed<W: Write>(
     out: &mut W,
     error: Error,
     taken: u64,
-    failure: Option<&io::Error>,
+    failure: Failure<'_>,
 ) -> Result<(), Stop> {
     let refusal = refusal_of(&error, true, taken, failure);
     write_refusal(alloc, client.version, out, refusal)?;
@@ -90,16 +117,25 @@ fn refuse_kept<W: Write>(
     client: &Client,
     out: &mut W,
     error: &Error,
-    failure: Option<&io::Error>,
+    failure: Failure<'_>,
 ) -> Result<(), Stop> {
     let is_closed = client.lost.is_some();
+    let failure = Failure {
+        sync_failed: failure.sync_failed || client.is_unsynced(),
+        ..failure
+    };
     let refusal = refusal_of(error, is_closed, 0, failure);
     write_refusal(alloc, client.version, out, refusal)
 }
 
 // Answers a request that can't be met since the log is closed.
-fn refuse_lost<W: Write>(alloc: Global, client: &Client, out: &mut W) -> Result<(), Stop> {
-    refuse_kept(alloc, client, out, &Error::Closed, None)
+fn refuse_lost<F: Folder<B> + Drop, B: Blob + Cause + Drop, H: Sum, W: Write>(
+    alloc: Global,
+    client: &Client,
+    log: &SegmentedLog<F, B, H, H>,
+    out: &mut W,
+) -> Result<(), Stop> {
+    refuse_kept(alloc, client, out, &Error::Closed, failure_of(log))
 }
 
 fn write_flushed<W: Write>(out: &mut W) -> Result<(), Stop> {
@@ -144,7 +180,7 @@ fn take_records<F: Folder<B> + Drop, B: Blob + Cause + Drop, H: Sum, W: Write>(
         return refuse(alloc, client, out, NO_RECORDS);
     };
     if client.lost.is_some() {
-        return refuse_lost(alloc, client, out);
+        return refuse_lost(alloc, client, log, out);
     }
     let mut places = Vec::with_capacity(alloc, records.count())?;
     let appended = append_records::<F, B, H>(log, records, &mut places);
@@ -204,7 +240,7 @@ fn take_size<F: Folder<B> + Drop, B: Blob + Cause + Drop, H: Sum, W: Write>(
     out: &mut W,
 ) -> Result<(), Stop> {
     if client.lost.is_some() {
-        return refuse_lost(alloc, client, out);
+        return refuse_lost(alloc, client, log, out);
     }
     write_answer(out, &[log.len().unwrap_or(u64::MAX)], &[])
 }
@@ -267,7 +303,10 @@ fn take_drop<F: Folder<B> + Drop, B: Blob + Cause + Drop, H: Sum, W: Write>(
     match log.drop_before(segment) {
         Ok(()) => write_answer(out, &[], &[]),
         Err(error) => {
-            let failure = log.manifest_blob().cause();
+            let failure = Failure {
+                error: log.manifest_blob().cause(),
+                sync_failed: unsynced_of(log).is_some(),
+            };
             match error {
                 Error::Layer(_) => refuse_closed(alloc, client, out, error, 0, failure),
                 _ => refuse_kept(alloc, client, out, &error, failure),

@@ -11,7 +11,8 @@
 //!
 //! `append` takes standard input as content. `check`, `map`, `cat` and `salvage` read a file, or
 //! the folder of a log, and change nothing of it. `copy` copies a log, also one that is served, and
-//! `rebuild` makes its manifest anew.
+//! `rebuild` makes its manifest anew. `rewrite` puts a copy of a file, or of each file of a log, in
+//! its place, after a sync of it failed.
 //!
 //! [`Status`](status::Status) lists the exit statuses. Where the status is neither 0 nor 141,
 //! standard error says why. For `check` its own output says why.
@@ -59,6 +60,7 @@ mod pages;
 mod refusing;
 mod report;
 mod request;
+mod rewrite;
 mod salvage;
 mod salvaged;
 mod serving;
@@ -80,6 +82,7 @@ use crate::log_told::tell_log;
 use crate::look::read;
 use crate::map::map;
 use crate::request::{Checksum, Request, Task, Told, set_aside_in};
+use crate::rewrite::rewrite;
 use crate::salvage::salvage;
 use crate::serving::serve;
 use crate::status::Status;
@@ -121,6 +124,7 @@ fn perform<H: Sum>(
                 "it is no folder, or isn't there: name the folder of a log",
             ))
         }
+        Task::Rewrite => rewrite(rt, request),
         Task::Version => {
             or_end(rt, println!(rt; "pagedd {VERSION}"))?;
             Ok(Status::Done)
@@ -169,6 +173,7 @@ fn perform_on_folder<H: Sum>(
         Task::Rebuild => rebuild::<H>(rt, request),
         Task::Copy { out } => copy_log::<H>(rt, request, out),
         Task::ServeLog => serve_log::<H>(rt, request),
+        Task::Rewrite => rewrite(rt, request),
         Task::Version => Ok(Status::Done),
     }
 }

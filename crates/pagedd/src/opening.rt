@@ -5,6 +5,7 @@ use crate::log_put::sync_above;
 use crate::look::{InMemory, Look, looked};
 use crate::refusing::refuse;
 use crate::request::Request;
+use crate::serving::fail_file;
 use crate::status::Status;
 use disk::{Blob, Error};
 use file::FileBlob;
@@ -24,7 +25,7 @@ pub fn open(rt: &HostRuntime, path: &str) -> Result<FileBlob, Status> {
 /// Says in a line why a call of an opened file failed, in the system's words where it has some.
 pub fn fail_blob(rt: &HostRuntime, path: &str, blob: &FileBlob, error: Error) -> Status {
     match blob.failure() {
-        Some(failure) => fail(rt, path, failure),
+        Some(failure) => fail_file(rt, path, failure, blob.failed_sync()),
         None => fail(rt, path, error),
     }
 }

@@ -56,6 +56,8 @@ pub enum Task<'a> {
     Rebuild,
     /// Copy the log in a folder to this folder, or bring the copy there up to date.
     Copy { out: &'a str },
+    /// Put a synced copy of it in its place.
+    Rewrite,
     /// Print the program's version.
     Version,
 }
@@ -157,6 +159,7 @@ fn task_of<'a>(name: &str, words: &ArgMatches<'a>) -> Task<'a> {
         "copy" => Task::Copy {
             out: words.get_str("OUT").unwrap_or_default(),
         },
+        "rewrite" => Task::Rewrite,
         "serve-log" => Task::ServeLog,
         "version" => Task::Version,
         _ => Task::Serve { create: true },

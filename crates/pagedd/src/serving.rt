@@ -3,6 +3,7 @@ use crate::ending::{fail, fail_output, fail_stop, or_end};
 use crate::look::{InMemory, read};
 use crate::opening::{allow, open};
 use crate::request::Request;
+use crate::rewrite::Unsynced;
 use crate::status::Status;
 use crate::streams::Streams;
 use crate::words::tell_unknown;
@@ -11,7 +12,7 @@ use file::FileBlob;
 use page::Sum;
 use protocol::{Cause, Setting, Stop, serve_file};
 use std::fs;
-use std::io::Write;
+use std::io::{self, Write};
 
 /// Serves a file, or for reading alone a copy of it in memory. A file that is missing is made where
 /// `create` asks.
@@ -47,7 +48,7 @@ fn serve_client<B: Blob + Cause + InMemory, H: Sum>(
     let ended = flushed(served, &mut streams.out);
     // Why the file failed says more than the answer that a request got.
     if let Some(error) = blob.cause() {
-        return Err(fail(rt, request.file, error));
+        return Err(fail_file(rt, request.file, error, blob.failed_sync()));
     }
     match ended {
         Ok(()) => Ok(Status::Done),
@@ -85,6 +86,15 @@ fn serve_streams<B: Blob + Cause + InMemory, H: Sum>(
         None => "",
     };
     Ok(serve_file::<B, H, _, _>(alloc, blob, &setting, name, copy, input, out))
+}
+
+/// Says in a line why a call of a file failed, and after a failed sync how to go on.
+pub fn fail_file(rt: &HostRuntime, path: &str, error: &io::Error, sync_failed: bool) -> Status {
+    if sync_failed {
+        let how = Unsynced(path);
+        return fail(rt, path, format_args!("{error}: {how}"));
+    }
+    fail(rt, path, error)
 }
 
 /// Says in a line why a session ended.

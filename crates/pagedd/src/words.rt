@@ -8,7 +8,7 @@ use std::{env, fs, str};
 use strsim::levenshtein;
 
 /// The commands.
-const COMMANDS: [&str; 11] = [
+const COMMANDS: [&str; 12] = [
     "serve",
     "serve-log",
     "append",
@@ -18,6 +18,7 @@ const COMMANDS: [&str; 11] = [
     "salvage",
     "rebuild",
     "copy",
+    "rewrite",
     "version",
     "help",
 ];

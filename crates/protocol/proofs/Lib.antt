@@ -10,4 +10,5 @@ pub mod Requested
 pub mod Beginning
 pub mod Opened
 mod FaultExamples
+mod SyncExamples
 mod VersionExamples

@@ -37,9 +37,9 @@ StepsBy fields steps readable = elim readable [
   | false ↦ steps ≡ []
 ]
 
-abbrev AnswerBy : (payload : List ℕ) → List Reply → (has_writer : Bool) → List ℕ → Bool → Type 0
-AnswerBy payload replies has_writer answer readable = elim readable [
-  | true ↦ IsAnswerWith payload replies has_writer answer
+abbrev AnswerBy : (payload : List ℕ) → List Reply → (has_writer sync_failed : Bool) → List ℕ → Bool → Type 0
+AnswerBy payload replies has_writer sync_failed answer readable = elim readable [
+  | true ↦ IsAnswerWith payload replies has_writer sync_failed answer
   | false ↦ IsRefusalAnswer unreadable_status 0 0 answer
 ]
 
@@ -54,59 +54,59 @@ reads_ranges setting fields ranges are is = subst (StepsBy fields.items (ReadRan
 -- ---- requests that were taken
 
 -- the steps of a request were run, and an answer to them was written or not
-pub runs_request : (sum : List ℕ → ℕ) (setting : Setting) (version : ProtocolVersion) (request : Request) (steps : List Step) (was now : SessionState) (cache after : CacheState) (old new : Life) (replies : List Reply) (out written : Option (List ℕ)) (wrote : Result (Unit {0}) Stop) (result : Result (Option Error) Stop)
-    → (setting.read_only && asks_change request) ≡ false → AreSteps setting request steps → RunsSteps sum steps was now cache after old new replies (Ok tt) → ((answer : List ℕ) × IsAnswer version request replies now answer)
-    → WritesAnswer (IsAnswer version request replies now) out written wrote → Finishes replies wrote result → TakesRequest sum setting version request was now old new out written result
-runs_request sum setting version request steps was now cache after old new replies out written wrote result may are runs (some, is) writes told =
-    taken_request sum setting version request steps replies was now old new out written wrote result may are (took_of sum steps was now cache after old new replies runs) some is writes told
+pub runs_request : (sum : List ℕ → ℕ) (setting : Setting) (version : ProtocolVersion) (request : Request) (steps : List Step) (was now : SessionState) (cache after : CacheState) (old new : Life) (failed : Bool) (replies : List Reply) (out written : Option (List ℕ)) (wrote : Result (Unit {0}) Stop) (result : Result (Option Error) Stop)
+    → (setting.read_only && asks_change request) ≡ false → AreSteps setting request steps → RunsSteps sum steps was now cache after old new replies (Ok tt) → ((answer : List ℕ) × IsAnswer version request replies now failed answer)
+    → WritesAnswer (IsAnswer version request replies now failed) out written wrote → Finishes replies wrote result → TakesRequest sum setting version request was now old new failed out written result
+runs_request sum setting version request steps was now cache after old new failed replies out written wrote result may are runs (some, is) writes told =
+    taken_request sum setting version request steps replies was now old new failed out written wrote result may are (took_of sum steps was now cache after old new replies runs) some is writes told
 
 -- there is an answer to one step
-pub some_answer : (version : ProtocolVersion) (step : Step) (replies : List Reply) (now : SessionState) → length replies ≡ 1 → (answer : List ℕ) × IsAnswer version (StepOf step) replies now answer
-some_answer One step [] now one = absurd (omega (arith, one))
-some_answer One step (reply ∷ []) now one = (answer_bytes reply, (reply, refl, refl))
-some_answer One step (reply ∷ next ∷ replies) now one = absurd (omega (arith, one))
-some_answer Two step replies now one = some_with (given_payload (StepOf step) replies now) replies (is_some now.writer)
+pub some_answer : (version : ProtocolVersion) (step : Step) (replies : List Reply) (now : SessionState) (failed : Bool) → length replies ≡ 1 → (answer : List ℕ) × IsAnswer version (StepOf step) replies now failed answer
+some_answer One step [] now failed one = absurd (omega (arith, one))
+some_answer One step (reply ∷ []) now failed one = (answer_bytes reply failed, (reply, refl, refl))
+some_answer One step (reply ∷ next ∷ replies) now failed one = absurd (omega (arith, one))
+some_answer Two step replies now failed one = some_with (given_payload (StepOf step) replies now) replies (is_some now.writer) failed
 
 -- the answer to one step is that to its request
-pub step_answers : (version : ProtocolVersion) (step : Step) (replies : List Reply) (now : SessionState) (answer : List ℕ) → IsStepAnswer version replies (is_some now.writer) answer → IsAnswer version (StepOf step) replies now answer
-step_answers One step replies now answer is = is
-step_answers Two step replies now answer is = is
+pub step_answers : (version : ProtocolVersion) (step : Step) (replies : List Reply) (now : SessionState) (failed : Bool) (answer : List ℕ) → IsStepAnswer version replies (is_some now.writer) failed answer → IsAnswer version (StepOf step) replies now failed answer
+step_answers One step replies now failed answer is = is
+step_answers Two step replies now failed answer is = is
 
 -- the answer to a request that is answered by the last reply
-pub last_answers : (setting : Setting) (request : Request) (steps : List Step) (replies : List Reply) (now : SessionState) (answer : List ℕ) → gives_last request ≡ true → AreSteps setting request steps → 0 < length steps
-    → IsAnswerWith (last_payload replies) replies (is_some now.writer) answer → IsAnswer Two request replies now answer
-last_answers setting (Ranges fields) steps replies now answer last are some is = by_flag (tells_ranges fields.items) are
+pub last_answers : (setting : Setting) (request : Request) (steps : List Step) (replies : List Reply) (now : SessionState) (failed : Bool) (answer : List ℕ) → gives_last request ≡ true → AreSteps setting request steps → 0 < length steps
+    → IsAnswerWith (last_payload replies) replies (is_some now.writer) failed answer → IsAnswer Two request replies now failed answer
+last_answers setting (Ranges fields) steps replies now failed answer last are some is = by_flag (tells_ranges fields.items) are
   where
-    by_flag : (b : Bool) → StepsBy fields.items steps b → AnswerBy (last_payload replies) replies (is_some now.writer) answer b
+    by_flag : (b : Bool) → StepsBy fields.items steps b → AnswerBy (last_payload replies) replies (is_some now.writer) failed answer b
     by_flag true given = is
     by_flag false none = absurd (omega (arith, some, ap length none))
-last_answers setting SyncSize steps replies now answer last are some is = is
-last_answers setting Look steps replies now answer last are some is = is
-last_answers setting (StepOf step) steps replies now answer last are some is = absurd (false≢true last)
-last_answers setting (Records fields next) steps replies now answer last are some is = absurd (false≢true last)
-last_answers setting Flush steps replies now answer last are some is = absurd (false≢true last)
-last_answers setting CountOpen steps replies now answer last are some is = absurd (false≢true last)
-last_answers setting Close steps replies now answer last are some is = absurd (false≢true last)
+last_answers setting SyncSize steps replies now failed answer last are some is = is
+last_answers setting Look steps replies now failed answer last are some is = is
+last_answers setting (StepOf step) steps replies now failed answer last are some is = absurd (false≢true last)
+last_answers setting (Records fields next) steps replies now failed answer last are some is = absurd (false≢true last)
+last_answers setting Flush steps replies now failed answer last are some is = absurd (false≢true last)
+last_answers setting CountOpen steps replies now failed answer last are some is = absurd (false≢true last)
+last_answers setting Close steps replies now failed answer last are some is = absurd (false≢true last)
 
 -- the writer is there as its size is
 pub writer_there : (b : Bool) (size : Option ℕ) (now : SessionState) → b ≡ is_some size → size ≡ option_map size_of now.writer → b ≡ is_some now.writer
 writer_there b size now is of = is ∙ ap is_some of ∙ is_some_mapped size_of now.writer
 
 -- a request whose bytes can't be read was answered so
-pub unreadable : (sum : List ℕ → ℕ) (setting : Setting) (request : Request) (was : SessionState) (life : Life) (out written : Option (List ℕ)) (result : Result (Option Error) Stop)
-    → (setting.read_only && asks_change request) ≡ false → AreSteps setting request [] → can_be_read request ≡ false → TellsUnreadable out written result → TakesRequest sum setting Two request was was life life out written result
-unreadable sum setting request was life out written result may are none tells = by_answer result tells
+pub unreadable : (sum : List ℕ → ℕ) (setting : Setting) (request : Request) (was : SessionState) (life : Life) (failed : Bool) (out written : Option (List ℕ)) (result : Result (Option Error) Stop)
+    → (setting.read_only && asks_change request) ≡ false → AreSteps setting request [] → can_be_read request ≡ false → TellsUnreadable out written result → TakesRequest sum setting Two request was was life life failed out written result
+unreadable sum setting request was life failed out written result may are none tells = by_answer result tells
   where
-    answered : (answer : List ℕ) → IsRefusalAnswer unreadable_status 0 0 answer → IsAnswer Two request [] was answer
-    answered answer told = subst (AnswerBy (given_payload request [] was) [] (is_some was.writer) answer) (sym none) told
+    answered : (answer : List ℕ) → IsRefusalAnswer unreadable_status 0 0 answer → IsAnswer Two request [] was failed answer
+    answered answer told = subst (AnswerBy (given_payload request [] was) [] (is_some was.writer) failed answer) (sym none) told
 
-    served : (answer : List ℕ) → IsRefusalAnswer unreadable_status 0 0 answer → Served setting Two request [] [] was answer
-    served answer told = taken request [] [] was answer may are (answered answer told)
+    served : (answer : List ℕ) → IsRefusalAnswer unreadable_status 0 0 answer → Served setting Two request [] [] was failed answer
+    served answer told = taken request [] [] was failed answer may are (answered answer told)
 
-    by_answer : (r : Result (Option Error) Stop) → TellsUnreadable out written r → TakesRequest sum setting Two request was was life life out written r
+    by_answer : (r : Result (Option Error) Stop) → TellsUnreadable out written r → TakesRequest sum setting Two request was was life life failed out written r
     by_answer (Ok fault) ((answer, told, appends), is) = ([], [], answer, served answer told, took_none sum was life, (appends, is))
     by_answer (Err stop) is =
-        subst (λ (x : Stop). TakesRequest sum setting Two request was was life life out written (Err x)) (sym is)
+        subst (λ (x : Stop). TakesRequest sum setting Two request was was life life failed out written (Err x)) (sym is)
         ([], [], frame_bytes (unreadable_status ∷ 0 ∷ number_bytes 0 ++ number_bytes 0 ++ []), served _ (record { number = 0; words = []; is = refl }), took_none sum was life, tt)
 
 -- two conditions that hold
@@ -120,21 +120,21 @@ and_false true = refl
 and_false false = refl
 
 -- a change is refused, and so answered
-pub change_refused : (sum : List ℕ → ℕ) (setting : Setting) (version : ProtocolVersion) (request : Request) (was : SessionState) (life : Life) (out written : Option (List ℕ)) (wrote : Result (Unit {0}) Stop) (result : Result (Option Error) Stop)
-    → (setting.read_only && asks_change request) ≡ true → WritesAnswer (IsChangeRefused version) out written wrote → Finishes [] wrote result → TakesRequest sum setting version request was was life life out written result
-change_refused sum setting version request was life out written (Ok done) result may (answer, is, appends) told =
-    subst (λ (r : Result (Option Error) Stop). TakesRequest sum setting version request was was life life out written r) (sym told)
-    ([], [], answer, refused request was answer may is, took_none sum was life, (appends, refl))
-change_refused sum setting version request was life out written (Err stop) result may wrote told =
-    subst (λ (r : Result (Option Error) Stop). TakesRequest sum setting version request was was life life out written r) (sym told) (by_cause stop wrote)
+pub change_refused : (sum : List ℕ → ℕ) (setting : Setting) (version : ProtocolVersion) (request : Request) (was : SessionState) (life : Life) (failed : Bool) (out written : Option (List ℕ)) (wrote : Result (Unit {0}) Stop) (result : Result (Option Error) Stop)
+    → (setting.read_only && asks_change request) ≡ true → WritesAnswer (IsChangeRefused version) out written wrote → Finishes [] wrote result → TakesRequest sum setting version request was was life life failed out written result
+change_refused sum setting version request was life failed out written (Ok done) result may (answer, is, appends) told =
+    subst (λ (r : Result (Option Error) Stop). TakesRequest sum setting version request was was life life failed out written r) (sym told)
+    ([], [], answer, refused request was failed answer may is, took_none sum was life, (appends, refl))
+change_refused sum setting version request was life failed out written (Err stop) result may wrote told =
+    subst (λ (r : Result (Option Error) Stop). TakesRequest sum setting version request was was life life failed out written r) (sym told) (by_cause stop wrote)
   where
     some : (v : ProtocolVersion) → (answer : List ℕ) × IsChangeRefused v answer
     some One = (refusal_bytes, refl)
     some Two = (frame_bytes (read_only_status ∷ 0 ∷ number_bytes 0 ++ number_bytes 0 ++ []), record { number = 0; words = []; is = refl })
 
-    by_cause : (x : Stop) → WritesAnswer (IsChangeRefused version) out written (Err x) → TakesRequest sum setting version request was was life life out written (Err x)
-    by_cause LongAnswer (answer, is, long) = ([], [], answer, refused request was answer may is, took_none sum was life, long)
-    by_cause Failed none = ([], [], (some version).0, refused request was (some version).0 may (some version).1, took_none sum was life, tt)
+    by_cause : (x : Stop) → WritesAnswer (IsChangeRefused version) out written (Err x) → TakesRequest sum setting version request was was life life failed out written (Err x)
+    by_cause LongAnswer (answer, is, long) = ([], [], answer, refused request was failed answer may is, took_none sum was life, long)
+    by_cause Failed none = ([], [], (some version).0, refused request was failed (some version).0 may (some version).1, took_none sum was life, tt)
     by_cause OutOfMemory none = absurd none
     by_cause (Malformed number flaw) none = absurd none
     by_cause (Version byte) none = absurd none
@@ -159,28 +159,28 @@ pub record_steps : (setting : Setting) (fields bytes : Vec ℕ Global) (next : T
 record_steps setting fields bytes next are is = subst (RecordsBy fields.items next (Append bytes ∷ steps_then next)) (sym are) (bytes, is, refl)
 
 -- the answer to records that could be read
-pub record_answers : (fields : Vec ℕ Global) (next : Then) (replies : List Reply) (now : SessionState) (answer : List ℕ) → tells_records fields.items ≡ true
-    → IsAnswerWith (records_payload (record_lengths fields.items) replies) replies (is_some now.writer) answer → IsAnswer Two (Records fields next) replies now answer
-record_answers fields next replies now answer are is =
-    subst (AnswerBy (records_payload (record_lengths fields.items) replies) replies (is_some now.writer) answer) (sym are) is
+pub record_answers : (fields : Vec ℕ Global) (next : Then) (replies : List Reply) (now : SessionState) (failed : Bool) (answer : List ℕ) → tells_records fields.items ≡ true
+    → IsAnswerWith (records_payload (record_lengths fields.items) replies) replies (is_some now.writer) failed answer → IsAnswer Two (Records fields next) replies now failed answer
+record_answers fields next replies now failed answer are is =
+    subst (AnswerBy (records_payload (record_lengths fields.items) replies) replies (is_some now.writer) failed answer) (sym are) is
 
 -- ---- a flush
 
 -- a flush was taken, and its answer was written or not
-pub flush_taken : (sum : List ℕ → ℕ) (setting : Setting) (version : ProtocolVersion) (was : SessionState) (life : Life) (out written : Option (List ℕ)) (wrote : Result (Unit {0}) Stop) (result : Result (Option Error) Stop) → 25 ≤ last_kind version
-    → OnOk wrote (Appends out written (frame_bytes (0 ∷ []))) → IfErr wrote (IsWriteError 0) → Finishes [] wrote result → TakesRequest sum setting version Flush was was life life out written result
-flush_taken sum setting One was life out written wrote result within answers why told = absurd (omega (arith, within))
-flush_taken sum setting Two was life out written wrote result within answers why told =
-    taken_request sum setting Two Flush [] [] was was life life out written wrote result (and_false setting.read_only) refl (took_none sum was life) (frame_bytes (0 ∷ [])) refl
-    (writes (IsAnswer Two Flush [] was) 0 [] out written wrote refl answers why) told
+pub flush_taken : (sum : List ℕ → ℕ) (setting : Setting) (version : ProtocolVersion) (was : SessionState) (life : Life) (failed : Bool) (out written : Option (List ℕ)) (wrote : Result (Unit {0}) Stop) (result : Result (Option Error) Stop) → 25 ≤ last_kind version
+    → OnOk wrote (Appends out written (frame_bytes (0 ∷ []))) → IfErr wrote (IsWriteError 0) → Finishes [] wrote result → TakesRequest sum setting version Flush was was life life failed out written result
+flush_taken sum setting One was life failed out written wrote result within answers why told = absurd (omega (arith, within))
+flush_taken sum setting Two was life failed out written wrote result within answers why told =
+    taken_request sum setting Two Flush [] [] was was life life failed out written wrote result (and_false setting.read_only) refl (took_none sum was life) (frame_bytes (0 ∷ [])) refl
+    (writes (IsAnswer Two Flush [] was failed) 0 [] out written wrote refl answers why) told
 
 -- ---- what is open
 
 -- how many were counted, and the answer was written, or not
-pub open_taken : (sum : List ℕ → ℕ) (setting : Setting) (version : ProtocolVersion) (was : SessionState) (life : Life) (out written : Option (List ℕ)) (wrote : Result (Unit {0}) Stop) (result : Result (Option Error) Stop) → 26 ≤ last_kind version
-    → OnOk wrote (Appends out written (frame_bytes (0 ∷ open_payload was))) → IfErr wrote (IsWriteError 16) → Finishes [] wrote result → TakesRequest sum setting version CountOpen was was life life out written result
-open_taken sum setting One was life out written wrote result within answers why told = absurd (omega (arith, within))
-open_taken sum setting Two was life out written wrote result within answers why told =
+pub open_taken : (sum : List ℕ → ℕ) (setting : Setting) (version : ProtocolVersion) (was : SessionState) (life : Life) (failed : Bool) (out written : Option (List ℕ)) (wrote : Result (Unit {0}) Stop) (result : Result (Option Error) Stop) → 26 ≤ last_kind version
+    → OnOk wrote (Appends out written (frame_bytes (0 ∷ open_payload was))) → IfErr wrote (IsWriteError 16) → Finishes [] wrote result → TakesRequest sum setting version CountOpen was was life life failed out written result
+open_taken sum setting One was life failed out written wrote result within answers why told = absurd (omega (arith, within))
+open_taken sum setting Two was life failed out written wrote result within answers why told =
     let long : 16 ≡ length (open_payload was) = sym (two_numbers (count_open was.snapshots) (count_open was.replays)) in
-    taken_request sum setting Two CountOpen [] [] was was life life out written wrote result (and_false setting.read_only) refl (took_none sum was life) (frame_bytes (0 ∷ open_payload was)) refl
-    (writes (IsAnswer Two CountOpen [] was) 0 (open_payload was) out written wrote refl answers (subst (λ (n : ℕ). IfErr wrote (IsWriteError n)) long why)) told
+    taken_request sum setting Two CountOpen [] [] was was life life failed out written wrote result (and_false setting.read_only) refl (took_none sum was life) (frame_bytes (0 ∷ open_payload was)) refl
+    (writes (IsAnswer Two CountOpen [] was failed) 0 (open_payload was) out written wrote refl answers (subst (λ (n : ℕ). IfErr wrote (IsWriteError n)) long why)) told

@@ -79,28 +79,28 @@ took_both sum steps more replies others was mid now old between new first second
 -- ---- requests and their answers
 
 -- no request was read
-pub answered_none : (sum : List ℕ → ℕ) (setting : Setting) (version : ProtocolVersion) (was : SessionState) (life : Life) (input out : Option (List ℕ)) → Answered sum setting version was was life life input input out out
-answered_none sum setting version was life input out = record {
+pub answered_none : (sum : List ℕ → ℕ) (setting : Setting) (version : ProtocolVersion) (was : SessionState) (life : Life) (failed : Bool) (input out : Option (List ℕ)) → Answered sum setting version was was life life failed input input out out
+answered_none sum setting version was life failed input out = record {
   requests = [];
   steps = [];
   replies = [];
   bytes = [];
-  served = no_more;
+  served = no_more failed;
   took = took_none sum was life;
   takes = Consumes-nil input;
   answers = Appends-nil out;
 }
 
 -- one more request was read, taken and answered
-pub answered_more : (sum : List ℕ → ℕ) (setting : Setting) (version : ProtocolVersion) (request : Request) (was mid now : SessionState) (old between new : Life) (input rest last out written kept all : Option (List ℕ))
-    → Answered sum setting version was mid old between input rest out written → Keeps written kept → IsRequest version request → Consumes rest last (request_bytes request) → TookFor sum setting version (Appends kept all) request mid now between new
-    → Answered sum setting version was now old new input last out all
-answered_more sum setting version request was mid now old between new input rest last out written kept all before stays is takes (more, others, answer, served, took, answers) = record {
+pub answered_more : (sum : List ℕ → ℕ) (setting : Setting) (version : ProtocolVersion) (request : Request) (was mid now : SessionState) (old between new : Life) (had failed : Bool) (input rest last out written kept all : Option (List ℕ))
+    → Answered sum setting version was mid old between had input rest out written → Keeps written kept → IsRequest version request → Consumes rest last (request_bytes request) → TookFor sum setting version (Appends kept all) request mid now between new failed
+    → Answered sum setting version was now old new failed input last out all
+answered_more sum setting version request was mid now old between new had failed input rest last out written kept all before stays is takes (more, others, answer, served, took, answers) = record {
   requests = before.requests ++ request ∷ [];
   steps = before.steps ++ more;
   replies = before.replies ++ others;
   bytes = before.bytes ++ answer;
-  served = one_more before.requests before.steps before.replies before.bytes mid between request more others answer now new before.served is served took;
+  served = one_more before.requests before.steps before.replies before.bytes mid between had request more others answer now new failed before.served is served took;
   took = took_both sum before.steps more before.replies others was mid now old between new before.took took;
   takes = subst (Consumes input last) (sym (flat_map_snoc request_bytes before.requests request))
       (Consumes-trans input rest last (requests_bytes before.requests) (request_bytes request) before.takes takes);
@@ -121,18 +121,18 @@ took_of sum steps was now cache after old new replies runs =
     record { runs = runs.always; promises = promised sum steps was now old new [] replies runs.always }
 
 -- an answer to a request was written, or it wasn't; this is so of those that it may have
-pub taken_request : (sum : List ℕ → ℕ) (setting : Setting) (version : ProtocolVersion) (request : Request) (steps : List Step) (replies : List Reply) (was now : SessionState) (old new : Life) (out written : Option (List ℕ)) (wrote : Result (Unit {0}) Stop) (result : Result (Option Error) Stop)
-    → (setting.read_only && asks_change request) ≡ false → AreSteps setting request steps → Took sum steps replies was now old new → (some : List ℕ) → IsAnswer version request replies now some → WritesAnswer (IsAnswer version request replies now) out written wrote → Finishes replies wrote result
-    → TakesRequest sum setting version request was now old new out written result
-taken_request sum setting version request steps replies was now old new out written (Ok done) result may are took some is (answer, answers, appends) told =
-    subst (λ (r : Result (Option Error) Stop). TakesRequest sum setting version request was now old new out written r) (sym told)
-    (steps, replies, answer, taken request steps replies now answer may are answers, took, (appends, refl))
-taken_request sum setting version request steps replies was now old new out written (Err stop) result may are took some is wrote told =
-    subst (λ (r : Result (Option Error) Stop). TakesRequest sum setting version request was now old new out written r) (sym told) (by_cause stop wrote)
+pub taken_request : (sum : List ℕ → ℕ) (setting : Setting) (version : ProtocolVersion) (request : Request) (steps : List Step) (replies : List Reply) (was now : SessionState) (old new : Life) (failed : Bool) (out written : Option (List ℕ)) (wrote : Result (Unit {0}) Stop) (result : Result (Option Error) Stop)
+    → (setting.read_only && asks_change request) ≡ false → AreSteps setting request steps → Took sum steps replies was now old new → (some : List ℕ) → IsAnswer version request replies now failed some → WritesAnswer (IsAnswer version request replies now failed) out written wrote → Finishes replies wrote result
+    → TakesRequest sum setting version request was now old new failed out written result
+taken_request sum setting version request steps replies was now old new failed out written (Ok done) result may are took some is (answer, answers, appends) told =
+    subst (λ (r : Result (Option Error) Stop). TakesRequest sum setting version request was now old new failed out written r) (sym told)
+    (steps, replies, answer, taken request steps replies now failed answer may are answers, took, (appends, refl))
+taken_request sum setting version request steps replies was now old new failed out written (Err stop) result may are took some is wrote told =
+    subst (λ (r : Result (Option Error) Stop). TakesRequest sum setting version request was now old new failed out written r) (sym told) (by_cause stop wrote)
   where
-    by_cause : (x : Stop) → WritesAnswer (IsAnswer version request replies now) out written (Err x) → TakesRequest sum setting version request was now old new out written (Err x)
-    by_cause LongAnswer (answer, answers, long) = (steps, replies, answer, taken request steps replies now answer may are answers, took, long)
-    by_cause Failed none = (steps, replies, some, taken request steps replies now some may are is, took, tt)
+    by_cause : (x : Stop) → WritesAnswer (IsAnswer version request replies now failed) out written (Err x) → TakesRequest sum setting version request was now old new failed out written (Err x)
+    by_cause LongAnswer (answer, answers, long) = (steps, replies, answer, taken request steps replies now failed answer may are answers, took, long)
+    by_cause Failed none = (steps, replies, some, taken request steps replies now failed some may are is, took, tt)
     by_cause OutOfMemory none = absurd none
     by_cause (Malformed number flaw) none = absurd none
     by_cause (Version byte) none = absurd none
@@ -174,31 +174,31 @@ fault_more (Some error) (Some next) replies others false there more = Contains-a
 -- ---- request after request
 
 -- the requests before that of this number were answered, with this error last
-pub record Serving (sum : List ℕ → ℕ) (setting : Setting) (version : ProtocolVersion) (was now : SessionState) (old new : Life) (input rest out written : Option (List ℕ)) (fault : Option Error) (number : ℕ) : Type 0 where
-  pub answered : Answered sum setting version was now old new input rest out written
+pub record Serving (sum : List ℕ → ℕ) (setting : Setting) (version : ProtocolVersion) (was now : SessionState) (old new : Life) (failed : Bool) (input rest out written : Option (List ℕ)) (fault : Option Error) (number : ℕ) : Type 0 where
+  pub answered : Answered sum setting version was now old new failed input rest out written
   pub among : IsFaultAmong fault answered.replies
   pub counts : number ≡ length answered.requests + 1
 
 -- no request is before the first
-pub serving_begins : (sum : List ℕ → ℕ) (setting : Setting) (version : ProtocolVersion) (was : SessionState) (life : Life) (input out : Option (List ℕ)) → Serving sum setting version was was life life input input out out None 1
+pub serving_begins : (sum : List ℕ → ℕ) (setting : Setting) (version : ProtocolVersion) (was : SessionState) (life : Life) (failed : Bool) (input out : Option (List ℕ)) → Serving sum setting version was was life life failed input input out out None 1
 unfolding answered_none
-serving_begins sum setting version was life input out = record { answered = answered_none sum setting version was life input out; among = All-nil (λ r. reply_error r ≡ None); counts = refl }
+serving_begins sum setting version was life failed input out = record { answered = answered_none sum setting version was life failed input out; among = All-nil (λ r. reply_error r ≡ None); counts = refl }
 
 -- one more
-pub serving_more : (sum : List ℕ → ℕ) (setting : Setting) (version : ProtocolVersion) (request : Request) (was mid now : SessionState) (old between new : Life) (input rest last out written kept all : Option (List ℕ)) (fault next after : Option Error) (had_writer : Bool) (number : ℕ)
-    → after ≡ later_fault fault next had_writer → Serving sum setting version was mid old between input rest out written fault number → Keeps written kept → ReadsNext version number rest last (Ok (Some request)) → TakesRequest sum setting version request mid now between new kept all (Ok next)
-    → Serving sum setting version was now old new input last out all after (number + 1)
+pub serving_more : (sum : List ℕ → ℕ) (setting : Setting) (version : ProtocolVersion) (request : Request) (was mid now : SessionState) (old between new : Life) (had failed : Bool) (input rest last out written kept all : Option (List ℕ)) (fault next after : Option Error) (had_writer : Bool) (number : ℕ)
+    → after ≡ later_fault fault next had_writer → Serving sum setting version was mid old between had input rest out written fault number → Keeps written kept → ReadsNext version number rest last (Ok (Some request)) → TakesRequest sum setting version request mid now between new failed kept all (Ok next)
+    → Serving sum setting version was now old new failed input last out all after (number + 1)
 unfolding answered_more
-serving_more sum setting version request was mid now old between new input rest last out written kept all fault next after had_writer number later before keeps (is, takes) (more, others, answer, served, took, (answers, told)) = record {
-  answered = answered_more sum setting version request was mid now old between new input rest last out written kept all before.answered keeps is takes (more, others, answer, served, took, answers);
+serving_more sum setting version request was mid now old between new had failed input rest last out written kept all fault next after had_writer number later before keeps (is, takes) (more, others, answer, served, took, (answers, told)) = record {
+  answered = answered_more sum setting version request was mid now old between new had failed input rest last out written kept all before.answered keeps is takes (more, others, answer, served, took, answers);
   among = subst (λ (f : Option Error). IsFaultAmong f (before.answered.replies ++ others)) (sym (later ∙ ap (λ (f : Option Error). later_fault fault f had_writer) told)) (fault_more fault (fault_in others) before.answered.replies others had_writer before.among (fault_among others));
   counts = omega (arith, before.counts, length-append before.answered.requests (request ∷ []));
 }
 
 -- what was kept since was written
-unmoved : (sum : List ℕ → ℕ) (setting : Setting) (version : ProtocolVersion) (was now : SessionState) (old new : Life) (input rest out written kept : Option (List ℕ)) → Answered sum setting version was now old new input rest out written → Keeps written kept
-    → Answered sum setting version was now old new input rest out kept
-unmoved sum setting version was now old new input rest out written kept a keeps = record {
+unmoved : (sum : List ℕ → ℕ) (setting : Setting) (version : ProtocolVersion) (was now : SessionState) (old new : Life) (failed : Bool) (input rest out written kept : Option (List ℕ)) → Answered sum setting version was now old new failed input rest out written → Keeps written kept
+    → Answered sum setting version was now old new failed input rest out kept
+unmoved sum setting version was now old new failed input rest out written kept a keeps = record {
   requests = a.requests;
   steps = a.steps;
   replies = a.replies;
@@ -210,18 +210,18 @@ unmoved sum setting version was now old new input rest out written kept a keeps 
 }
 
 -- no further request was read
-pub serving_stops : (sum : List ℕ → ℕ) (setting : Setting) (version : ProtocolVersion) (was now : SessionState) (old new : Life) (input rest last out written kept all : Option (List ℕ)) (fault : Option Error) (number : ℕ) (stop why : Stop)
-    → Serving sum setting version was now old new input rest out written fault number → Keeps written kept → ReadsNext version number rest last (Err stop) → TellsStop version stop kept all why → Serves sum setting version was now old new input last out all (Err why)
+pub serving_stops : (sum : List ℕ → ℕ) (setting : Setting) (version : ProtocolVersion) (was now : SessionState) (old new : Life) (failed : Bool) (input rest last out written kept all : Option (List ℕ)) (fault : Option Error) (number : ℕ) (stop why : Stop)
+    → Serving sum setting version was now old new failed input rest out written fault number → Keeps written kept → ReadsNext version number rest last (Err stop) → TellsStop version stop kept all why → Serves sum setting version was now old new failed input last out all (Err why)
 unfolding unmoved
-serving_stops sum setting version was now old new input rest last out written kept all fault number stop why before keeps reads tells = by_cause stop reads tells
+serving_stops sum setting version was now old new failed input rest last out written kept all fault number stop why before keeps reads tells = by_cause stop reads tells
   where
-    broken : (x : Stop) → x ≡ Failed → Serves sum setting version was now old new input last out all (Err x)
-    broken x is = subst (λ (y : Stop). Serves sum setting version was now old new input last out all (Err y)) (sym is) (now, new, rest, written, before.answered, inl (refl, refl))
+    broken : (x : Stop) → x ≡ Failed → Serves sum setting version was now old new failed input last out all (Err x)
+    broken x is = subst (λ (y : Stop). Serves sum setting version was now old new failed input last out all (Err y)) (sym is) (now, new, failed, rest, written, before.answered, inl (refl, refl))
 
-    by_cause : (x : Stop) → ReadsNext version number rest last (Err x) → TellsStop version x kept all why → Serves sum setting version was now old new input last out all (Err why)
+    by_cause : (x : Stop) → ReadsNext version number rest last (Err x) → TellsStop version x kept all why → Serves sum setting version was now old new failed input last out all (Err why)
     by_cause (Malformed which flaw) (this, none) (inl (is, told)) =
-        subst (λ (y : Stop). Serves sum setting version was now old new input last out all (Err y)) (sym is)
-        (rest, kept, unmoved sum setting version was now old new input rest out written kept before.answered keeps, this ∙ before.counts, none, told)
+        subst (λ (y : Stop). Serves sum setting version was now old new failed input last out all (Err y)) (sym is)
+        (rest, kept, unmoved sum setting version was now old new failed input rest out written kept before.answered keeps, this ∙ before.counts, none, told)
     by_cause (Malformed which flaw) none (inr is) = broken why is
     by_cause (Version byte) none tells = absurd none
     by_cause NoVersion none tells = absurd none
@@ -231,40 +231,40 @@ serving_stops sum setting version was now old new input rest last out written ke
     by_cause LongAnswer none tells = absurd none
     by_cause Failed none (is, same) = broken why is
     by_cause OutOfMemory none (is, same) =
-        subst (λ (y : Stop). Serves sum setting version was now old new input last out all (Err y)) (sym is) (now, new, rest, written, before.answered, inl (refl, refl))
+        subst (λ (y : Stop). Serves sum setting version was now old new failed input last out all (Err y)) (sym is) (now, new, failed, rest, written, before.answered, inl (refl, refl))
 
 -- a request wasn't answered
-pub serving_fails : (sum : List ℕ → ℕ) (setting : Setting) (version : ProtocolVersion) (request : Request) (was mid now : SessionState) (old between new : Life) (input rest last out written kept all : Option (List ℕ)) (fault : Option Error) (number : ℕ) (stop : Stop) (result : Result (Unit {0}) Stop)
-    → IsErrAnd result (λ x. x ≡ stop) → Serving sum setting version was mid old between input rest out written fault number → ReadsNext version number rest last (Ok (Some request)) → TakesRequest sum setting version request mid now between new kept all (Err stop)
-    → Serves sum setting version was now old new input last out all result
-serving_fails sum setting version request was mid now old between new input rest last out written kept all fault number stop (Ok done) is before reads takes = absurd is
-serving_fails sum setting version request was mid now old between new input rest last out written kept all fault number stop (Err why) is before reads takes =
-    by_cause why (subst (λ (x : Stop). TakesRequest sum setting version request mid now between new kept all (Err x)) (sym is) takes)
+pub serving_fails : (sum : List ℕ → ℕ) (setting : Setting) (version : ProtocolVersion) (request : Request) (was mid now : SessionState) (old between new : Life) (had failed : Bool) (input rest last out written kept all : Option (List ℕ)) (fault : Option Error) (number : ℕ) (stop : Stop) (result : Result (Unit {0}) Stop)
+    → IsErrAnd result (λ x. x ≡ stop) → Serving sum setting version was mid old between had input rest out written fault number → ReadsNext version number rest last (Ok (Some request)) → TakesRequest sum setting version request mid now between new failed kept all (Err stop)
+    → Serves sum setting version was now old new failed input last out all result
+serving_fails sum setting version request was mid now old between new had failed input rest last out written kept all fault number stop (Ok done) is before reads takes = absurd is
+serving_fails sum setting version request was mid now old between new had failed input rest last out written kept all fault number stop (Err why) is before reads takes =
+    by_cause why (subst (λ (x : Stop). TakesRequest sum setting version request mid now between new failed kept all (Err x)) (sym is) takes)
   where
-    more : (Is : List ℕ → Type 0) → TookFor sum setting version Is request mid now between new → TookNext sum setting version Is mid now between new rest
+    more : (Is : List ℕ → Type 0) → TookFor sum setting version Is request mid now between new failed → TookNext sum setting version Is mid now between new failed rest
     more Is this = (request, last, reads.0, reads.1, this)
 
-    by_cause : (x : Stop) → TakesRequest sum setting version request mid now between new kept all (Err x) → Serves sum setting version was now old new input last out all (Err x)
+    by_cause : (x : Stop) → TakesRequest sum setting version request mid now between new failed kept all (Err x) → Serves sum setting version was now old new failed input last out all (Err x)
     by_cause (Malformed which flaw) none = absurd none
     by_cause (Version byte) none = absurd none
     by_cause NoVersion none = absurd none
     by_cause (WouldCut cut) none = absurd none
     by_cause (Refused error) none = absurd none
     by_cause (Lost error) none = absurd none
-    by_cause LongAnswer this = (mid, between, rest, written, before.answered, more IsTooLong this)
-    by_cause Failed this = (mid, between, rest, written, before.answered, inr (more IsAny this))
-    by_cause OutOfMemory same = (mid, between, rest, written, before.answered, inl same)
+    by_cause LongAnswer this = (mid, between, had, rest, written, before.answered, more IsTooLong this)
+    by_cause Failed this = (mid, between, had, rest, written, before.answered, inr (more IsAny this))
+    by_cause OutOfMemory same = (mid, between, had, rest, written, before.answered, inl same)
 
 -- a close, or the end of the input
-pub serving_ends : (sum : List ℕ → ℕ) (setting : Setting) (version : ProtocolVersion) (was now : SessionState) (old new : Life) (input rest last out written kept : Option (List ℕ)) (fault : Option Error) (number : ℕ) (result : Result (Unit {0}) Stop)
-    → Serving sum setting version was now old new input rest out written fault number → Keeps written kept → IsAtEnd rest ⊎ Consumes rest last (request_bytes Close) → EndsSession now fault result → Serves sum setting version was now old new input last out kept result
+pub serving_ends : (sum : List ℕ → ℕ) (setting : Setting) (version : ProtocolVersion) (was now : SessionState) (old new : Life) (failed : Bool) (input rest last out written kept : Option (List ℕ)) (fault : Option Error) (number : ℕ) (result : Result (Unit {0}) Stop)
+    → Serving sum setting version was now old new failed input rest out written fault number → Keeps written kept → IsAtEnd rest ⊎ Consumes rest last (request_bytes Close) → EndsSession now fault result → Serves sum setting version was now old new failed input last out kept result
 unfolding unmoved
-serving_ends sum setting version was now old new input rest last out written kept fault number result before keeps at_end ends = by_answer result ends
+serving_ends sum setting version was now old new failed input rest last out written kept fault number result before keeps at_end ends = by_answer result ends
   where
-    all : (Are : List Reply → Type 0) → Are before.answered.replies → AnsweredAll sum setting version Are was now old new input last out kept
-    all Are are = (rest, unmoved sum setting version was now old new input rest out written kept before.answered keeps, at_end, are)
+    all : (Are : List Reply → Type 0) → Are before.answered.replies → AnsweredAll sum setting version Are was now old new failed input last out kept
+    all Are are = (rest, unmoved sum setting version was now old new failed input rest out written kept before.answered keeps, at_end, are)
 
-    by_answer : (r : Result (Unit {0}) Stop) → EndsSession now fault r → Serves sum setting version was now old new input last out kept r
+    by_answer : (r : Result (Unit {0}) Stop) → EndsSession now fault r → Serves sum setting version was now old new failed input last out kept r
     by_answer (Ok done) (inl has) = all (λ replies. (is_some now.writer ≡ true) ⊎ IsFaultAmong None replies) (inl has)
     by_answer (Ok done) (inr none) = all (λ replies. (is_some now.writer ≡ true) ⊎ IsFaultAmong None replies) (inr (subst (λ (f : Option Error). IsFaultAmong f before.answered.replies) none before.among))
     by_answer (Err (Lost error)) (gone, told) = all (λ replies. (now.writer ≡ None) × IsFaultAmong (Some error) replies) (gone, subst (λ (f : Option Error). IsFaultAmong f before.answered.replies) told before.among)
@@ -296,25 +296,25 @@ close_read version number CountOpen rest last is reads = absurd (cc is)
 -- ---- how a session begins
 
 -- a recovery would cut more than it may
-pub would_cut : (sum : List ℕ → ℕ) (setting : Setting) (old new : Life) (out written : Option (List ℕ)) (stop : Stop) → IsNotBegun sum setting old new stop → ((error : Error) → stop ≢ Refused error) → written ≡ out → Greets sum setting old new out written (Err stop)
-would_cut sum setting old new out written (Malformed number flaw) none other same = absurd none
-would_cut sum setting old new out written (Version byte) none other same = absurd none
-would_cut sum setting old new out written NoVersion none other same = absurd none
-would_cut sum setting old new out written (WouldCut cut) more other same = (more, same)
-would_cut sum setting old new out written (Refused error) had other same = absurd (other error refl)
-would_cut sum setting old new out written (Lost error) none other same = absurd none
-would_cut sum setting old new out written LongAnswer none other same = absurd none
-would_cut sum setting old new out written Failed none other same = absurd none
-would_cut sum setting old new out written OutOfMemory none other same = absurd none
+pub would_cut : (sum : List ℕ → ℕ) (setting : Setting) (old new : Life) (failed : Bool) (out written : Option (List ℕ)) (stop : Stop) → IsNotBegun sum setting old new stop → ((error : Error) → stop ≢ Refused error) → written ≡ out → Greets sum setting old new failed out written (Err stop)
+would_cut sum setting old new failed out written (Malformed number flaw) none other same = absurd none
+would_cut sum setting old new failed out written (Version byte) none other same = absurd none
+would_cut sum setting old new failed out written NoVersion none other same = absurd none
+would_cut sum setting old new failed out written (WouldCut cut) more other same = (more, same)
+would_cut sum setting old new failed out written (Refused error) had other same = absurd (other error refl)
+would_cut sum setting old new failed out written (Lost error) none other same = absurd none
+would_cut sum setting old new failed out written LongAnswer none other same = absurd none
+would_cut sum setting old new failed out written Failed none other same = absurd none
+would_cut sum setting old new failed out written OutOfMemory none other same = absurd none
 
 -- the size isn't answered
-pub greeting_fails : (sum : List ℕ → ℕ) (setting : Setting) (was now : SessionState) (old mid new : Life) (out after written : Option (List ℕ)) (stop : Stop) (result : Result (SessionState × CacheState) Stop) → IsErrAnd result (λ x. x ≡ stop)
-    → HasBegun sum setting old mid was → TakesRequest sum setting One (StepOf Size) was now mid new after written (Err stop) → Greets sum setting old new out written result
-greeting_fails sum setting was now old mid new out after written stop (Ok begun) is begins takes = absurd is
-greeting_fails sum setting was now old mid new out after written stop (Err why) is begins takes =
-    by_cause why (subst (λ (x : Stop). TakesRequest sum setting One (StepOf Size) was now mid new after written (Err x)) (sym is) takes)
+pub greeting_fails : (sum : List ℕ → ℕ) (setting : Setting) (was now : SessionState) (old mid new : Life) (failed : Bool) (out after written : Option (List ℕ)) (stop : Stop) (result : Result (SessionState × CacheState) Stop) → IsErrAnd result (λ x. x ≡ stop)
+    → HasBegun sum setting old mid was → TakesRequest sum setting One (StepOf Size) was now mid new failed after written (Err stop) → Greets sum setting old new failed out written result
+greeting_fails sum setting was now old mid new failed out after written stop (Ok begun) is begins takes = absurd is
+greeting_fails sum setting was now old mid new failed out after written stop (Err why) is begins takes =
+    by_cause why (subst (λ (x : Stop). TakesRequest sum setting One (StepOf Size) was now mid new failed after written (Err x)) (sym is) takes)
   where
-    by_cause : (x : Stop) → TakesRequest sum setting One (StepOf Size) was now mid new after written (Err x) → Greets sum setting old new out written (Err x)
+    by_cause : (x : Stop) → TakesRequest sum setting One (StepOf Size) was now mid new failed after written (Err x) → Greets sum setting old new failed out written (Err x)
     by_cause (Malformed which flaw) none = absurd none
     by_cause (Version byte) none = absurd none
     by_cause NoVersion none = absurd none
@@ -326,20 +326,20 @@ greeting_fails sum setting was now old mid new out after written stop (Err why) 
     by_cause OutOfMemory same = inr (inl (was, subst (λ (life : Life). HasBegun sum setting old life was) (sym same.1) begins))
 
 -- the greeting ended before the size was asked for
-pub greeting_cut : (sum : List ℕ → ℕ) (setting : Setting) (was : SessionState) (old new : Life) (out written : Option (List ℕ)) (result : Result (SessionState × CacheState) Stop) → IsErrAnd result (λ x. x ≡ Failed) → HasBegun sum setting old new was → Greets sum setting old new out written result
-greeting_cut sum setting was old new out written (Ok begun) is begins = absurd is
-greeting_cut sum setting was old new out written (Err why) is begins = subst (λ (x : Stop). Greets sum setting old new out written (Err x)) (sym is) (inr (inl (was, begins)))
+pub greeting_cut : (sum : List ℕ → ℕ) (setting : Setting) (was : SessionState) (old new : Life) (failed : Bool) (out written : Option (List ℕ)) (result : Result (SessionState × CacheState) Stop) → IsErrAnd result (λ x. x ≡ Failed) → HasBegun sum setting old new was → Greets sum setting old new failed out written result
+greeting_cut sum setting was old new failed out written (Ok begun) is begins = absurd is
+greeting_cut sum setting was old new failed out written (Err why) is begins = subst (λ (x : Stop). Greets sum setting old new failed out written (Err x)) (sym is) (inr (inl (was, begins)))
 
 -- the greeting couldn't be flushed
-pub greeting_unsent : (sum : List ℕ → ℕ) (setting : Setting) (was now : SessionState) (old mid new : Life) (out kept written : Option (List ℕ)) (fault : Option Error) (result : Result (SessionState × CacheState) Stop) → IsErrAnd result (λ x. x ≡ Failed)
-    → HasBegun sum setting old mid was → TakesRequest sum setting One (StepOf Size) was now mid new kept written (Ok fault) → (last : Option (List ℕ)) → Greets sum setting old new out last result
-greeting_unsent sum setting was now old mid new out kept written fault result is begins (steps, replies, answer, served, took, (answers, told)) last =
-    greeting_fails sum setting was now old mid new out kept last Failed result is begins (steps, replies, answer, served, took, tt)
+pub greeting_unsent : (sum : List ℕ → ℕ) (setting : Setting) (was now : SessionState) (old mid new : Life) (failed : Bool) (out kept written : Option (List ℕ)) (fault : Option Error) (result : Result (SessionState × CacheState) Stop) → IsErrAnd result (λ x. x ≡ Failed)
+    → HasBegun sum setting old mid was → TakesRequest sum setting One (StepOf Size) was now mid new failed kept written (Ok fault) → (last : Option (List ℕ)) → Greets sum setting old new failed out last result
+greeting_unsent sum setting was now old mid new failed out kept written fault result is begins (steps, replies, answer, served, took, (answers, told)) last =
+    greeting_fails sum setting was now old mid new failed out kept last Failed result is begins (steps, replies, answer, served, took, tt)
 
 -- the greeting was written and flushed
-pub greeted : (sum : List ℕ → ℕ) (setting : Setting) (was now : SessionState) (old mid new : Life) (out first second last : Option (List ℕ)) (fault : Option Error) → HasBegun sum setting old mid was → Appends out first (version_byte ∷ [])
-    → TakesRequest sum setting One (StepOf Size) was now mid new first second (Ok fault) → Keeps second last → Greeted sum setting old new now out last
-greeted sum setting was now old mid new out first second last fault begins version (steps, replies, answer, served, took, (answers, told)) keeps = record {
+pub greeted : (sum : List ℕ → ℕ) (setting : Setting) (was now : SessionState) (old mid new : Life) (failed : Bool) (out first second last : Option (List ℕ)) (fault : Option Error) → HasBegun sum setting old mid was → Appends out first (version_byte ∷ [])
+    → TakesRequest sum setting One (StepOf Size) was now mid new failed first second (Ok fault) → Keeps second last → Greeted sum setting old new failed now out last
+greeted sum setting was now old mid new failed out first second last fault begins version (steps, replies, answer, served, took, (answers, told)) keeps = record {
   mid = mid;
   was = was;
   begun = begins;
@@ -356,17 +356,17 @@ greeted sum setting was now old mid new out first second last fault begins versi
 -- ---- a whole session
 
 -- the greeting is a step too
-pub only_greeted : (sum : List ℕ → ℕ) (setting : Setting) (old new : Life) (was : SessionState) (out written : Option (List ℕ)) → Greeted sum setting old new was out written → EndsEarly sum setting old new
-only_greeted sum setting old new was out written g =
+pub only_greeted : (sum : List ℕ → ℕ) (setting : Setting) (old new : Life) (failed : Bool) (was : SessionState) (out written : Option (List ℕ)) → Greeted sum setting old new failed was out written → EndsEarly sum setting old new failed
+only_greeted sum setting old new failed was out written g =
     inr (inr (g.mid, g.was, was, g.begun, (g.took.0, g.took.1, g.took.2, g.took.3, g.took.4, tt)))
 
 -- no session was greeted
-pub file_not_greeted : (sum : List ℕ → ℕ) (setting : Setting) (named : Named) (old new : Life) (input out written : Option (List ℕ)) (stop : Stop) (result : Result (Unit {0}) Stop) → IsErrAnd result (λ x. x ≡ stop) → Greets sum setting old new out written (Err stop)
-    → ServesFile sum setting named old new input input out written result
-file_not_greeted sum setting named old new input out written stop (Ok done) is greets = absurd is
-file_not_greeted sum setting named old new input out written stop (Err why) is greets = by_cause why (subst (λ (x : Stop). Greets sum setting old new out written (Err x)) (sym is) greets)
+pub file_not_greeted : (sum : List ℕ → ℕ) (setting : Setting) (named : Named) (old new : Life) (failed : Bool) (input out written : Option (List ℕ)) (stop : Stop) (result : Result (Unit {0}) Stop) → IsErrAnd result (λ x. x ≡ stop) → Greets sum setting old new failed out written (Err stop)
+    → ServesFile sum setting named old new failed input input out written result
+file_not_greeted sum setting named old new failed input out written stop (Ok done) is greets = absurd is
+file_not_greeted sum setting named old new failed input out written stop (Err why) is greets = by_cause why (subst (λ (x : Stop). Greets sum setting old new failed out written (Err x)) (sym is) greets)
   where
-    by_cause : (x : Stop) → Greets sum setting old new out written (Err x) → ServesFile sum setting named old new input input out written (Err x)
+    by_cause : (x : Stop) → Greets sum setting old new failed out written (Err x) → ServesFile sum setting named old new failed input input out written (Err x)
     by_cause (Malformed which flaw) none = absurd none
     by_cause (Version byte) none = absurd none
     by_cause NoVersion none = absurd none
@@ -385,46 +385,46 @@ hello_is setting checksum set_aside old between was len left size cut told first
     ∙ ap (λ (n : ℕ). hello_bytes setting checksum set_aside (size_in was) n) (goes ∙ ap (λ (n : ℕ). n - left) first ∙ ap (λ (n : ℕ). length old.present.readable - n) then_left)
 
 -- what the client begins with wasn't read
-pub file_unread : (sum : List ℕ → ℕ) (setting : Setting) (named : Named) (old new : Life) (was : SessionState) (input rest out greeting written : Option (List ℕ)) (error : ReadError) (at stop : Stop) → Greeted sum setting old new was out greeting → ReadsOpening input rest (Err error)
-    → at ≡ stop_at 0 error → TellsStop Two at greeting written stop → ServesFile sum setting named old new input rest out written (Err stop)
-file_unread sum setting named old new was input rest out greeting written error at stop g reads is told = by_error error reads (subst (λ (x : Stop). TellsStop Two x greeting written stop) is told)
+pub file_unread : (sum : List ℕ → ℕ) (setting : Setting) (named : Named) (old new : Life) (failed : Bool) (was : SessionState) (input rest out greeting written : Option (List ℕ)) (error : ReadError) (at stop : Stop) → Greeted sum setting old new failed was out greeting → ReadsOpening input rest (Err error)
+    → at ≡ stop_at 0 error → TellsStop Two at greeting written stop → ServesFile sum setting named old new failed input rest out written (Err stop)
+file_unread sum setting named old new failed was input rest out greeting written error at stop g reads is told = by_error error reads (subst (λ (x : Stop). TellsStop Two x greeting written stop) is told)
   where
-    early : EndsEarly sum setting old new
-    early = only_greeted sum setting old new was out greeting g
+    early : EndsEarly sum setting old new failed
+    early = only_greeted sum setting old new failed was out greeting g
 
-    turned : (x : Stop) → stop ≡ x → ServesFile sum setting named old new input rest out written (Err x) → ServesFile sum setting named old new input rest out written (Err stop)
-    turned x same served = subst (λ (y : Stop). ServesFile sum setting named old new input rest out written (Err y)) (sym same) served
+    turned : (x : Stop) → stop ≡ x → ServesFile sum setting named old new failed input rest out written (Err x) → ServesFile sum setting named old new failed input rest out written (Err stop)
+    turned x same served = subst (λ (y : Stop). ServesFile sum setting named old new failed input rest out written (Err y)) (sym same) served
 
-    by_error : (e : ReadError) → ReadsOpening input rest (Err e) → TellsStop Two (stop_at 0 e) greeting written stop → ServesFile sum setting named old new input rest out written (Err stop)
+    by_error : (e : ReadError) → ReadsOpening input rest (Err e) → TellsStop Two (stop_at 0 e) greeting written stop → ServesFile sum setting named old new failed input rest out written (Err stop)
     by_error (IsMalformed flaw) (cut, ends) (inl (same, tells)) =
         turned (Malformed 0 flaw) same (inl (record { was = was; greeting = greeting; greeted = g; first = refl; cut = cut; ends = ends; tells = tells }))
     by_error (IsMalformed flaw) (cut, ends) (inr failed) = turned Failed failed (inl early)
     by_error HasFailed none (same, kept) = turned Failed same (inl early)
     by_error NoMemory none (same, kept) = turned OutOfMemory same (inl early)
 
-module _ (sum : List ℕ → ℕ) (setting : Setting) (named : Named) (old between : Life) (was : SessionState) (input after out greeting told : Option (List ℕ)) (opening : Opening) where
+module _ (sum : List ℕ → ℕ) (setting : Setting) (named : Named) (old between : Life) (had : Bool) (was : SessionState) (input after out greeting told : Option (List ℕ)) (opening : Opening) where
   -- what the client begins with was read, and answered
-  agrees : (result : Result (Option ProtocolVersion) Stop) → Greeted sum setting old between was out greeting → ReadsOpening input after (Ok opening) → TellsOpening opening (hello_for setting named old between was) greeting told result
-      → Agrees sum setting named old between was input after out told result
+  agrees : (result : Result (Option ProtocolVersion) Stop) → Greeted sum setting old between had was out greeting → ReadsOpening input after (Ok opening) → TellsOpening opening (hello_for setting named old between was) greeting told result
+      → Agrees sum setting named old between had was input after out told result
   agrees result g reads tells = record { greeting = greeting; opening = opening; greeted = g; reads = reads; tells = tells }
 
   -- there was nothing to go on with
-  pub file_over : Greeted sum setting old between was out greeting → ReadsOpening input after (Ok opening) → (version : Option ProtocolVersion) → version ≡ None → TellsOpening opening (hello_for setting named old between was) greeting told (Ok version)
-      → ServesFile sum setting named old between input after out told (Ok tt)
+  pub file_over : Greeted sum setting old between had was out greeting → ReadsOpening input after (Ok opening) → (version : Option ProtocolVersion) → version ≡ None → TellsOpening opening (hello_for setting named old between was) greeting told (Ok version)
+      → ServesFile sum setting named old between had input after out told (Ok tt)
   file_over g reads version none tells =
       inl (was, agrees (Ok None) g reads (subst (λ (v : Option ProtocolVersion). TellsOpening opening (hello_for setting named old between was) greeting told (Ok v)) none tells))
 
   -- no version was agreed on, or the answer couldn't be written
-  pub file_not_opened : (stop : Stop) (result : Result (Unit {0}) Stop) → IsErrAnd result (λ x. x ≡ stop) → Greeted sum setting old between was out greeting → ReadsOpening input after (Ok opening)
-      → TellsOpening opening (hello_for setting named old between was) greeting told (Err stop) → ServesFile sum setting named old between input after out told result
+  pub file_not_opened : (stop : Stop) (result : Result (Unit {0}) Stop) → IsErrAnd result (λ x. x ≡ stop) → Greeted sum setting old between had was out greeting → ReadsOpening input after (Ok opening)
+      → TellsOpening opening (hello_for setting named old between was) greeting told (Err stop) → ServesFile sum setting named old between had input after out told result
   file_not_opened stop (Ok done) is g reads tells = absurd is
   file_not_opened stop (Err why) is g reads tells = by_cause why (subst (λ (x : Stop). TellsOpening opening (hello_for setting named old between was) greeting told (Err x)) (sym is) tells)
     where
-      by_cause : (x : Stop) → TellsOpening opening (hello_for setting named old between was) greeting told (Err x) → ServesFile sum setting named old between input after out told (Err x)
+      by_cause : (x : Stop) → TellsOpening opening (hello_for setting named old between was) greeting told (Err x) → ServesFile sum setting named old between had input after out told (Err x)
       by_cause (Version byte) other = (was, agrees (Err (Version byte)) g reads other)
       by_cause NoVersion none = (was, agrees (Err NoVersion) g reads none)
       by_cause LongAnswer long = inr (inl (was, agrees (Err LongAnswer) g reads long))
-      by_cause Failed none = inl (only_greeted sum setting old between was out greeting g)
+      by_cause Failed none = inl (only_greeted sum setting old between had was out greeting g)
       by_cause (Malformed which flaw) none = absurd none
       by_cause (WouldCut cut) none = absurd none
       by_cause (Refused error) none = absurd none
@@ -432,14 +432,14 @@ module _ (sum : List ℕ → ℕ) (setting : Setting) (named : Named) (old betwe
       by_cause OutOfMemory none = absurd none
 
   -- the requests of a session were served
-  pub file_served : (new : Life) (now : SessionState) (rest written : Option (List ℕ)) (version : ProtocolVersion) (result : Result (Unit {0}) Stop) → Greeted sum setting old between was out greeting → ReadsOpening input after (Ok opening)
-      → TellsOpening opening (hello_for setting named old between was) greeting told (Ok (Some version)) → Serves sum setting version was now between new after rest told written result → ServesFile sum setting named old new input rest out written result
-  file_served new now rest written version result g reads tells serves = by_answer result serves
+  pub file_served : (new : Life) (failed : Bool) (now : SessionState) (rest written : Option (List ℕ)) (version : ProtocolVersion) (result : Result (Unit {0}) Stop) → Greeted sum setting old between had was out greeting → ReadsOpening input after (Ok opening)
+      → TellsOpening opening (hello_for setting named old between was) greeting told (Ok (Some version)) → Serves sum setting version was now between new failed after rest told written result → ServesFile sum setting named old new failed input rest out written result
+  file_served new failed now rest written version result g reads tells serves = by_answer result serves
     where
-      served : (r : Result (Unit {0}) Stop) → Serves sum setting version was now between new after rest told written r → ServedAfter sum setting named old new input rest out written r
-      served r s = record { between = between; was = was; now = now; after = after; told = told; version = version; agrees = agrees (Ok (Some version)) g reads tells; serves = s }
+      served : (r : Result (Unit {0}) Stop) → Serves sum setting version was now between new failed after rest told written r → ServedAfter sum setting named old new failed input rest out written r
+      served r s = record { between = between; had_failed = had; was = was; now = now; after = after; told = told; version = version; agrees = agrees (Ok (Some version)) g reads tells; serves = s }
 
-      by_answer : (r : Result (Unit {0}) Stop) → Serves sum setting version was now between new after rest told written r → ServesFile sum setting named old new input rest out written r
+      by_answer : (r : Result (Unit {0}) Stop) → Serves sum setting version was now between new failed after rest told written r → ServesFile sum setting named old new failed input rest out written r
       by_answer (Ok done) s = inr (served (Ok done) s)
       by_answer (Err (Malformed which flaw)) s = inr (served (Err (Malformed which flaw)) s)
       by_answer (Err (Version byte)) s = absurd s

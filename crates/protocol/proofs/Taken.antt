@@ -7,12 +7,16 @@ use Rattle.std.specs.Int.{w32, from_le_bytes}
 use Rattle.std.specs.List.{flat_map}
 use Rattle.std.proofs.KnownBytes.{Appends-nil, Appends-trans}
 use Rattle.std.specs.Io.KnownBytes.{Appends}
+use Rattle.disk.specs.Error.{number_of}
+use Rattle.disk.specs.declared.error.Error.{Error}
+use Rattle.disk.specs.declared.error.Error.TheVariants.{WriteFailed, ResizeFailed}
 use Rattle.session.specs.declared.steps.Reply.{Reply}
+use Rattle.session.specs.declared.steps.Reply.TheVariants.{Fault}
 use Rattle.protocol.specs.declared.stop.Stop.{Stop}
 use Rattle.protocol.specs.declared.stop.Stop.TheVariants.{Malformed, Version, WouldCut, Refused, Lost, LongAnswer, Failed, OutOfMemory, NoVersion}
 use Rattle.protocol.specs.declared.version.Version.{Version as ProtocolVersion}
 use Rattle.protocol.specs.declared.version.Version.TheVariants.{One, Two}
-use Rattle.protocol.specs.Answer.{AppendsRefusal, IsAnswerWith, IsLong, IsRefusalAnswer, IsTooLong, IsWriteError, answer_bytes, advice_byte, first_refusal, refusal_from, reply_payload, status_byte}
+use Rattle.protocol.specs.Answer.{AppendsRefusal, IsAnswerWith, IsLong, IsRefusalAnswer, IsTooLong, IsWriteError, answer_bytes, advice_byte, first_refusal, refusal_from, reply_payload, status_byte, told_error, told_status}
 use Rattle.protocol.specs.Request.{frame_bytes, length_bytes, number_bytes, last_kind}
 use Rattle.protocol.specs.Serve.{last_payload}
 use Rattle.protocol.specs.Taking.{GivesPayload, TellsRefusal, WritesAnswer}
@@ -72,39 +76,39 @@ writes_as Is Are out written (Err (Refused error)) turn none = absurd none
 writes_as Is Are out written (Err (Lost error)) turn none = absurd none
 
 -- by the first refusal of the replies
-abbrev AnswerOf : (payload : List ℕ) → Bool → List ℕ → Option (ℕ × Reply) → Type 0
-AnswerOf payload has_writer answer first = elim first [
-  | Some first ↦ IsRefusalAnswer (status_byte first.1) (advice_byte first.1 has_writer) first.0 answer
+abbrev AnswerOf : (payload : List ℕ) → (has_writer sync_failed : Bool) → List ℕ → Option (ℕ × Reply) → Type 0
+AnswerOf payload has_writer sync_failed answer first = elim first [
+  | Some first ↦ IsRefusalAnswer (told_status first.1 sync_failed) (advice_byte first.1 has_writer sync_failed) first.0 answer
   | None ↦ answer ≡ frame_bytes (0 ∷ payload)
 ]
 
 -- some answer is one to these replies
-pub some_with : (payload : List ℕ) (replies : List Reply) (has_writer : Bool) → (answer : List ℕ) × IsAnswerWith payload replies has_writer answer
-some_with payload replies has_writer = by_first (first_refusal replies)
+pub some_with : (payload : List ℕ) (replies : List Reply) (has_writer sync_failed : Bool) → (answer : List ℕ) × IsAnswerWith payload replies has_writer sync_failed answer
+some_with payload replies has_writer sync_failed = by_first (first_refusal replies)
   where
-    by_first : (first : Option (ℕ × Reply)) → (answer : List ℕ) × AnswerOf payload has_writer answer first
+    by_first : (first : Option (ℕ × Reply)) → (answer : List ℕ) × AnswerOf payload has_writer sync_failed answer first
     by_first (Some first) = (
-      frame_bytes (status_byte first.1 ∷ advice_byte first.1 has_writer ∷ number_bytes first.0 ++ number_bytes 0 ++ []),
+      frame_bytes (told_status first.1 sync_failed ∷ advice_byte first.1 has_writer sync_failed ∷ number_bytes first.0 ++ number_bytes 0 ++ []),
       record { number = 0; words = []; is = refl },
     )
     by_first None = (frame_bytes (0 ∷ payload), refl)
 
 -- the first refusal was written
-pub told_with : (payload : List ℕ) (replies : List Reply) (has_writer : Bool) (out written : Option (List ℕ)) → TellsRefusal replies has_writer out written (Ok true) → WritesAnswer (IsAnswerWith payload replies has_writer) out written (Ok tt)
-told_with payload replies has_writer out written (taken, reply, is, (answer, told, answers)) =
-    (answer, subst (λ (first : Option (ℕ × Reply)). AnswerOf payload has_writer answer first) (sym is) told, answers)
+pub told_with : (payload : List ℕ) (replies : List Reply) (has_writer sync_failed : Bool) (out written : Option (List ℕ)) → TellsRefusal replies has_writer sync_failed out written (Ok true) → WritesAnswer (IsAnswerWith payload replies has_writer sync_failed) out written (Ok tt)
+told_with payload replies has_writer sync_failed out written (taken, reply, is, (answer, told, answers)) =
+    (answer, subst (λ (first : Option (ℕ × Reply)). AnswerOf payload has_writer sync_failed answer first) (sym is) told, answers)
 
 -- the first refusal couldn't be written
-pub untold_with : (payload : List ℕ) (replies : List Reply) (has_writer : Bool) (out written : Option (List ℕ)) (stop : Stop) → stop ≡ Failed → WritesAnswer (IsAnswerWith payload replies has_writer) out written (Err stop)
-untold_with payload replies has_writer out written stop is = subst (λ (x : Stop). WritesAnswer (IsAnswerWith payload replies has_writer) out written (Err x)) (sym is) tt
+pub untold_with : (payload : List ℕ) (replies : List Reply) (has_writer sync_failed : Bool) (out written : Option (List ℕ)) (stop : Stop) → stop ≡ Failed → WritesAnswer (IsAnswerWith payload replies has_writer sync_failed) out written (Err stop)
+untold_with payload replies has_writer sync_failed out written stop is = subst (λ (x : Stop). WritesAnswer (IsAnswerWith payload replies has_writer sync_failed) out written (Err x)) (sym is) tt
 
 -- no reply refuses, and this payload is given
-pub given_with : (payload : List ℕ) (replies : List Reply) (has_writer : Bool) (out mid written : Option (List ℕ)) (result : Result (Unit {0}) Stop) → first_refusal replies ≡ None → mid ≡ out → WritesAnswer (GivesPayload payload) mid written result
-    → WritesAnswer (IsAnswerWith payload replies has_writer) out written result
-given_with payload replies has_writer out mid written result none same wrote =
-    subst (λ (o : Option (List ℕ)). WritesAnswer (IsAnswerWith payload replies has_writer) o written result) same
-    (writes_as (GivesPayload payload) (IsAnswerWith payload replies has_writer) mid written result
-    (λ answer is. subst (λ (first : Option (ℕ × Reply)). AnswerOf payload has_writer answer first) (sym none) is) wrote)
+pub given_with : (payload : List ℕ) (replies : List Reply) (has_writer sync_failed : Bool) (out mid written : Option (List ℕ)) (result : Result (Unit {0}) Stop) → first_refusal replies ≡ None → mid ≡ out → WritesAnswer (GivesPayload payload) mid written result
+    → WritesAnswer (IsAnswerWith payload replies has_writer sync_failed) out written result
+given_with payload replies has_writer sync_failed out mid written result none same wrote =
+    subst (λ (o : Option (List ℕ)). WritesAnswer (IsAnswerWith payload replies has_writer sync_failed) o written result) same
+    (writes_as (GivesPayload payload) (IsAnswerWith payload replies has_writer sync_failed) mid written result
+    (λ answer is. subst (λ (first : Option (ℕ × Reply)). AnswerOf payload has_writer sync_failed answer first) (sym none) is) wrote)
 
 -- ---- the last reply
 
@@ -124,13 +128,23 @@ accepted taken reply replies none =
     let both = either_none (status_byte reply == 0) (refusal_from (taken + 1) replies) (taken, reply) none in
     (eqb-true (status_byte reply) 0 both.0, both.1)
 
+-- where no sync has failed, a client is told the layer's status
+pub told_is : (reply : Reply) → told_status reply false ≡ status_byte reply
+told_is (Fault error) = ap number_of (as_it_is error)
+  where
+    as_it_is : (e : Error) → told_error e false ≡ e
+    as_it_is WriteFailed = refl
+    as_it_is ResizeFailed = refl
+    as_it_is e = refl
+told_is reply = refl
+
 -- the answer to the last reply has that reply's payload
-pub last_answer : (taken : ℕ) (replies : List Reply) (last : Reply) → refusal_from taken replies ≡ None → Some last ≡ slice_get replies (length replies - 1) → answer_bytes last ≡ frame_bytes (0 ∷ last_payload replies)
+pub last_answer : (taken : ℕ) (replies : List Reply) (last : Reply) → refusal_from taken replies ≡ None → Some last ≡ slice_get replies (length replies - 1) → answer_bytes last false ≡ frame_bytes (0 ∷ last_payload replies)
 last_answer taken [] last none is = absurd (cc is)
 last_answer taken (reply ∷ []) last none is =
     let zero : status_byte reply ≡ 0 = (accepted taken reply [] none).0 in
     let same : last ≡ reply = cc is in
-    ap answer_bytes same ∙ ap (λ (n : ℕ). frame_bytes (n ∷ reply_payload reply)) zero
+    ap (λ (r : Reply). answer_bytes r false) same ∙ ap (λ (n : ℕ). frame_bytes (n ∷ reply_payload reply)) (told_is reply ∙ zero)
 last_answer taken (reply ∷ next ∷ replies) last none is = last_answer (taken + 1) (next ∷ replies) last (accepted taken reply (next ∷ replies) none).1 (is ∙ last_more reply next replies)
 
 -- ---- a refusal among replies

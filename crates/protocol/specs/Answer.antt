@@ -1,6 +1,6 @@
 -- How the reply to a step is written.
 use Rattle.std.specs.Prelude.{ℕ, List, [], ◌∷◌, ◌++◌, ◌≡◌, ◌==◌, Bool, if◌then◌else◌}
-use Rattle.std.specs.Prelude.{Option, Some, None}
+use Rattle.std.specs.Prelude.{Option, Some, None, true, false}
 use Rattle.std.specs.Prelude.{◌≤◌, ◌+◌, ◌^◌, length}
 use Rattle.std.specs.List.{flat_map}
 use Rattle.std.specs.Io.KnownBytes.{Appends}
@@ -31,6 +31,18 @@ status_byte NoSuch = 20
 status_byte NotAppending = 21
 status_byte reply = 0
 
+-- the error that a client is told, by whether a sync of the file has failed: then what the layer
+-- answers as a failed write, or a failed change of the size, was that sync
+abbrev pub told_error : Error → (sync_failed : Bool) → Error
+told_error error.WriteFailed true = error.SyncFailed
+told_error error.ResizeFailed true = error.SyncFailed
+told_error other sync_failed = other
+
+-- the status of an answer as a client is told it
+abbrev pub told_status : Reply → (sync_failed : Bool) → ℕ
+told_status (Fault fault) sync_failed = number_of (told_error fault sync_failed)
+told_status reply sync_failed = status_byte reply
+
 -- what starting a sync answered
 abbrev pub started_bytes : StartedSync → List ℕ
 started_bytes AllDone = 0 ∷ []
@@ -54,9 +66,9 @@ reply_payload (Missed numbers) = flat_map number_bytes numbers.items
 reply_payload (Sealed index started) = number_bytes index ++ started_bytes started
 reply_payload reply = []
 
--- an answer as it is written
-abbrev pub answer_bytes : Reply → List ℕ
-answer_bytes reply = frame_bytes (status_byte reply ∷ reply_payload reply)
+-- an answer as it is written, by whether a sync of the file has failed
+abbrev pub answer_bytes : Reply → (sync_failed : Bool) → List ℕ
+answer_bytes reply sync_failed = frame_bytes (told_status reply sync_failed ∷ reply_payload reply)
 
 -- the answer of version 1 to a request for a change by a client that may only read
 abbrev pub refusal_bytes : List ℕ
@@ -82,8 +94,8 @@ flaw_status flaw.LongRead = 36
 flaw_status flaw.NoBuffer = 37
 
 -- what a client may do next: 0, ask for something else; 1, ask again; 2, open the file anew; 3,
--- give it up. The last is for a failed sync. For other errors it depends on whether the writer is
--- still there
+-- replace it by a copy of itself. The last is for a failed sync. For other errors it depends on
+-- whether the writer is still there
 abbrev pub advice_for : Error → (has_writer : Bool) → ℕ
 advice_for error.SyncFailed has_writer = 3
 advice_for error.ReadFailed has_writer = if has_writer then 1 else 2
@@ -92,10 +104,12 @@ advice_for error.BlobInsufficientLength has_writer = 0
 advice_for error.OffsetOverflow has_writer = if has_writer then 0 else 2
 advice_for other has_writer = 2
 
-abbrev pub advice_byte : Reply → (has_writer : Bool) → ℕ
-advice_byte (Fault error) has_writer = advice_for error has_writer
-advice_byte Closed has_writer = 2
-advice_byte reply has_writer = 0
+-- the same by a reply. Once a sync of the file has failed, it is to be replaced, whatever the reply
+abbrev pub advice_byte : Reply → (has_writer sync_failed : Bool) → ℕ
+advice_byte reply has_writer true = 3
+advice_byte (Fault error) has_writer false = advice_for error has_writer
+advice_byte Closed has_writer false = 2
+advice_byte reply has_writer false = 0
 
 -- a refusal has its status, what may be done next, how many steps of the request were taken, and
 -- the system's number and words for why the file failed, or 0 and no words if it didn't
@@ -121,10 +135,11 @@ first_refusal replies = refusal_from 0 replies
 
 -- the answer of version 2 to a request with these replies: the first refusal, or this payload if no
 -- reply refuses
-abbrev pub IsAnswerWith : (payload : List ℕ) → List Reply → (has_writer : Bool) → List ℕ → Type 0
-IsAnswerWith payload replies has_writer answer = elim (first_refusal replies) [
-  | Some first ↦ IsRefusalAnswer (status_byte first.1) (advice_byte first.1 has_writer) first.0
-      answer
+abbrev pub IsAnswerWith : (payload : List ℕ) → List Reply → (has_writer sync_failed : Bool)
+    → List ℕ → Type 0
+IsAnswerWith payload replies has_writer sync_failed answer = elim (first_refusal replies) [
+  | Some first ↦ IsRefusalAnswer (told_status first.1 sync_failed)
+      (advice_byte first.1 has_writer sync_failed) first.0 answer
   | None ↦ answer ≡ frame_bytes (0 ∷ payload)
 ]
 

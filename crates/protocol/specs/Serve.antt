@@ -165,13 +165,16 @@ can_be_read (Records fields next) = tells_records fields.items
 can_be_read (Ranges fields) = tells_ranges fields.items
 can_be_read request = true
 
--- the answer to a request with these replies: in version 1 that to its only reply; in version 2 the
--- first refusal or what the request gives, or if its bytes couldn't be read, a refusal for that
-abbrev pub IsAnswer : ProtocolVersion → Request → List Reply → SessionState → List ℕ → Type 0
-IsAnswer One request replies now answer =
-    (reply : Reply) × (replies ≡ reply ∷ []) × (answer ≡ answer_bytes reply)
-IsAnswer Two request replies now answer = elim (can_be_read request) [
-  | true ↦ IsAnswerWith (given_payload request replies now) replies (is_some now.writer) answer
+-- the answer to a request with these replies, by whether a sync of the file has failed: in version
+-- 1 that to its only reply; in version 2 the first refusal or what the request gives, or if its
+-- bytes couldn't be read, a refusal for that
+abbrev pub IsAnswer : ProtocolVersion → Request → List Reply → SessionState → (sync_failed : Bool)
+    → List ℕ → Type 0
+IsAnswer One request replies now sync_failed answer =
+    (reply : Reply) × (replies ≡ reply ∷ []) × (answer ≡ answer_bytes reply sync_failed)
+IsAnswer Two request replies now sync_failed answer = elim (can_be_read request) [
+  | true ↦ IsAnswerWith (given_payload request replies now) replies (is_some now.writer)
+      sync_failed answer
   | false ↦ IsRefusalAnswer unreadable_status 0 0 answer
 ]
 
@@ -180,79 +183,85 @@ abbrev pub IsChangeRefused : ProtocolVersion → List ℕ → Type 0
 IsChangeRefused One answer = answer ≡ refusal_bytes
 IsChangeRefused Two answer = IsRefusalAnswer read_only_status 0 0 answer
 
--- how a request is served: its steps are taken, and answered by their replies; or the client may
--- only read, the request asks for a change, no step is taken, and the answer refuses it
+-- how a request is served: its steps are taken, and answered by their replies, and by whether a
+-- sync of the file has failed; or the client may only read, the request asks for a change, no step
+-- is taken, and the answer refuses it
 pub data Served (setting : Setting) (version : ProtocolVersion) : Request → List Step → List Reply
-    → SessionState → List ℕ → Type 0 where
+    → SessionState → (sync_failed : Bool) → List ℕ → Type 0 where
   taken : (request : Request) (steps : List Step) (replies : List Reply) (now : SessionState)
-      (answer : List ℕ) → (setting.read_only && asks_change request) ≡ false
-      → AreSteps setting request steps → IsAnswer version request replies now answer
-      → Served setting version request steps replies now answer
-  refused : (request : Request) (now : SessionState) (answer : List ℕ)
+      (sync_failed : Bool) (answer : List ℕ) → (setting.read_only && asks_change request) ≡ false
+      → AreSteps setting request steps → IsAnswer version request replies now sync_failed answer
+      → Served setting version request steps replies now sync_failed answer
+  refused : (request : Request) (now : SessionState) (sync_failed : Bool) (answer : List ℕ)
       → (setting.read_only && asks_change request) ≡ true → IsChangeRefused version answer
-      → Served setting version request [] [] now answer
+      → Served setting version request [] [] now sync_failed answer
 
 -- requests, one after another, from this session on: all their steps, their replies, the answers,
--- and the session after them
+-- the session after them, and whether a sync of the file has failed then
 pub data AreServed (sum : List ℕ → ℕ) (setting : Setting) (version : ProtocolVersion)
     (was : SessionState) (old : Life) : List Request → List Step → List Reply → List ℕ
-    → SessionState → Life → Type 0 where
-  no_more : AreServed sum setting version was old [] [] [] [] was old
+    → SessionState → Life → (sync_failed : Bool) → Type 0 where
+  no_more : (sync_failed : Bool)
+      → AreServed sum setting version was old [] [] [] [] was old sync_failed
   one_more : (requests : List Request) (steps : List Step) (replies : List Reply) (bytes : List ℕ)
-      (mid : SessionState) (between : Life) (request : Request) (more : List Step)
-      (others : List Reply) (answer : List ℕ) (now : SessionState) (new : Life)
-      → AreServed sum setting version was old requests steps replies bytes mid between
-      → IsRequest version request → Served setting version request more others now answer
+      (mid : SessionState) (between : Life) (had_failed : Bool) (request : Request)
+      (more : List Step) (others : List Reply) (answer : List ℕ) (now : SessionState) (new : Life)
+      (sync_failed : Bool)
+      → AreServed sum setting version was old requests steps replies bytes mid between had_failed
+      → IsRequest version request
+      → Served setting version request more others now sync_failed answer
       → Took sum more others mid now between new
       → AreServed sum setting version was old (requests ++ request ∷ []) (steps ++ more)
-      (replies ++ others) (bytes ++ answer) now new
+      (replies ++ others) (bytes ++ answer) now new sync_failed
 
 -- the input begins with requests, whose steps were taken; the answers to them were written
 pub record Answered (sum : List ℕ → ℕ) (setting : Setting) (version : ProtocolVersion)
-    (was now : SessionState) (old new : Life) (input rest out written : Option (List ℕ)) : Type 0
-  where
-    pub requests : List Request
-    pub steps : List Step
-    pub replies : List Reply
-    pub bytes : List ℕ
-    pub served : AreServed sum setting version was old requests steps replies bytes now new
-    pub took : Took sum steps replies was now old new
-    pub takes : Consumes input rest (requests_bytes requests)
-    pub answers : Appends out written bytes
+    (was now : SessionState) (old new : Life) (sync_failed : Bool)
+    (input rest out written : Option (List ℕ)) : Type 0 where
+  pub requests : List Request
+  pub steps : List Step
+  pub replies : List Reply
+  pub bytes : List ℕ
+  pub served :
+      AreServed sum setting version was old requests steps replies bytes now new sync_failed
+  pub took : Took sum steps replies was now old new
+  pub takes : Consumes input rest (requests_bytes requests)
+  pub answers : Appends out written bytes
 
 -- the steps of a request were taken, and `Is` holds for their replies and the request's answer
 abbrev pub TookWith : (List ℕ → ℕ) → Setting → ProtocolVersion → (List Reply → List ℕ → Type 0)
-    → Request → SessionState → SessionState → Life → Life → Type 0
-TookWith sum setting version Is request was now old new =
+    → Request → SessionState → SessionState → Life → Life → (sync_failed : Bool) → Type 0
+TookWith sum setting version Is request was now old new sync_failed =
     (steps : List Step) × (replies : List Reply) × (answer : List ℕ)
-    × Served setting version request steps replies now answer
+    × Served setting version request steps replies now sync_failed answer
     × Took sum steps replies was now old new × Is replies answer
 
 -- the steps of a request were taken, and `Is` holds for the request's answer
 abbrev pub TookFor : (List ℕ → ℕ) → Setting → ProtocolVersion → (List ℕ → Type 0) → Request
-    → SessionState → SessionState → Life → Life → Type 0
-TookFor sum setting version Is request was now old new =
-    TookWith sum setting version (λ replies answer. Is answer) request was now old new
+    → SessionState → SessionState → Life → Life → (sync_failed : Bool) → Type 0
+TookFor sum setting version Is request was now old new sync_failed =
+    TookWith sum setting version (λ replies answer. Is answer) request was now old new sync_failed
 
 -- any answer
 abbrev pub IsAny : List ℕ → Type 0
 IsAny answer = Unit {0}
 
--- how a request was served and answered: the result is the first error of its replies, or why it
--- wasn't answered
+-- how a request was served and answered, by whether a sync of the file has failed by then: the
+-- result is the first error of its replies, or why it wasn't answered
 abbrev pub TakesRequest : (List ℕ → ℕ) → Setting → ProtocolVersion → Request → SessionState
-    → SessionState → Life → Life → (out written : Option (List ℕ)) → Result (Option Error) Stop
-    → Type 0
-TakesRequest sum setting version request was now old new out written (Ok fault) =
+    → SessionState → Life → Life → (sync_failed : Bool) → (out written : Option (List ℕ))
+    → Result (Option Error) Stop → Type 0
+TakesRequest sum setting version request was now old new sync_failed out written (Ok fault) =
     TookWith sum setting version (λ replies answer.
-    Appends out written answer × (fault ≡ fault_in replies)) request was now old new
-TakesRequest sum setting version request was now old new out written (Err LongAnswer) =
-    TookFor sum setting version IsTooLong request was now old new
-TakesRequest sum setting version request was now old new out written (Err Failed) =
-    TookFor sum setting version IsAny request was now old new
-TakesRequest sum setting version request was now old new out written (Err OutOfMemory) =
+    Appends out written answer × (fault ≡ fault_in replies)) request was now old new sync_failed
+TakesRequest sum setting version request was now old new sync_failed out written (Err LongAnswer) =
+    TookFor sum setting version IsTooLong request was now old new sync_failed
+TakesRequest sum setting version request was now old new sync_failed out written (Err Failed) =
+    TookFor sum setting version IsAny request was now old new sync_failed
+TakesRequest sum setting version request was now old new sync_failed out written
+    (Err OutOfMemory) =
     (now ≡ was) × (new ≡ old)
-TakesRequest sum setting version request was now old new out written (Err other) = ⊥
+TakesRequest sum setting version request was now old new sync_failed out written (Err other) = ⊥
 
 -- the request of this number was read, or there was none
 abbrev pub ReadsNext : ProtocolVersion → (number : ℕ) → Option (List ℕ) → Option (List ℕ)
@@ -266,28 +275,30 @@ ReadsNext version number input rest (Err other) = ⊥
 
 -- one more request was read, whose steps were taken, and `Is` holds for its answer
 abbrev pub TookNext : (List ℕ → ℕ) → Setting → ProtocolVersion → (List ℕ → Type 0) → SessionState
-    → SessionState → Life → Life → (input : Option (List ℕ)) → Type 0
-TookNext sum setting version Is was now old new input =
+    → SessionState → Life → Life → (sync_failed : Bool) → (input : Option (List ℕ)) → Type 0
+TookNext sum setting version Is was now old new sync_failed input =
     (request : Request) × (rest : Option (List ℕ)) × IsRequest version request
     × Consumes input rest (request_bytes request)
-    × TookFor sum setting version Is request was now old new
+    × TookFor sum setting version Is request was now old new sync_failed
 
 -- the input begins with requests whose steps were taken and answered, and `Then` holds for what
 -- follows them
 abbrev pub AnsweredThen : (List ℕ → ℕ) → Setting → ProtocolVersion → SessionState → Life
     → (input out : Option (List ℕ)) → (SessionState → Life → Option (List ℕ) → Type 0) → Type 0
 AnsweredThen sum setting version was old input out Then =
-    (mid : SessionState) × (between : Life) × (rest : Option (List ℕ)) × (written : Option (List ℕ))
-    × Answered sum setting version was mid old between input rest out written
+    (mid : SessionState) × (between : Life) × (had_failed : Bool) × (rest : Option (List ℕ))
+    × (written : Option (List ℕ))
+    × Answered sum setting version was mid old between had_failed input rest out written
     × Then mid between rest
 
 -- the input begins with requests whose steps were taken and answered, and maybe with one more,
 -- whose steps were taken; nothing else was done
 abbrev pub BreaksOff : (List ℕ → ℕ) → Setting → ProtocolVersion → SessionState → SessionState → Life
-    → Life → (input out : Option (List ℕ)) → Type 0
-BreaksOff sum setting version was now old new input out =
+    → Life → (sync_failed : Bool) → (input out : Option (List ℕ)) → Type 0
+BreaksOff sum setting version was now old new sync_failed input out =
     AnsweredThen sum setting version was old input out (λ mid between rest.
-    ((now ≡ mid) × (new ≡ between)) ⊎ TookNext sum setting version IsAny mid now between new rest)
+    ((now ≡ mid) × (new ≡ between))
+    ⊎ TookNext sum setting version IsAny mid now between new sync_failed rest)
 
 -- this error is among these replies; or there is none, and no reply has an error
 abbrev pub IsFaultAmong : Option Error → List Reply → Type 0
@@ -319,11 +330,11 @@ is_close request = false
 
 -- all requests of an input were answered, up to its end or a close, and `Are` holds for the replies
 abbrev pub AnsweredAll : (List ℕ → ℕ) → Setting → ProtocolVersion → (List Reply → Type 0)
-    → SessionState → SessionState → Life → Life → (input rest out written : Option (List ℕ))
-    → Type 0
-AnsweredAll sum setting version Are was now old new input rest out written =
+    → SessionState → SessionState → Life → Life → (sync_failed : Bool)
+    → (input rest out written : Option (List ℕ)) → Type 0
+AnsweredAll sum setting version Are was now old new sync_failed input rest out written =
     (mid : Option (List ℕ))
-    × (answered : Answered sum setting version was now old new input mid out written)
+    × (answered : Answered sum setting version was now old new sync_failed input mid out written)
     × (IsAtEnd mid ⊎ Consumes mid rest (request_bytes Close)) × Are answered.replies
 
 -- how the requests of an input were served, by how that ended. With `Ok` all of them were, up to
@@ -331,27 +342,31 @@ AnsweredAll sum setting version Are was now old new input rest out written =
 -- `Lost` all of them were, and the writer is gone; a request was answered with this error. With
 -- `Malformed` those before the first that isn't one were, whose number this is
 abbrev pub Serves : (List ℕ → ℕ) → Setting → ProtocolVersion → SessionState → SessionState → Life
-    → Life → (input rest out written : Option (List ℕ)) → Result (Unit {0}) Stop → Type 0
-Serves sum setting version was now old new input rest out written (Ok done) =
+    → Life → (sync_failed : Bool) → (input rest out written : Option (List ℕ))
+    → Result (Unit {0}) Stop → Type 0
+Serves sum setting version was now old new sync_failed input rest out written (Ok done) =
     AnsweredAll sum setting version (λ replies.
-    (is_some now.writer ≡ true) ⊎ IsFaultAmong None replies) was now old new input rest out written
-Serves sum setting version was now old new input rest out written (Err (Lost error)) =
+    (is_some now.writer ≡ true) ⊎ IsFaultAmong None replies) was now old new sync_failed input rest
+    out written
+Serves sum setting version was now old new sync_failed input rest out written (Err (Lost error)) =
     AnsweredAll sum setting version (λ replies.
-    (now.writer ≡ None) × IsFaultAmong (Some error) replies) was now old new input rest out written
-Serves sum setting version was now old new input rest out written (Err (Malformed number flaw)) =
+    (now.writer ≡ None) × IsFaultAmong (Some error) replies) was now old new sync_failed input rest
+    out written
+Serves sum setting version was now old new sync_failed input rest out written
+    (Err (Malformed number flaw)) =
     (mid : Option (List ℕ)) × (told : Option (List ℕ))
-    × (answered : Answered sum setting version was now old new input mid out told)
+    × (answered : Answered sum setting version was now old new sync_failed input mid out told)
     × (number ≡ length answered.requests + 1)
     × IfSome mid (λ bytes. (bytes ≢ []) × IsFlawed version flaw bytes)
     × TellsFlaw version flaw told written
-Serves sum setting version was now old new input rest out written (Err LongAnswer) =
+Serves sum setting version was now old new sync_failed input rest out written (Err LongAnswer) =
     AnsweredThen sum setting version was old input out (λ mid between after.
-    TookNext sum setting version IsTooLong mid now between new after)
-Serves sum setting version was now old new input rest out written (Err Failed) =
-    BreaksOff sum setting version was now old new input out
-Serves sum setting version was now old new input rest out written (Err OutOfMemory) =
-    BreaksOff sum setting version was now old new input out
-Serves sum setting version was now old new input rest out written (Err other) = ⊥
+    TookNext sum setting version IsTooLong mid now between new sync_failed after)
+Serves sum setting version was now old new sync_failed input rest out written (Err Failed) =
+    BreaksOff sum setting version was now old new sync_failed input out
+Serves sum setting version was now old new sync_failed input rest out written (Err OutOfMemory) =
+    BreaksOff sum setting version was now old new sync_failed input out
+Serves sum setting version was now old new sync_failed input rest out written (Err other) = ⊥
 
 -- ---- how a session begins
 
@@ -403,47 +418,52 @@ RecoversSession sum setting old new (Ok begun) = HasBegun sum setting old new be
 RecoversSession sum setting old new (Err stop) = IsNotBegun sum setting old new stop
 
 -- the session began, and the step that asks for its size was taken; `Is` holds for its answer
-abbrev pub TookSize : (List ℕ → ℕ) → Setting → (List ℕ → Type 0) → Life → Life → Type 0
-TookSize sum setting Is old new =
+abbrev pub TookSize : (List ℕ → ℕ) → Setting → (List ℕ → Type 0) → Life → Life
+    → (sync_failed : Bool) → Type 0
+TookSize sum setting Is old new sync_failed =
     (mid : Life) × (was : SessionState) × (now : SessionState) × HasBegun sum setting old mid was
-    × TookFor sum setting One Is (StepOf Size) was now mid new
+    × TookFor sum setting One Is (StepOf Size) was now mid new sync_failed
 
 -- no session began; or one began, and its size was asked for or not
-abbrev pub EndsEarly : (List ℕ → ℕ) → Setting → Life → Life → Type 0
-EndsEarly sum setting old new =
+abbrev pub EndsEarly : (List ℕ → ℕ) → Setting → Life → Life → (sync_failed : Bool) → Type 0
+EndsEarly sum setting old new sync_failed =
     HasAttempted sum setting old new
     ⊎ ((was : SessionState) × HasBegun sum setting old new was)
-    ⊎ TookSize sum setting IsAny old new
+    ⊎ TookSize sum setting IsAny old new sync_failed
 
 -- a session has begun, and was greeted: by the version, and the answer to a request for the size
-pub record Greeted (sum : List ℕ → ℕ) (setting : Setting) (old new : Life) (now : SessionState)
-    (out written : Option (List ℕ)) : Type 0 where
+pub record Greeted (sum : List ℕ → ℕ) (setting : Setting) (old new : Life) (sync_failed : Bool)
+    (now : SessionState) (out written : Option (List ℕ)) : Type 0 where
   pub mid : Life
   pub was : SessionState
   pub begun : HasBegun sum setting old mid was
   pub took : TookFor sum setting One (λ answer. Appends out written (version_byte ∷ answer))
-      (StepOf Size) was now mid new
+      (StepOf Size) was now mid new sync_failed
 
 -- the recovery was refused, and the answer is its error
-abbrev pub IsRecoveryRefused : (List ℕ → ℕ) → Setting → Life → Life
+abbrev pub IsRecoveryRefused : (List ℕ → ℕ) → Setting → Life → Life → (sync_failed : Bool)
     → (out written : Option (List ℕ)) → Error → Type 0
-IsRecoveryRefused sum setting old new out written error =
+IsRecoveryRefused sum setting old new sync_failed out written error =
     HasAttempted sum setting old new
-    × Appends out written (version_byte ∷ answer_bytes (Fault error))
+    × Appends out written (version_byte ∷ answer_bytes (Fault error) sync_failed)
 
 -- a session was greeted, or why it wasn't; if a recovery would give up more than the setting
 -- allows, nothing is written
-abbrev pub Greets : (List ℕ → ℕ) → Setting → Life → Life → (out written : Option (List ℕ))
-    → Result (SessionState × CacheState) Stop → Type 0
-Greets sum setting old new out written (Ok begun) = Greeted sum setting old new begun.0 out written
-Greets sum setting old new out written (Err (Refused error)) =
-    IsRecoveryRefused sum setting old new out written error
-Greets sum setting old new out written (Err (WouldCut cut)) =
+abbrev pub Greets : (List ℕ → ℕ) → Setting → Life → Life → (sync_failed : Bool)
+    → (out written : Option (List ℕ)) → Result (SessionState × CacheState) Stop → Type 0
+Greets sum setting old new sync_failed out written (Ok begun) =
+    Greeted sum setting old new sync_failed begun.0 out written
+Greets sum setting old new sync_failed out written (Err (Refused error)) =
+    IsRecoveryRefused sum setting old new sync_failed out written error
+Greets sum setting old new sync_failed out written (Err (WouldCut cut)) =
     WouldCutMore sum setting old new cut × (written ≡ out)
-Greets sum setting old new out written (Err LongAnswer) = TookSize sum setting IsTooLong old new
-Greets sum setting old new out written (Err Failed) = EndsEarly sum setting old new
-Greets sum setting old new out written (Err OutOfMemory) = EndsEarly sum setting old new
-Greets sum setting old new out written (Err other) = ⊥
+Greets sum setting old new sync_failed out written (Err LongAnswer) =
+    TookSize sum setting IsTooLong old new sync_failed
+Greets sum setting old new sync_failed out written (Err Failed) =
+    EndsEarly sum setting old new sync_failed
+Greets sum setting old new sync_failed out written (Err OutOfMemory) =
+    EndsEarly sum setting old new sync_failed
+Greets sum setting old new sync_failed out written (Err other) = ⊥
 
 -- ---- a whole session
 
@@ -471,27 +491,29 @@ hello_for setting named old new was =
 -- a session was greeted, what the client begins with was read, and it was answered; this is the
 -- version to go on with, or why there is none
 pub record Agrees (sum : List ℕ → ℕ) (setting : Setting) (named : Named) (old new : Life)
-    (was : SessionState) (input rest out written : Option (List ℕ))
+    (sync_failed : Bool) (was : SessionState) (input rest out written : Option (List ℕ))
     (result : Result (Option ProtocolVersion) Stop) : Type 0 where
   pub greeting : Option (List ℕ)
   pub opening : Opening
-  pub greeted : Greeted sum setting old new was out greeting
+  pub greeted : Greeted sum setting old new sync_failed was out greeting
   pub reads : ReadsOpening input rest (Ok opening)
   pub tells : TellsOpening opening (hello_for setting named old new was) greeting written result
 
 -- some session was greeted, and what the client begins with was answered with this result
-abbrev pub HasAgreed : (List ℕ → ℕ) → Setting → Named → Life → Life
+abbrev pub HasAgreed : (List ℕ → ℕ) → Setting → Named → Life → Life → (sync_failed : Bool)
     → (input rest out written : Option (List ℕ)) → Result (Option ProtocolVersion) Stop → Type 0
-HasAgreed sum setting named old new input rest out written result =
-    (was : SessionState) × Agrees sum setting named old new was input rest out written result
+HasAgreed sum setting named old new sync_failed input rest out written result =
+    (was : SessionState)
+    × Agrees sum setting named old new sync_failed was input rest out written result
 
 -- a session was greeted, the client's offer ends before all its versions, and the answer is a
 -- refusal
 pub record OffersTooLittle (sum : List ℕ → ℕ) (setting : Setting) (old new : Life)
-    (input out written : Option (List ℕ)) (number : ℕ) (flaw : Flaw) : Type 0 where
+    (sync_failed : Bool) (input out written : Option (List ℕ)) (number : ℕ) (flaw : Flaw) : Type 0
+  where
   pub was : SessionState
   pub greeting : Option (List ℕ)
-  pub greeted : Greeted sum setting old new was out greeting
+  pub greeted : Greeted sum setting old new sync_failed was out greeting
   pub first : number ≡ 0
   pub cut : flaw ≡ Cut
   pub ends : IfSome input IsCutOffer
@@ -499,42 +521,48 @@ pub record OffersTooLittle (sum : List ℕ → ℕ) (setting : Setting) (old new
 
 -- a greeted session was served the requests after its opening, in its version, and it ended so
 pub record ServedAfter (sum : List ℕ → ℕ) (setting : Setting) (named : Named) (old new : Life)
-    (input rest out written : Option (List ℕ)) (result : Result (Unit {0}) Stop) : Type 0 where
+    (sync_failed : Bool) (input rest out written : Option (List ℕ))
+    (result : Result (Unit {0}) Stop) : Type 0 where
   pub between : Life
+  pub had_failed : Bool
   pub was : SessionState
   pub now : SessionState
   pub after : Option (List ℕ)
   pub told : Option (List ℕ)
   pub version : ProtocolVersion
-  pub agrees : Agrees sum setting named old between was input after out told (Ok (Some version))
-  pub serves : Serves sum setting version was now between new after rest told written result
+  pub agrees :
+      Agrees sum setting named old between had_failed was input after out told (Ok (Some version))
+  pub serves :
+      Serves sum setting version was now between new sync_failed after rest told written result
 
 -- how a whole input was served over a file, by how that ended
-abbrev pub ServesFile : (List ℕ → ℕ) → Setting → Named → Life → Life
+abbrev pub ServesFile : (List ℕ → ℕ) → Setting → Named → Life → Life → (sync_failed : Bool)
     → (input rest out written : Option (List ℕ)) → Result (Unit {0}) Stop → Type 0
-ServesFile sum setting named old new input rest out written (Ok done) =
-    HasAgreed sum setting named old new input rest out written (Ok None)
-    ⊎ ServedAfter sum setting named old new input rest out written (Ok done)
-ServesFile sum setting named old new input rest out written (Err (Malformed number flaw)) =
-    OffersTooLittle sum setting old new input out written number flaw
-    ⊎ ServedAfter sum setting named old new input rest out written (Err (Malformed number flaw))
-ServesFile sum setting named old new input rest out written (Err (Version byte)) =
-    HasAgreed sum setting named old new input rest out written (Err (Version byte))
-ServesFile sum setting named old new input rest out written (Err NoVersion) =
-    HasAgreed sum setting named old new input rest out written (Err NoVersion)
-ServesFile sum setting named old new input rest out written (Err (WouldCut cut)) =
+ServesFile sum setting named old new sync_failed input rest out written (Ok done) =
+    HasAgreed sum setting named old new sync_failed input rest out written (Ok None)
+    ⊎ ServedAfter sum setting named old new sync_failed input rest out written (Ok done)
+ServesFile sum setting named old new sync_failed input rest out written
+    (Err (Malformed number flaw)) =
+    OffersTooLittle sum setting old new sync_failed input out written number flaw
+    ⊎ ServedAfter sum setting named old new sync_failed input rest out written
+    (Err (Malformed number flaw))
+ServesFile sum setting named old new sync_failed input rest out written (Err (Version byte)) =
+    HasAgreed sum setting named old new sync_failed input rest out written (Err (Version byte))
+ServesFile sum setting named old new sync_failed input rest out written (Err NoVersion) =
+    HasAgreed sum setting named old new sync_failed input rest out written (Err NoVersion)
+ServesFile sum setting named old new sync_failed input rest out written (Err (WouldCut cut)) =
     WouldCutMore sum setting old new cut × (written ≡ out) × (rest ≡ input)
-ServesFile sum setting named old new input rest out written (Err (Refused error)) =
-    IsRecoveryRefused sum setting old new out written error
-ServesFile sum setting named old new input rest out written (Err (Lost error)) =
-    ServedAfter sum setting named old new input rest out written (Err (Lost error))
-ServesFile sum setting named old new input rest out written (Err LongAnswer) =
-    TookSize sum setting IsTooLong old new
-    ⊎ HasAgreed sum setting named old new input rest out written (Err LongAnswer)
-    ⊎ ServedAfter sum setting named old new input rest out written (Err LongAnswer)
-ServesFile sum setting named old new input rest out written (Err Failed) =
-    EndsEarly sum setting old new
-    ⊎ ServedAfter sum setting named old new input rest out written (Err Failed)
-ServesFile sum setting named old new input rest out written (Err OutOfMemory) =
-    EndsEarly sum setting old new
-    ⊎ ServedAfter sum setting named old new input rest out written (Err OutOfMemory)
+ServesFile sum setting named old new sync_failed input rest out written (Err (Refused error)) =
+    IsRecoveryRefused sum setting old new sync_failed out written error
+ServesFile sum setting named old new sync_failed input rest out written (Err (Lost error)) =
+    ServedAfter sum setting named old new sync_failed input rest out written (Err (Lost error))
+ServesFile sum setting named old new sync_failed input rest out written (Err LongAnswer) =
+    TookSize sum setting IsTooLong old new sync_failed
+    ⊎ HasAgreed sum setting named old new sync_failed input rest out written (Err LongAnswer)
+    ⊎ ServedAfter sum setting named old new sync_failed input rest out written (Err LongAnswer)
+ServesFile sum setting named old new sync_failed input rest out written (Err Failed) =
+    EndsEarly sum setting old new sync_failed
+    ⊎ ServedAfter sum setting named old new sync_failed input rest out written (Err Failed)
+ServesFile sum setting named old new sync_failed input rest out written (Err OutOfMemory) =
+    EndsEarly sum setting old new sync_failed
+    ⊎ ServedAfter sum setting named old new sync_failed input rest out written (Err OutOfMemory)

@@ -17,7 +17,8 @@ use Rattle.protocol.specs.declared.stop.Stop.TheVariants.{OutOfMemory}
 use Rattle.protocol.specs.declared.version.Version.{Version as ProtocolVersion}
 use Rattle.protocol.specs.declared.version.Version.TheVariants.{One, Two}
 use Rattle.protocol.specs.Answer.{AppendsRefusal, IsAnswerWith, IsTooLong, advice_byte, fault_in}
-use Rattle.protocol.specs.Answer.{answer_bytes, first_refusal, status_byte, unreadable_status}
+use Rattle.protocol.specs.Answer.{answer_bytes, first_refusal, status_byte, told_status}
+use Rattle.protocol.specs.Answer.{unreadable_status}
 use Rattle.protocol.specs.Request.{frame_bytes}
 use Rattle.protocol.specs.Serve.{TellsFlaw, last_payload}
 
@@ -31,14 +32,15 @@ WritesAnswer Is out written (Err other) = ⊥
 
 -- the first reply that refuses was written as a refusal, or no reply refuses, and nothing was
 -- written
-abbrev pub TellsRefusal : List Reply → (has_writer : Bool) → (out written : Option (List ℕ))
-    → Result Bool Stop → Type 0
-TellsRefusal replies has_writer out written (Ok true) =
+abbrev pub TellsRefusal : List Reply → (has_writer sync_failed : Bool)
+    → (out written : Option (List ℕ)) → Result Bool Stop → Type 0
+TellsRefusal replies has_writer sync_failed out written (Ok true) =
     (taken : ℕ) × (reply : Reply) × (first_refusal replies ≡ Some (taken, reply))
-    × AppendsRefusal (status_byte reply) (advice_byte reply has_writer) taken out written
-TellsRefusal replies has_writer out written (Ok false) =
+    × AppendsRefusal (told_status reply sync_failed) (advice_byte reply has_writer sync_failed)
+    taken out written
+TellsRefusal replies has_writer sync_failed out written (Ok false) =
     (first_refusal replies ≡ None) × (written ≡ out)
-TellsRefusal replies has_writer out written (Err stop) = stop ≡ Failed
+TellsRefusal replies has_writer sync_failed out written (Err stop) = stop ≡ Failed
 
 -- the first error of the replies, or why the answer wasn't written
 abbrev pub Finishes : List Reply → Result (Unit {0}) Stop → Result (Option Error) Stop → Type 0
@@ -46,15 +48,16 @@ Finishes replies (Ok done) result = result ≡ Ok (fault_in replies)
 Finishes replies (Err stop) result = result ≡ Err stop
 
 -- the answer to the only one of these replies
-abbrev pub IsOnlyAnswer : List Reply → List ℕ → Type 0
-IsOnlyAnswer replies answer =
-    (reply : Reply) × (replies ≡ reply ∷ []) × (answer ≡ answer_bytes reply)
+abbrev pub IsOnlyAnswer : List Reply → (sync_failed : Bool) → List ℕ → Type 0
+IsOnlyAnswer replies sync_failed answer =
+    (reply : Reply) × (replies ≡ reply ∷ []) × (answer ≡ answer_bytes reply sync_failed)
 
 -- the answer to one step, by its reply
-abbrev pub IsStepAnswer : ProtocolVersion → List Reply → (has_writer : Bool) → List ℕ → Type 0
-IsStepAnswer One replies has_writer answer = IsOnlyAnswer replies answer
-IsStepAnswer Two replies has_writer answer =
-    IsAnswerWith (last_payload replies) replies has_writer answer
+abbrev pub IsStepAnswer : ProtocolVersion → List Reply → (has_writer sync_failed : Bool)
+    → List ℕ → Type 0
+IsStepAnswer One replies has_writer sync_failed answer = IsOnlyAnswer replies sync_failed answer
+IsStepAnswer Two replies has_writer sync_failed answer =
+    IsAnswerWith (last_payload replies) replies has_writer sync_failed answer
 
 -- an answer with status 0 and this payload
 abbrev pub GivesPayload : (payload answer : List ℕ) → Type 0

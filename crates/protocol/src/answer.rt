@@ -6,18 +6,19 @@ ghost use Rattle.protocol.specs.Answer.{answer_bytes, refusal_bytes, reply_paylo
 ghost use Rattle.protocol.specs.Answer.{IsWriteError};
 ghost use Rattle.protocol.specs.Request.{frame_bytes, length_bytes, number_bytes};
 
-use crate::refusal::{READ_ONLY, status};
+use crate::refusal::{READ_ONLY, told_status};
 use crate::request::MOST_BYTES;
 use crate::stop::Stop;
 use disk::StartedSync;
 use session::Reply;
 use std::io::Write;
 
-/// Writes the answer to a step with this reply.
+/// Writes the answer to a step with this reply. `sync_failed` says whether a sync of the file has
+/// failed.
 #[tactic(auto, unfolding(crate::specs::Request::number_bytes))]
-pub fn write_answer<W: Write>(out: &mut W, reply: &Reply) -> Result<(), Stop>
+pub fn write_answer<W: Write>(out: &mut W, reply: &Reply, sync_failed: bool) -> Result<(), Stop>
     ensures answers { OnOk result
-        (Appends (W.contents out.old) (W.contents out.new) (answer_bytes reply.now)) }
+        (Appends (W.contents out.old) (W.contents out.new) (answer_bytes reply.now sync_failed)) }
     ensures err { IfErr result (IsWriteError (length (reply_payload reply.now))) }
 {
     match reply {
@@ -38,7 +39,7 @@ pub fn write_answer<W: Write>(out: &mut W, reply: &Reply) -> Result<(), Stop>
         | Reply::NotRecovering
         | Reply::BadRanges
         | Reply::NoSuch
-        | Reply::NotAppending => write_frame(out, status(reply), &[], &[]),
+        | Reply::NotAppending => write_frame(out, told_status(reply, sync_failed), &[], &[]),
     }
 }
 

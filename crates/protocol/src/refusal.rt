@@ -2,8 +2,7 @@
 ghost use Rattle.std.specs.Prelude.{◌≡◌, ◌≤◌, ◌∷◌, ◌++◌, length, IfErr, OnOk};
 ghost use Rattle.std.specs.Io.KnownBytes.{Appends};
 ghost use Rattle.protocol.specs.Answer.{AppendsRefusal, advice_byte, advice_for, fault_in};
-ghost use Rattle.protocol.specs.Answer.{flaw_status};
-ghost use Rattle.protocol.specs.Answer.{status_byte};
+ghost use Rattle.protocol.specs.Answer.{flaw_status, status_byte, told_error, told_status};
 ghost use Rattle.protocol.specs.Request.{frame_bytes, number_bytes};
 ghost use Rattle.protocol.specs.Taking.{TellsRefusal};
 
@@ -42,6 +41,27 @@ pub fn status(reply: &Reply) -> u8
     }
 }
 
+/// The status of a reply as a client is told it, by whether a sync of the file has failed. Then
+/// what the layer answers as a failed write, or a failed change of the size, was that sync.
+pub fn told_status(reply: &Reply, sync_failed: bool) -> u8
+    ensures { result ≡ told_status reply.now sync_failed }
+{
+    match reply {
+        Reply::Fault(error) => told_error(*error, sync_failed).number(),
+        _ => status(reply),
+    }
+}
+
+// The error that a client is told.
+fn told_error(error: Error, sync_failed: bool) -> Error
+    ensures { result ≡ told_error error sync_failed }
+{
+    match error {
+        Error::WriteFailed | Error::ResizeFailed if sync_failed => Error::SyncFailed,
+        _ => error,
+    }
+}
+
 /// The status for bytes that are no request.
 pub fn status_of_flaw(flaw: Flaw) -> u8
     ensures { result ≡ flaw_status flaw }
@@ -57,10 +77,14 @@ pub fn status_of_flaw(flaw: Flaw) -> u8
 }
 
 /// What a client may do after this reply, by whether there is a writer: 0, ask for something else;
-/// 1, ask again; 2, open the file anew; 3, give it up.
-pub fn advice(reply: &Reply, has_writer: bool) -> u8
-    ensures { result ≡ advice_byte reply.now has_writer }
+/// 1, ask again; 2, open the file anew; 3, replace it by a copy of itself. The last is so after
+/// each reply once a sync of the file has failed.
+pub fn advice(reply: &Reply, has_writer: bool, sync_failed: bool) -> u8
+    ensures { result ≡ advice_byte reply.now has_writer sync_failed }
 {
+    if sync_failed {
+        return 3;
+    }
     match reply {
         Reply::Fault(error) => advice_after(*error, has_writer),
         Reply::Closed => 2,
@@ -87,18 +111,20 @@ pub fn tell_refusal<W: Write>(
     out: &mut W,
     replies: &[Reply],
     has_writer: bool,
+    sync_failed: bool,
     cause: Option<&io::Error>,
 ) -> Result<bool, Stop>
     ensures { let out_old = W.contents out.old in
-        TellsRefusal replies.now has_writer out_old (W.contents out.new) result }
+        TellsRefusal replies.now has_writer sync_failed out_old (W.contents out.new) result }
 {
     let mut taken = 0;
     for reply in replies {
         let status = status(reply);
         if status != 0 {
-            let advice = advice(reply, has_writer);
-            let cause = if status <= LAST_OF_FILE { cause } else { None };
-            write_told(alloc, out, status, advice, taken, cause)?;
+            let told = told_status(reply, sync_failed);
+            let advice = advice(reply, has_writer, sync_failed);
+            let cause = if told <= LAST_OF_FILE { cause } else { None };
+            write_told(alloc, out, told, advice, taken, cause)?;
             return Ok(true);
         }
         taken += 1;

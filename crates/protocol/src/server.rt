@@ -58,7 +58,8 @@ pub fn serve_file<B: Blob + Cause, H: Sum, R: Read, W: Write + Drop>(
         let input_new = reader_remaining R.remaining input.new in
         let out_old = writer_contents W.contents out.old in
         let out_new = writer_contents W.contents out.new in
-        ServesFile H.sum_of setting.now named old new input_old input_new out_old out_new result }
+        ServesFile H.sum_of setting.now named old new (B.sync_failed blob.new) input_old input_new
+        out_old out_new result }
 {
     let len = blob.len();
     let (mut session, mut cache) = greet::<B, H, W>(alloc, blob, setting, out)?;
@@ -99,8 +100,10 @@ fn serve_greeted<B: Blob + Cause, H: Sum, R: Read, W: Write + Drop>(
         let greeting = writer_contents W.contents out.old in
         let out_new = writer_contents W.contents out.new in
         (old : Life) (out_old : Option (List ℕ)) → len ≡ length old.present.readable
-        → Greeted H.sum_of setting.now old between session.old out_old greeting
-        → ServesFile H.sum_of setting.now named old new input_old input_new out_old out_new result }
+        → Greeted H.sum_of setting.now old between (B.sync_failed blob.old) session.old out_old
+        greeting
+        → ServesFile H.sum_of setting.now named old new (B.sync_failed blob.new) input_old input_new
+        out_old out_new result }
 {
     let opening = match read_begun(input, out) {
         Ok(opening) => opening,
@@ -124,7 +127,7 @@ fn greet<B: Blob + Cause, H: Sum, W: Write + Drop>(
     ensures greets { let old = B.life blob.old in let new = B.life blob.new in
         let out_old = writer_contents W.contents out.old in
         let out_new = writer_contents W.contents out.new in
-        Greets H.sum_of setting.now old new out_old out_new result }
+        Greets H.sum_of setting.now old new (B.sync_failed blob.new) out_old out_new result }
     ensures sent { OnOk result (writer_buffer out.new ≡ []) }
     ensures ready { let new = (B.life blob.new).present in
         IfOk result (λ r. IsSessionReady H.sum_of r.0 r.1 new) }
@@ -133,7 +136,7 @@ fn greet<B: Blob + Cause, H: Sum, W: Write + Drop>(
         Ok(begun) => begun,
         Err(Stop::Refused(error)) => {
             out.write_all(&[VERSION])?;
-            write_answer(out, &Reply::Fault(error))?;
+            write_answer(out, &Reply::Fault(error), blob.failed_sync())?;
             return Err(Stop::Refused(error));
         }
         Err(stop) => return Err(stop),
@@ -219,8 +222,8 @@ pub fn serve<B: Blob + Cause, H: Sum, R: Read, W: Write + Drop>(
         let input_new = reader_remaining R.remaining input.new in
         let out_old = writer_contents W.contents out.old in
         let out_new = writer_contents W.contents out.new in
-        Serves H.sum_of setting.now version session.old session.new old new input_old input_new
-        out_old out_new result }
+        Serves H.sum_of setting.now version session.old session.new old new
+        (B.sync_failed blob.new) input_old input_new out_old out_new result }
 {
     let mut replies = Vec::new(alloc);
     let mut fault = None;

@@ -53,7 +53,7 @@ pub fn take_request<B: Blob + Cause, H: Sum, W: Write>(
         IsSessionReady H.sum_of session.new cache.new new }
     ensures takes { let old = B.life blob.old in let new = B.life blob.new in
         TakesRequest H.sum_of setting.now version request session.old session.new old new
-        (W.contents out.old) (W.contents out.new) result }
+        (B.sync_failed blob.new) (W.contents out.old) (W.contents out.new) result }
 {
     if setting.read_only && is_change(&request) {
         let written = refuse_change(alloc, version, out);
@@ -216,12 +216,13 @@ fn take_step<B: Blob + Cause, H: Sum, W: Write>(
         IsSessionReady H.sum_of session.new cache.new new }
     ensures takes { let old = B.life blob.old in let new = B.life blob.new in
         TakesRequest H.sum_of setting.now version (Request.Step step) session.old session.new old
-        new (W.contents out.old) (W.contents out.new) result }
+        new (B.sync_failed blob.new) (W.contents out.old) (W.contents out.new) result }
 {
     let steps = [step];
     take_steps(replies, session, blob, cache, &steps)?;
     let has_writer = session.size().is_some();
-    let written = answer(alloc, version, out, replies, has_writer, blob.cause());
+    let failed = blob.failed_sync();
+    let written = answer(alloc, version, out, replies, has_writer, failed, blob.cause());
     finish(replies, written)
 }
 
@@ -232,27 +233,28 @@ fn answer<W: Write>(
     out: &mut W,
     replies: &[Reply],
     has_writer: bool,
+    sync_failed: bool,
     cause: Option<&io::Error>,
 ) -> Result<(), Stop>
     requires { length replies.now ≡ 1 }
     ensures { let out_old = W.contents out.old in
-        WritesAnswer (IsStepAnswer version replies.now has_writer) out_old (W.contents out.new)
-        result }
+        WritesAnswer (IsStepAnswer version replies.now has_writer sync_failed) out_old
+        (W.contents out.new) result }
 {
     match version {
-        Version::One => answer_one(out, replies),
-        Version::Two => answer_last(alloc, out, replies, has_writer, cause),
+        Version::One => answer_one(out, replies, sync_failed),
+        Version::Two => answer_last(alloc, out, replies, has_writer, sync_failed, cause),
     }
 }
 
 // Answers the only reply, in version 1.
-fn answer_one<W: Write>(out: &mut W, replies: &[Reply]) -> Result<(), Stop>
+fn answer_one<W: Write>(out: &mut W, replies: &[Reply], sync_failed: bool) -> Result<(), Stop>
     requires { length replies.now ≡ 1 }
     ensures { let out_old = W.contents out.old in
-        WritesAnswer (IsOnlyAnswer replies.now) out_old (W.contents out.new) result }
+        WritesAnswer (IsOnlyAnswer replies.now sync_failed) out_old (W.contents out.new) result }
 {
     match replies {
-        [reply] => write_answer(out, reply),
+        [reply] => write_answer(out, reply, sync_failed),
         _ => unreachable!(),
     }
 }
@@ -265,7 +267,7 @@ fn write_last<W: Write>(out: &mut W, replies: &[Reply]) -> Result<(), Stop>
         WritesAnswer (GivesPayload (last_payload replies.now)) out_old (W.contents out.new) result }
 {
     match replies.last() {
-        Some(reply) => write_answer(out, reply),
+        Some(reply) => write_answer(out, reply, false),
         None => unreachable!(),
     }
 }
@@ -294,10 +296,12 @@ fn take_last<B: Blob + Cause, H: Sum, W: Write>(
         IsSessionReady H.sum_of session.new cache.new new }
     ensures takes { let old = B.life blob.old in let new = B.life blob.new in
         TakesRequest H.sum_of setting.now Two request session.old session.new old new
-        (W.contents out.old) (W.contents out.new) result }
+        (B.sync_failed blob.new) (W.contents out.old) (W.contents out.new) result }
 {
     take_steps(replies, session, blob, cache, steps)?;
-    let written = answer_last(alloc, out, replies, session.size().is_some(), blob.cause());
+    let has_writer = session.size().is_some();
+    let failed = blob.failed_sync();
+    let written = answer_last(alloc, out, replies, has_writer, failed, blob.cause());
     finish(replies, written)
 }
 
@@ -307,14 +311,16 @@ fn answer_last<W: Write>(
     out: &mut W,
     replies: &[Reply],
     has_writer: bool,
+    sync_failed: bool,
     cause: Option<&io::Error>,
 ) -> Result<(), Stop>
     requires some { 0 < length replies.now }
     ensures { let out_old = W.contents out.old in
-        WritesAnswer (IsAnswerWith (last_payload replies.now) replies.now has_writer) out_old
+        let payload = last_payload replies.now in
+        WritesAnswer (IsAnswerWith payload replies.now has_writer sync_failed) out_old
         (W.contents out.new) result }
 {
-    if tell_refusal(alloc, out, replies, has_writer, cause)? {
+    if tell_refusal(alloc, out, replies, has_writer, sync_failed, cause)? {
         return Ok(());
     }
     write_last(out, replies)
@@ -340,7 +346,7 @@ fn take_ranges<B: Blob + Cause, H: Sum, W: Write>(
         IsSessionReady H.sum_of session.new cache.new new }
     ensures takes { let old = B.life blob.old in let new = B.life blob.new in
         TakesRequest H.sum_of setting.now Two (Request.Ranges fields) session.old session.new old
-        new (W.contents out.old) (W.contents out.new) result }
+        new (B.sync_failed blob.new) (W.contents out.old) (W.contents out.new) result }
 {
     let Some(ranges) = ranges_of(alloc, &fields)? else {
         return tell_unreadable(alloc, out);
@@ -384,7 +390,7 @@ fn take_records<B: Blob + Cause, H: Sum, W: Write>(
         IsSessionReady H.sum_of session.new cache.new new }
     ensures takes { let old = B.life blob.old in let new = B.life blob.new in
         TakesRequest H.sum_of setting.now Two (Request.Records fields then) session.old session.new
-        old new (W.contents out.old) (W.contents out.new) result }
+        old new (B.sync_failed blob.new) (W.contents out.old) (W.contents out.new) result }
 {
     let Some(lengths) = record_lengths(&fields) else {
         return tell_unreadable(alloc, out);
@@ -392,7 +398,8 @@ fn take_records<B: Blob + Cause, H: Sum, W: Write>(
     let bytes = copy_from(alloc, &fields, 4 + lengths.len())?;
     append_then(replies, session, blob, cache, Step::Append(bytes), then)?;
     let has_writer = session.size().is_some();
-    let written = answer_records(alloc, out, lengths, replies, has_writer, blob.cause());
+    let failed = blob.failed_sync();
+    let written = answer_records(alloc, out, lengths, replies, has_writer, failed, blob.cause());
     finish(replies, written)
 }
 
@@ -438,6 +445,7 @@ fn answer_records<W: Write>(
     lengths: &[u8],
     replies: &[Reply],
     has_writer: bool,
+    sync_failed: bool,
     cause: Option<&io::Error>,
 ) -> Result<(), Stop>
     requires some { 0 < length replies.now }
@@ -446,10 +454,10 @@ fn answer_records<W: Write>(
     requires at { IsAppendReply (sum (lengths_in lengths.now)) replies.now }
     ensures { let out_old = W.contents out.old in
         let payload = records_payload (lengths_in lengths.now) replies.now in
-        WritesAnswer (IsAnswerWith payload replies.now has_writer) out_old (W.contents out.new)
-        result }
+        WritesAnswer (IsAnswerWith payload replies.now has_writer sync_failed) out_old
+        (W.contents out.new) result }
 {
-    if tell_refusal(alloc, out, replies, has_writer, cause)? {
+    if tell_refusal(alloc, out, replies, has_writer, sync_failed, cause)? {
         return Ok(());
     }
     match replies {

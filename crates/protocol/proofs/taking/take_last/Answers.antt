@@ -15,12 +15,15 @@ returns-clause-takes g c =
     let now = c.take_steps.new.session in
     let out = g.W.Write.contents c.args.out.now in
     let written = g.W.Write.contents c.answer_last-written.new.out in
-    let there = writer_there c.is_some.result c.size.result now c.is_some.ensures c.size.ensures in
-    let wrote : WritesAnswer (IsAnswerWith (last_payload replies) replies (is_some now.writer)) out written c.answer_last-written.result =
-    subst (λ (b : Bool). WritesAnswer (IsAnswerWith (last_payload replies) replies b) out written c.answer_last-written.result) there
-    (subst (λ (rs : List Reply). WritesAnswer (IsAnswerWith (last_payload rs) rs c.is_some.result) out written c.answer_last-written.result) c.deref.ensures.value c.answer_last-written.ensures) in
-    let some = some_with (last_payload replies) replies (is_some now.writer) in
-    runs_request g.H.Sum.sum_of c.args.setting.now Two c.args.request c.args.steps.now c.args.session.now now c.args.cache.now c.take_steps.new.cache (g.B.Blob.life c.args.blob.now) (g.B.Blob.life c.take_steps.new.blob) replies out written c.answer_last-written.result c.finish.result
-    c.requires.may c.requires.steps c.in_ok-take_steps.ensures.runs (some.0, last_answers c.args.setting.now c.args.request c.args.steps.now replies now some.0 c.requires.last c.requires.steps c.requires.some some.1)
-    (writes_as (IsAnswerWith (last_payload replies) replies (is_some now.writer)) (IsAnswer Two c.args.request replies now) out written c.answer_last-written.result
-    (λ answer is. last_answers c.args.setting.now c.args.request c.args.steps.now replies now answer c.requires.last c.requires.steps c.requires.some is) wrote) c.finish.ensures.told
+    let failed = g.B.Cause.sync_failed c.take_steps.new.blob in
+    let there = writer_there c.is_some-has_writer.result c.size.result now c.is_some-has_writer.ensures c.size.ensures in
+    let told : WritesAnswer (IsAnswerWith (last_payload c.deref.result.now) c.deref.result.now c.is_some-has_writer.result failed) out written c.answer_last-written.result =
+    subst (λ (b : Bool). WritesAnswer (IsAnswerWith (last_payload c.deref.result.now) c.deref.result.now c.is_some-has_writer.result b) out written c.answer_last-written.result) c.failed_sync-failed.ensures c.answer_last-written.ensures in
+    let wrote : WritesAnswer (IsAnswerWith (last_payload replies) replies (is_some now.writer) failed) out written c.answer_last-written.result =
+    subst (λ (b : Bool). WritesAnswer (IsAnswerWith (last_payload replies) replies b failed) out written c.answer_last-written.result) there
+    (subst (λ (rs : List Reply). WritesAnswer (IsAnswerWith (last_payload rs) rs c.is_some-has_writer.result failed) out written c.answer_last-written.result) c.deref.ensures.value told) in
+    let some = some_with (last_payload replies) replies (is_some now.writer) failed in
+    runs_request g.H.Sum.sum_of c.args.setting.now Two c.args.request c.args.steps.now c.args.session.now now c.args.cache.now c.take_steps.new.cache (g.B.Blob.life c.args.blob.now) (g.B.Blob.life c.take_steps.new.blob) failed replies out written c.answer_last-written.result c.finish.result
+    c.requires.may c.requires.steps c.in_ok-take_steps.ensures.runs (some.0, last_answers c.args.setting.now c.args.request c.args.steps.now replies now failed some.0 c.requires.last c.requires.steps c.requires.some some.1)
+    (writes_as (IsAnswerWith (last_payload replies) replies (is_some now.writer) failed) (IsAnswer Two c.args.request replies now failed) out written c.answer_last-written.result
+    (λ answer is. last_answers c.args.setting.now c.args.request c.args.steps.now replies now failed answer c.requires.last c.requires.steps c.requires.some is) wrote) c.finish.ensures.told

@@ -17,7 +17,7 @@ use Rattle.protocol.proofs.taking.take_records.Goals as goal
 pub returns-in_default-clause-takes : goal.returns-in_default-clause-takes
 returns-in_default-clause-takes g c =
     let none : tells_records c.args.fields.items ≡ false = ap tells_records (sym c.deref.ensures.value) ∙ sym c.record_lengths.ensures.tells ∙ ap is_some c.in_default.is in
-    unreadable g.H.Sum.sum_of c.args.setting.now (Records c.args.fields c.args.then) c.args.session.now (g.B.Blob.life c.args.blob.now) (g.W.Write.contents c.args.out.now) (g.W.Write.contents c.tell_unreadable.new.out) c.tell_unreadable.result
+    unreadable g.H.Sum.sum_of c.args.setting.now (Records c.args.fields c.args.then) c.args.session.now (g.B.Blob.life c.args.blob.now) (g.B.Cause.sync_failed c.args.blob.now) (g.W.Write.contents c.args.out.now) (g.W.Write.contents c.tell_unreadable.new.out) c.tell_unreadable.result
     (ap (λ (b : Bool). b && true) c.requires.may) (no_record_steps c.args.setting.now c.args.fields c.args.then none) none c.tell_unreadable.ensures
 
 pub answer_records-written-requires-clause-at : goal.answer_records-written-requires-clause-at
@@ -45,14 +45,17 @@ returns-clause-takes g c =
     let is : lengths ≡ take (lengths_size fields) (drop 4 fields) = search rules in
     let tail : bytes.items ≡ drop (4 + length lengths) fields = search rules in
     let content = bytes_after fields lengths bytes.items are is tail in
+    let failed = g.B.Cause.sync_failed c.append_then.new.blob in
     let there = writer_there c.is_some-has_writer.result c.size.result now c.is_some-has_writer.ensures c.size.ensures in
     let payload = records_payload (record_lengths fields) replies in
-    let wrote : WritesAnswer (IsAnswerWith payload replies (is_some now.writer)) out written c.answer_records-written.result =
-    subst (λ (b : Bool). WritesAnswer (IsAnswerWith payload replies b) out written c.answer_records-written.result) there
-    (subst (λ (rs : List Reply). WritesAnswer (IsAnswerWith (records_payload (record_lengths fields) rs) rs c.is_some-has_writer.result) out written c.answer_records-written.result) c.deref-3.ensures.value
-    (subst (λ (ls : List ℕ). WritesAnswer (IsAnswerWith (records_payload (lengths_in ls) c.deref-3.result.now) c.deref-3.result.now c.is_some-has_writer.result) out written c.answer_records-written.result) is c.answer_records-written.ensures)) in
-    let some = some_with payload replies (is_some now.writer) in
-    runs_request g.H.Sum.sum_of c.args.setting.now Two (Records c.args.fields c.args.then) (Append bytes ∷ steps_then c.args.then) c.args.session.now now c.args.cache.now c.append_then.new.cache (g.B.Blob.life c.args.blob.now) (g.B.Blob.life c.append_then.new.blob) replies out written c.answer_records-written.result c.finish.result
-    (ap (λ (b : Bool). b && true) c.requires.may) (record_steps c.args.setting.now c.args.fields bytes c.args.then are content) c.in_ok-append_then.ensures.runs (some.0, record_answers c.args.fields c.args.then replies now some.0 are some.1)
-    (writes_as (IsAnswerWith payload replies (is_some now.writer)) (IsAnswer Two (Records c.args.fields c.args.then) replies now) out written c.answer_records-written.result
-    (λ answer given. record_answers c.args.fields c.args.then replies now answer are given) wrote) c.finish.ensures.told
+    let told : WritesAnswer (IsAnswerWith (records_payload (lengths_in lengths) c.deref-3.result.now) c.deref-3.result.now c.is_some-has_writer.result failed) out written c.answer_records-written.result =
+    subst (λ (b : Bool). WritesAnswer (IsAnswerWith (records_payload (lengths_in lengths) c.deref-3.result.now) c.deref-3.result.now c.is_some-has_writer.result b) out written c.answer_records-written.result) c.failed_sync-failed.ensures c.answer_records-written.ensures in
+    let wrote : WritesAnswer (IsAnswerWith payload replies (is_some now.writer) failed) out written c.answer_records-written.result =
+    subst (λ (b : Bool). WritesAnswer (IsAnswerWith payload replies b failed) out written c.answer_records-written.result) there
+    (subst (λ (rs : List Reply). WritesAnswer (IsAnswerWith (records_payload (record_lengths fields) rs) rs c.is_some-has_writer.result failed) out written c.answer_records-written.result) c.deref-3.ensures.value
+    (subst (λ (ls : List ℕ). WritesAnswer (IsAnswerWith (records_payload (lengths_in ls) c.deref-3.result.now) c.deref-3.result.now c.is_some-has_writer.result failed) out written c.answer_records-written.result) is told)) in
+    let some = some_with payload replies (is_some now.writer) failed in
+    runs_request g.H.Sum.sum_of c.args.setting.now Two (Records c.args.fields c.args.then) (Append bytes ∷ steps_then c.args.then) c.args.session.now now c.args.cache.now c.append_then.new.cache (g.B.Blob.life c.args.blob.now) (g.B.Blob.life c.append_then.new.blob) failed replies out written c.answer_records-written.result c.finish.result
+    (ap (λ (b : Bool). b && true) c.requires.may) (record_steps c.args.setting.now c.args.fields bytes c.args.then are content) c.in_ok-append_then.ensures.runs (some.0, record_answers c.args.fields c.args.then replies now failed some.0 are some.1)
+    (writes_as (IsAnswerWith payload replies (is_some now.writer) failed) (IsAnswer Two (Records c.args.fields c.args.then) replies now failed) out written c.answer_records-written.result
+    (λ answer given. record_answers c.args.fields c.args.then replies now failed answer are given) wrote) c.finish.ensures.told

@@ -14,11 +14,14 @@ returns-clause-takes g c =
     let now = c.take_steps.new.session in
     let out = g.W.Write.contents c.args.out.now in
     let written = g.W.Write.contents c.answer-written.new.out in
+    let failed = g.B.Cause.sync_failed c.take_steps.new.blob in
     let one : length replies ≡ 1 = search rules in
     let there = writer_there c.is_some-has_writer.result c.size.result now c.is_some-has_writer.ensures c.size.ensures in
-    let wrote : WritesAnswer (IsStepAnswer c.args.version replies (is_some now.writer)) out written c.answer-written.result =
-    subst (λ (b : Bool). WritesAnswer (IsStepAnswer c.args.version replies b) out written c.answer-written.result) there
-    (subst (λ (rs : List Reply). WritesAnswer (IsStepAnswer c.args.version rs c.is_some-has_writer.result) out written c.answer-written.result) c.deref.ensures.value c.answer-written.ensures) in
-    runs_request g.H.Sum.sum_of c.args.setting.now c.args.version (Step c.args.step) (c.args.step ∷ []) c.args.session.now now c.args.cache.now c.take_steps.new.cache (g.B.Blob.life c.args.blob.now) (g.B.Blob.life c.take_steps.new.blob) replies out written c.answer-written.result c.finish.result
-    c.requires.may refl c.in_ok-take_steps.ensures.runs (some_answer c.args.version c.args.step replies now one)
-    (writes_as (IsStepAnswer c.args.version replies (is_some now.writer)) (IsAnswer c.args.version (Step c.args.step) replies now) out written c.answer-written.result (λ answer is. step_answers c.args.version c.args.step replies now answer is) wrote) c.finish.ensures.told
+    let told : WritesAnswer (IsStepAnswer c.args.version c.deref.result.now c.is_some-has_writer.result failed) out written c.answer-written.result =
+    subst (λ (b : Bool). WritesAnswer (IsStepAnswer c.args.version c.deref.result.now c.is_some-has_writer.result b) out written c.answer-written.result) c.failed_sync-failed.ensures c.answer-written.ensures in
+    let wrote : WritesAnswer (IsStepAnswer c.args.version replies (is_some now.writer) failed) out written c.answer-written.result =
+    subst (λ (b : Bool). WritesAnswer (IsStepAnswer c.args.version replies b failed) out written c.answer-written.result) there
+    (subst (λ (rs : List Reply). WritesAnswer (IsStepAnswer c.args.version rs c.is_some-has_writer.result failed) out written c.answer-written.result) c.deref.ensures.value told) in
+    runs_request g.H.Sum.sum_of c.args.setting.now c.args.version (Step c.args.step) (c.args.step ∷ []) c.args.session.now now c.args.cache.now c.take_steps.new.cache (g.B.Blob.life c.args.blob.now) (g.B.Blob.life c.take_steps.new.blob) failed replies out written c.answer-written.result c.finish.result
+    c.requires.may refl c.in_ok-take_steps.ensures.runs (some_answer c.args.version c.args.step replies now failed one)
+    (writes_as (IsStepAnswer c.args.version replies (is_some now.writer) failed) (IsAnswer c.args.version (Step c.args.step) replies now failed) out written c.answer-written.result (λ answer is. step_answers c.args.version c.args.step replies now failed answer is) wrote) c.finish.ensures.told

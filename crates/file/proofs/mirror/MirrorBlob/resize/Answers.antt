@@ -18,4 +18,5 @@ invariant_of-self-2 g c =
     let room : HasRoom c.args.len 0 mid = (made.2.0, omega (arith, made.2.1, c.pass_on.ensures.room)) in (
       calls a was mid now asked more c.self.invariant.0 (c.pass_on.ensures.history ∙ made.0) passes (c.resize.ensures.asked room) c.resize.ensures.stopped,
       c.pass_on.ensures.failure ∙ sym c.resize.ensures.stopped,
+      c.pass_on.ensures.told,
     )

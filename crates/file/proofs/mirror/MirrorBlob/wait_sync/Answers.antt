@@ -13,4 +13,5 @@ invariant_of-self g c =
     let tells = subst (λ (s : StartedSync). TellsWait s names mid now c.wait_sync.result) c.in-Named.is c.wait_sync.ensures.tells in (
       waits c.in-Named.field-0 names c.self.inside.kept mid now (g.S.Host.asked c.self.inside.host) (g.S.Host.asked c.pass_on.new.host) c.wait_sync.result c.self.invariant.0 c.pass_on.ensures.history c.pass_on.ensures.passes tells c.wait_sync.ensures.stopped,
       c.pass_on.ensures.failure ∙ sym c.wait_sync.ensures.stopped,
+      c.pass_on.ensures.told,
     )

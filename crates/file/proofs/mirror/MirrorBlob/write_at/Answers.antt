@@ -20,4 +20,5 @@ invariant_of-self-2 g c =
     let room : HasRoom c.args.offset (length bytes) mid = (omega (arith, made.2.0, c.len.ensures), omega (arith, made.2.1, c.len.ensures, c.pass_on.ensures.room)) in (
       calls a was mid now asked more c.self.invariant.0 (c.pass_on.ensures.history ∙ made.0) passes (c.write_at.ensures.asked room) c.write_at.ensures.stopped,
       c.pass_on.ensures.failure ∙ sym c.write_at.ensures.stopped,
+      c.pass_on.ensures.told,
     )
