@@ -3,11 +3,13 @@ use crate::forms::Argument::Number;
 use crate::forms::{Arguments, Form, read_step};
 use crate::line::Row;
 use crate::pieces::{Pieces, Way};
+use crate::recorder::Recorder;
 use crate::refuse::asked_for_more;
 use crate::subject::Subject;
 use crate::words::{out_of_memory, say_bytes, say_done, unreadable};
 use crc32c::Crc32c;
 use disk::{Blob, MemBlob, VecBlob};
+use file::{Mirror, RUN_SIZE};
 use protocol::{Cause, Setting, Stop, serve_file};
 use scripts::Hex;
 use std::alloc::Global;
@@ -27,6 +29,7 @@ enum Verb {
     ServeAllowing,
     ServePieces,
     ServeFailing,
+    ServeMirror,
     ServeSmall,
     ServeEnding,
     ServeBroken,
@@ -37,12 +40,13 @@ enum Verb {
     Len,
 }
 
-const STEPS: [Form<Verb>; 13] = [
+const STEPS: [Form<Verb>; 14] = [
     (b"serve", &[], Verb::Serve),
     (b"serve-reading", &[], Verb::ServeReading),
     (b"serve-allowing", &[Number], Verb::ServeAllowing),
     (b"serve-pieces", &[], Verb::ServePieces),
     (b"serve-failing", &[Number], Verb::ServeFailing),
+    (b"serve-mirror", &[Number], Verb::ServeMirror),
     (b"serve-small", &[Number], Verb::ServeSmall),
     (b"serve-ending", &[Number, Number], Verb::ServeEnding),
     (b"serve-broken", &[Number, Number], Verb::ServeBroken),
@@ -136,6 +140,21 @@ fn serve_failing(
 ) -> io::Result<()> {
     let mut blob = MemBlob::new(alloc);
     blob.fail_at(number.max(1));
+    let input = Pieces::read(alloc, &row.given, Way::Ends)?;
+    serve(alloc, &mut blob, setting, input, row, said)?;
+    Ok(())
+}
+
+// Serves requests over an empty blob over a host, whose call of this number fails.
+fn serve_mirror(
+    alloc: Global,
+    setting: &Setting,
+    number: u64,
+    row: &Row,
+    said: &mut Vec<u8>,
+) -> io::Result<()> {
+    let host = Recorder::new(alloc, number as usize, RUN_SIZE)?;
+    let mut blob = Mirror::new(host, Vec::new(alloc));
     let input = Pieces::read(alloc, &row.given, Way::Ends)?;
     serve(alloc, &mut blob, setting, input, row, said)?;
     Ok(())
@@ -242,6 +261,7 @@ impl Server {
             }
             Verb::ServePieces => self.serve_pieces(alloc, row, said),
             Verb::ServeFailing => serve_failing(alloc, &setting, number, row, said),
+            Verb::ServeMirror => serve_mirror(alloc, &setting, number, row, said),
             Verb::ServeSmall => {
                 setting.page_size = NonZeroU16::new(4).unwrap();
                 setting.capacity = 8;
