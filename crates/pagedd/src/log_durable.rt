@@ -1,5 +1,5 @@
 // What a log is known to have had, by the copy of its manifest.
-use crate::ending::tell;
+use crate::ending::{fail, tell};
 use crate::log_files::manifest_copy_in;
 use crate::log_refusing::Why;
 use crate::request::Request;
@@ -39,5 +39,14 @@ pub fn tell_missing(
             Ok(false)
         }
         None => Ok(true),
+    }
+}
+
+/// Takes the copy of the manifest away, so that what it knows doesn't keep the log from being opened.
+pub fn forget_copy(rt: &HostRuntime, folder: &str) -> Result<(), Status> {
+    let path = manifest_copy_in(rt.alloc(), folder)?;
+    match fs::remove_file(rt, path.as_str()) {
+        Ok(()) => Ok(()),
+        Err(error) => Err(fail(rt, path.as_str(), error)),
     }
 }

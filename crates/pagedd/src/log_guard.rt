@@ -1,6 +1,6 @@
 // A look at a log before it is opened. Before the opening cuts any of it, a line on standard error
 // says what goes, and a copy of what may have been synced is set aside.
-use crate::log_durable::{missing_of, tell_missing};
+use crate::log_durable::{forget_copy, missing_of, tell_missing};
 use crate::log_files::{copy_of, manifest_in, open_log, segment_in};
 use crate::log_refusing::refuse_log;
 use crate::look::{Look, looked, read};
@@ -71,13 +71,18 @@ fn kept_of<H: Sum>(rt: &HostRuntime, request: &Request) -> Result<Option<Kept>, 
 }
 
 // Refuses a log of which something is missing, by the copy of its manifest. For reading alone a line
-// says so.
+// says so. If the open segment is short, and a cut was asked for, a line says so, and the copy goes:
+// the opening keeps another one.
 fn refuse_missing(rt: &HostRuntime, request: &Request, kept: Kept) -> Result<(), Status> {
     if request.read_only {
         tell_missing(rt, request, kept.number, kept.segment)?;
         return Ok(());
     }
     match missing_of(rt, request.file, kept.number, kept.segment)? {
+        Some(Error::Short(_)) if request.cut => {
+            tell_missing(rt, request, kept.number, kept.segment)?;
+            forget_copy(rt, request.file)
+        }
         Some(error) => Err(refuse_log(rt, request, &error)),
         None => Ok(()),
     }
