@@ -15,7 +15,7 @@ use Rattle.crash.specs.Kept.{Through}
 use Rattle.crash.specs.Moments.{through_then}
 use Rattle.journal.specs.Frame.{IsPrefix, records}
 use Rattle.journal.specs.Journal.{CommitsAll, KeepsCommitted}
-use Rattle.store.specs.Changes.{Bytes, ByteMap, after_changes, delete_record, given, is_delete, key_of, mark_of, put_record, updated}
+use Rattle.store.specs.Changes.{Bytes, ByteMap, after_changes, delete_record, given, has_delete_mark, key_of, mark_of, put_record, updated}
 use Rattle.store.specs.Store.{AreCommitted, MapGoes}
 
 -- one change more
@@ -31,7 +31,7 @@ mark-put key value short =
     ap (λ (l : List ℕ). from_be_bytes w16 l) (take_at (to_be_bytes w16 (length key)) (key ++ value) 2 refl)
     ∙ from_be_bytes-to_be_bytes_2 (length key) (omega (arith, short))
 
-no_delete : (key value : Bytes) → length key < 65535 → is_delete (put_record key value) ≡ false
+no_delete : (key value : Bytes) → length key < 65535 → has_delete_mark (put_record key value) ≡ false
 no_delete key value short =
     ap (λ (n : ℕ). n == 65535) (mark-put key value short) ∙ ne_eqb (length key) 65535 (λ (is : length key ≡ 65535). omega (arith, is, short))
 
@@ -51,7 +51,7 @@ given-put key value short =
 
 -- ---- the record of a delete
 
-a_delete : (key : Bytes) → is_delete (delete_record key) ≡ true
+a_delete : (key : Bytes) → has_delete_mark (delete_record key) ≡ true
 a_delete key =
     ap (λ (l : List ℕ). from_be_bytes w16 l == 65535) (take_at (to_be_bytes w16 65535) key 2 refl)
     ∙ ap (λ (n : ℕ). n == 65535) (from_be_bytes-to_be_bytes_2 65535 (omega arith))

@@ -27,7 +27,7 @@ use Rattle.journal.specs.Frame.{frame, frames, records}
 use Rattle.journal.specs.Journal.{IsJournal, JournalHasRecovered, records_in}
 use Rattle.store.specs.declared.store.OpenError.TheVariants.{ForeignRecord, Refused}
 use Rattle.store.specs.Pairs.{pairs_of}
-use Rattle.store.specs.Changes.{AreChanges, ByteMap, Bytes, ComesBack, HasForeign, IsChange, IsDelete, IsGiven, IsPut, after_changes, delete_record, given, is_delete, key_of, map_code, mark_of, put_record, updated}
+use Rattle.store.specs.Changes.{AreChanges, ByteMap, Bytes, MapComesBack, HasForeign, IsChange, IsDelete, SomeGives, IsPut, after_changes, delete_record, given, has_delete_mark, key_of, map_code, mark_of, put_record, updated}
 use Rattle.store.specs.Store.{AreCommitted, BringsBack, ChangeCosts, ChangeGoes, ChangeLeaves, ChangesStay, CommitCosts, CommitLeaves, CommitStoreGoes, CrashAndOpenGoes, CrashAndOpenLeaves, HasChanged, HasComeBack, HasCommitted, HasOpenedStore, IsStore, KeepsChanges, KeepsStore, MapGoes, OpenStoreGoes, ReadsChange, StoreState, WasRecovered, changes_of}
 use Rattle.store.proofs.Back.{comes_back}
 use Rattle.store.proofs.Calls.{a_store, all_of, commit_leaves, crash_leaves, journal_keeps}
@@ -68,7 +68,7 @@ a_mark = refl
 pub mark_of_a_delete : mark_of deleted ≡ 65535
 mark_of_a_delete = refl
 
-pub no_delete : is_delete put_on ≡ false
+pub no_delete : has_delete_mark put_on ≡ false
 no_delete = refl
 
 pub its_key : key_of put_on ≡ light
@@ -147,11 +147,11 @@ the_last_counts = get-insert nat_list_cmp_total lit light off light
 pub nothing_is_left : get (after_changes empty (put_on ∷ deleted ∷ [])) light ≡ None
 nothing_is_left = it_is_gone
 
-pub it_was_given : IsGiven light both (Some off)
+pub it_was_given : SomeGives light both (Some off)
 it_was_given = record { at = 1; within = lit< tt; of_key = refl; gives = refl }
 
 -- no change took the value away
-pub it_was_not_given : IsGiven light both None → ⊥
+pub it_was_not_given : SomeGives light both None → ⊥
 it_was_not_given is = at is.at is.within is.gives
   where
     at : (i : ℕ) → i < 2 → None ≡ given (get_or both i []) → ⊥
@@ -162,15 +162,15 @@ it_was_not_given is = at is.at is.within is.gives
 -- ---- what comes back
 
 -- the first put was committed, and the second came back too
-pub both_came_back : ComesBack (put_on ∷ []) both (get (after_changes empty both))
+pub both_came_back : MapComesBack (put_on ∷ []) both (get (after_changes empty both))
 both_came_back = comes_back (put_on ∷ []) both both (after_changes empty both) (put_off ∷ [], refl) (all_of both) refl
 
 -- the first put was committed, and came back alone
-pub one_came_back : ComesBack (put_on ∷ []) both (get lit)
+pub one_came_back : MapComesBack (put_on ∷ []) both (get lit)
 one_came_back = comes_back (put_on ∷ []) (put_on ∷ []) both lit (all_of (put_on ∷ [])) (put_off ∷ [], refl) refl
 
 -- an old value doesn't come back for one that was committed
-pub no_old_value : (map : Bytes → Option Bytes) → map light ≡ Some on → ComesBack both both map → ⊥
+pub no_old_value : (map : Bytes → Option Bytes) → map light ≡ Some on → MapComesBack both both map → ⊥
 no_old_value map is back = elim (back.values light) [
   | inl same ↦ (let e : Some on ≡ Some off = sym is ∙ same ∙ the_last_counts in not_both e)
   | inr later ↦ omega (arith, later.within)
@@ -180,7 +180,7 @@ no_old_value map is back = elim (back.values light) [
     not_both e = let same : ◌≡◌ {A = ℕ} 49 48 = cc e in omega (arith, same)
 
 -- a value that was taken away doesn't come back, where that was committed
-pub no_deleted_value : (map : Bytes → Option Bytes) → map light ≡ Some on → ComesBack (put_on ∷ deleted ∷ []) (put_on ∷ deleted ∷ []) map → ⊥
+pub no_deleted_value : (map : Bytes → Option Bytes) → map light ≡ Some on → MapComesBack (put_on ∷ deleted ∷ []) (put_on ∷ deleted ∷ []) map → ⊥
 no_deleted_value map is back = elim (back.values light) [
   | inl same ↦ (let e : Some on ≡ None = sym is ∙ same ∙ nothing_is_left in absurd (cc e))
   | inr later ↦ omega (arith, later.within)
@@ -369,7 +369,7 @@ blank_brings_back sum own new now held = λ committed were.
 pub no_old_value_is_brought : (sum own : List ℕ → ℕ) (P : ℕ) (was : Disk) (new : Life) (now : StoreState) → AreCommitted sum own P both was → changes_of own now new ≡ both
     → get now.map light ≡ Some on → BringsBack sum own P was new now → ⊥
 no_old_value_is_brought sum own P was new now were same is back =
-    no_old_value (get now.map) is (subst (λ (l : List Bytes). ComesBack both l (get now.map)) same (back both were))
+    no_old_value (get now.map) is (subst (λ (l : List Bytes). MapComesBack both l (get now.map)) same (back both were))
 
 -- a store was opened of a blank blob
 pub a_blank_one_was_opened : (sum own : List ℕ → ℕ) (after : CacheState) (new : Life) (now : StoreState) → IsStore sum own now after new → now.journal.page_size ≡ 4

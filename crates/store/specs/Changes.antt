@@ -36,18 +36,18 @@ abbrev pub mark_of : Bytes → ℕ
 mark_of bytes = from_be_bytes w16 (take 2 bytes)
 
 -- whether that number is the one of a delete
-abbrev pub is_delete : Bytes → Bool
-is_delete bytes = mark_of bytes == 65535
+abbrev pub has_delete_mark : Bytes → Bool
+has_delete_mark bytes = mark_of bytes == 65535
 
 -- the key of a change
 abbrev pub key_of : Bytes → Bytes
 key_of change =
-    if is_delete change then drop 2 change else take (mark_of change) (drop 2 change)
+    if has_delete_mark change then drop 2 change else take (mark_of change) (drop 2 change)
 
 -- what a change gives its key: a put its value, and a delete none
 abbrev pub given : Bytes → Option Bytes
 given change =
-    if is_delete change then None else Some (drop (mark_of change) (drop 2 change))
+    if has_delete_mark change then None else Some (drop (mark_of change) (drop 2 change))
 
 -- a record is a put: its number isn't that of a delete, and it is long enough for its key
 abbrev pub IsPut : Bytes → Type 0
@@ -87,7 +87,7 @@ after_changes map (change ∷ changes) =
 -- ---- what comes back
 
 -- one of these changes is of this key, and gave it this value
-pub record IsGiven (key : Bytes) (changes : List Bytes) (value : Option Bytes) : Type 0 where
+pub record SomeGives (key : Bytes) (changes : List Bytes) (value : Option Bytes) : Type 0 where
   pub at : ℕ
   pub within : at < length changes
   pub of_key : key_of (get_or changes at []) ≡ key
@@ -97,11 +97,11 @@ pub record IsGiven (key : Bytes) (changes : List Bytes) (value : Option Bytes) :
 -- made, and the first of them were committed. So many came back, the committed ones among them, and
 -- the map is what these make. So each key has what the committed changes made of it, which is what
 -- the last of them gave that is of this key; or what a later change of this key gave
-pub record ComesBack (committed all : List Bytes) (map : Bytes → Option Bytes) : Type 0 where
+pub record MapComesBack (committed all : List Bytes) (map : Bytes → Option Bytes) : Type 0 where
   pub begins : IsPrefix committed all
   pub count : ℕ
   pub kept : length committed ≤ count
   pub within : count ≤ length all
   pub made : (key : Bytes) → map key ≡ get (after_changes empty (take count all)) key
   pub values : (key : Bytes) → (map key ≡ get (after_changes empty committed) key)
-      ⊎ IsGiven key (drop (length committed) all) (map key)
+      ⊎ SomeGives key (drop (length committed) all) (map key)

@@ -1,6 +1,6 @@
--- A map that a journal keeps: what its calls do, and what a crash leaves. Each record of the journal
--- is a change of the map, a put or a delete. The map is what the changes make of an empty one, in
--- turn.
+-- A map that a journal keeps: what its calls do, and what a crash leaves. Each record of the
+-- journal is a change of the map, a put or a delete. The map is what the changes make of an empty
+-- one, in turn.
 use Rattle.std.specs.Prelude.{◌≡◌, ◌⊎◌, ◌≤◌, ◌+◌, ◌++◌, ℕ, List, [], ◌∷◌, length}
 use Rattle.std.specs.Prelude.{Bool, Option, Some, None, Result, Ok, Err}
 use Rattle.std.specs.FinMap.{empty, get}
@@ -22,7 +22,7 @@ use Rattle.journal.specs.Journal.{AppendRecordGoes, CommitGoes, CommitsAll, IsJo
 use Rattle.journal.specs.Journal.{JournalHasRecovered, OnlyRecords, RecoversJournal, records_in}
 use Rattle.store.specs.declared.store.OpenError.{OpenError}
 use Rattle.store.specs.declared.store.OpenError.TheVariants.{ForeignRecord, Refused}
-use Rattle.store.specs.Changes.{AreChanges, ByteMap, Bytes, ComesBack, HasForeign, IsChange}
+use Rattle.store.specs.Changes.{AreChanges, ByteMap, Bytes, MapComesBack, HasForeign, IsChange}
 use Rattle.store.specs.Changes.{after_changes, given, key_of}
 
 -- a store as contracts see it: its map, and its journal
@@ -130,7 +130,7 @@ CommitStoreGoes sum own s after old new (Err e) =
 abbrev pub BringsBack : (sum own : List ℕ → ℕ) → ℕ → Disk → Life → StoreState → Type 0
 BringsBack sum own P was new now =
     (committed : List Bytes) → AreCommitted sum own P committed was
-    → ComesBack committed (changes_of own now new) (get now.map)
+    → MapComesBack committed (changes_of own now new) (get now.map)
 
 -- a store was opened: its changes are the records of what could be read, they begin with all that
 -- were committed, and they are committed now
@@ -179,7 +179,7 @@ pub record HasComeBack (sum own : List ℕ → ℕ) (P : ℕ) (after : CacheStat
       → IsPrefix (changes_of own now new) all
   pub values : IsDistinct sum P was image → (committed all : List Bytes)
       → AreCommitted sum own P committed was → OnlyRecords sum own P all was
-      → ComesBack committed all (get now.map)
+      → MapComesBack committed all (get now.map)
 
 -- a crash and an opening, by their answer: the journal was recovered from what the crash left, and
 -- a record is no change, or memory for the map was refused; or the recovery was refused, or memory

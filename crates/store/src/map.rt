@@ -1,5 +1,5 @@
 // The map of a store, in memory.
-ghost use Rattle.std.specs.Prelude.{◌≡◌, IsOkUnless, OnOk, option_map};
+ghost use Rattle.std.specs.Prelude.{◌≡◌, ℕ, List, Option, IsOkUnless, OnOk, option_map};
 ghost use Rattle.std.specs.FinMap as map;
 ghost use Rattle.store.specs.Changes.{updated};
 
@@ -68,7 +68,8 @@ impl Map {
 
     /// Puts a value at a key, or takes away what is there. It answers `OutOfMemory` alone.
     pub fn set(&mut self, alloc: Global, key: &[u8], value: Option<&[u8]>) -> Result<(), Error>
-        ensures set { OnOk result (self.new ≡ updated self.old key.now (option_map (λ v. v.now) value.entry)) }
+        ensures set { let found : Option (List ℕ) = option_map (λ v. v.now) value.entry in
+            OnOk result (self.new ≡ updated self.old key.now found) }
         ensures err { IsOkUnless result Error.OutOfMemory }
     {
         match value {

@@ -5,7 +5,7 @@ ghost use Rattle.std.specs.Prelude.{List, IfOk};
 ghost use Rattle.std.specs.FinMap.{get};
 ghost use Rattle.crc32c.specs.Crc.{crc32c};
 ghost use Rattle.disk.specs.History.{life_of};
-ghost use Rattle.store.specs.Changes.{Bytes, ComesBack};
+ghost use Rattle.store.specs.Changes.{Bytes, MapComesBack};
 ghost use Rattle.store.specs.Store.{AreCommitted, changes_of};
 
 use crc32c::Crc32c;
@@ -36,7 +36,7 @@ fn crash(alloc: Global, blob: &mut MemBlob) -> Result<Settings, OpenError>
     ensures { let was = (life_of blob.old).present in
         (committed : List Bytes) → AreCommitted crc32c crc32c 4084 committed was
         → IfOk result (λ now. let all = changes_of crc32c now (life_of blob.new) in
-        ComesBack committed all (get now.map)) }
+        MapComesBack committed all (get now.map)) }
 {
     let mut cache = recommended_cache(alloc)?;
     crash_and_open(alloc, blob, &[], &mut cache)
