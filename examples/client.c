@@ -97,7 +97,7 @@ static void ask(int kind, const void *fields, size_t len) {
 
 /* Tells what a refusal tells: in version 1 that is the status alone. */
 static void fail_refused(int kind, int status, const unsigned char *payload, size_t len) {
-    static const char *next[] = {"ask for something else", "ask again", "open anew", "give up"};
+    static const char *next[] = {"ask for something else", "ask again", "open anew", "replace the file"};
     fprintf(stderr, "client: refused with status %d", status);
     if (len >= REFUSAL) {
         fprintf(stderr, "; next: %s; steps taken: %" PRIu64, payload[0] < 4 ? next[payload[0]] : "what is told is new",

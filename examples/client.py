@@ -24,7 +24,7 @@ APPEND_RECORDS_SYNC = 18
 VERSION, OFFER = b"\x01", b"\x02\x02\x01\x02"
 
 # What a refusal of version 2 tells a client to do next, by its byte.
-NEXT = {0: "ask for something else", 1: "ask again", 2: "open anew", 3: "give up"}
+NEXT = {0: "ask for something else", 1: "ask again", 2: "open anew", 3: "replace the file"}
 
 # The most bytes of a payload and of a request's fields, and the most ranges and records of a request.
 Limits = namedtuple("Limits", "payload fields ranges records")

@@ -1,4 +1,4 @@
--- What a host's record tells of a failed sync, at a few calls.
+-- What a host's record shows of a failed sync, at a few calls.
 use Rattle.std.proofs.Common.{◌≡◌, [], ◌∷◌, true, false, refl}
 use Rattle.disk.specs.declared.action.Action.{Action}
 use Rattle.disk.specs.declared.action.Action.TheVariants as actions
@@ -38,6 +38,6 @@ none_is_told = refl
 pub one_is_told : (failure : Failure) → failure.is_sync ≡ true → tells_failed_sync (Some failure) ≡ true
 one_is_told failure is = is
 
--- a failure of another call isn't told as that of a sync
+-- a failure of another call isn't reported as that of a sync
 pub another_is_not : (failure : Failure) → failure.is_sync ≡ false → tells_failed_sync (Some failure) ≡ true → ⊥
 another_is_not failure is told = cc

@@ -1,4 +1,4 @@
--- How a mirror tells a failed sync of its host.
+-- How a mirror reports a failed sync of its host.
 use Rattle.std.proofs.Common.{◌≡◌, List, [], ◌∷◌, ◌++◌, true, false, Ok, Err, sym, ap, ◌∙◌}
 use Rattle.std.specs.Prelude.{Result, Option, None, Some, IfErr, is_some}
 use Rattle.disk.specs.declared.action.Action.{Action}

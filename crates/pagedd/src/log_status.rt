@@ -54,7 +54,7 @@ pub fn refusal_of<'a>(
     }
 }
 
-// The status of an error as a client is told it. After a failed sync, what the layer answers as a
+// The status of an error as a client gets it. After a failed sync, what the layer answers as a
 // failed write, or a failed change of the size, was that sync.
 fn told_status(error: &Error, sync_failed: bool) -> u8 {
     match error {

@@ -30,6 +30,14 @@ impl Client {
             None => false,
         }
     }
+
+    // How the files fared, also one that the log let go of since.
+    fn with_lost<'a>(&self, failure: Failure<'a>) -> Failure<'a> {
+        Failure {
+            error: failure.error,
+            sync_failed: failure.sync_failed || self.is_unsynced(),
+        }
+    }
 }
 
 /// Takes a request, unless it is refused, and writes its answer.
@@ -103,7 +111,7 @@ fn refuse_closed<W: Write>(
     taken: u64,
     failure: Failure<'_>,
 ) -> Result<(), Stop> {
-    let refusal = refusal_of(&error, true, taken, failure);
+    let refusal = refusal_of(&error, true, taken, client.with_lost(failure));
     write_refusal(alloc, client.version, out, refusal)?;
     if client.lost.is_none() {
         client.lost = Some(error);
@@ -120,11 +128,7 @@ fn refuse_kept<W: Write>(
     failure: Failure<'_>,
 ) -> Result<(), Stop> {
     let is_closed = client.lost.is_some();
-    let failure = Failure {
-        sync_failed: failure.sync_failed || client.is_unsynced(),
-        ..failure
-    };
-    let refusal = refusal_of(error, is_closed, 0, failure);
+    let refusal = refusal_of(error, is_closed, 0, client.with_lost(failure));
     write_refusal(alloc, client.version, out, refusal)
 }
 

@@ -6,10 +6,9 @@ use crate::request::Request;
 use crate::status::Status;
 use file::FileBlob;
 use std::alloc::Global;
-use std::fmt;
 use std::fs::DirEntry;
 use std::io::ErrorKind;
-use std::{fs, io};
+use std::{fmt, fs, io};
 
 /// What is said of a file, or of a log, of which a sync failed: how to go on.
 #[derive(Clone, Copy)]
@@ -42,7 +41,10 @@ fn rewrite_file(rt: &HostRuntime, path: &str) -> Result<FileBlob, Status> {
     match file::rewrite(rt, path) {
         Ok(blob) => {
             let len = blob.bytes().len();
-            or_end(rt, println!(rt; "{path}: a copy of its {len} bytes is in its place"))?;
+            or_end(
+                rt,
+                println!(rt; "{path}: a copy of its {len} bytes is in its place"),
+            )?;
             Ok(blob)
         }
         Err(error) => Err(fail(rt, path, error)),
@@ -54,7 +56,11 @@ fn rewrite_file(rt: &HostRuntime, path: &str) -> Result<FileBlob, Status> {
 fn rewrite_log(rt: &HostRuntime, folder: &str) -> Result<(), Status> {
     let manifest = manifest_in(rt.alloc(), folder)?;
     if !fs::exists(rt, manifest.as_str()).unwrap_or(true) {
-        return Err(fail(rt, folder, "there is no log in it, since it has no manifest"));
+        return Err(fail(
+            rt,
+            folder,
+            "there is no log in it, since it has no manifest",
+        ));
     }
     let _held = rewrite_file(rt, manifest.as_str())?;
     let copy = manifest_copy_in(rt.alloc(), folder)?;

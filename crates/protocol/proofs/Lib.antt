@@ -11,4 +11,5 @@ pub mod Beginning
 pub mod Opened
 mod FaultExamples
 mod SyncExamples
+mod StopExamples
 mod VersionExamples

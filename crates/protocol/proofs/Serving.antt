@@ -231,14 +231,15 @@ serving_stops sum setting version was now old new failed input rest last out wri
     by_cause LongAnswer none tells = absurd none
     by_cause Failed none (is, same) = broken why is
     by_cause OutOfMemory none (is, same) =
-        subst (λ (y : Stop). Serves sum setting version was now old new failed input last out all (Err y)) (sym is) (now, new, failed, rest, written, before.answered, inl (refl, refl))
+        subst (λ (y : Stop). Serves sum setting version was now old new failed input last out all (Err y)) (sym is)
+        (now, new, failed, rest, kept, unmoved sum setting version was now old new failed input rest out written kept before.answered keeps, (refl, refl, same))
 
 -- a request wasn't answered
 pub serving_fails : (sum : List ℕ → ℕ) (setting : Setting) (version : ProtocolVersion) (request : Request) (was mid now : SessionState) (old between new : Life) (had failed : Bool) (input rest last out written kept all : Option (List ℕ)) (fault : Option Error) (number : ℕ) (stop : Stop) (result : Result (Unit {0}) Stop)
-    → IsErrAnd result (λ x. x ≡ stop) → Serving sum setting version was mid old between had input rest out written fault number → ReadsNext version number rest last (Ok (Some request)) → TakesRequest sum setting version request mid now between new failed kept all (Err stop)
+    → IsErrAnd result (λ x. x ≡ stop) → Serving sum setting version was mid old between had input rest out written fault number → Keeps written kept → ReadsNext version number rest last (Ok (Some request)) → TakesRequest sum setting version request mid now between new failed kept all (Err stop)
     → Serves sum setting version was now old new failed input last out all result
-serving_fails sum setting version request was mid now old between new had failed input rest last out written kept all fault number stop (Ok done) is before reads takes = absurd is
-serving_fails sum setting version request was mid now old between new had failed input rest last out written kept all fault number stop (Err why) is before reads takes =
+serving_fails sum setting version request was mid now old between new had failed input rest last out written kept all fault number stop (Ok done) is before keeps reads takes = absurd is
+serving_fails sum setting version request was mid now old between new had failed input rest last out written kept all fault number stop (Err why) is before keeps reads takes =
     by_cause why (subst (λ (x : Stop). TakesRequest sum setting version request mid now between new failed kept all (Err x)) (sym is) takes)
   where
     more : (Is : List ℕ → Type 0) → TookFor sum setting version Is request mid now between new failed → TookNext sum setting version Is mid now between new failed rest
@@ -253,7 +254,7 @@ serving_fails sum setting version request was mid now old between new had failed
     by_cause (Lost error) none = absurd none
     by_cause LongAnswer this = (mid, between, had, rest, written, before.answered, more IsTooLong this)
     by_cause Failed this = (mid, between, had, rest, written, before.answered, inr (more IsAny this))
-    by_cause OutOfMemory same = (mid, between, had, rest, written, before.answered, inl same)
+    by_cause OutOfMemory same = (mid, between, had, rest, kept, unmoved sum setting version was mid old between had input rest out written kept before.answered keeps, same)
 
 -- a close, or the end of the input
 pub serving_ends : (sum : List ℕ → ℕ) (setting : Setting) (version : ProtocolVersion) (was now : SessionState) (old new : Life) (failed : Bool) (input rest last out written kept : Option (List ℕ)) (fault : Option Error) (number : ℕ) (result : Result (Unit {0}) Stop)

@@ -1,4 +1,4 @@
--- What a client is told once a sync of the file has failed.
+-- What a client is answered once a sync of the file has failed.
 use Rattle.std.proofs.Common.{◌≡◌, true, false, [], ◌∷◌, refl}
 use Rattle.disk.specs.declared.error.Error.TheVariants.{ReadFailed, WriteFailed, ResizeFailed, SyncFailed}
 use Rattle.session.specs.declared.steps.Reply.TheVariants.{Closed, Done, Fault, NoSuch}
@@ -44,7 +44,7 @@ not_open_anew is = cc
 pub open_anew : advice_byte (Fault WriteFailed) false false ≡ 2
 open_anew = refl
 
--- version 1 tells the status alone
+-- version 1 has the status alone
 pub the_first_version : answer_bytes (Fault WriteFailed) true ≡ 1 ∷ 0 ∷ 0 ∷ 0 ∷ 4 ∷ []
 unfolding length_bytes
 the_first_version = refl

@@ -128,7 +128,7 @@ accepted taken reply replies none =
     let both = either_none (status_byte reply == 0) (refusal_from (taken + 1) replies) (taken, reply) none in
     (eqb-true (status_byte reply) 0 both.0, both.1)
 
--- where no sync has failed, a client is told the layer's status
+-- where no sync has failed, a client gets the layer's status
 pub told_is : (reply : Reply) → told_status reply false ≡ status_byte reply
 told_is (Fault error) = ap number_of (as_it_is error)
   where

@@ -31,14 +31,14 @@ status_byte NoSuch = 20
 status_byte NotAppending = 21
 status_byte reply = 0
 
--- the error that a client is told, by whether a sync of the file has failed: then what the layer
+-- the error that a client gets, by whether a sync of the file has failed: then what the layer
 -- answers as a failed write, or a failed change of the size, was that sync
 abbrev pub told_error : Error → (sync_failed : Bool) → Error
 told_error error.WriteFailed true = error.SyncFailed
 told_error error.ResizeFailed true = error.SyncFailed
 told_error other sync_failed = other
 
--- the status of an answer as a client is told it
+-- the status of a reply as a client gets it
 abbrev pub told_status : Reply → (sync_failed : Bool) → ℕ
 told_status (Fault fault) sync_failed = number_of (told_error fault sync_failed)
 told_status reply sync_failed = status_byte reply

@@ -260,7 +260,7 @@ TakesRequest sum setting version request was now old new sync_failed out written
     TookFor sum setting version IsAny request was now old new sync_failed
 TakesRequest sum setting version request was now old new sync_failed out written
     (Err OutOfMemory) =
-    (now ≡ was) × (new ≡ old)
+    (now ≡ was) × (new ≡ old) × (written ≡ out)
 TakesRequest sum setting version request was now old new sync_failed out written (Err other) = ⊥
 
 -- the request of this number was read, or there was none
@@ -282,23 +282,32 @@ TookNext sum setting version Is was now old new sync_failed input =
     × TookFor sum setting version Is request was now old new sync_failed
 
 -- the input begins with requests whose steps were taken and answered, and `Then` holds for what
--- follows them
+-- follows them, in the input and in the output
 abbrev pub AnsweredThen : (List ℕ → ℕ) → Setting → ProtocolVersion → SessionState → Life
-    → (input out : Option (List ℕ)) → (SessionState → Life → Option (List ℕ) → Type 0) → Type 0
+    → (input out : Option (List ℕ))
+    → (SessionState → Life → (rest told : Option (List ℕ)) → Type 0) → Type 0
 AnsweredThen sum setting version was old input out Then =
     (mid : SessionState) × (between : Life) × (had_failed : Bool) × (rest : Option (List ℕ))
     × (written : Option (List ℕ))
     × Answered sum setting version was mid old between had_failed input rest out written
-    × Then mid between rest
+    × Then mid between rest written
 
 -- the input begins with requests whose steps were taken and answered, and maybe with one more,
 -- whose steps were taken; nothing else was done
 abbrev pub BreaksOff : (List ℕ → ℕ) → Setting → ProtocolVersion → SessionState → SessionState → Life
     → Life → (sync_failed : Bool) → (input out : Option (List ℕ)) → Type 0
 BreaksOff sum setting version was now old new sync_failed input out =
-    AnsweredThen sum setting version was old input out (λ mid between rest.
+    AnsweredThen sum setting version was old input out (λ mid between rest told.
     ((now ≡ mid) × (new ≡ between))
     ⊎ TookNext sum setting version IsAny mid now between new sync_failed rest)
+
+-- the input begins with requests whose steps were taken and answered; nothing else was done, and
+-- nothing else was written
+abbrev pub StopsUnanswered : (List ℕ → ℕ) → Setting → ProtocolVersion → SessionState → SessionState
+    → Life → Life → (input out written : Option (List ℕ)) → Type 0
+StopsUnanswered sum setting version was now old new input out written =
+    AnsweredThen sum setting version was old input out (λ mid between rest told.
+    (now ≡ mid) × (new ≡ between) × (written ≡ told))
 
 -- this error is among these replies; or there is none, and no reply has an error
 abbrev pub IsFaultAmong : Option Error → List Reply → Type 0
@@ -360,12 +369,12 @@ Serves sum setting version was now old new sync_failed input rest out written
     × IfSome mid (λ bytes. (bytes ≢ []) × IsFlawed version flaw bytes)
     × TellsFlaw version flaw told written
 Serves sum setting version was now old new sync_failed input rest out written (Err LongAnswer) =
-    AnsweredThen sum setting version was old input out (λ mid between after.
+    AnsweredThen sum setting version was old input out (λ mid between after told.
     TookNext sum setting version IsTooLong mid now between new sync_failed after)
 Serves sum setting version was now old new sync_failed input rest out written (Err Failed) =
     BreaksOff sum setting version was now old new sync_failed input out
 Serves sum setting version was now old new sync_failed input rest out written (Err OutOfMemory) =
-    BreaksOff sum setting version was now old new sync_failed input out
+    StopsUnanswered sum setting version was now old new input out written
 Serves sum setting version was now old new sync_failed input rest out written (Err other) = ⊥
 
 -- ---- how a session begins
@@ -511,13 +520,13 @@ HasAgreed sum setting named old new sync_failed input rest out written result =
 pub record OffersTooLittle (sum : List ℕ → ℕ) (setting : Setting) (old new : Life)
     (sync_failed : Bool) (input out written : Option (List ℕ)) (number : ℕ) (flaw : Flaw) : Type 0
   where
-  pub was : SessionState
-  pub greeting : Option (List ℕ)
-  pub greeted : Greeted sum setting old new sync_failed was out greeting
-  pub first : number ≡ 0
-  pub cut : flaw ≡ Cut
-  pub ends : IfSome input IsCutOffer
-  pub tells : TellsFlaw Two flaw greeting written
+    pub was : SessionState
+    pub greeting : Option (List ℕ)
+    pub greeted : Greeted sum setting old new sync_failed was out greeting
+    pub first : number ≡ 0
+    pub cut : flaw ≡ Cut
+    pub ends : IfSome input IsCutOffer
+    pub tells : TellsFlaw Two flaw greeting written
 
 -- a greeted session was served the requests after its opening, in its version, and it ended so
 pub record ServedAfter (sum : List ℕ → ℕ) (setting : Setting) (named : Named) (old new : Life)

@@ -41,7 +41,7 @@ pub fn status(reply: &Reply) -> u8
     }
 }
 
-/// The status of a reply as a client is told it, by whether a sync of the file has failed. Then
+/// The status of a reply as a client gets it, by whether a sync of the file has failed. Then
 /// what the layer answers as a failed write, or a failed change of the size, was that sync.
 pub fn told_status(reply: &Reply, sync_failed: bool) -> u8
     ensures { result ≡ told_status reply.now sync_failed }
@@ -52,7 +52,7 @@ pub fn told_status(reply: &Reply, sync_failed: bool) -> u8
     }
 }
 
-// The error that a client is told.
+// The error that a client gets.
 fn told_error(error: Error, sync_failed: bool) -> Error
     ensures { result ≡ told_error error sync_failed }
 {

@@ -5,6 +5,7 @@ ghost use Rattle.std.specs.Prelude.{IfErr, IfOk, OnOk};
 ghost use Rattle.std.specs.List.{flat_map, sum};
 ghost use Rattle.session.specs.Run.{IsSessionReady};
 ghost use Rattle.std.specs.Io.KnownBytes.{Appends};
+ghost use Rattle.std.specs.Io.Buffered.{writer_buffer, writer_contents};
 ghost use Rattle.protocol.specs.Answer.{first_refusal, IsAnswerWith, IsWriteError};
 ghost use Rattle.protocol.specs.Request.{IsRequest, frame_bytes, number_bytes};
 ghost use Rattle.protocol.specs.Serve.{AreSteps, asks_change, gives_last};
@@ -27,12 +28,13 @@ use disk::{Blob, Error, StartedSync};
 use page::Sum;
 use session::{Reply, Session, Step, run};
 use std::alloc::{AllocError, Global};
-use std::io::{self, Write};
+use std::io::{self, BufWriter, Write};
 
-/// Takes the steps of a request, unless the request is refused, and then writes its answer. Returns
-/// the first error of the replies, if there is one. `replies` must be empty, and is so again at
-/// `Ok`: only its memory is kept from request to request.
-pub fn take_request<B: Blob + Cause, H: Sum, W: Write>(
+/// Takes the steps of a request, unless the request is refused, and then writes its answer. At a
+/// flush all answers are sent then. Returns the first error of the replies, if there is one.
+/// `replies` must be empty, and is so again at `Ok`: only its memory is kept from request to
+/// request.
+pub fn take_request<B: Blob + Cause, H: Sum, W: Write + Drop>(
     alloc: Global,
     version: Version,
     replies: &mut Vec<Reply>,
@@ -41,7 +43,7 @@ pub fn take_request<B: Blob + Cause, H: Sum, W: Write>(
     cache: &mut CacheRef,
     setting: &Setting,
     request: Request,
-    out: &mut W,
+    out: &mut BufWriter<W>,
 ) -> Result<Option<Error>, Stop>
     requires none { replies.old.items ≡ [] }
     requires asked { IsRequest version request }
@@ -52,8 +54,11 @@ pub fn take_request<B: Blob + Cause, H: Sum, W: Write>(
     ensures ready { let new = (B.life blob.new).present in
         IsSessionReady H.sum_of session.new cache.new new }
     ensures takes { let old = B.life blob.old in let new = B.life blob.new in
+        let out_old = writer_contents W.contents out.old in
+        let out_new = writer_contents W.contents out.new in
         TakesRequest H.sum_of setting.now version request session.old session.new old new
-        (B.sync_failed blob.new) (W.contents out.old) (W.contents out.new) result }
+        (B.sync_failed blob.new) out_old out_new result }
+    ensures sent { request ≡ Request.Flush → OnOk result (writer_buffer out.new ≡ []) }
 {
     if setting.read_only && is_change(&request) {
         let written = refuse_change(alloc, version, out);
@@ -114,10 +119,11 @@ pub fn take_request<B: Blob + Cause, H: Sum, W: Write>(
 }
 
 // Writes an answer without a payload, and flushes all answers.
-fn write_flushed<W: Write>(out: &mut W) -> Result<(), Stop>
-    ensures answers { OnOk result
-        (Appends (W.contents out.old) (W.contents out.new) (frame_bytes (0 ∷ []))) }
+fn write_flushed<W: Write + Drop>(out: &mut BufWriter<W>) -> Result<(), Stop>
+    ensures answers { let out_old = writer_contents W.contents out.old in
+        OnOk result (Appends out_old (writer_contents W.contents out.new) (frame_bytes (0 ∷ []))) }
     ensures err { IfErr result (IsWriteError 0) }
+    ensures sent { OnOk result (writer_buffer out.new ≡ []) }
 {
     write_frame(out, 0, &[], &[])?;
     out.flush()?;
@@ -222,7 +228,15 @@ fn take_step<B: Blob + Cause, H: Sum, W: Write>(
     take_steps(replies, session, blob, cache, &steps)?;
     let has_writer = session.size().is_some();
     let failed = blob.failed_sync();
-    let written = answer(alloc, version, out, replies, has_writer, failed, blob.cause());
+    let written = answer(
+        alloc,
+        version,
+        out,
+        replies,
+        has_writer,
+        failed,
+        blob.cause(),
+    );
     finish(replies, written)
 }
 
@@ -399,7 +413,15 @@ fn take_records<B: Blob + Cause, H: Sum, W: Write>(
     append_then(replies, session, blob, cache, Step::Append(bytes), then)?;
     let has_writer = session.size().is_some();
     let failed = blob.failed_sync();
-    let written = answer_records(alloc, out, lengths, replies, has_writer, failed, blob.cause());
+    let written = answer_records(
+        alloc,
+        out,
+        lengths,
+        replies,
+        has_writer,
+        failed,
+        blob.cause(),
+    );
     finish(replies, written)
 }
 

@@ -45,7 +45,7 @@ returns-in_err-next-clause-serves g c =
     let reads : ReadsNext c.args.version c.loop-number.number rest last (Ok (Some c.in-Ok-Some.request)) = subst (λ (o : Option Request). ReadsNext c.args.version c.loop-number.number rest last (Ok o)) c.in-Ok-Some.field-0-is c.in-Ok-Some.ensures.reads in
     serving_fails g.H.Sum.sum_of c.args.setting.now c.args.version c.in-Ok-Some.request c.args.session.now c.loop-number.session c.take_request.new.session (g.B.Blob.life c.args.blob.now) (g.B.Blob.life c.loop-number.blob) (g.B.Blob.life c.take_request.new.blob) (g.B.Cause.sync_failed c.loop-number.blob) (g.B.Cause.sync_failed c.take_request.new.blob)
     (reader_remaining g.R.Read.remaining c.args.input.now) rest last (writer_contents g.W.Write.contents c.args.out.now) (writer_contents g.W.Write.contents c.loop-number.out) (writer_contents g.W.Write.contents c.next_request.new.out) (writer_contents g.W.Write.contents c.take_request.new.out)
-    c.loop-number.fault c.loop-number.number c.in_err-next.field-0.0 c.from_residual.result c.from_residual.ensures.1 c.loop-number.invariant.serving reads c.in_err-next.ensures.takes
+    c.loop-number.fault c.loop-number.number c.in_err-next.field-0.0 c.from_residual.result c.from_residual.ensures.1 c.loop-number.invariant.serving c.next_request.ensures.keeps reads c.in_err-next.ensures.takes
 
 pub loop-number-preserved : goal.loop-number-preserved
 loop-number-preserved g c =
