@@ -337,6 +337,9 @@ def compare(due, log):
     return found, dropped
 
 
+COPY = "manifest.copy"
+
+
 def listed(manifest, size):
     """The segment before which all are dropped, and the open one, by the bytes of a manifest."""
     first = last = 0
@@ -376,9 +379,20 @@ def check_told(shape, before, after, said):
     if said.count("\n") != lines:
         raise Wrong(f"{lines} lines should tell what goes, and not: {said}")
     for name, data in before.items():
-        if name not in parts and after.get(name) != data:
+        if name not in [*parts, COPY] and after.get(name) != data:
             raise Wrong(f"the opening changed {name}")
     return len(wanted)
+
+
+def check_copy(shape, files):
+    """Whether the copy of the manifest is that of a log that was just opened: it has the manifest's bytes, the number
+    of the open segment, and how many bytes of frames that one has."""
+    manifest, copy = files["manifest"], files.get(COPY, b"")
+    _, last = listed(manifest, shape.page)
+    text = reader.read(files[os.path.basename(segment("", last))], shape.page, reader.crc32c)[1]
+    rest = last.to_bytes(8, "big") + records(text)[1].to_bytes(8, "big") + manifest
+    if copy != reader.crc32c(rest).to_bytes(4, "big") + rest:
+        raise Wrong(f"{COPY} isn't the copy of the manifest: it knows {copy[4:20].hex()}, and should {rest[:16].hex()}")
 
 
 def opened(program, folder, shape, *words):
@@ -405,6 +419,7 @@ def hold(program, folder, shape, files, due):
     said = log.process.stderr.read().decode()
     if status != 0:
         raise Wrong(f"it ends with status {status}: {said}")
+    check_copy(shape, image(folder))
     return found, check_told(shape, files or {}, image(folder), said), dropped
 
 
