@@ -47,6 +47,11 @@ class Made:
         self.open, self.closed = last, segment(int(last[:20]) - 2)
         self.names = {"the manifest": "manifest", "the open segment": self.open, "a closed segment": self.closed}
 
+    def open_again(self, program):
+        """Opens the log once more, so that the copy of its manifest knows how much the open segment has."""
+        Log(program, self.folder, "--segment-size=20000").close()
+        self.names = {"the open segment, opened since": self.open, "the manifest's copy": "manifest.copy"}
+
     def data(self, name):
         return contents(os.path.join(self.folder, name))
 
@@ -154,11 +159,17 @@ def table(program):
     lines = ["| The file | The damage | `serve-log` | `check` | `cat` | `salvage` | `rebuild` |", "|---" * 7 + "|"]
     with tempfile.TemporaryDirectory() as room:
         made = Made(program, os.path.join(room, "made"))
-        for what, name in made.names.items():
-            for damage, data in damages(made, name).items():
-                cells = row(program, made, room, name, data)
-                lines.append(f"| {what} | {damage} | " + " | ".join(cells) + " |")
+        lines += rows(program, made, room)
+        made.open_again(program)
+        lines += rows(program, made, room)
     return "\n".join(lines) + "\n"
+
+
+def rows(program, made, room):
+    """The rows of some files of a log."""
+    for what, name in made.names.items():
+        for damage, data in damages(made, name).items():
+            yield f"| {what} | {damage} | " + " | ".join(row(program, made, room, name, data)) + " |"
 
 
 if __name__ == "__main__":
