@@ -240,7 +240,7 @@ def expect_told(program, folder, status, said):
     """Check tells why the log can't be opened, in the words that a refused serve-log said on standard error; there too
     where the status is 1."""
     line = said if status == 1 else ""
-    why = said.split("\n")[0].removeprefix(f"pagedd: {folder}: ").removesuffix("; nothing was changed")
+    why = said.split("\n")[0].removeprefix(f"pagedd: {folder}: ").split("; nothing was changed")[0]
     ended, out, also = play(program, "check", folder)
     if (ended, also) != (status, line) or out.decode().split("\n")[0] != f"{folder}: the log can't be opened: {why}":
         raise SystemExit(f"NOT SO: check tells that it can't be opened, since {why}: {ended} {out} {also}")

@@ -45,9 +45,23 @@ pub fn refuse_log(rt: &HostRuntime, request: &Request, error: &Error) -> Status 
             }
         }
         _ => {
-            tell(rt, format_args!("{folder}: {why}; nothing was changed"));
+            let advice = advice_after(error);
+            tell(
+                rt,
+                format_args!("{folder}: {why}; nothing was changed{advice}"),
+            );
             Status::NotWhole
         }
+    }
+}
+
+// Which command helps after an error, in words.
+fn advice_after(error: &Error) -> &'static str {
+    match error {
+        Error::Unlisted(_) | Error::Outdated(_) => "; 'pagedd rebuild' makes the manifest anew",
+        Error::Missing(_) => "; 'pagedd salvage' takes what is there",
+        Error::Short(_) => "; '--cut' goes on with less, and 'pagedd salvage' takes what is there",
+        _ => "",
     }
 }
 
@@ -64,7 +78,10 @@ fn tell_fit(rt: &HostRuntime, request: &Request) -> Result<(), Status> {
         ),
         None => tell(
             rt,
-            format_args!("{path}: nothing was changed; see 'pagedd check {path}'"),
+            format_args!(
+                "{path}: nothing was changed; see 'pagedd check {path}', and 'pagedd rebuild {}'",
+                request.file
+            ),
         ),
     }
     Ok(())
