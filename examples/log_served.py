@@ -338,6 +338,48 @@ def older_manifest(program, folder):
     expect((status, out) == (3, b""), f"a manifest that is an older copy is refused with status 3: {said.strip()}")
 
 
+def short_open(program, folder):
+    """An open segment that has less than it had at the last opening is refused, except where a cut is asked for."""
+    shutil.rmtree(folder, ignore_errors=True)
+    log = Session(program, folder)
+    log.append_all([bytes(3000)] * 4)
+    log.end()
+    Session(program, folder).end()
+    path, good = segment(folder, 0), image(folder)
+    data = good[os.path.basename(path)]
+    for what, left in (("lost its last page", data[:-4096]), ("has a bit flipped", flipped(data, 5000))):
+        put(path, left)
+        before = image(folder)
+        status, out, said = play(program, "serve-log", folder)
+        expect((status, out) == (3, b"") and image(folder) == before and "segment 0 has fewer bytes" in said,
+               f"an open segment that {what} is refused with status 3: {said.strip()}")
+        looked = [play(program, command, folder) for command in ("check", "map", "cat")]
+        expect([it[0] for it in looked] == [3, 3, 3] and all("has fewer bytes" in it[2] for it in looked),
+               "check, map and cat say so, with status 3")
+        status, out, said = play(program, "serve-log", "--read-only", folder)
+        expect(status == 0 and "has fewer bytes" in said and image(folder) == before, "served for reading alone it is told")
+        status, out, said = play(program, "serve-log", "--cut", folder)
+        expect(status == 0 and "has fewer bytes" in said, "with --cut the log goes on, and a line says that there is less")
+        expect(play(program, "check", folder)[0] == 0, "then it is whole")
+        for name in image(folder):
+            os.remove(os.path.join(folder, name))
+        for name, held in good.items():
+            put(os.path.join(folder, name), held)
+    shutil.copytree(folder, folder + "-old")
+    log = Session(program, folder, "--segment-size=1")
+    log.append_all([b"a", b"b"])
+    log.end()
+    kept = image(folder)["manifest.copy"]
+    shutil.rmtree(folder)
+    shutil.move(folder + "-old", folder)
+    put(os.path.join(folder, "manifest.copy"), kept)
+    status, out, said = play(program, "serve-log", folder)
+    expect((status, out) == (3, b"") and "older than its copy" in said,
+           f"a log whose manifest's copy knows a later segment is refused: {said.strip()}")
+    os.remove(os.path.join(folder, "manifest.copy"))
+    expect(play(program, "serve-log", folder)[0] == 0, "without that copy it is opened")
+
+
 def torn(program, folder):
     """What an opening cuts of the open segment is said, and set aside first."""
     shutil.rmtree(folder, ignore_errors=True)
@@ -488,7 +530,7 @@ def main():
     made.add_argument("PAGEDD", type=usage.program)
     program = made.parse_args().PAGEDD
     with tempfile.TemporaryDirectory() as room:
-        parts = (version_one, version_two, wrong_frames, in_order, alone, tampering, older_manifest, torn, begun,
+        parts = (version_one, version_two, wrong_frames, in_order, alone, tampering, older_manifest, short_open, torn, begun,
                  closed_by_a_failure, full, commands, documented)
         for number, part in enumerate(parts):
             part(program, os.path.join(room, f"log-{number}"))
