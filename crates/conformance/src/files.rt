@@ -340,9 +340,7 @@ fn say_one(call: FileCall, said: &mut Vec<u8>) -> io::Result<()> {
         FileCall::Sync(name) => say_call("sync", name, said),
         FileCall::Remove(name) => say_call("remove", name, said),
         FileCall::SyncNames => write!(said, "sync names"),
-        FileCall::Keep(known, len) => {
-            write!(said, "keep {} {} {len}", known.segment, known.len)
-        }
+        FileCall::Keep(known, len) => { write!(said, "keep {} {} {len}", known.segment, known.len) }
     }
 }
 

@@ -463,7 +463,10 @@ impl<H: Sum> Logs<H> {
                     return Ok(None);
                 }
                 Err(error) => {
-                    write!(said, "fault call {call} {is_for_good} choice {choice}: {error}")?;
+                    write!(
+                        said,
+                        "fault call {call} {is_for_good} choice {choice}: {error}"
+                    )?;
                     return Ok(None);
                 }
             }

@@ -1,6 +1,6 @@
 -- A log that begins.
 use Rattle.std.specs.Prelude.{◌≡◌, ◌-◌, ◌++◌, ℕ, List, [], ◌∷◌, drop, Some, None, Result, Ok, Err, IfOk}
-use Rattle.std.proofs.Common.{ap, sym, ◌∙◌, subst, refl, arith, append_assoc}
+use Rattle.std.proofs.Common.{ap, sym, ◌∙◌, subst, arith, append_assoc}
 use Rattle.page.specs.Page.{text}
 use Rattle.journal.specs.Frame.{records}
 use Rattle.journal.specs.Journal.{CommitsAll, OnlyRecords}

@@ -1,6 +1,5 @@
 -- A copy's bytes tell what is known.
-use Rattle.std.specs.Prelude.{◌≡◌, ◌<◌, ◌^◌, ◌++◌, ◌==◌, ℕ, List, Bool, true, false, Some, None, if◌then◌else◌, Option, length, nat_lt}
-use Rattle.std.specs.Int.{w32, w64, to_be_bytes, from_be_bytes}
+use Rattle.std.specs.Prelude.{◌≡◌, ◌<◌, ◌^◌, ◌==◌, ℕ, List, Bool, true, false, Some, None, if◌then◌else◌, length, nat_lt}
 use Rattle.std.proofs.Common.{ap, ap₂, sym, ◌∙◌, refl, arith, true≢false}
 use Rattle.std.proofs.lemmas.Bool.{eq-eqb, le-ltb}
 use Rattle.std.proofs.lemmas.Nat.{from_be_bytes-to_be_bytes_4, from_be_bytes-to_be_bytes_8}

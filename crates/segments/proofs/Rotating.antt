@@ -74,10 +74,13 @@ rotated sum own s m n e next kept closed first has asks entered last =
       listed = entered.there;
       there = has.there;
       none = has.none;
-      copied = record { failed = entered.kept.failed; asked = entered.kept.asked
-          ∙ ap (λ (events : List FolderEvent). events ++ keeping_event (open_in e.listing) e.known e.manifest.life.present.readable entered.kept.failed ∷ [])
-          (has.asked ∙ ap (λ (l : ListingState). m.asked ++ events_for (open_in l + 1) []) first.listing
-          ∙ ap (λ (events : List FolderEvent). events ++ events_for (open_in s.listing + 1) []) first.asked) };
+      copied = record {
+        failed = entered.kept.failed;
+        asked = entered.kept.asked
+            ∙ ap (λ (events : List FolderEvent). events ++ keeping_event (open_in e.listing) e.known e.manifest.life.present.readable entered.kept.failed ∷ [])
+            (has.asked ∙ ap (λ (l : ListingState). m.asked ++ events_for (open_in l + 1) []) first.listing
+            ∙ ap (λ (events : List FolderEvent). events ++ events_for (open_in s.listing + 1) []) first.asked);
+      };
       known = entered.known;
       loaded = last.loaded ∙ same_loaded;
       page_size = last.page_size ∙ same_size;

@@ -78,19 +78,20 @@ impl<B: Blob> FolderPast<B> {
 
     /// This past and one call more that was to keep a copy of the manifest, which is this blob, and
     /// with it these two numbers.
-    pub fn kept(
-        before: &Snapshot<Self>,
-        manifest: &B,
-        known: Known,
-        failed: bool,
-    ) -> Snapshot<Self>
+    pub fn kept(before: &Snapshot<Self>, manifest: &B, known: Known, failed: bool) -> Snapshot<Self>
         ensures { let bytes = (B.life manifest.now).present.readable in
             result.value
             ≡ before.now.value ++ keeping_event known.segment known.len bytes failed ∷ [] }
     {
         let before = Snapshot::of(before);
         let past = FolderPast {
-            last: Last::Kept(before, known.segment, known.len, Snapshot::of(manifest), failed),
+            last: Last::Kept(
+                before,
+                known.segment,
+                known.len,
+                Snapshot::of(manifest),
+                failed,
+            ),
         };
         Snapshot::of(&past)
     }

@@ -1,5 +1,3 @@
-use Rattle.std.proofs.Common.{subst, sym}
-use Rattle.segments.specs.Crash.{HasOpenedFiles}
 use Rattle.segments.proofs.Beginning.{begin_kept, begin_opened}
 use Rattle.segments.proofs.log.SegmentedLog.begin.Goals as goal
 
