@@ -236,6 +236,10 @@ def alone(program, folder):
     expect(status == 0 and out[14 + 4:14 + 7] == b"\0\2\1", "the hello says so")
 
 
+def flipped(data, at):
+    return data[:at] + bytes([data[at] ^ 1]) + data[at + 1:]
+
+
 def expect_told(program, folder, status, said):
     """Check tells why the log can't be opened, in the words that a refused serve-log said on standard error; there too
     where the status is 1."""
@@ -263,9 +267,6 @@ def tampering(program, folder):
         os.mkdir(folder)
         for name, data in good.items():
             put(os.path.join(folder, name), data)
-
-    def flipped(data, at):
-        return data[:at] + bytes([data[at] ^ 1]) + data[at + 1:]
 
     whole = contents(segment(folder, 1))
     cases = {"one bit changed": flipped(whole, 100), "cut": whole[:-1], "emptied": b"", "grown": whole + b"\0",
