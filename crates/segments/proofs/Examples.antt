@@ -1,11 +1,12 @@
 -- What a drop leaves, shown of a small log, and refuted of something nearly right. The log has one closed segment,
 -- number 0, and an open one; its two journals and what was kept of the closed segment are any.
-use Rattle.std.specs.Prelude.{◌≡◌, ◌++◌, Bool, List, [], ◌∷◌, Some, None, Err, true, false}
+use Rattle.std.specs.Prelude.{◌≡◌, ◌++◌, ℕ, Bool, List, [], ◌∷◌, Some, None, Err, true, false}
 use Rattle.std.proofs.Common.{refl, sym, ap, subst, inl, inr, arith, ◌∙◌}
 use Rattle.disk.specs.Disk.{Life}
 use Rattle.disk.specs.declared.error.Error.TheVariants.{WriteFailed}
 use Rattle.cache.specs.CacheState.{CacheState}
 use Rattle.writer_state.specs.WriterState.{WriterState}
+use Rattle.segments.specs.declared.call.FolderCall.{FolderCall}
 use Rattle.segments.specs.declared.call.FolderCall.TheVariants as calls
 use Rattle.segments.specs.declared.closed.Closed.{Closed}
 use Rattle.segments.specs.declared.error.Error.TheVariants as errors
@@ -14,6 +15,25 @@ use Rattle.segments.specs.FolderEvents.{FolderEvent, keeping_event, plain_event}
 use Rattle.segments.specs.Manifest.{ListingState}
 use Rattle.segments.specs.Owned.{OwnedState, without_journal}
 use Rattle.segments.specs.Log.{AreOfOlder, HasKept, IsBeyond, IsClosedLog, IsClosedOff, IsDropped, IsDropping, IsKept, IsNotEntered, IsSameButManifest, LogDropGoes, LogState, StartOrCloseGoes, StartsAt, known_with, listing_from, most_for}
+
+-- which call it is, as a number; and which segment a copy knows as the open one
+abbrev kind : FolderCall → ℕ
+kind (calls.Keeps segment len) = 0
+kind (calls.Removes segment) = 1
+kind calls.Syncs = 2
+kind calls.OpensManifest = 3
+kind (calls.Opens segment) = 4
+
+abbrev known_as_open : FolderCall → ℕ
+known_as_open (calls.Keeps segment len) = segment
+known_as_open (calls.Removes segment) = 0
+known_as_open calls.Syncs = 0
+known_as_open calls.OpensManifest = 0
+known_as_open (calls.Opens segment) = 0
+
+abbrev first_of : (FolderCall → ℕ) → List FolderEvent → ℕ
+first_of f [] = 9
+first_of f (e ∷ es) = f e.call
 
 module _ (cache : CacheState) (life : Life) (w : WriterState) (kept : Closed) where
   abbrev owned : OwnedState
@@ -82,7 +102,7 @@ module _ (cache : CacheState) (life : Life) (w : WriterState) (kept : Closed) wh
 
   -- a copy that knows another segment as the open one
   pub another_is_kept : IsKept [] (record dropped { asked = keeping_event 0 3 life.present.readable false ∷ [] }) → ⊥
-  another_is_kept is = absurd (cc is.asked)
+  another_is_kept is = absurd (omega (arith, ap (first_of known_as_open) is.asked))
 
   -- each segment gets a record
   pub a_record_each : most_for 0 ≡ 1
@@ -119,7 +139,7 @@ module _ (cache : CacheState) (life : Life) (w : WriterState) (kept : Closed) wh
 
   -- segment 0 may not be left out where there is nothing to drop
   pub not_started_at_0 : StartsAt 0 log dropped → ⊥
-  not_started_at_0 is = elim is [ inl same ↦ absurd (cc same.1) | inr later ↦ absurd (omega (arith, later.0)) ]
+  not_started_at_0 is = elim is [ inl same ↦ absurd (omega (arith, ap (λ (l : LogState). l.listing.first) same.1)) | inr later ↦ absurd (omega (arith, later.0)) ]
 
   -- the folder refused to remove the file, and the manifest has the drop
   pub a_refused_removal : IsDropping 1 log (record dropped { asked = copied false ∷ plain_event (calls.Removes 0) true ∷ [] })
@@ -147,11 +167,8 @@ module _ (cache : CacheState) (life : Life) (w : WriterState) (kept : Closed) wh
   pub not_removed_before : IsDropping 1 log (record dropped { asked = plain_event (calls.Removes 0) false ∷ copied false ∷ [] }) → ⊥
   not_removed_before is = elim (is.starts) [
     | inl none ↦ absurd (omega (arith, none.0))
-    | inr later ↦ first_is is.mid.asked is.removed.events later.1.kept is.removed.all
-  ] where
-    first_is : (mid events : List FolderEvent) → IsKept [] is.mid → plain_event (calls.Removes 0) false ∷ copied false ∷ [] ≡ is.mid.asked ++ events → ⊥
-    first_is mid events kept all =
-        absurd (cc (all ∙ ap (λ (calls : List FolderEvent). calls ++ events) kept.asked))
+    | inr later ↦ absurd (omega (arith, ap (first_of kind) (is.removed.all ∙ ap (λ (calls : List FolderEvent). calls ++ is.removed.events) later.1.kept.asked)))
+  ]
 
   -- a drop that the manifest doesn't have isn't done
   pub not_done_by_a_closed_manifest : IsDropping 1 log (record dropped { manifest = without_journal owned }) → ⊥
@@ -161,6 +178,6 @@ module _ (cache : CacheState) (life : Life) (w : WriterState) (kept : Closed) wh
   pub not_done_without_a_sync : IsDropped 1 log dropped → ⊥
   not_done_without_a_sync is = nothing_before is.synced.0 is.synced.1 where
     nothing_before : (before : List FolderEvent) → copied false ∷ [] ≡ before ++ plain_event calls.Syncs false ∷ [] → ⊥
-    nothing_before [] none = absurd (cc none)
+    nothing_before [] none = absurd (omega (arith, ap (first_of kind) none))
     nothing_before (e ∷ []) none = absurd (cc none)
     nothing_before (e ∷ f ∷ before) none = absurd (cc none)
