@@ -59,10 +59,10 @@ REASONS = {
     "paged::Replay::new": "`Sealed::replay` makes it",
     "paged::Sealed::new": "`Writer::snapshot` makes it",
     "items::ItemSession::into_items": "its clause is an equation, and it can't fail",
-    "segments::Closed::of": "`SegmentedLog::rotate` lists a segment so",
+    "segments::Entry::known_with": "`SegmentedLog::rotate` and `drop_before` take an entry in so",
     "segments::Folder::last_with_bytes": "`SegmentedLog::open` asks a folder for it",
     **{f"segments::Listing::{name}": LISTING
-       for name in ("new", "first", "open", "closed", "records", "reserve", "take_in")},
+       for name in ("first", "open", "closed", "records", "reserve")},
     "session::Session::new": "`Session::recover` makes it",
     "protocol::serve": "`serve_file` serves so, once the file is recovered",
     "scripts::parse_item_line": "`play_on` reads each line of items so",
