@@ -5,8 +5,8 @@ use Rattle.std.specs.Int.{w32, w64, to_be_bytes, from_be_bytes}
 use Rattle.crc32c.specs.Crc.{crc32c}
 use Rattle.segments.specs.declared.known.Known.{Known}
 
--- what a copy holds after its checksum: the number of the open segment, how many logical bytes of it
--- were durable, and the bytes of the manifest
+-- what a copy holds after its checksum: the number of the open segment, how many logical bytes of
+-- it were durable, and the bytes of the manifest
 abbrev pub copy_body : Known → (manifest : List ℕ) → List ℕ
 copy_body known manifest = to_be_bytes w64 known.segment ++ to_be_bytes w64 known.len ++ manifest
 

@@ -169,8 +169,8 @@ pub record HasOpenedFiles (sum own : List ℕ → ℕ) (before calls : List Fold
   -- all of the open segment's bytes are known then
   pub known : s.known ≡ owned_size s.current.journal
 
--- the log of a folder was opened. An empty manifest gets its first entry, and lists no segment. Last
--- a copy of the manifest was to be kept
+-- the log of a folder was opened. An empty manifest gets its first entry, and lists no segment.
+-- Last a copy of the manifest was to be kept
 pub record IsOpenedLog (sum own : List ℕ → ℕ) (before : List FolderEvent) (s : LogState)
     : Type 0 where
   pub calls : List FolderEvent

@@ -90,8 +90,8 @@ pub record IsSameButManifest (s t : LogState) : Type 0 where
   pub page_size : t.page_size ≡ s.page_size
   pub most : t.most ≡ s.most
 
--- the last call that the folder was asked for, after these, was to keep a copy of the manifest as it
--- is now, with what is known of the open segment. If that failed the log goes on
+-- the last call that the folder was asked for, after these, was to keep a copy of the manifest as
+-- it is now, with what is known of the open segment. If that failed the log goes on
 pub record IsKept (before : List FolderEvent) (t : LogState) : Type 0 where
   pub failed : Bool
   pub asked : t.asked ≡ before ++ keeping_event (open_in t.listing) t.known
