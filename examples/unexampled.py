@@ -92,7 +92,7 @@ def clauses(text):
 def given_out(text, names):
     """The parts of a file that are public: calls and traits of these names, and the public calls of their types."""
     for part in re.split(r"^(?=impl\b|pub (?:const )?fn |pub trait )", text, flags=re.M)[1:]:
-        head = re.match(r"impl(?:<[^>]*>)? (\w+)|pub (?:const )?fn (\w+)|pub trait (\w+)", part)
+        head = re.match(r"impl(?:<(?:[^<>]|<[^<>]*>)*>)? (\w+)|pub (?:const )?fn (\w+)|pub trait (\w+)", part)
         if head and head[3] in names:
             yield re.split(r"^\}", part, flags=re.M)[0]
         elif head and (head[1] or head[2]) in names:
