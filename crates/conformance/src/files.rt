@@ -74,6 +74,8 @@ pub struct Files {
     failing: usize,
     // Whether each call from the one that must fail on fails.
     is_for_good: bool,
+    // Whether there is no room: no file can be made, and none gets longer.
+    is_full: bool,
 }
 
 // A blob in memory that wasn't made to fail fails only if there is no memory.
@@ -93,6 +95,7 @@ impl Files {
             calls: Vec::new(alloc),
             failing: 0,
             is_for_good: false,
+            is_full: false,
         }
     }
 
@@ -105,6 +108,19 @@ impl Files {
     pub fn fail_at(&mut self, n: usize, is_for_good: bool) {
         self.failing = self.calls.len().saturating_add(n);
         self.is_for_good = is_for_good;
+    }
+
+    /// Fills the disk, until a file is removed or there is a crash.
+    pub fn fill(&mut self) {
+        self.is_full = true;
+    }
+
+    // Refuses what needs room where there is none.
+    fn need_room(&self, needs_room: bool) -> io::Result<()> {
+        if self.is_full && needs_room {
+            return Err(ErrorKind::StorageFull.into());
+        }
+        Ok(())
     }
 
     /// Whether the call that was to fail was made.
@@ -175,6 +191,7 @@ impl Files {
     /// Opens a file, and makes it where it is missing. Its bytes are durable then.
     pub fn open(&mut self, name: Name) -> io::Result<Vec<u8>> {
         self.note(FileCall::Open(name))?;
+        self.need_room(!self.has(name))?;
         if !self.has(name) {
             self.files.push(Stored {
                 name,
@@ -189,6 +206,8 @@ impl Files {
     /// Puts bytes at an offset of a file.
     pub fn put(&mut self, name: Name, offset: u64, bufs: &IoBufs) -> io::Result<()> {
         self.note(FileCall::Put(name, offset, bufs.len()))?;
+        let end = offset.saturating_add(bufs.len() as u64);
+        self.need_room(end > self.blob(name)?.bytes().len() as u64)?;
         let blob = self.blob_mut(name)?;
         done(blob.write_at(offset, bufs, WriteOptions::default()))
     }
@@ -196,6 +215,7 @@ impl Files {
     /// Sets the length of a file in bytes.
     pub fn set_len(&mut self, name: Name, len: u64) -> io::Result<()> {
         self.note(FileCall::SetLen(name, len))?;
+        self.need_room(len > self.blob(name)?.bytes().len() as u64)?;
         done(self.blob_mut(name)?.resize(len))
     }
 
@@ -212,6 +232,7 @@ impl Files {
         match self.files.get_mut(index) {
             Some(stored) => {
                 stored.standing = Standing::Removed;
+                self.is_full = false;
                 Ok(())
             }
             None => Err(ErrorKind::NotFound.into()),
@@ -232,6 +253,11 @@ impl Files {
         let Ok(mut copy) = copy_of(self.alloc, known, manifest) else {
             return Err(out_of_memory());
         };
+        let room = match self.blob(Name::Copy) {
+            Ok(blob) => blob.bytes().len(),
+            Err(_) => 0,
+        };
+        self.need_room(copy.len() > room)?;
         if noted.is_err() {
             copy.truncate(copy.len() / 2);
         }
@@ -275,6 +301,7 @@ impl Files {
         }
         self.settle_names();
         self.failing = 0;
+        self.is_full = false;
         Ok(())
     }
 

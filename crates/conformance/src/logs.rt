@@ -50,6 +50,7 @@ enum Verb {
     Rotate,
     DropBefore,
     Fail,
+    Full,
     Crash,
     Files,
     Dump,
@@ -62,7 +63,7 @@ enum Verb {
     TornOpen,
 }
 
-const STEPS: [Form<Verb>; 21] = [
+const STEPS: [Form<Verb>; 22] = [
     (b"open", &[], Verb::Open),
     (b"close", &[], Verb::Close),
     (b"append", &[Bytes], Verb::Append),
@@ -74,6 +75,7 @@ const STEPS: [Form<Verb>; 21] = [
     (b"rotate", &[], Verb::Rotate),
     (b"drop-before", &[Number], Verb::DropBefore),
     (b"fail", &[Number], Verb::Fail),
+    (b"full", &[], Verb::Full),
     (b"crash", &[Flags, Word], Verb::Crash),
     (b"files", &[], Verb::Files),
     (b"dump", &[Word], Verb::Dump),
@@ -523,6 +525,10 @@ impl<H: Sum> Subject for Logs<H> {
             }
             Verb::Fail => {
                 lent(&self.files)?.fail_at(words.length(0), false);
+                write!(said, "ok")
+            }
+            Verb::Full => {
+                lent(&self.files)?.fill();
                 write!(said, "ok")
             }
             Verb::Crash => {

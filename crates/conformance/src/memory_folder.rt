@@ -166,6 +166,10 @@ impl Folder<MemoryFile> for MemoryFolder {
         opened
     }
 
+    fn close(&mut self, segment: u64, blob: MemoryFile, manifest: &MemoryFile) {
+        self.past = FolderPast::closed(&self.past, segment, &blob, manifest);
+    }
+
     fn bytes(blob: &MemoryFile) -> &[u8] {
         blob.bytes()
     }

@@ -8,7 +8,7 @@ use crate::log_put::{name_file, sync_names, write_file};
 use crate::log_refusing::refuse_other_shape;
 use crate::log_text::{Front, Text};
 use crate::opening::{open, set_aside_once};
-use crate::request::Request;
+use crate::request::{Request, Shape};
 use crate::salvage::blob_of;
 use crate::status::Status;
 use disk::Error;
@@ -174,15 +174,20 @@ fn enter<H: Sum>(
     if !known.enter(request.shape, entry)? {
         return Err(fail(rt, request.file, "no segment number is left"));
     }
-    match framed::<H>(rt, entry) {
+    match framed::<H>(rt, request.shape, known.frames.len() as u64, entry) {
         Ok(frame) => Ok(known.frames.extend_from_slice(frame.as_slice())?),
         Err(_) => Err(Status::OutOfMemory),
     }
 }
 
-// The frame of an entry.
-fn framed<H: Sum>(rt: &HostRuntime, entry: &Entry) -> Result<Vec<u8>, Error> {
-    let bytes = bytes_of(rt.alloc(), entry)?;
+// The frame of an entry, for a manifest that has so many logical bytes.
+fn framed<H: Sum>(
+    rt: &HostRuntime,
+    shape: Shape,
+    size: u64,
+    entry: &Entry,
+) -> Result<Vec<u8>, Error> {
+    let bytes = bytes_of(rt.alloc(), shape.page_size, size, entry)?;
     frame_of::<H>(rt.alloc(), bytes.as_slice())
 }
 

@@ -1,16 +1,21 @@
 -- A record that is appended and committed.
-use Rattle.std.specs.Prelude.{◌≡◌, ◌++◌, ℕ, List, [], ◌∷◌, Some, None, Option, IfSome, Ok}
-use Rattle.std.proofs.Common.{ap, ◌∙◌, refl, subst}
+use Rattle.std.specs.Prelude.{◌≡◌, ◌+◌, ◌++◌, ℕ, List, [], ◌∷◌, length, Some, None, Option, IfSome, Result, Ok, Err}
+use Rattle.std.proofs.Common.{ap, sym, ◌∙◌, refl, subst, arith, length-append}
 use Rattle.disk.specs.Disk.{Life}
 use Rattle.cache.specs.CacheState.{CacheState}
 use Rattle.crash.specs.Moments.{through_joins}
 use Rattle.writer_state.specs.WriterState.{WriterState}
 use Rattle.writer_state.specs.Sound.{content}
-use Rattle.journal.specs.Frame.{records}
-use Rattle.journal.specs.Journal.{Commits, CommitsAll, IsAppended, IsCommitted, OnlyRecords, records_in}
+use Rattle.journal.specs.Frame.{frame, records}
+use Rattle.journal.specs.Journal.{Commits, CommitsAll, IsAppended, IsCommitted, IsJournal, OnlyRecords, records_in}
+use Rattle.journal.proofs.Frames.{length-frame}
+use Rattle.journal.proofs.Journals.{between_of}
+use Rattle.paged.specs.Reads.{size_of}
 use Rattle.journal.specs.Calls.{JournalCallLeaves}
 use Rattle.segments.proofs.Closing.{pages_of}
-use Rattle.segments.specs.Owned.{IsAdded, IsOwned, KeepsJournal, KeepsRecords, OwnedAddKeeps, OwnedAppendGoes, OwnedLeaves, OwnedState, records_now, records_of}
+use Rattle.segments.specs.declared.error.Error.{Error}
+use Rattle.segments.specs.declared.error.Error.TheVariants as errors
+use Rattle.segments.specs.Owned.{HasJournal, IsAdded, IsOwned, IsOwnedJournal, KeepsJournal, KeepsRecords, OwnedAddGoes, OwnedAddKeeps, OwnedAppendGoes, OwnedCommitGoes, OwnedLeaves, OwnedState, records_now, records_of}
 
 -- what is kept in one stretch of a life and in the next is kept in both
 pub keeps_joins : (sum own : List ℕ → ℕ) (P : ℕ) (all : List (List ℕ)) (old mid new : Life)
@@ -21,14 +26,64 @@ keeps_joins sum own P all old mid new first second = record {
   only = through_joins (OnlyRecords sum own P all) old mid new first.only second.only;
 }
 
-added_by : (sum own : List ℕ → ℕ) (P : ℕ) (bytes : List ℕ) (w mid now : WriterState) (after later : CacheState) (old half new : Life) (offset : ℕ)
-    → w.page_size ≡ P → IsAppended sum own w bytes after old half mid offset → IsCommitted sum own mid later half new now
+-- a writer's size is how many bytes its content has
+sized : (sum : List ℕ → ℕ) (w : WriterState) (cache : CacheState) (life : Life) → IsJournal sum w cache life → size_of w ≡ length (content w life.present.readable)
+sized sum w cache life journal = (between_of sum w cache life journal).size
+
+added_by : (sum own : List ℕ → ℕ) (P : ℕ) (bytes : List ℕ) (w mid now : WriterState) (cache after later : CacheState) (old half new : Life) (offset : ℕ)
+    → w.page_size ≡ P → IsJournal sum w cache old → IsAppended sum own w bytes after old half mid offset → IsCommitted sum own mid later half new now
     → IsAdded sum own P bytes w old now new
-added_by sum own P bytes w mid now after later old half new offset page appended committed = record {
+added_by sum own P bytes w mid now cache after later old half new offset page journal appended committed = record {
   records = ap (λ held. records own held) committed.holds ∙ appended.added;
+  size =
+      let before = sized sum w cache old journal in
+      let after_it = sized sum now later new committed.journal in
+      let grown = ap length committed.holds ∙ ap length appended.holds ∙ length-append (content w old.present.readable) (frame own bytes) in
+      let framed = length-frame own bytes in
+      omega (arith, before, after_it, grown, framed);
   committed = subst (λ P. CommitsAll sum own P (content now new.present.readable) new.present) (committed.same.page_size ∙ appended.same.page_size ∙ page) committed.all;
   durable = committed.durable;
 }
+
+goes_by : (sum own : List ℕ → ℕ) (P : ℕ) (bytes : List ℕ) (s : OwnedState) (j k l : Option WriterState) (after later : CacheState) (half new : Life) (offset : ℕ)
+    → IfSome j (λ w. w.page_size ≡ P) → IfSome j (λ w. IsOwnedJournal sum own s w)
+    → KeepsJournal j k (λ w mid. IsAppended sum own w bytes after s.life half mid offset) → KeepsJournal k l (λ mid now. IsCommitted sum own mid later half new now)
+    → KeepsJournal j l (λ w now. IsAdded sum own P bytes w s.life now new)
+goes_by sum own P bytes s None k l after later half new offset page owned is committed = absurd is
+goes_by sum own P bytes s (Some w) None l after later half new offset page owned is committed = absurd is
+goes_by sum own P bytes s (Some w) (Some mid) None after later half new offset page owned is committed = absurd committed
+goes_by sum own P bytes s (Some w) (Some mid) (Some now) after later half new offset page owned is committed =
+    added_by sum own P bytes w mid now s.cache after later s.life half new offset page owned.journal is committed
+
+failed_by : (j k l : Option WriterState) (P : WriterState → WriterState → Type 0) (Q : WriterState → Type 0) → KeepsJournal j k P → HasJournal k (λ w. (l ≡ None) × Q w)
+    → HasJournal j (λ w. l ≡ None)
+failed_by None k l P Q is failed = absurd is
+failed_by (Some w) None l P Q is failed = absurd is
+failed_by (Some w) (Some mid) l P Q is failed = failed.0
+
+none_kept : (j k : Option WriterState) (P : WriterState → WriterState → Type 0) → KeepsJournal j k P → k ≡ None → ⊥
+none_kept j None P is none = not_kept j is where
+  not_kept : (j : Option WriterState) → KeepsJournal j None P → ⊥
+  not_kept None is = is
+  not_kept (Some w) is = is
+none_kept j (Some w) P is none = absurd (cc none)
+
+-- an append, and then a commit, by its answer
+pub add_goes : (sum own : List ℕ → ℕ) (bytes : List ℕ) (s m t : OwnedState) (offset : ℕ) (result : Result (Unit {0}) Error) → IsOwned sum own s
+    → OwnedAppendGoes sum own bytes s m (Ok offset) → OwnedCommitGoes sum own m t result → OwnedAddGoes sum own bytes s t result
+add_goes sum own bytes s m t offset (Ok u) owned is committed =
+    goes_by sum own s.page_size bytes s s.journal m.journal t.journal m.cache t.cache m.life t.life offset (pages_of sum own s s.journal owned.1) owned.1 is committed
+add_goes sum own bytes s m t offset (Err (errors.Layer e)) owned is failed = failed_by s.journal m.journal t.journal _ _ is failed
+add_goes sum own bytes s m t offset (Err errors.Closed) owned is failed = absurd (none_kept s.journal m.journal _ is failed.0)
+add_goes sum own bytes s m t offset (Err (errors.System e)) owned is failed = failed
+add_goes sum own bytes s m t offset (Err (errors.Damaged n)) owned is failed = failed
+add_goes sum own bytes s m t offset (Err (errors.Unlisted n)) owned is failed = failed
+add_goes sum own bytes s m t offset (Err (errors.Missing n)) owned is failed = failed
+add_goes sum own bytes s m t offset (Err (errors.Short n)) owned is failed = failed
+add_goes sum own bytes s m t offset (Err (errors.Outdated n)) owned is failed = failed
+add_goes sum own bytes s m t offset (Err errors.Manifest) owned is failed = failed
+add_goes sum own bytes s m t offset (Err (errors.NoSegment n)) owned is failed = failed
+add_goes sum own bytes s m t offset (Err errors.NumbersExhausted) owned is failed = failed
 
 leaves_keep : (sum own : List ℕ → ℕ) (P : ℕ) (w : WriterState) (all these : List (List ℕ)) (cache after : CacheState) (old new : Life)
     → w.page_size ≡ P → all ≡ these → JournalCallLeaves sum own w all cache after old new → KeepsRecords sum own P these old new

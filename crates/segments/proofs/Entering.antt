@@ -9,9 +9,9 @@ use Rattle.journal.proofs.Journals.{between_of, leaves_still}
 use Rattle.segments.specs.declared.entry.Entry.{Entry}
 use Rattle.segments.specs.declared.error.Error.{Error}
 use Rattle.segments.specs.declared.error.Error.TheVariants as errors
-use Rattle.segments.specs.Manifest.{ListingState, entry_bytes, entry_in, listed_in, listed_with}
+use Rattle.segments.specs.Manifest.{ListingState, entry_in, listed_in, listed_with}
 use Rattle.segments.specs.Owned.{HasJournal, IsAdded, IsOwned, IsOwnedJournal, KeepsJournal, KeepsRecords, OwnedAddGoes, OwnedAddKeeps, OwnedState, records_now, records_of}
-use Rattle.segments.specs.Log.{IsLog, Lists, LogState, Tries}
+use Rattle.segments.specs.Log.{IsLog, Lists, LogState, Tries, entered_bytes}
 use Rattle.segments.proofs.Listings.{listed_more}
 
 lists_by : (sum own : List ℕ → ℕ) (P : ℕ) (entry : Entry) (bytes : List ℕ) (l m : ListingState) (j k : Option WriterState) (old new : Life)
@@ -105,13 +105,13 @@ entered_keeps sum own P bytes these s t page same keeps =
     (added_keeps sum own s.page_size bytes s.journal s.life t.life keeps))
 
 -- an entry that was asked for
-pub entry_tried : (sum own : List ℕ → ℕ) (entry : Entry) (bytes : List ℕ) (view s t : LogState) (m : ListingState) (manifest : OwnedState) → t.manifest ≡ manifest → view ≡ s → bytes ≡ entry_bytes entry
+pub entry_tried : (sum own : List ℕ → ℕ) (entry : Entry) (bytes : List ℕ) (view s t : LogState) (m : ListingState) (manifest : OwnedState) → t.manifest ≡ manifest → view ≡ s → bytes ≡ entered_bytes entry view
     → entry_in bytes ≡ Some entry → listed_with view.page_size entry view.listing ≡ Some m → view.manifest.page_size ≡ view.page_size
     → OwnedAddKeeps sum own bytes view.manifest manifest → Tries sum own entry s t
 entry_tried sum own entry bytes view s t m manifest now is same told follows pages keeps = subst (λ s. Tries sum own entry s t) is (inr (record {
   listing = m;
   told = subst (λ bytes. entry_in bytes ≡ Some entry) same told;
   follows = follows;
-  keeps = entered_keeps sum own view.page_size bytes (entry_bytes entry) view.manifest t.manifest pages same
+  keeps = entered_keeps sum own view.page_size bytes (entered_bytes entry view) view.manifest t.manifest pages same
       (subst (λ (o : OwnedState). OwnedAddKeeps sum own bytes view.manifest o) (sym now) keeps);
 }))

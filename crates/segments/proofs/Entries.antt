@@ -1,7 +1,11 @@
 -- An entry's bytes are that entry.
-use Rattle.std.specs.Prelude.{◌≡◌, ◌<◌, ◌^◌, ℕ, List, length, take, Some}
-use Rattle.std.proofs.Common.{ap, ap₂, ◌∙◌, arith, take_all}
+use Rattle.std.specs.Prelude.{◌≡◌, ◌≢◌, ◌<◌, ◌+◌, ◌^◌, ◌==◌, ◌&&◌, ◌++◌, ℕ, zero, suc, List, length, take, drop, Some, None, Option, Bool, true, false, if◌then◌else◌, nat_lt, replicate}
+use Rattle.std.specs.List.{list_all}
+use Rattle.std.proofs.Common.{ap, ap₂, sym, ◌∙◌, refl, arith, length-append, take_all, true≢false}
+use Rattle.std.proofs.lemmas.Bool.{lt-ltb, ne_eqb}
+use Rattle.std.proofs.lemmas.List.{take-append-le, drop-append, length-replicate}
 use Rattle.std.proofs.lemmas.Nat.{from_be_bytes-to_be_bytes_2, from_be_bytes-to_be_bytes_8}
+use Rattle.segments.specs.declared.entry.Entry.{Entry}
 use Rattle.segments.specs.declared.entry.Entry.TheVariants.{Starts, Closes}
 use Rattle.segments.specs.Manifest.{entry_bytes, entry_in}
 
@@ -18,17 +22,35 @@ made {r} {n} {l} {m} {d} {e} a b c =
     ∙ ap (λ l. Some (Closes (record { records = n; len = l; digest = d }))) b
     ∙ ap (λ d. Some (Closes (record { records = n; len = m; digest = d }))) c
 
-pub closes_told : (records len : ℕ) (digest : List ℕ) → records < 2 ^ 64 → len < 2 ^ 64
+picked : (a b c d : Bool) (x y z : Option Entry) → a ≡ false → b ≡ true → c ≡ true → d ≡ true → y ≡ z → (if a then x else if (b && c) && d then y else None) ≡ z
+picked true b c d x y z is_not one two three same = absurd (true≢false is_not)
+picked false true true true x y z is_not one two three same = same
+picked false false c d x y z is_not one two three same = absurd (true≢false (sym one))
+picked false true false d x y z is_not one two three same = absurd (true≢false (sym two))
+picked false true true false x y z is_not one two three same = absurd (true≢false (sym three))
+
+zeros_pass : (n : ℕ) → list_all (λ b. b == 0) (replicate n 0) ≡ true
+zeros_pass zero = refl
+zeros_pass (suc n) = zeros_pass n
+
+pub closes_told : (records len : ℕ) (digest : List ℕ) (zeros : ℕ) → records < 2 ^ 64 → len < 2 ^ 64
     → length digest ≡ 32
-    → entry_in (entry_bytes (Closes (record { records = records; len = len; digest = digest })))
+    → entry_in (entry_bytes (Closes (record { records = records; len = len; digest = digest })) ++ replicate zeros 0)
     ≡ Some (Closes (record { records = records; len = len; digest = digest }))
 unfolding entry_in
-closes_told records len digest fits small size =
-    let whole : take 32 digest ≡ digest = take_all 32 digest (omega (arith, size)) in
-    rw size (made (from_be_bytes-to_be_bytes_8 records fits) (from_be_bytes-to_be_bytes_8 len small) whole)
+closes_told records len digest zeros fits small size =
+    let bytes = entry_bytes (Closes (record { records = records; len = len; digest = digest })) ++ replicate zeros 0 in
+    let behind = digest ++ replicate zeros 0 in
+    let long : length behind ≡ 32 + zeros = length-append digest (replicate zeros 0) ∙ ap₂ (λ a b. a + b) size (length-replicate zeros 0) in
+    let whole : take 32 behind ≡ digest = take-append-le 32 digest (replicate zeros 0) (omega (arith, size)) ∙ take_all 32 digest (omega (arith, size)) in
+    let rest : drop 32 behind ≡ replicate zeros 0 = ap (λ n. drop n behind) (sym size) ∙ drop-append digest (replicate zeros 0) in
+    picked (length bytes == 11) (nat_lt 48 (length bytes)) true (list_all (λ b. b == 0) (drop 32 behind)) _ _ _
+    (ne_eqb (length bytes) 11 (omega (arith, long))) (lt-ltb 48 (length bytes) (omega (arith, long))) refl
+    (ap (λ l. list_all (λ b. b == 0) l) rest ∙ zeros_pass zeros)
+    (made (from_be_bytes-to_be_bytes_8 records fits) (from_be_bytes-to_be_bytes_8 len small) whole)
 
-pub closed_told : (bytes : List ℕ) (records len : ℕ) (digest : List ℕ)
-    → bytes ≡ entry_bytes (Closes (record { records = records; len = len; digest = digest })) → records < 2 ^ 64 → len < 2 ^ 64
+pub closed_told : (bytes : List ℕ) (records len : ℕ) (digest : List ℕ) (zeros : ℕ)
+    → bytes ≡ entry_bytes (Closes (record { records = records; len = len; digest = digest })) ++ replicate zeros 0 → records < 2 ^ 64 → len < 2 ^ 64
     → length digest ≡ 32
     → entry_in bytes ≡ Some (Closes (record { records = records; len = len; digest = digest }))
-closed_told bytes records len digest is fits small size = ap (λ b. entry_in b) is ∙ closes_told records len digest fits small size
+closed_told bytes records len digest zeros is fits small size = ap (λ b. entry_in b) is ∙ closes_told records len digest zeros fits small size

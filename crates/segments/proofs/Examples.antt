@@ -23,6 +23,7 @@ kind (calls.Removes segment) = 1
 kind calls.Syncs = 2
 kind calls.OpensManifest = 3
 kind (calls.Opens segment) = 4
+kind (calls.Closes segment) = 5
 
 abbrev known_as_open : FolderCall → ℕ
 known_as_open (calls.Keeps segment len) = segment
@@ -30,6 +31,7 @@ known_as_open (calls.Removes segment) = 0
 known_as_open calls.Syncs = 0
 known_as_open calls.OpensManifest = 0
 known_as_open (calls.Opens segment) = 0
+known_as_open (calls.Closes segment) = 0
 
 abbrev first_of : (FolderCall → ℕ) → List FolderEvent → ℕ
 first_of f [] = 9
@@ -149,7 +151,7 @@ module _ (cache : CacheState) (life : Life) (w : WriterState) (kept : Closed) wh
     starts = starts_at_1;
     there = tt;
     rest = refl;
-    removed = record { events = plain_event (calls.Removes 0) true ∷ []; all = refl; below = (inl (0, omega arith, refl), tt) };
+    removed = record { events = plain_event (calls.Removes 0) true ∷ []; all = refl; below = inl (0, omega arith, omega arith, refl, tt) };
   }
 
   same_at_0 : (m : LogState) → StartsAt 0 log m → m ≡ log
@@ -160,8 +162,8 @@ module _ (cache : CacheState) (life : Life) (w : WriterState) (kept : Closed) wh
   a_live_file_stays is =
       let none = ap (λ (l : LogState). l.asked) (same_at_0 is.mid is.starts) in
       let all = is.removed.all ∙ ap (λ (events : List FolderEvent). events ++ is.removed.events) none in
-      let older = subst (λ (events : List FolderEvent). AreOfOlder 0 events) (sym all) is.removed.below in
-      elim older.0 [ inl removal ↦ absurd (omega (arith, removal.1)) | inr synced ↦ absurd (cc synced) ]
+      let older = subst (λ (events : List FolderEvent). AreOfOlder 0 0 events) (sym all) is.removed.below in
+      elim older [ inl removal ↦ absurd (omega (arith, removal.2)) | inr synced ↦ absurd (cc synced.0) ]
 
   -- a file may not be removed before the copy is to be kept
   pub not_removed_before : IsDropping 1 log (record dropped { asked = plain_event (calls.Removes 0) false ∷ copied false ∷ [] }) → ⊥

@@ -23,3 +23,7 @@ pub mod CopiesTold
 pub mod Loading
 pub mod Refusing
 pub mod DropSurvival
+pub mod Appending
+pub mod Padding
+pub mod Removing
+pub mod RotationExamples

@@ -77,23 +77,23 @@ held_read sum own P l t offset (Err errors.NumbersExhausted) loaded is = absurd 
 same_holds : (sum : List ℕ → ℕ) (P : ℕ) (one other : Closed) (held : List ℕ) → SameKept one other → HoldsClosed sum P one held → HoldsClosed sum P other held
 same_holds sum P one other held same is = record {
   bytes = is.bytes;
-  of = record { len = sym same.len ∙ is.of.len; digest = sym same.digest ∙ is.of.digest };
+  of = record { small = is.of.small; len = sym same.len ∙ is.of.len; digest = sym same.digest ∙ is.of.digest };
   holds = is.holds;
 }
 
-pub reads_closed : (sum own : List ℕ → ℕ) (s : LogState) (p : Place) (l : LoadedState) (result : Result (Option Found) Error) → HasLoaded sum own s p.segment l
-    → HeldReadGoes sum own l.owned.page_size l.kept p.offset result → LogReadGoes sum own s p result
-reads_closed sum own s p l (Ok found) has is =
+pub reads_closed : (sum own : List ℕ → ℕ) (s t : LogState) (p : Place) (l : LoadedState) (result : Result (Option Found) Error) → HasLoaded sum own s p.segment l
+    → HeldReadGoes sum own l.owned.page_size l.kept p.offset result → LogReadGoes sum own s t p result
+reads_closed sum own s t p l (Ok found) has is =
     let holds = subst (λ P. HoldsClosed sum P l.kept is.0) has.loaded.page_size is.1 in
     (is.0, inr (has.kept, has.listed, same_holds sum s.page_size l.kept has.kept is.0 has.same holds), is.2)
-reads_closed sum own s p l (Err (errors.Layer e)) has is = tt
-reads_closed sum own s p l (Err errors.Closed) has is = absurd is
-reads_closed sum own s p l (Err (errors.System e)) has is = absurd is
-reads_closed sum own s p l (Err (errors.Damaged n)) has is = absurd is
-reads_closed sum own s p l (Err (errors.Unlisted n)) has is = absurd is
-reads_closed sum own s p l (Err (errors.Missing n)) has is = absurd is
-reads_closed sum own s p l (Err (errors.Short n)) has is = absurd is
-reads_closed sum own s p l (Err (errors.Outdated n)) has is = absurd is
-reads_closed sum own s p l (Err errors.Manifest) has is = absurd is
-reads_closed sum own s p l (Err (errors.NoSegment n)) has is = absurd is
-reads_closed sum own s p l (Err errors.NumbersExhausted) has is = absurd is
+reads_closed sum own s t p l (Err (errors.Layer e)) has is = inr (has.kept, has.listed)
+reads_closed sum own s t p l (Err errors.Closed) has is = absurd is
+reads_closed sum own s t p l (Err (errors.System e)) has is = absurd is
+reads_closed sum own s t p l (Err (errors.Damaged n)) has is = absurd is
+reads_closed sum own s t p l (Err (errors.Unlisted n)) has is = absurd is
+reads_closed sum own s t p l (Err (errors.Missing n)) has is = absurd is
+reads_closed sum own s t p l (Err (errors.Short n)) has is = absurd is
+reads_closed sum own s t p l (Err (errors.Outdated n)) has is = absurd is
+reads_closed sum own s t p l (Err errors.Manifest) has is = absurd is
+reads_closed sum own s t p l (Err (errors.NoSegment n)) has is = absurd is
+reads_closed sum own s t p l (Err errors.NumbersExhausted) has is = absurd is

@@ -26,11 +26,11 @@ reads_by own (Some w) k offset old new found is =
     (content w old.present.readable, refl, read_of own (content w old.present.readable) offset old new found is.1)
 
 pub reads_current : (sum own : List ℕ → ℕ) (s t : LogState) (p : Place) (result : Result (Option Found) Error) → p.segment ≡ open_in s.listing
-    → OwnedReadGoes own p.offset s.current t.current result → LogReadGoes sum own s p result
+    → OwnedReadGoes own p.offset s.current t.current result → LogReadGoes sum own s t p result
 reads_current sum own s t p (Ok found) at is =
     let held = reads_by own s.current.journal t.current.journal p.offset s.current.life t.current.life found is in
     (held.0, inl (at, held.1), held.2)
-reads_current sum own s t p (Err (errors.Layer e)) at is = tt
+reads_current sum own s t p (Err (errors.Layer e)) at is = inl (at, is)
 reads_current sum own s t p (Err errors.Closed) at is = (at, is.0)
 reads_current sum own s t p (Err (errors.System e)) at is = absurd is
 reads_current sum own s t p (Err (errors.Damaged n)) at is = absurd is

@@ -13,18 +13,20 @@ use Rattle.journal.specs.Journal.{IsAppended}
 use Rattle.segments.specs.declared.closed.Closed.{Closed}
 use Rattle.segments.specs.declared.error.Error.{Error}
 use Rattle.segments.specs.declared.place.Place.{Place}
-use Rattle.segments.specs.Digests.{IsOf}
+use Rattle.segments.specs.Digests.{AreBytes, HasTwin, IsOf}
 use Rattle.segments.specs.Manifest.{ListingState}
 use Rattle.segments.specs.Owned.{KeepsJournal, OwnedAppendGoes, OwnedState, owned_size, records_now, records_of}
-use Rattle.segments.specs.Log.{AppendHereGoes, HasCollision, HasMore, IsAppendedTo, IsRotated, IsSameButCurrent, LogAppendGoes, LogState, TellHeld, closed_records, log_records}
+use Rattle.segments.specs.Log.{AppendHereGoes, HasMore, IsAppendedTo, IsRotated, IsSameButCurrent, LogAppendGoes, LogState, TellHeld, closed_records, log_records}
 
-judge : (one other : List ℕ) → sha256 one ≡ sha256 other → (b : Bool) → bytes_eq one other ≡ b → (one ≡ other) ⊎ HasCollision
-judge one other same true e = inl ((bytes_eq-Decides one other).0 e)
-judge one other same false e = inr (one, other, record { differ = λ is. true≢false (sym ((bytes_eq-Decides one other).1 is) ∙ e); same = same })
+judge : (content other : List ℕ) → AreBytes other → length other ≡ length content → sha256 other ≡ sha256 content → (b : Bool) → bytes_eq other content ≡ b → (other ≡ content) ⊎ HasTwin content
+judge content other small long same true e = inl ((bytes_eq-Decides other content).0 e)
+judge content other small long same false e =
+    inr (other, record { small = small; len = long; differs = λ is. true≢false (sym ((bytes_eq-Decides other content).1 is) ∙ e); same = same })
 
--- two strings of which the same was kept are the same, or collide
-pub judged : (one other : List ℕ) (kept : Closed) → IsOf one kept → IsOf other kept → (one ≡ other) ⊎ HasCollision
-judged one other kept first second = judge one other (sym first.digest ∙ second.digest) (bytes_eq one other) refl
+-- bytes of which the same was kept as of a content are that content, or a twin of it
+pub judged : (content other : List ℕ) (kept : Closed) → IsOf content kept → IsOf other kept → (other ≡ content) ⊎ HasTwin content
+judged content other kept first second =
+    judge content other second.small (sym second.len ∙ first.len) (sym second.digest ∙ first.digest) (bytes_eq other content) refl
 
 -- the last of the closed segments
 tells_last : (held : ℕ → List ℕ) (first : ℕ) (cs : List Closed) (c : Closed) → TellHeld held first (cs ++ c ∷ []) → IsOf (held (first + length cs)) c
@@ -44,7 +46,7 @@ pub rotated_same : (sum own : List ℕ → ℕ) (s t : LogState) → IsRotated s
 rotated_same sum own s t is held tells =
     let listed = subst (λ (l : ListingState). TellHeld held l.first l.closed) is.listing tells in
     let number = s.listing.first + length s.listing.closed in
-    elim (judged is.last.present.readable (held number) is.kept is.of (tells_last held s.listing.first s.listing.closed is.kept listed)) [
+    elim (judged (held number) is.last.present.readable is.kept (tells_last held s.listing.first s.listing.closed is.kept listed) is.closed.of) [
       | inl same ↦ inl (
           ap (λ (l : ListingState). closed_records sum own t.page_size held l.first l.closed ++ records_now own t.current) is.listing
           ∙ ap (λ P. closed_records sum own P held s.listing.first (s.listing.closed ++ is.kept ∷ []) ++ records_now own t.current) is.page_size
@@ -52,7 +54,7 @@ rotated_same sum own s t is held tells =
           ∙ append-nil (closed_records sum own s.page_size held s.listing.first (s.listing.closed ++ is.kept ∷ []))
           ∙ closed_more sum own s.page_size held s.listing.first s.listing.closed is.kept
           ∙ ap (λ bytes. closed_records sum own s.page_size held s.listing.first s.listing.closed ++ records own (text sum s.page_size bytes)) (sym same)
-          ∙ ap (λ rs. closed_records sum own s.page_size held s.listing.first s.listing.closed ++ rs) is.shut.tells
+          ∙ ap (λ rs. closed_records sum own s.page_size held s.listing.first s.listing.closed ++ rs) is.closed.shut.tells
           ∙ sym (append-nil (log_records sum own held s)))
       | inr collision ↦ inr collision
     ]

@@ -1,66 +1,104 @@
 -- Why a rotation is refused.
-use Rattle.std.specs.Prelude.{◌≡◌, ◌≢◌, ◌++◌, ◌==◌, ℕ, List, [], ◌∷◌, Some, None, Option, IfSome, Result, Ok, Err, Bool, false, if◌then◌else◌}
+use Rattle.std.specs.Prelude.{◌≡◌, ◌⊎◌, ◌+◌, ◌++◌, ℕ, List, [], None, Result, Ok, Err}
 use Rattle.std.specs.Result.{IsErrAnd}
 use Rattle.std.proofs.Common.{ap, sym, ◌∙◌, subst, inl, inr}
-use Rattle.std.proofs.lemmas.Bool.{ne_eqb}
 use Rattle.segments.specs.declared.closed.Closed.{Closed}
+use Rattle.segments.specs.declared.entry.Entry.{Entry}
 use Rattle.segments.specs.declared.entry.Entry.TheVariants.{Closes}
 use Rattle.segments.specs.declared.error.Error.{Error}
 use Rattle.segments.specs.declared.error.Error.TheVariants as errors
+use Rattle.segments.specs.FolderEvents.{FolderEvent}
 use Rattle.segments.specs.Manifest.{ListingState, listed_with, open_in}
-use Rattle.segments.specs.Owned.{OwnedCloseGoes, OwnedState}
-use Rattle.segments.specs.Log.{EnterGoes, EnterRefused, HasNext, IsSameButAsked, IsSameButCurrent, IsSameButManifest, LogState, RotateGoes, RotateRefused}
-
-close_cause : (sum own : List ℕ → ℕ) (s t : LogState) (e : Error) → OwnedCloseGoes sum own s.current t.current (Err e) → RotateRefused s t e
-close_cause sum own s t errors.Closed is = inl is.0
-close_cause sum own s t (errors.Layer e) is = tt
-close_cause sum own s t (errors.System e) is = absurd is
-close_cause sum own s t (errors.Damaged n) is = absurd is
-close_cause sum own s t (errors.Unlisted n) is = absurd is
-close_cause sum own s t (errors.Missing n) is = absurd is
-close_cause sum own s t (errors.Short n) is = absurd is
-close_cause sum own s t (errors.Outdated n) is = absurd is
-close_cause sum own s t errors.Manifest is = absurd is
-close_cause sum own s t (errors.NoSegment n) is = absurd is
-close_cause sum own s t errors.NumbersExhausted is = absurd is
+use Rattle.segments.specs.Owned.{IsShut, OwnedCloseGoes, OwnedState, records_now}
+use Rattle.segments.specs.Log.{AsksInVain, EnterRefused, IsNotEntered, IsSameButAsked, IsSameButCurrent, IsSameButManifest, LogState, NextRefused, RotateGoes, WasClosed, events_for}
+use Rattle.segments.proofs.Rotating.{Turning, asked_is, same_listing, same_loaded, same_known, same_manifest, same_most, same_pages}
 
 -- the open segment couldn't be closed
 pub close_refused : (sum own : List ℕ → ℕ) (s t : LogState) (e : Error) (result : Result (Unit {0}) Error) → IsErrAnd result (λ x. x ≡ e)
-    → OwnedCloseGoes sum own s.current t.current (Err e) → t.current.journal ≡ None → RotateGoes sum own s t result
-close_refused sum own s t e (Ok u) is goes none = absurd is
-close_refused sum own s t e (Err x) is goes none = (none, subst (λ y. RotateRefused s t y) (sym is) (close_cause sum own s t e goes))
+    → OwnedCloseGoes sum own s.current t.current (Err e) → IsSameButCurrent s t → t.current.journal ≡ None → RotateGoes sum own s t result
+close_refused sum own s t e (Ok u) is goes rest none = absurd is
+close_refused sum own s t e (Err x) is goes rest none =
+    (none, inl (record { rest = rest; refused = subst (λ y. OwnedCloseGoes sum own s.current t.current (Err y)) (sym is) goes }))
 
-not_full : (b : Bool) (l : ListingState) → b ≡ false → (if b then None else Some l) ≡ None → ⊥
-not_full b l is none =
-    subst (λ (o : Option ListingState). IfSome o (λ k. ⊥)) (sym (ap (λ (b : Bool). if b then None else Some l) (sym is) ∙ none)) tt
+-- what is asked of one log is asked of another one that asked the same, and lists the same
+next_cause : (s m t : LogState) (e : Error) → m.asked ≡ s.asked → m.listing ≡ s.listing → NextRefused m t e → NextRefused s t e
+next_cause s m t (errors.Layer x) asked lists is =
+    is ∙ ap (λ (es : List FolderEvent). es ++ events_for (open_in m.listing + 1) []) asked ∙ ap (λ (l : ListingState). s.asked ++ events_for (open_in l + 1) []) lists
+next_cause s m t (errors.System x) asked lists is =
+    subst (λ (l : ListingState). AsksInVain (open_in l + 1) s.asked t.asked) lists (subst (λ (es : List FolderEvent). AsksInVain (open_in m.listing + 1) es t.asked) asked is)
+next_cause s m t (errors.Unlisted k) asked lists is =
+    (is.0 ∙ ap (λ (l : ListingState). open_in l + 1) lists, is.1, is.2, is.3 ∙ ap (λ (es : List FolderEvent). es ++ events_for k is.1) asked)
+next_cause s m t errors.NumbersExhausted asked lists is = (ap (λ (l : ListingState). open_in l) (sym lists) ∙ is.0, is.1 ∙ asked)
+next_cause s m t (errors.Damaged k) asked lists is = is
+next_cause s m t (errors.Missing k) asked lists is = is
+next_cause s m t (errors.Short k) asked lists is = is
+next_cause s m t (errors.Outdated k) asked lists is = is
+next_cause s m t errors.Manifest asked lists is = is
+next_cause s m t (errors.NoSegment k) asked lists is = is
+next_cause s m t errors.Closed asked lists is = is
 
-follows : (P : ℕ) (kept : Closed) (l : ListingState) → open_in l ≢ 18446744073709551615 → listed_with P (Closes kept) l ≡ None → ⊥
-follows P kept l numbered none =
-    not_full (open_in l == 18446744073709551615) (record { first = l.first; closed = l.closed ++ kept ∷ [] }) (ne_eqb (open_in l) 18446744073709551615 numbered) none
+-- the next segment couldn't be opened
+pub next_refused : (sum own : List ℕ → ℕ) (s m t : LogState) (kept : Closed) (e : Error) (result : Result (Unit {0}) Error) → IsErrAnd result (λ x. x ≡ e)
+    → WasClosed sum own s m.current.life kept → IsSameButCurrent s m → m.current.journal ≡ None → IsSameButAsked m t → NextRefused m t e → RotateGoes sum own s t result
+next_refused sum own s m t kept e (Ok u) is closed first none asks goes = absurd is
+next_refused sum own s m t kept e (Err x) is closed first none asks goes =
+    let current = ap (λ (l : LogState). l.current) asks in (
+      ap (λ (o : OwnedState). o.journal) current ∙ none,
+      inr (inl (record {
+        shut = subst (λ (o : OwnedState). IsShut sum own s.page_size (records_now own s.current) o.life) (sym current) closed.shut;
+        manifest = ap (λ (l : LogState). l.manifest) asks ∙ first.manifest;
+        rest = record {
+          listing = ap (λ (l : LogState). l.listing) asks ∙ first.listing;
+          loaded = ap (λ (l : LogState). l.loaded) asks ∙ first.loaded;
+          page_size = ap (λ (l : LogState). l.page_size) asks ∙ first.page_size;
+          most = ap (λ (l : LogState). l.most) asks ∙ first.most;
+          known = ap (λ (l : LogState). l.known) asks ∙ first.known;
+        };
+        refused = subst (λ y. NextRefused s t y) (sym is) (next_cause s m t e first.asked first.listing goes);
+      })),
+    )
 
-entry_cause : (s n t : LogState) (kept : Closed) (e : Error) → n.manifest.journal ≡ s.manifest.journal → open_in n.listing ≢ 18446744073709551615
-    → EnterRefused (Closes kept) n e → RotateRefused s t e
-entry_cause s n t kept errors.Closed same numbered is = inr (sym same ∙ is)
-entry_cause s n t kept (errors.Layer e) same numbered is = tt
-entry_cause s n t kept (errors.System e) same numbered is = absurd is
-entry_cause s n t kept (errors.Damaged k) same numbered is = absurd is
-entry_cause s n t kept (errors.Unlisted k) same numbered is = absurd is
-entry_cause s n t kept (errors.Missing k) same numbered is = absurd is
-entry_cause s n t kept (errors.Short k) same numbered is = absurd is
-entry_cause s n t kept (errors.Outdated k) same numbered is = absurd is
-entry_cause s n t kept errors.Manifest same numbered is = absurd (follows n.page_size kept n.listing numbered is)
-entry_cause s n t kept (errors.NoSegment k) same numbered is = absurd is
-entry_cause s n t kept errors.NumbersExhausted same numbered is = absurd is
+-- an entry is refused of one log as of another one with the same manifest
+entry_cause : (s f : LogState) (entry : Entry) (e : Error) → f.manifest ≡ s.manifest → f.listing ≡ s.listing → f.page_size ≡ s.page_size
+    → EnterRefused entry f e → EnterRefused entry s e
+entry_cause s f entry errors.Closed manifest lists pages is = ap (λ (o : OwnedState). o.journal) (sym manifest) ∙ is
+entry_cause s f entry (errors.Layer x) manifest lists pages is = tt
+entry_cause s f entry (errors.System x) manifest lists pages is = is
+entry_cause s f entry (errors.Damaged k) manifest lists pages is = is
+entry_cause s f entry (errors.Unlisted k) manifest lists pages is = is
+entry_cause s f entry (errors.Missing k) manifest lists pages is = is
+entry_cause s f entry (errors.Short k) manifest lists pages is = is
+entry_cause s f entry (errors.Outdated k) manifest lists pages is = is
+entry_cause s f entry errors.Manifest manifest lists pages is =
+    ap (λ P. listed_with P entry s.listing) (sym pages) ∙ ap (λ l. listed_with f.page_size entry l) (sym lists) ∙ is
+entry_cause s f entry (errors.NoSegment k) manifest lists pages is = is
+entry_cause s f entry errors.NumbersExhausted manifest lists pages is = is
+
+left_of : (f e : LogState) (manifest : OwnedState) → f.manifest ≡ manifest → (e ≡ f) ⊎ (e.manifest.journal ≡ None) → (e.manifest ≡ manifest) ⊎ (e.manifest.journal ≡ None)
+left_of f e manifest same (inl is) = inl (ap (λ (l : LogState). l.manifest) is ∙ same)
+left_of f e manifest same (inr is) = inr is
 
 -- the manifest couldn't get the entry
-pub enter_refused : (sum own : List ℕ → ℕ) (s m n t : LogState) (next : OwnedState) (kept : Closed) (e : Error) → IsSameButCurrent s m → m.current.journal ≡ None
-    → HasNext sum own m n next → IsSameButAsked m n → IsSameButManifest n t → EnterGoes own (Closes kept) n t (Err e)
-    → (t.current.journal ≡ None) × RotateRefused s t e
-enter_refused sum own s m n t next kept e first none has asks last goes =
-    let manifest : n.manifest ≡ s.manifest = ap (λ (l : LogState). l.manifest) asks ∙ first.manifest in
-    let current : t.current ≡ m.current = last.current ∙ ap (λ (l : LogState). l.current) asks in
-    let listing : n.listing ≡ m.listing = ap (λ (l : LogState). l.listing) asks in (
-      ap (λ (o : OwnedState). o.journal) current ∙ none,
-      entry_cause s n t kept e (ap (λ (o : OwnedState). o.journal) manifest)
-          (λ full. has.numbered (ap (λ (l : ListingState). open_in l) (sym listing) ∙ full)) goes.refused,
+pub enter_refused : (sum own : List ℕ → ℕ) (s m n f e : LogState) (next current : OwnedState) (kept : Closed) (x : Error) → Turning sum own s m n f next kept
+    → IsSameButManifest f e → IsNotEntered (Closes kept) f e x → current.journal ≡ None → RotateGoes sum own s (record e { current = current }) (Err x)
+enter_refused sum own s m n f e next current kept x turning last not none =
+    let lists = same_listing sum own s m n f next kept turning in
+    let pages = same_pages sum own s m n f next kept turning in
+    let manifest = same_manifest sum own s m n f next kept turning in (
+      none,
+      inr (inr (record {
+        last = m.current.life;
+        kept = kept;
+        closed = turning.closed;
+        asked = not.asked ∙ asked_is sum own s m n f next kept turning;
+        rest = record {
+          listing = not.listing ∙ lists;
+          loaded = last.loaded ∙ same_loaded sum own s m n f next kept turning;
+          page_size = last.page_size ∙ pages;
+          most = last.most ∙ same_most sum own s m n f next kept turning;
+          known = not.known ∙ same_known sum own s m n f next kept turning;
+        };
+        left = left_of f e s.manifest manifest not.left;
+        refused = entry_cause s f (Closes kept) x manifest lists pages not.refused;
+      })),
     )

@@ -1,35 +1,60 @@
 -- What a folder is asked for as segments are dropped.
-use Rattle.std.specs.Prelude.{◌≡◌, ◌<◌, ◌++◌, ◌∷◌, [], ℕ, List, Result, Ok, Err, IfOk}
-use Rattle.std.proofs.Common.{ap, sym, ◌∙◌, refl, inl, inr, append_assoc, append-nil}
+use Rattle.std.specs.Prelude.{◌≡◌, ◌<◌, ◌≤◌, ◌++◌, ◌∷◌, [], ℕ, suc, List, Result, Ok, Err, IfOk}
+use Rattle.std.proofs.Common.{ap, sym, ◌∙◌, refl, subst, inl, inr, arith, append_assoc, append-nil}
 use Rattle.segments.specs.declared.call.FolderCall.{FolderCall}
 use Rattle.segments.specs.declared.call.FolderCall.TheVariants as calls
 use Rattle.segments.specs.FolderEvents.{FolderEvent, folder_outcome}
-use Rattle.segments.specs.Log.{AreOfOlder, AsksOfOlder, EndsSynced, IsOfOlder}
+use Rattle.segments.specs.Log.{AreOfOlder, AsksOfOlder, EndsSynced}
 
-pub asks_none : (first : ℕ) (events : List FolderEvent) → AsksOfOlder first events events
-asks_none first events = record { events = []; all = sym (append-nil events); below = tt }
+-- such calls, of which the last removal was of a segment before `next`
+pub record AsksBelow (next first : ℕ) (old new : List FolderEvent) : Type 0 where
+  pub events : List FolderEvent
+  pub all : new ≡ old ++ events
+  pub below : AreOfOlder 0 first events
+  pub more : (es : List FolderEvent) → AreOfOlder next first es → AreOfOlder 0 first (events ++ es)
 
-all_more : (first : ℕ) (es : List FolderEvent) (e : FolderEvent) → AreOfOlder first es → IsOfOlder first e → AreOfOlder first (es ++ e ∷ [])
-all_more first [] e all one = (one, tt)
-all_more first (x ∷ xs) e all one = (all.0, all_more first xs e all.1 one)
+-- a later bound is a stronger one
+later : (from next first : ℕ) (es : List FolderEvent) → from ≤ next → AreOfOlder next first es → AreOfOlder from first es
+later from next first [] before is = tt
+later from next first (e ∷ es) before (inl is) = inl (is.0, omega (arith, before, is.1), is.2, is.3, is.4)
+later from next first (e ∷ es) before (inr is) = inr (is.0, later from next first es before is.1)
 
-asks_more : (first : ℕ) (old mid new : List FolderEvent) (e : FolderEvent) → AsksOfOlder first old mid → new ≡ mid ++ e ∷ [] → IsOfOlder first e → AsksOfOlder first old new
-asks_more first old mid new e is more below =
-    record { events = is.events ++ e ∷ []; all = more ∙ ap (λ es. es ++ e ∷ []) is.all ∙ append_assoc old is.events (e ∷ []); below = all_more first is.events e is.below below }
+pub asks_none : (next first : ℕ) (events : List FolderEvent) → AsksBelow next first events events
+asks_none next first events = record { events = []; all = sym (append-nil events); below = tt; more = λ es is. later 0 next first es (omega arith) is }
 
 call_of : {T E : Type 0} (call : FolderCall) (result : Result T E) → (folder_outcome call result).call ≡ call
 call_of call (Ok t) = refl
 call_of call (Err e) = refl
 
-pub asks_removal : {T E : Type 0} (first number : ℕ) (old mid new : List FolderEvent) (result : Result T E) → AsksOfOlder first old mid
-    → new ≡ mid ++ folder_outcome (calls.Removes number) result ∷ [] → number < first → AsksOfOlder first old new
-asks_removal first number old mid new result is more below =
-    asks_more first old mid new (folder_outcome (calls.Removes number) result) is more (inl (number, below, call_of (calls.Removes number) result))
+pub asks_later : (from next first : ℕ) (old new : List FolderEvent) → AsksBelow from first old new → from ≤ next → AsksBelow next first old new
+asks_later from next first old new is before =
+    record { events = is.events; all = is.all; below = is.below; more = λ es then. is.more es (later from next first es before then) }
 
-pub asks_sync : {T E : Type 0} (first : ℕ) (old mid new : List FolderEvent) (result : Result T E) → AsksOfOlder first old mid
+pub asks_removal : {T E : Type 0} (next first number : ℕ) (old mid new : List FolderEvent) (result : Result T E) → AsksBelow number first old mid
+    → new ≡ mid ++ folder_outcome (calls.Removes number) result ∷ [] → number < first → next ≡ suc number → AsksBelow next first old new
+asks_removal next first number old mid new result is more below after =
+    let e = folder_outcome (calls.Removes number) result in
+    let call = call_of (calls.Removes number) result in
+    record {
+      events = is.events ++ e ∷ [];
+      all = more ∙ ap (λ es. es ++ e ∷ []) is.all ∙ append_assoc old is.events (e ∷ []);
+      below = is.more (e ∷ []) (inl (number, omega arith, below, call, tt));
+      more = λ es then. subst (λ all. AreOfOlder 0 first all) (sym (append_assoc is.events (e ∷ []) es))
+          (is.more (e ∷ es) (inl (number, omega arith, below, call, subst (λ n. AreOfOlder n first es) after then)));
+    }
+
+pub asks_done : (next first : ℕ) (old new : List FolderEvent) → AsksBelow next first old new → AsksOfOlder first old new
+asks_done next first old new is = record { events = is.events; all = is.all; below = is.below }
+
+pub asks_sync : {T E : Type 0} (next first : ℕ) (old mid new : List FolderEvent) (result : Result T E) → AsksBelow next first old mid
     → new ≡ mid ++ folder_outcome calls.Syncs result ∷ [] → AsksOfOlder first old new
-asks_sync first old mid new result is more =
-    asks_more first old mid new (folder_outcome calls.Syncs result) is more (inr (call_of calls.Syncs result))
+asks_sync next first old mid new result is more =
+    let e = folder_outcome calls.Syncs result in
+    record {
+      events = is.events ++ e ∷ [];
+      all = more ∙ ap (λ es. es ++ e ∷ []) is.all ∙ append_assoc old is.events (e ∷ []);
+      below = is.more (e ∷ []) (inr (call_of calls.Syncs result, tt));
+    }
 
 pub ends_synced : {T E : Type 0} (mid new : List FolderEvent) (result : Result T E) → new ≡ mid ++ folder_outcome calls.Syncs result ∷ [] → IfOk result (λ t. EndsSynced new)
 ends_synced mid new (Ok t) more = (mid, more)

@@ -4,13 +4,15 @@ use Rattle.std.proofs.Common.{ap, sym, ◌∙◌, subst, refl, arith}
 use Rattle.disk.specs.Disk.{Life}
 use Rattle.segments.specs.declared.closed.Closed.{Closed}
 use Rattle.segments.specs.declared.entry.Entry.TheVariants.{Closes}
-use Rattle.segments.specs.FolderEvents.{FolderEvent, keeping_event}
-use Rattle.segments.specs.Manifest.{ListingState, entry_bytes, listed_with, open_in}
+use Rattle.segments.specs.FolderEvents.{FolderEvent, closing_event, keeping_event}
+use Rattle.segments.specs.Manifest.{ListingState, listed_with, open_in, padded}
 use Rattle.paged.specs.Recovery.{IsDurable}
 use Rattle.journal.specs.Journal.{OnlyRecords}
 use Rattle.writer_state.specs.WriterState.{WriterState}
-use Rattle.segments.specs.Owned.{HasJournal, OwnedState, records_now}
-use Rattle.segments.specs.Log.{HasOpened, events_for, HasNext, IsClosedWith, IsEntered, IsLog, IsRotated, IsSameButAsked, IsSameButCurrent, IsSameButManifest, LeavesOpened, LogState}
+use Rattle.segments.specs.Owned.{HasJournal, IsOwned, OwnedState, owned_size, records_now}
+use Rattle.segments.specs.Log.{CurrentKeeps, HasFollowed, HasNext, HasOpened, IsEntered, IsLog, IsRotated, IsSameButAsked, IsSameButCurrent, IsSameButManifest, LeavesOpened, LogState, WasClosed, asked_turning, entered_bytes, events_for}
+use Rattle.sha2.proofs.Facts256.{length-sha256}
+use Rattle.segments.proofs.Padding.{room_after}
 use Rattle.segments.proofs.Empty.{no_record}
 
 journal_is : (P : WriterState → Type 0) (j : Option WriterState) → HasJournal j P → HasJournal j (λ w. Unit {0})
@@ -54,59 +56,88 @@ only_some false l m is = sym (ap (λ (o : Option ListingState). or_first o) is) 
 pub listed : (P : ℕ) (kept : Closed) (l m : ListingState) → listed_with P (Closes kept) l ≡ Some m → m ≡ record { first = l.first; closed = l.closed ++ kept ∷ [] }
 listed P kept l m is = only_some (open_in l == 18446744073709551615) (record { first = l.first; closed = l.closed ++ kept ∷ [] }) m is
 
-rotated : (sum own : List ℕ → ℕ) (s m n e : LogState) (next : OwnedState) (kept : Closed)
-    → IsClosedWith sum own s m kept → IsSameButCurrent s m → HasNext sum own m n next → IsSameButAsked m n
-    → IsEntered own (Closes kept) n e → IsSameButManifest n e → IsRotated sum own s (record e { current = next })
-rotated sum own s m n e next kept closed first has asks entered last =
-    let same_listing : n.listing ≡ s.listing = ap (λ (l : LogState). l.listing) asks ∙ first.listing in
-    let same_manifest : n.manifest ≡ s.manifest = ap (λ (l : LogState). l.manifest) asks ∙ first.manifest in
-    let same_loaded : n.loaded ≡ s.loaded = ap (λ (l : LogState). l.loaded) asks ∙ first.loaded in
-    let same_size : n.page_size ≡ s.page_size = ap (λ (l : LogState). l.page_size) asks ∙ first.page_size in
-    record {
-      last = m.current.life;
-      kept = kept;
-      shut = closed.shut;
-      of = closed.of;
-      counts = closed.counts;
-      listing = listed n.page_size kept n.listing e.listing entered.listing
-          ∙ ap (λ (l : ListingState). record { first = l.first; closed = l.closed ++ kept ∷ [] }) same_listing;
-      entries = entered.records ∙ ap (λ (o : OwnedState). records_now own o ++ entry_bytes (Closes kept) ∷ []) same_manifest;
-      listed = entered.there;
-      there = has.there;
-      none = has.none;
-      copied = record {
-        failed = entered.kept.failed;
-        asked = entered.kept.asked
-            ∙ ap (λ (events : List FolderEvent). events ++ keeping_event (open_in e.listing) e.known e.manifest.life.present.readable entered.kept.failed ∷ [])
-            (has.asked ∙ ap (λ (l : ListingState). m.asked ++ events_for (open_in l + 1) []) first.listing
-            ∙ ap (λ (events : List FolderEvent). events ++ events_for (open_in s.listing + 1) []) first.asked);
-      };
-      known = entered.known;
-      loaded = last.loaded ∙ same_loaded;
-      page_size = last.page_size ∙ same_size;
-      most = last.most ∙ ap (λ (l : LogState). l.most) asks ∙ first.most;
-    }
+-- the steps of a rotation up to the entry: the open segment was closed, the next one was opened, and took its place
+pub record Turning (sum own : List ℕ → ℕ) (s m n f : LogState) (next : OwnedState) (kept : Closed) : Type 0 where
+  pub closed : WasClosed sum own s m.current.life kept
+  pub keeps : CurrentKeeps sum own (records_now own s.current) s m
+  pub first : IsSameButCurrent s m
+  pub has : HasNext sum own m n next
+  pub asks : IsSameButAsked m n
+  pub follows : HasFollowed next n f
+
+-- ---- what a log is after these steps
+
+module _ (sum own : List ℕ → ℕ) (s m n f : LogState) (next : OwnedState) (kept : Closed) (is : Turning sum own s m n f next kept) where
+  pub same_manifest : f.manifest ≡ s.manifest
+  same_manifest = ap (λ (l : LogState). l.manifest) is.follows.rest ∙ ap (λ (l : LogState). l.manifest) is.asks ∙ is.first.manifest
+
+  pub same_listing : f.listing ≡ s.listing
+  same_listing = ap (λ (l : LogState). l.listing) is.follows.rest ∙ ap (λ (l : LogState). l.listing) is.asks ∙ is.first.listing
+
+  pub same_loaded : f.loaded ≡ s.loaded
+  same_loaded = ap (λ (l : LogState). l.loaded) is.follows.rest ∙ ap (λ (l : LogState). l.loaded) is.asks ∙ is.first.loaded
+
+  pub same_pages : f.page_size ≡ s.page_size
+  same_pages = ap (λ (l : LogState). l.page_size) is.follows.rest ∙ ap (λ (l : LogState). l.page_size) is.asks ∙ is.first.page_size
+
+  pub same_most : f.most ≡ s.most
+  same_most = ap (λ (l : LogState). l.most) is.follows.rest ∙ ap (λ (l : LogState). l.most) is.asks ∙ is.first.most
+
+  pub same_known : f.known ≡ s.known
+  same_known = ap (λ (l : LogState). l.known) is.follows.rest ∙ ap (λ (l : LogState). l.known) is.asks ∙ is.first.known
+
+  pub current_is : f.current ≡ next
+  current_is = ap (λ (l : LogState). l.current) is.follows.rest
+
+  pub asked_is : f.asked ≡ asked_turning s m.current.life
+  asked_is =
+      is.follows.asked
+      ∙ ap (λ (l : LogState). l.asked ++ closing_event (open_in l.listing) l.current.life l.manifest.life.present.readable ∷ []) is.asks
+      ∙ ap (λ (events : List FolderEvent). events ++ closing_event (open_in m.listing) m.current.life m.manifest.life.present.readable ∷ []) is.has.asked
+      ∙ ap (λ (events : List FolderEvent). (events ++ events_for (open_in m.listing + 1) []) ++ closing_event (open_in m.listing) m.current.life m.manifest.life.present.readable ∷ []) is.first.asked
+      ∙ ap (λ (l : ListingState). (s.asked ++ events_for (open_in l + 1) []) ++ closing_event (open_in l) m.current.life m.manifest.life.present.readable ∷ []) is.first.listing
+      ∙ ap (λ (o : OwnedState). (s.asked ++ events_for (open_in s.listing + 1) []) ++ closing_event (open_in s.listing) m.current.life o.life.present.readable ∷ []) is.first.manifest
+
+  pub same_bytes : entered_bytes (Closes kept) f ≡ entered_bytes (Closes kept) s
+  same_bytes =
+      ap (λ P. padded P (owned_size f.manifest.journal) (Closes kept)) same_pages
+      ∙ ap (λ (o : OwnedState). padded s.page_size (owned_size o.journal) (Closes kept)) same_manifest
+
+  pub rotate_goes : (e : LogState) → IsEntered own (Closes kept) f e → IsSameButManifest f e → IsRotated sum own s e
+  rotate_goes e entered last = record {
+    last = m.current.life;
+    kept = kept;
+    closed = is.closed;
+    listing = listed f.page_size kept f.listing e.listing entered.listing
+        ∙ ap (λ (l : ListingState). record { first = l.first; closed = l.closed ++ kept ∷ [] }) same_listing;
+    entries = entered.records ∙ ap (λ (o : OwnedState). records_now own o ++ entered_bytes (Closes kept) f ∷ []) same_manifest
+        ∙ ap (λ (bytes : List ℕ). records_now own s.manifest ++ bytes ∷ []) same_bytes;
+    room = room_after s.page_size (owned_size s.manifest.journal) (owned_size e.manifest.journal) kept
+        (ap length is.closed.of.digest ∙ length-sha256 m.current.life.present.readable)
+        (entered.size ∙ ap (λ (o : OwnedState). owned_size o.journal + (length (entered_bytes (Closes kept) f) + 7)) same_manifest
+        ∙ ap (λ (bytes : List ℕ). owned_size s.manifest.journal + (length bytes + 7)) same_bytes);
+    listed = entered.there;
+    there = subst (λ (o : OwnedState). HasJournal o.journal (λ w. Unit {0})) (sym (last.current ∙ current_is)) is.has.there;
+    none = ap (λ (o : OwnedState). records_now own o) (last.current ∙ current_is) ∙ is.has.none;
+    copied = record {
+      failed = entered.kept.failed;
+      asked = entered.kept.asked
+          ∙ ap (λ (events : List FolderEvent). events ++ keeping_event (open_in e.listing) e.known e.manifest.life.present.readable entered.kept.failed ∷ []) asked_is;
+    };
+    known = entered.known;
+    loaded = last.loaded ∙ same_loaded;
+    page_size = last.page_size ∙ same_pages;
+    most = last.most ∙ same_most;
+  }
 
 -- the log stands with the next segment
-ready : (sum own : List ℕ → ℕ) (m n e : LogState) (next : OwnedState) → HasNext sum own m n next → IsSameButAsked m n → IsSameButManifest n e
-    → IsLog sum own e → IsLog sum own (record e { current = next })
-ready sum own m n e next has asks last log = record {
+pub follow_ready : (sum own : List ℕ → ℕ) (s : LogState) (next : OwnedState) (asked : List FolderEvent) → IsOwned sum own next → next.page_size ≡ s.page_size
+    → IsLog sum own s → IsLog sum own (record s { current = next; asked = asked })
+follow_ready sum own s next asked owned pages log = record {
   manifest = log.manifest;
-  current = has.owned;
+  current = owned;
   manifest_pages = log.manifest_pages;
-  current_pages = has.page_size ∙ sym (ap (λ (l : LogState). l.page_size) asks) ∙ sym last.page_size;
+  current_pages = pages;
   lists = log.lists;
   loaded = log.loaded;
 }
-
--- a rotation by its steps, of the log as it is put together again
-pub rotate_goes : (sum own : List ℕ → ℕ) (s m n e view : LogState) (next : OwnedState) (kept : Closed)
-    → view ≡ e → IsClosedWith sum own s m kept → IsSameButCurrent s m → HasNext sum own m n next → IsSameButAsked m n
-    → IsEntered own (Closes kept) n e → IsSameButManifest n e → IsRotated sum own s (record view { current = next })
-rotate_goes sum own s m n e view next kept is closed first has asks entered last =
-    subst (λ e. IsRotated sum own s (record e { current = next })) (sym is) (rotated sum own s m n e next kept closed first has asks entered last)
-
-pub rotate_ready : (sum own : List ℕ → ℕ) (m n e view : LogState) (next : OwnedState) → view ≡ e → HasNext sum own m n next → IsSameButAsked m n → IsSameButManifest n e
-    → IsLog sum own e → IsLog sum own (record view { current = next })
-rotate_ready sum own m n e view next is has asks last log =
-    subst (λ e. IsLog sum own (record e { current = next })) (sym is) (ready sum own m n e next has asks last log)

@@ -19,7 +19,7 @@ use Rattle.segments.specs.declared.place.Place.{Place}
 use Rattle.segments.specs.Digests.{IsOf}
 use Rattle.segments.specs.Manifest.{ListingState, closed_at, open_in}
 use Rattle.segments.specs.Owned.{HasJournal, content_now, content_of, records_of}
-use Rattle.segments.specs.Log.{HasCollision, IsContentOf, LeavesReading, LogReadGoes, LogReadRefused, LogState, TellHeld, closed_records}
+use Rattle.segments.specs.Log.{HasTwinIn, IsContentOf, LeavesReading, LogReadGoes, LogReadRefused, LogState, TellHeld, closed_records}
 use Rattle.segments.specs.Scan.{ComesFirst, IsBehind, IsEnd, NextGoes, StandBetween, StandBy, held_content, records_after, records_at}
 use Rattle.segments.proofs.Records.{judged}
 
@@ -79,7 +79,7 @@ pick_false b x y is = ap (λ b. if b then x else y) is
 
 -- the content of a segment is what it is by what the closed ones held
 pub is_held : (sum : List ℕ → ℕ) (held : ℕ → List ℕ) (s : LogState) (segment : ℕ) (C : List ℕ) → TellHeld held s.listing.first s.listing.closed → IsContentOf sum s segment C
-    → (held_content sum s.page_size held s.listing (content_now s.current) segment ≡ C) ⊎ HasCollision
+    → (held_content sum s.page_size held s.listing (content_now s.current) segment ≡ C) ⊎ HasTwinIn held s.listing
 is_held sum held s segment C tells (inl is) =
     inl (pick_false (nat_lt segment (open_in s.listing)) (whole_frames (text sum s.page_size (held segment))) (content_now s.current) (le-ltb segment (open_in s.listing) (omega (arith, is.0)))
     ∙ current_is s.current.journal s.current.life C is.1)
@@ -89,8 +89,8 @@ is_held sum held s segment C tells (inr is) =
     elim (judged (held segment) is.2.bytes is.0 told is.2.of) [
       | inl same ↦ inl (
           pick_true (nat_lt segment (open_in s.listing)) (whole_frames (text sum s.page_size (held segment))) (content_now s.current) (lt-ltb segment (open_in s.listing) here.before)
-          ∙ ap (λ bytes. whole_frames (text sum s.page_size bytes)) same ∙ sym is.2.holds)
-      | inr collision ↦ inr collision
+          ∙ ap (λ bytes. whole_frames (text sum s.page_size bytes)) (sym same) ∙ sym is.2.holds)
+      | inr twin ↦ inr (segment, (is.0, is.1), twin)
     ]
 
 -- ---- one frame further
@@ -110,7 +110,7 @@ found_between sum own s at end bytes C is found held tells =
     elim (is_held sum held s at.segment C tells is) [
       | inl same ↦ inl (frame_more own (held_content sum s.page_size held s.listing (content_now s.current) at.segment) C at.offset end bytes
           (records_after sum own s.page_size held s.listing (content_now s.current) at.segment) same found)
-      | inr collision ↦ inr collision
+      | inr twin ↦ inr twin
     ]
 
 -- ---- the end of a segment
@@ -168,7 +168,7 @@ closed_between sum own s at kept C listed is le held tells =
           ∙ pick_true (nat_lt at.segment (open_in l)) (closed_records sum own P held (suc at.segment) (drop (suc at.segment - l.first) l.closed) ++ records own now) [] (lt-ltb at.segment (open_in l) here.before)
           ∙ ap (λ m. closed_records sum own P held m (drop (m - l.first) l.closed) ++ records own now) more
           ∙ next_first sum own P held l now n (omega (arith, here.after)) (omega (arith, here.before)))
-      | inr collision ↦ inr collision
+      | inr twin ↦ inr twin
     ]
 
 -- nothing follows the open one
@@ -200,10 +200,10 @@ comes_first sum own s held =
 -- ---- one step
 
 -- a frame was found: its record stands here, and the place behind it
-pub step_found : (sum own : List ℕ → ℕ) (s : LogState) (at : Place) (f : Found) → at.offset < 18446744073709551616 → LogReadGoes sum own s at (Ok (Some f))
+pub step_found : (sum own : List ℕ → ℕ) (s t : LogState) (at : Place) (f : Found) → at.offset < 18446744073709551616 → LogReadGoes sum own s t at (Ok (Some f))
     → StandBetween sum own s (listed f.bytes) at (record { segment = at.segment; offset = f.end })
     × IsBehind s at (record { segment = at.segment; offset = f.end })
-step_found sum own s at f fits is =
+step_found sum own s t at f fits is =
     let found = is.2 in
     let inside = is_inside sum s at.segment is.0 is.1 in (
       found_between sum own s at f.end f.bytes is.0 is.1 found,
@@ -225,7 +225,7 @@ passed_by sum own s at C fits other (inr closed) le =
       here.before,
     )
 
-pub step_passed : (sum own : List ℕ → ℕ) (s : LogState) (at : Place) → at.offset < 18446744073709551616 → at.segment ≢ open_in s.listing → LogReadGoes sum own s at (Ok None)
+pub step_passed : (sum own : List ℕ → ℕ) (s : LogState) (at : Place) → at.offset < 18446744073709551616 → at.segment ≢ open_in s.listing → LogReadGoes sum own s s at (Ok None)
     → StandBetween sum own s [] at (record { segment = at.segment + 1; offset = 0 })
     × IsBehind s at (record { segment = at.segment + 1; offset = 0 }) × (at.segment < open_in s.listing)
 step_passed sum own s at fits other is = passed_by sum own s at is.0 fits other is.1 is.2
@@ -237,7 +237,7 @@ stops_by sum own s at C last (inr closed) le =
     let here = within s.listing at.segment closed.0 closed.1 in
     absurd (omega (arith, here.before, last))
 
-pub step_stops : (sum own : List ℕ → ℕ) (s : LogState) (at : Place) → at.segment ≡ open_in s.listing → LogReadGoes sum own s at (Ok None) → IsEnd sum own s at
+pub step_stops : (sum own : List ℕ → ℕ) (s : LogState) (at : Place) → at.segment ≡ open_in s.listing → LogReadGoes sum own s s at (Ok None) → IsEnd sum own s at
 step_stops sum own s at last is = stops_by sum own s at is.0 last is.1 is.2
 
 -- ---- one step after another
@@ -247,9 +247,9 @@ between_joins sum own s these p q r first second held tells =
     elim (first held tells) [
       | inl same ↦ elim (second held tells) [
         | inl more ↦ inl (same ∙ more)
-        | inr collision ↦ inr collision
+        | inr twin ↦ inr twin
       ]
-      | inr collision ↦ inr collision
+      | inr twin ↦ inr twin
     ]
 
 -- what holds of the log after reads held before them
@@ -271,23 +271,10 @@ behind_back sum own s m p q leaves is = record {
   nearer = subst (λ (l : ListingState). (open_in l + 1 - q.segment) * 18446744073709551616 - q.offset < (open_in l + 1 - p.segment) * 18446744073709551616 - p.offset) leaves.listing is.nearer;
 }
 
-pub refused_back : (sum own : List ℕ → ℕ) (s m : LogState) (segment : ℕ) (e : Error) → LeavesReading sum own s m → LogReadRefused m segment e → LogReadRefused s segment e
-refused_back sum own s m segment errors.Closed leaves is = (is.0 ∙ ap (λ (l : ListingState). open_in l) leaves.listing, sym leaves.journal ∙ is.1)
-refused_back sum own s m segment (errors.Layer e) leaves is = tt
-refused_back sum own s m segment (errors.System e) leaves is = (is.0, ap (λ (l : ListingState). closed_at l segment) (sym leaves.listing) ∙ is.1)
-refused_back sum own s m segment (errors.Damaged n) leaves is = (is.0, (is.1.0, ap (λ (l : ListingState). closed_at l segment) (sym leaves.listing) ∙ is.1.1))
-refused_back sum own s m segment (errors.Unlisted n) leaves is = absurd is
-refused_back sum own s m segment (errors.Missing n) leaves is = absurd is
-refused_back sum own s m segment (errors.Short n) leaves is = absurd is
-refused_back sum own s m segment (errors.Outdated n) leaves is = absurd is
-refused_back sum own s m segment errors.Manifest leaves is = absurd is
-refused_back sum own s m segment (errors.NoSegment n) leaves is =
-    (is.0, λ same. is.1 (same ∙ sym (ap (λ (l : ListingState). open_in l) leaves.listing)), ap (λ (l : ListingState). closed_at l segment) (sym leaves.listing) ∙ is.2)
-refused_back sum own s m segment errors.NumbersExhausted leaves is = absurd is
-
-pub next_refused : (sum own : List ℕ → ℕ) (s m : LogState) (from at place : Place) (e : Error) (result : Result (Option (Place × List ℕ)) Error) → LeavesReading sum own s m
-    → from.segment ≤ at.segment → StandBetween sum own s [] from at → place ≡ from → IsErrAnd result (λ x. x ≡ e) → LogReadRefused m at.segment e
-    → NextGoes sum own s from place result
-next_refused sum own s m from at place e (Ok r) leaves further so_far same is refused = absurd is
-next_refused sum own s m from at place e (Err x) leaves further so_far same is refused =
-    (same, (at, further, so_far, subst (λ y. LogReadRefused s at.segment y) (sym is) (refused_back sum own s m at.segment e leaves refused)))
+-- a step was refused: the records up to there were read
+pub next_refused : (sum own : List ℕ → ℕ) (s m t : LogState) (from at place : Place) (e : Error) (result : Result (Option (Place × List ℕ)) Error) → LeavesReading sum own s m
+    → from.segment ≤ at.segment → StandBetween sum own s [] from at → place ≡ from → IsErrAnd result (λ x. x ≡ e) → LogReadRefused own m t at e
+    → NextGoes sum own s t from place result
+next_refused sum own s m t from at place e (Ok r) leaves further so_far same is refused = absurd is
+next_refused sum own s m t from at place e (Err x) leaves further so_far same is refused =
+    (same, record { at = at; mid = m; further = further; none = so_far; reads = leaves; refused = subst (λ y. LogReadRefused own m t at y) (sym is) refused })

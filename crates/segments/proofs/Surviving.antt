@@ -42,15 +42,22 @@ manifest_tells sum own P l o w pages owned lists =
 pub durable_image : (d : Disk) (image : List ℕ) → IsDurable d → IsImage d image → image ≡ d.readable
 durable_image d image durable is_image = only_image d image durable.since is_image ∙ durable.base
 
+-- what a durable manifest lists, whatever a crash leaves of it
+pub listed_of : (sum own : List ℕ → ℕ) (s : LogState) (m : WriterState) → s.manifest.page_size ≡ s.page_size → IsOwnedJournal sum own s.manifest m
+    → Lists sum own s.page_size s.listing m s.manifest.life → (bytes : List ℕ) → IsImage s.manifest.life.present bytes
+    → listed_in s.page_size (records own (text sum s.page_size bytes)) ≡ Some s.listing
+listed_of sum own s m pages owned lists bytes image =
+    ap (λ bytes. listed_in s.page_size (records own (text sum s.page_size bytes))) (durable_image s.manifest.life.present bytes lists.durable image)
+    ∙ ap (λ rs. listed_in s.page_size rs) (manifest_tells sum own s.page_size s.listing s.manifest m pages owned lists)
+    ∙ lists.told
+
 -- what is left of a log whose manifest is durable
 pub left_of : (sum own : List ℕ → ℕ) (held file : ℕ → List ℕ) (s : LogState) (m : WriterState) → s.manifest.page_size ≡ s.page_size → IsOwnedJournal sum own s.manifest m
     → Lists sum own s.page_size s.listing m s.manifest.life → (bytes : List ℕ) → IsImage s.manifest.life.present bytes
     → records_left sum own s.page_size held file bytes
     ≡ Some (closed_records sum own s.page_size held s.listing.first s.listing.closed ++ records own (text sum s.page_size (file (open_in s.listing))))
 left_of sum own held file s m pages owned lists bytes image =
-    ap (λ bytes. records_left sum own s.page_size held file bytes) (durable_image s.manifest.life.present bytes lists.durable image)
-    ∙ ap (λ rs. records_by sum own s.page_size held file (listed_in s.page_size rs)) (manifest_tells sum own s.page_size s.listing s.manifest m pages owned lists)
-    ∙ ap (λ o. records_by sum own s.page_size held file o) lists.told
+    ap (λ o. records_by sum own s.page_size held file o) (listed_of sum own s m pages owned lists bytes image)
 
 take_on : (before : List (List ℕ)) (n : ℕ) (back all : List (List ℕ)) → take n back ≡ take n all → take (length before + n) (before ++ back) ≡ take (length before + n) (before ++ all)
 take_on [] n back all same =

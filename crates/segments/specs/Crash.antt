@@ -10,12 +10,12 @@ use Rattle.journal.specs.Frame.{IsPrefix, records}
 use Rattle.journal.specs.Journal.{Commits, CommitsAll, OnlyRecords}
 use Rattle.segments.specs.declared.closed.Closed.{Closed}
 use Rattle.segments.specs.declared.call.FolderCall.TheVariants as calls
-use Rattle.segments.specs.Digests.{IsOf}
+use Rattle.segments.specs.Digests.{HasTwin, IsOf}
 use Rattle.segments.specs.FolderEvents.{FolderEvent, opening_with}
 use Rattle.segments.specs.Manifest.{ListingState, listed_in, open_in}
 use Rattle.segments.specs.Owned.{HasJournal, content_now, owned_size, records_now}
-use Rattle.segments.specs.Log.{HasCollision, IsKept, LogState, closed_records, events_for}
-use Rattle.segments.specs.Log.{listing_from, log_records}
+use Rattle.segments.specs.Log.{IsKept, IsRotated, IsSameButCurrent, LogState, asked_turning}
+use Rattle.segments.specs.Log.{closed_records, events_for, listing_from, log_records}
 
 -- the records of a log whose manifest lists this, and whose files hold these bytes; each closed
 -- segment held what `held` gives for its number
@@ -80,28 +80,33 @@ CurrentSurvives sum own more s t = IfSome s.manifest.journal (λ m. IfSome s.cur
 
 -- as the manifest gets the entry that segment k is closed and the next one is open: whatever a
 -- crash leaves of the manifest's disk and of the disks of these two segments, chance aside, all of
--- these records come back, or two strings of one digest are at hand
+-- these records come back, or what segment k held has a twin
 abbrev pub LogTurned : (sum own : List ℕ → ℕ) → ℕ → (held : ℕ → List ℕ) → List (List ℕ)
     → (k : ℕ) → (d e : Disk) → Disk → Type 0
 LogTurned sum own P held all k d e m =
     (manifest : List ℕ) → IsImage m manifest → IsChanceFree sum P m manifest
     → (file : ℕ → List ℕ) → IsImage d (file k) → IsImage e (file (k + 1))
     → IsChanceFree sum P e (file (k + 1))
-    → (records_left sum own P held file manifest ≡ Some all) ⊎ HasCollision
+    → (records_left sum own P held file manifest ≡ Some all) ⊎ HasTwin (held k)
 
--- a rotation, at each moment: first the open segment is closed; then the manifest gets its entry,
--- and that leaves all records as they were
+-- the folder took the blob of the closed segment back, at the end of this life, before the manifest
+-- got an entry; after that it was asked for this
+pub record HasLetGo (s : LogState) (last : Life) (t : LogState) : Type 0 where
+  pub after : List FolderEvent
+  pub asked : t.asked ≡ asked_turning s last ++ after
+
+-- a rotation, at each moment: first the open segment is closed, and the folder takes its blob back;
+-- then the manifest gets its entry, and that leaves all records as they were. The next segment is
+-- the log's open one then
 pub record TurnKept (sum own : List ℕ → ℕ) (held : ℕ → List ℕ) (s t : LogState) : Type 0 where
   pub last : Life
-  pub next : Disk
   pub kept : Closed
-  -- the log's blob is the one that was closed, or the next one
-  pub stands : (t.current.life ≡ last) ⊎ (t.current.life.present ≡ next)
+  pub gone : HasLetGo s last t
   pub closing : KeepsLog sum own held s [] s.current.life last
   pub of : IsOf last.present.readable kept
   pub turning : IsOf (held (open_in s.listing)) kept
       → Through (LogTurned sum own s.page_size held (log_records sum own held s)
-      (open_in s.listing) last.present next) s.manifest.life t.manifest.life
+      (open_in s.listing) last.present t.current.life.present) s.manifest.life t.manifest.life
 
 -- a rotation, at each moment: it ended before the manifest got the entry, or it is as `TurnKept`
 -- has it
@@ -116,12 +121,22 @@ abbrev pub RotationSurvives : (sum own : List ℕ → ℕ) → LogState → LogS
 RotationSurvives sum own s t = IfSome s.manifest.journal (λ m. IfSome s.current.journal (λ w.
     (held : ℕ → List ℕ) → IsRotationKept sum own held s t))
 
--- an append, whatever it answers: to the open segment; or a rotation that failed; or a rotation,
--- and then an append to the next segment
+-- a rotation, and then an append to the next segment
+pub record TurnedSurvives (sum own : List ℕ → ℕ) (bytes : List ℕ) (s t : LogState) : Type 0 where
+  pub mid : LogState
+  pub turned : IsRotated sum own s mid
+  pub rest : IsSameButCurrent mid t
+  pub turns : RotationSurvives sum own s mid
+  pub appends : CurrentSurvives sum own (bytes ∷ []) mid t
+
+-- an append, whatever it answers: to the open segment, and nothing else was done; or a rotation that
+-- failed, by whose moments the log ended without an open segment; or a rotation, and then an append
+-- to the next segment
 abbrev pub AppendSurvives : (sum own : List ℕ → ℕ) → List ℕ → LogState → LogState → Type 0
-AppendSurvives sum own bytes s t = CurrentSurvives sum own (bytes ∷ []) s t
-    ⊎ RotationSurvives sum own s t
-    ⊎ ((m : LogState) × RotationSurvives sum own s m × CurrentSurvives sum own (bytes ∷ []) m t)
+AppendSurvives sum own bytes s t =
+    (IsSameButCurrent s t × CurrentSurvives sum own (bytes ∷ []) s t)
+    ⊎ ((t.current.journal ≡ None) × RotationSurvives sum own s t)
+    ⊎ TurnedSurvives sum own bytes s t
 
 -- ---- dropping
 
@@ -134,6 +149,24 @@ LogDropped sum own P l segment m =
     → (records_left sum own P held file manifest ≡ records_by sum own P held file (Some l))
     ⊎ (records_left sum own P held file manifest
     ≡ records_by sum own P held file (Some (listing_from segment l)))
+
+-- one of these calls removed the file of this segment, or was to
+abbrev pub WasRemoved : ℕ → List FolderEvent → Type 0
+WasRemoved segment [] = ⊥
+WasRemoved segment (e ∷ es) = (e.call ≡ calls.Removes segment) ⊎ WasRemoved segment es
+
+-- something is listed, and of the segments from this one on alone
+abbrev pub ListsFrom : ℕ → Option ListingState → Type 0
+ListsFrom segment None = ⊥
+ListsFrom segment (Some l) = segment ≤ l.first
+
+-- a file is removed only once the manifest doesn't list it any more, whatever a crash leaves: so no
+-- crash brings back a log of which a file is gone
+abbrev pub RemovesUnlisted : (sum own : List ℕ → ℕ) → LogState → LogState → Type 0
+RemovesUnlisted sum own s t = (events : List FolderEvent) → t.asked ≡ s.asked ++ events
+    → (segment : ℕ) → WasRemoved segment events
+    → (manifest : List ℕ) → IsImage t.manifest.life.present manifest
+    → ListsFrom (segment + 1) (listed_in t.page_size (records own (text sum t.page_size manifest)))
 
 -- a drop, at each moment, whatever it answers
 abbrev pub DropSurvives : (sum own : List ℕ → ℕ) → (segment : ℕ) → LogState → LogState → Type 0

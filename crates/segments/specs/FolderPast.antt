@@ -2,8 +2,9 @@
 use Rattle.std.specs.Prelude.{List, [], ◌∷◌, ◌++◌}
 use Rattle.disk.specs.Disk.{Life}
 use Rattle.segments.specs.declared.past.Last.{Last}
-use Rattle.segments.specs.declared.past.Last.TheVariants.{Nothing, After, Opened, Kept}
-use Rattle.segments.specs.FolderEvents.{FolderEvent, keeping_event, plain_event, opening_with}
+use Rattle.segments.specs.declared.past.Last.TheVariants.{Nothing, After, Opened, Kept, Closed}
+use Rattle.segments.specs.FolderEvents.{FolderEvent, closing_event, keeping_event}
+use Rattle.segments.specs.FolderEvents.{opening_with, plain_event}
 
 -- a ghost past as a list of calls, the oldest first
 abbrev pub events_of : {B : Type 0} → (B → Life) → Last B → List FolderEvent
@@ -14,3 +15,6 @@ events_of life (Opened before call blob) =
 events_of life (Kept before segment len manifest failed) =
     let bytes = (life manifest.value).present.readable in
     before.value.value ++ keeping_event segment len bytes failed ∷ []
+events_of life (Closed before segment blob manifest) =
+    let bytes = (life manifest.value).present.readable in
+    before.value.value ++ closing_event segment (life blob.value) bytes ∷ []

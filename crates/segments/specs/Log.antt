@@ -4,6 +4,7 @@ use Rattle.std.specs.Prelude.{◌==◌, if◌then◌else◌}
 use Rattle.std.specs.Prelude.{Option, Some, None, IfSome}
 use Rattle.std.specs.Prelude.{Result, Ok, Err, ◌+◌, ◌-◌, ◌<◌, ◌≤◌, false, true, drop}
 use Rattle.disk.specs.Disk.{Life}
+use Rattle.disk.specs.declared.error.Error as layer
 use Rattle.page.specs.Page.{text}
 use Rattle.paged.specs.Recovery.{IsDurable}
 use Rattle.writer_state.specs.WriterState.{WriterState}
@@ -18,14 +19,15 @@ use Rattle.segments.specs.declared.entry.Entry.TheVariants.{Starts, Closes}
 use Rattle.segments.specs.declared.error.Error.{Error}
 use Rattle.segments.specs.declared.place.Place.{Place}
 use Rattle.segments.specs.declared.error.Error.TheVariants as errors
-use Rattle.segments.specs.Digests.{Collide, IsOf, SameKept}
-use Rattle.segments.specs.FolderEvents.{FolderEvent, keeping_event, plain_event, opening_with}
-use Rattle.segments.specs.Manifest.{ListingState, closed_at, entry_bytes, entry_in, listed_in}
-use Rattle.segments.specs.Manifest.{listed_with, open_in}
+use Rattle.segments.specs.Digests.{HasTwin, IsOf, SameKept}
+use Rattle.segments.specs.FolderEvents.{FolderEvent, closing_event, keeping_event, opening_with}
+use Rattle.segments.specs.FolderEvents.{plain_event}
+use Rattle.segments.specs.Manifest.{ListingState, closed_at, entry_in, free_after, listed_in}
+use Rattle.segments.specs.Manifest.{listed_with, open_in, padded}
 use Rattle.segments.specs.Owned.{HasJournal, IsOwned, IsShut, KeepsRecords, OwnedAppendGoes}
 use Rattle.segments.specs.Owned.{content_now}
 use Rattle.segments.specs.Owned.{OwnedCloseGoes}
-use Rattle.segments.specs.Owned.{OwnedReadLeaves, OwnedState}
+use Rattle.segments.specs.Owned.{OwnedReadGoes, OwnedReadLeaves, OwnedState}
 use Rattle.segments.specs.Owned.{owned_size, records_now, without_journal}
 
 -- a closed segment that was read into memory: what was kept of it, and its journal
@@ -107,12 +109,18 @@ abbrev pub known_with : Entry → ℕ → ℕ
 known_with (Starts first page_size) known = known
 known_with (Closes kept) known = 0
 
+-- an entry as the bytes that the manifest of a log gets
+abbrev pub entered_bytes : Entry → LogState → List ℕ
+entered_bytes entry s = padded s.page_size (owned_size s.manifest.journal) entry
+
 -- an entry was added to the manifest, and is durable; then a copy was to be kept
 pub record IsEntered (own : List ℕ → ℕ) (entry : Entry) (s t : LogState) : Type 0 where
   pub listing : listed_with s.page_size entry s.listing ≡ Some t.listing
   pub there : HasJournal t.manifest.journal (λ w. Unit {0})
   pub records : records_now own t.manifest
-      ≡ records_now own s.manifest ++ entry_bytes entry ∷ []
+      ≡ records_now own s.manifest ++ entered_bytes entry s ∷ []
+  pub size : owned_size t.manifest.journal
+      ≡ owned_size s.manifest.journal + (length (entered_bytes entry s) + 7)
   pub known : t.known ≡ known_with entry s.known
   pub kept : IsKept s.asked t
 
@@ -144,13 +152,13 @@ EnterGoes own entry s t (Err e) = IsNotEntered entry s t e
 -- after them
 abbrev pub ManifestKeeps : (sum own : List ℕ → ℕ) → Entry → LogState → LogState → Type 0
 ManifestKeeps sum own entry s t = IfSome s.manifest.journal (λ w.
-    KeepsRecords sum own s.page_size (records_now own s.manifest ++ entry_bytes entry ∷ [])
+    KeepsRecords sum own s.page_size (records_now own s.manifest ++ entered_bytes entry s ∷ [])
     s.manifest.life t.manifest.life)
 
 -- the entry was asked for: it can follow those before it
 pub record IsTried (sum own : List ℕ → ℕ) (entry : Entry) (s t : LogState) : Type 0 where
   pub listing : ListingState
-  pub told : entry_in (entry_bytes entry) ≡ Some entry
+  pub told : entry_in (entered_bytes entry s) ≡ Some entry
   pub follows : listed_with s.page_size entry s.listing ≡ Some listing
   pub keeps : ManifestKeeps sum own entry s t
 
@@ -170,15 +178,17 @@ pub record IsSameButCurrent (s t : LogState) : Type 0 where
   pub most : t.most ≡ s.most
   pub known : t.known ≡ s.known
 
--- the open segment was closed: this is what is kept of it, and all of it is durable
-pub record IsClosedWith (sum own : List ℕ → ℕ) (s t : LogState) (kept : Closed) : Type 0 where
-  pub shut : IsShut sum own s.page_size (records_now own s.current) t.current.life
-  pub of : IsOf t.current.life.present.readable kept
+-- a segment was closed at the end of this life of its blob: it has the records that the open segment
+-- of a log had, all of it is durable, and this was kept of its bytes
+pub record WasClosed (sum own : List ℕ → ℕ) (s : LogState) (last : Life) (kept : Closed)
+    : Type 0 where
+  pub shut : IsShut sum own s.page_size (records_now own s.current) last
+  pub of : IsOf last.present.readable kept
   pub counts : kept.records ≡ length (records_now own s.current)
 
 abbrev pub CloseCurrentGoes : (sum own : List ℕ → ℕ) → LogState → LogState → Result Closed Error
     → Type 0
-CloseCurrentGoes sum own s t (Ok kept) = IsClosedWith sum own s t kept
+CloseCurrentGoes sum own s t (Ok kept) = WasClosed sum own s t.current.life kept
 CloseCurrentGoes sum own s t (Err e) = OwnedCloseGoes sum own s.current t.current (Err e)
 
 -- what a call of the open segment's journal leaves: what was committed is so at each moment since,
@@ -228,13 +238,16 @@ pub record HasNext (sum own : List ℕ → ℕ) (s t : LogState) (next : OwnedSt
   pub leaves : OnlyRecords sum own s.page_size [] next.life.present
   pub asked : t.asked ≡ s.asked ++ events_for (open_in s.listing + 1) []
 
--- an opening of the next segment is refused: the folder refused it, or its file has bytes, or no
--- number is left for it; or the device or memory failed
+-- an opening of the next segment is refused. The folder refused it; or its file has bytes, so that
+-- the manifest doesn't know all; or no number is left for it, and nothing was asked; or its file was
+-- opened, and the device or memory failed
 abbrev pub NextRefused : LogState → LogState → Error → Type 0
-NextRefused s t (errors.Layer e) = Unit {0}
+NextRefused s t (errors.Layer e) = t.asked ≡ s.asked ++ events_for (open_in s.listing + 1) []
 NextRefused s t (errors.System e) = AsksInVain (open_in s.listing + 1) s.asked t.asked
-NextRefused s t (errors.Unlisted n) = n ≡ open_in s.listing + 1
-NextRefused s t errors.NumbersExhausted = open_in s.listing ≡ 18446744073709551615
+NextRefused s t (errors.Unlisted n) = (n ≡ open_in s.listing + 1)
+    × (given : List ℕ) × (given ≢ []) × (t.asked ≡ s.asked ++ events_for n given)
+NextRefused s t errors.NumbersExhausted =
+    (open_in s.listing ≡ 18446744073709551615) × (t.asked ≡ s.asked)
 NextRefused s t e = ⊥
 
 abbrev pub OpenNextGoes : (sum own : List ℕ → ℕ) → LogState → LogState → Result OwnedState Error
@@ -246,39 +259,80 @@ OpenNextGoes sum own s t (Err e) = NextRefused s t e
 abbrev pub IsSameButAsked : LogState → LogState → Type 0
 IsSameButAsked s t = t ≡ record s { asked = t.asked }
 
+-- what a folder was asked for by a rotation before the manifest gets its entry. The next file was
+-- opened, and its name was durable. Then the folder took the blob of the closed segment back, which
+-- had this life; the manifest was still as it had been
+abbrev pub asked_turning : LogState → (last : Life) → List FolderEvent
+asked_turning s last = (s.asked ++ events_for (open_in s.listing + 1) [])
+    ++ closing_event (open_in s.listing) last s.manifest.life.present.readable ∷ []
+
+-- the next segment took the place of the closed one, whose blob went back to the folder
+pub record HasFollowed (next : OwnedState) (s t : LogState) : Type 0 where
+  pub asked : t.asked ≡ s.asked
+      ++ closing_event (open_in s.listing) s.current.life s.manifest.life.present.readable ∷ []
+  pub rest : t ≡ record s { current = next; asked = t.asked }
+
+-- a log lists what it listed, and has the same settings
+pub record ListsTheSame (s t : LogState) : Type 0 where
+  pub listing : t.listing ≡ s.listing
+  pub loaded : t.loaded ≡ s.loaded
+  pub page_size : t.page_size ≡ s.page_size
+  pub most : t.most ≡ s.most
+  pub known : t.known ≡ s.known
+
 -- a rotation: the open segment was closed, with all its records, and is listed by what is kept of
 -- its bytes; the next one is open, has no record, and its name is durable
 pub record IsRotated (sum own : List ℕ → ℕ) (s t : LogState) : Type 0 where
   pub last : Life
   pub kept : Closed
-  pub shut : IsShut sum own s.page_size (records_now own s.current) last
-  pub of : IsOf last.present.readable kept
-  pub counts : kept.records ≡ length (records_now own s.current)
+  pub closed : WasClosed sum own s last kept
   pub listing : t.listing
       ≡ record { first = s.listing.first; closed = s.listing.closed ++ kept ∷ [] }
   pub entries : records_now own t.manifest
-      ≡ records_now own s.manifest ++ entry_bytes (Closes kept) ∷ []
+      ≡ records_now own s.manifest ++ entered_bytes (Closes kept) s ∷ []
+  -- so the entry of a drop fits into the last page, unless a page is smaller than that
+  pub room : 18 < s.page_size
+      → 18 ≤ free_after s.page_size (owned_size t.manifest.journal)
   pub listed : HasJournal t.manifest.journal (λ w. Unit {0})
   pub there : HasJournal t.current.journal (λ w. Unit {0})
   pub none : records_now own t.current ≡ []
-  -- the next file, its name, and then the manifest with its entry
-  pub copied : IsKept (s.asked ++ events_for (open_in s.listing + 1) []) t
+  -- the next file, its name, the closed blob, and then the manifest with its entry
+  pub copied : IsKept (asked_turning s last) t
   pub known : t.known ≡ 0
   pub loaded : t.loaded ≡ s.loaded
   pub page_size : t.page_size ≡ s.page_size
   pub most : t.most ≡ s.most
 
--- a rotation is refused: one of the journals is closed since a call before failed, or the next
--- segment can't be opened, or the device or memory failed
-abbrev pub RotateRefused : LogState → LogState → Error → Type 0
-RotateRefused s t errors.Closed = (s.current.journal ≡ None) ⊎ (s.manifest.journal ≡ None)
-RotateRefused s t e = NextRefused s t e
+-- a rotation that failed as the open segment was committed: nothing else was done
+pub record IsNotClosed (sum own : List ℕ → ℕ) (s t : LogState) (e : Error) : Type 0 where
+  pub rest : IsSameButCurrent s t
+  pub refused : OwnedCloseGoes sum own s.current t.current (Err e)
 
--- a rotation, by its answer: after an error the log has no open segment
+-- a rotation that failed as the next segment was opened: all of the open one is durable, and the
+-- manifest is as it was
+pub record IsNotFollowed (sum own : List ℕ → ℕ) (s t : LogState) (e : Error) : Type 0 where
+  pub shut : IsShut sum own s.page_size (records_now own s.current) t.current.life
+  pub manifest : t.manifest ≡ s.manifest
+  pub rest : ListsTheSame s t
+  pub refused : NextRefused s t e
+
+-- a rotation that failed as the manifest was to get its entry: all of the closed segment is durable.
+-- The manifest is as it was; or it has no journal, and whether it has the entry shows at an opening
+pub record IsNotListed (sum own : List ℕ → ℕ) (s t : LogState) (e : Error) : Type 0 where
+  pub last : Life
+  pub kept : Closed
+  pub closed : WasClosed sum own s last kept
+  pub asked : t.asked ≡ asked_turning s last
+  pub rest : ListsTheSame s t
+  pub left : (t.manifest ≡ s.manifest) ⊎ (t.manifest.journal ≡ None)
+  pub refused : EnterRefused (Closes kept) s e
+
+-- a rotation, by its answer: after an error the log has no open segment, and lists what it listed
 abbrev pub RotateGoes : (sum own : List ℕ → ℕ) → LogState → LogState → Result (Unit {0}) Error
     → Type 0
 RotateGoes sum own s t (Ok u) = IsRotated sum own s t
-RotateGoes sum own s t (Err e) = (t.current.journal ≡ None) × RotateRefused s t e
+RotateGoes sum own s t (Err e) = (t.current.journal ≡ None)
+    × (IsNotClosed sum own s t e ⊎ IsNotFollowed sum own s t e ⊎ IsNotListed sum own s t e)
 
 -- where the blob was durable, chance aside a crash leaves only the first of its records
 abbrev pub LeavesOpened : (sum own : List ℕ → ℕ) → ℕ → Life → OwnedState → Type 0
@@ -303,13 +357,22 @@ pub record IsAppendedTo (sum own : List ℕ → ℕ) (bytes : List ℕ) (s t : L
   pub here : AppendHereGoes sum own bytes mid t (Ok p)
   pub rest : IsSameButCurrent mid t
 
--- an append is refused: the append to the open segment; or, where the log is to be rotated first,
--- the rotation or the append to the next segment, with an error that a rotation may answer
+-- a rotation went well, and then the append to the next segment was refused
+pub record IsRefusedAfter (sum own : List ℕ → ℕ) (bytes : List ℕ) (s t : LogState) (e : Error)
+    : Type 0 where
+  pub mid : LogState
+  pub turned : IsRotated sum own s mid
+  pub rest : IsSameButCurrent mid t
+  pub refused : OwnedAppendGoes sum own bytes mid.current t.current (Err e)
+
+-- an append is refused: the append to the open segment, and nothing else was done; or, where the
+-- log is to be rotated first, the rotation, or the append to the next segment
 abbrev pub AppendRefused : (sum own : List ℕ → ℕ) → List ℕ → LogState → LogState → Error → Type 0
 AppendRefused sum own bytes s t e =
-    ((owned_size s.current.journal < s.most)
+    ((owned_size s.current.journal < s.most) × IsSameButCurrent s t
     × OwnedAppendGoes sum own bytes s.current t.current (Err e))
-    ⊎ ((s.most ≤ owned_size s.current.journal) × RotateRefused s t e)
+    ⊎ ((s.most ≤ owned_size s.current.journal)
+    × (RotateGoes sum own s t (Err e) ⊎ IsRefusedAfter sum own bytes s t e))
 
 -- an append, by its answer: after an error the log has no open segment
 abbrev pub LogAppendGoes : (sum own : List ℕ → ℕ) → List ℕ → LogState → LogState
@@ -338,15 +401,21 @@ log_records sum own held s =
     closed_records sum own s.page_size held s.listing.first s.listing.closed
     ++ records_now own s.current
 
--- two different strings of one digest are at hand
-abbrev pub HasCollision : Type 0
-HasCollision = (one other : List ℕ) × Collide one other
+-- a segment is closed: something is kept of it
+abbrev pub IsClosedIn : ListingState → ℕ → Type 0
+IsClosedIn l segment = (kept : Closed) × (closed_at l segment ≡ Some kept)
+
+-- of what a closed segment held a twin was found
+abbrev pub HasTwinIn : (held : ℕ → List ℕ) → ListingState → Type 0
+HasTwinIn held l = (segment : ℕ) × IsClosedIn l segment × HasTwin (held segment)
 
 -- whatever the closed segments held, so long as it has the lengths and digests that were kept: the
--- log has the records that it had, and then these; or two strings of one digest are at hand
+-- log has the records that it had, and then these; or what the segment held that was the open one
+-- has a twin
 abbrev pub HasMore : (sum own : List ℕ → ℕ) → List (List ℕ) → LogState → LogState → Type 0
 HasMore sum own more s t = (held : ℕ → List ℕ) → TellHeld held t.listing.first t.listing.closed
-    → (log_records sum own held t ≡ log_records sum own held s ++ more) ⊎ HasCollision
+    → (log_records sum own held t ≡ log_records sum own held s ++ more)
+    ⊎ HasTwin (held (open_in s.listing))
 
 -- ---- reading
 
@@ -370,27 +439,34 @@ IsContentOf sum s segment held =
 
 -- a segment is closed
 abbrev pub IsListed : LogState → ℕ → Type 0
-IsListed s segment = (kept : Closed) × (closed_at s.listing segment ≡ Some kept)
+IsListed s segment = IsClosedIn s.listing segment
+
+-- the device or memory failed as a segment was read: the open one, with the cause that a read of its
+-- journal has; or a closed one
+abbrev pub ReadFails : (own : List ℕ → ℕ) → LogState → LogState → Place → layer.Error → Type 0
+ReadFails own s t p e = ((p.segment ≡ open_in s.listing)
+    × OwnedReadGoes own p.offset s.current t.current (Err (errors.Layer e)))
+    ⊎ IsListed s p.segment
 
 -- a read of a segment is refused: there is none of this number; or it is closed, and its file
 -- doesn't hold what it held, or the folder refuses the file; or it is the open one, and a call
 -- before failed; or the device or memory failed
-abbrev pub LogReadRefused : LogState → ℕ → Error → Type 0
-LogReadRefused s segment (errors.NoSegment n) =
-    (n ≡ segment) × (segment ≢ open_in s.listing) × (closed_at s.listing segment ≡ None)
-LogReadRefused s segment (errors.Damaged n) = (n ≡ segment) × IsListed s segment
-LogReadRefused s segment (errors.System e) = IsListed s segment
-LogReadRefused s segment errors.Closed =
-    (segment ≡ open_in s.listing) × (s.current.journal ≡ None)
-LogReadRefused s segment (errors.Layer e) = Unit {0}
-LogReadRefused s segment e = ⊥
+abbrev pub LogReadRefused : (own : List ℕ → ℕ) → LogState → LogState → Place → Error → Type 0
+LogReadRefused own s t p (errors.NoSegment n) = (n ≡ p.segment)
+    × (p.segment ≢ open_in s.listing) × (closed_at s.listing p.segment ≡ None)
+LogReadRefused own s t p (errors.Damaged n) = (n ≡ p.segment) × IsListed s p.segment
+LogReadRefused own s t p (errors.System e) = IsListed s p.segment
+LogReadRefused own s t p errors.Closed =
+    (p.segment ≡ open_in s.listing) × (s.current.journal ≡ None)
+LogReadRefused own s t p (errors.Layer e) = ReadFails own s t p e
+LogReadRefused own s t p e = ⊥
 
 -- a read at a place, by its answer
-abbrev pub LogReadGoes : (sum own : List ℕ → ℕ) → LogState → Place → Result (Option Found) Error
-    → Type 0
-LogReadGoes sum own s p (Ok found) =
+abbrev pub LogReadGoes : (sum own : List ℕ → ℕ) → LogState → LogState → Place
+    → Result (Option Found) Error → Type 0
+LogReadGoes sum own s t p (Ok found) =
     (held : List ℕ) × IsContentOf sum s p.segment held × IsReadOf own held p.offset found
-LogReadGoes sum own s p (Err e) = LogReadRefused s p.segment e
+LogReadGoes sum own s t p (Err e) = LogReadRefused own s t p e
 
 -- what a read leaves: all of the log, except the closed segment in memory; the open segment was
 -- only read
@@ -443,21 +519,20 @@ pub record IsSameButLoaded (s t : LogState) : Type 0 where
 
 -- ---- dropping
 
--- a removal of a segment before this one, or a sync of the names
-abbrev pub IsOfOlder : ℕ → FolderEvent → Type 0
-IsOfOlder first e = ((number : ℕ) × (number < first) × (e.call ≡ calls.Removes number))
-    ⊎ (e.call ≡ calls.Syncs)
-
--- each of these calls is such a removal or sync
-abbrev pub AreOfOlder : ℕ → List FolderEvent → Type 0
-AreOfOlder first [] = Unit {0}
-AreOfOlder first (e ∷ es) = IsOfOlder first e × AreOfOlder first es
+-- each of these calls is a removal of a segment before this one, the oldest first, or a sync of the
+-- names; no removed segment is older than `from`
+abbrev pub AreOfOlder : (from first : ℕ) → List FolderEvent → Type 0
+AreOfOlder from first [] = Unit {0}
+AreOfOlder from first (e ∷ es) =
+    ((number : ℕ) × (from ≤ number) × (number < first) × (e.call ≡ calls.Removes number)
+    × AreOfOlder (suc number) first es)
+    ⊎ ((e.call ≡ calls.Syncs) × AreOfOlder from first es)
 
 -- the folder was asked only for such calls
 pub record AsksOfOlder (first : ℕ) (old new : List FolderEvent) : Type 0 where
   pub events : List FolderEvent
   pub all : new ≡ old ++ events
-  pub below : AreOfOlder first events
+  pub below : AreOfOlder 0 first events
 
 -- the last call that the folder was asked for was a sync, which succeeded
 abbrev pub EndsSynced : List FolderEvent → Type 0

@@ -1,7 +1,8 @@
 -- The records of a manifest, and what they list.
-use Rattle.std.specs.Prelude.{◌≡◌, ◌&&◌, ◌||◌, ◌==◌, ℕ, ◌+◌, ◌-◌, List, [], ◌∷◌, ◌++◌}
+use Rattle.std.specs.Prelude.{◌≡◌, ◌&&◌, ◌||◌, ◌==◌, ℕ, ◌+◌, ◌-◌, ◌%◌, List, [], ◌∷◌, ◌++◌}
 use Rattle.std.specs.Prelude.{length, take, drop, Option, Some, None, if◌then◌else◌, slice_index}
-use Rattle.std.specs.Prelude.{slice_get, nat_lt, Bool, true, false, Result, Ok, Err}
+use Rattle.std.specs.Prelude.{slice_get, nat_lt, Bool, true, false, Result, Ok, Err, replicate}
+use Rattle.std.specs.List.{list_all}
 use Rattle.std.specs.Int.{w16, w64, to_be_bytes, from_be_bytes}
 use Rattle.segments.specs.declared.closed.Closed.{Closed}
 use Rattle.segments.specs.declared.entry.Entry.{Entry}
@@ -12,12 +13,31 @@ abbrev pub entry_bytes : Entry → List ℕ
 entry_bytes (Starts first page_size) = 0 ∷ to_be_bytes w64 first ++ to_be_bytes w16 page_size
 entry_bytes (Closes c) = 1 ∷ to_be_bytes w64 c.records ++ to_be_bytes w64 c.len ++ c.digest
 
--- the entry that some bytes are, by the first of them and by how many there are; none for others
+-- how many logical bytes of the last page are free, of a manifest that has so many
+abbrev pub free_after : (page_size size : ℕ) → ℕ
+free_after page_size size = (page_size - size % page_size) % page_size
+
+-- how many zeros stand behind an entry that closes a segment, in a manifest that had so many logical
+-- bytes. The frame of the entry has 56. If less than 18 would be free behind it, which the frame of a
+-- drop's entry has, the zeros go on into the next page. A page of 18 bytes or fewer has no such room
+abbrev pub padding : (page_size size : ℕ) → ℕ
+padding page_size size =
+    let free = free_after page_size (size % page_size + 56) in
+    if nat_lt free 18 && nat_lt 18 page_size then free + 1 else 0
+
+-- an entry as the bytes that a manifest gets that had so many logical bytes
+abbrev pub padded : (page_size size : ℕ) → Entry → List ℕ
+padded page_size size (Starts first pages) = entry_bytes (Starts first pages)
+padded page_size size (Closes c) = entry_bytes (Closes c) ++ replicate (padding page_size size) 0
+
+-- the entry that some bytes are, by the first of them and by how many there are; none for others.
+-- Behind one that closes a segment there may be zeros
 unfoldable pub entry_in : List ℕ → Option Entry
 entry_in bytes =
     if (length bytes == 11) && (slice_index bytes 0 == 0) then
     Some (Starts (from_be_bytes w64 (drop 1 bytes)) (from_be_bytes w16 (drop 9 bytes)))
-    else if (length bytes == 49) && (slice_index bytes 0 == 1) then
+    else if (nat_lt 48 (length bytes) && (slice_index bytes 0 == 1))
+    && list_all (λ b. b == 0) (drop 49 bytes) then
     Some (Closes (record {
       records = from_be_bytes w64 (drop 1 bytes);
       len = from_be_bytes w64 (drop 9 bytes);

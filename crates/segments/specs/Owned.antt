@@ -181,6 +181,7 @@ without_journal s = record s { journal = None }
 pub record IsAdded (sum own : List ℕ → ℕ) (P : ℕ) (bytes : List ℕ) (w : WriterState) (old : Life)
     (now : WriterState) (new : Life) : Type 0 where
   pub records : records_in own now new ≡ records_in own w old ++ bytes ∷ []
+  pub size : size_of now ≡ size_of w + (length bytes + 7)
   pub committed : CommitsAll sum own P (content now new.present.readable) new.present
   pub durable : IsDurable new.present
 

@@ -10,8 +10,8 @@ use Rattle.segments.specs.declared.scanning.Step.{Step}
 use Rattle.segments.specs.declared.scanning.Step.TheVariants.{Record, Passed, End}
 use Rattle.segments.specs.Manifest.{ListingState, open_in}
 use Rattle.segments.specs.Owned.{content_now}
-use Rattle.segments.specs.Log.{HasCollision, LogReadRefused, LogState, TellHeld, closed_records}
-use Rattle.segments.specs.Log.{log_records}
+use Rattle.segments.specs.Log.{HasTwinIn, LeavesReading, LogReadRefused, LogState, TellHeld}
+use Rattle.segments.specs.Log.{closed_records, log_records}
 
 -- a place
 abbrev pub place_at : (segment offset : ℕ) → Place
@@ -51,14 +51,14 @@ ComesFirst sum own s p =
     (held : ℕ → List ℕ) → records_from sum own held s p ≡ log_records sum own held s
 
 -- whatever the closed segments held, so long as it has the lengths and digests that were kept:
--- there are just these records from the one place to the other, or two strings of one digest are at
--- hand
+-- there are just these records from the one place to the other, or what a closed segment held has a
+-- twin
 abbrev pub StandBy : (sum own : List ℕ → ℕ) → ℕ → ListingState → (content : List ℕ)
     → List (List ℕ) → (from to : Place) → Type 0
 StandBy sum own P l content these from to =
     (held : ℕ → List ℕ) → TellHeld held l.first l.closed
     → (records_at sum own P held l content from
-    ≡ these ++ records_at sum own P held l content to) ⊎ HasCollision
+    ≡ these ++ records_at sum own P held l content to) ⊎ HasTwinIn held l
 
 -- in a log there are just these records from the one place to the other, as `StandBy` has it
 abbrev pub StandBetween : (sum own : List ℕ → ℕ) → LogState → List (List ℕ) → (from to : Place)
@@ -87,20 +87,27 @@ pub record IsBehind (s : LogState) (from to : Place) : Type 0 where
 
 -- one frame further, by what is found: a record, and the place behind it; or no record, and where
 -- to go on; or the end
-abbrev pub StepGoes : (sum own : List ℕ → ℕ) → LogState → Place → Result Step Error → Type 0
-StepGoes sum own s at (Ok (Record bytes behind)) = StandBetween sum own s (bytes ∷ []) at behind
-StepGoes sum own s at (Ok (Passed to)) = StandBetween sum own s [] at to × IsBehind s at to
-StepGoes sum own s at (Ok End) = IsEnd sum own s at
-StepGoes sum own s at (Err e) = LogReadRefused s at.segment e
+abbrev pub StepGoes : (sum own : List ℕ → ℕ) → LogState → LogState → Place → Result Step Error
+    → Type 0
+StepGoes sum own s t at (Ok (Record bytes behind)) = StandBetween sum own s (bytes ∷ []) at behind
+StepGoes sum own s t at (Ok (Passed to)) = StandBetween sum own s [] at to × IsBehind s at to
+StepGoes sum own s t at (Ok End) = IsEnd sum own s at
+StepGoes sum own s t at (Err e) = LogReadRefused own s t at e
 
--- a segment from a place on can't be read, and no record stands before it
-abbrev pub IsRefusedFrom : (sum own : List ℕ → ℕ) → LogState → Place → Error → Type 0
-IsRefusedFrom sum own s p e = (at : Place) × (p.segment ≤ at.segment)
-    × StandBetween sum own s [] p at × LogReadRefused s at.segment e
+-- a segment from a place on can't be read, and no record stands before it. Up to there, segments were
+-- only read
+pub record IsRefusedFrom (sum own : List ℕ → ℕ) (s t : LogState) (p : Place) (e : Error)
+    : Type 0 where
+  pub at : Place
+  pub mid : LogState
+  pub further : p.segment ≤ at.segment
+  pub none : StandBetween sum own s [] p at
+  pub reads : LeavesReading sum own s mid
+  pub refused : LogReadRefused own mid t at e
 
 -- a read of the next record, by its answer; one that is refused leaves the place where it was
-abbrev pub NextGoes : (sum own : List ℕ → ℕ) → LogState → (old new : Place)
+abbrev pub NextGoes : (sum own : List ℕ → ℕ) → LogState → LogState → (old new : Place)
     → Result (Option (Place × List ℕ)) Error → Type 0
-NextGoes sum own s old new (Ok None) = StandBetween sum own s [] old new × IsEnd sum own s new
-NextGoes sum own s old new (Ok (Some r)) = IsNextAt sum own s old r.0 new r.1
-NextGoes sum own s old new (Err e) = (new ≡ old) × IsRefusedFrom sum own s old e
+NextGoes sum own s t old new (Ok None) = StandBetween sum own s [] old new × IsEnd sum own s new
+NextGoes sum own s t old new (Ok (Some r)) = IsNextAt sum own s old r.0 new r.1
+NextGoes sum own s t old new (Err e) = (new ≡ old) × IsRefusedFrom sum own s t old e

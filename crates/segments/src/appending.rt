@@ -36,8 +36,10 @@ impl<F: Folder<B> + Drop, B: Blob + Drop, H: Sum, R: Sum> SegmentedLog<F, B, H, 
         if self.current.size() < self.options.segment_size {
             return self.append_here(bytes);
         }
-        self.rotate()?;
-        self.append_here(bytes)
+        match self.rotate() {
+            Ok(()) => self.append_here(bytes),
+            Err(error) => Err(error),
+        }
     }
 
     // Appends a record to the open segment.

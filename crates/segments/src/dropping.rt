@@ -3,7 +3,7 @@ ghost use Rattle.std.specs.Prelude.{IfOk};
 ghost use Rattle.segments.specs.Log.{AsksOfOlder, EndsSynced, IsLog, LogDropGoes, StartFromGoes};
 ghost use Rattle.segments.specs.Log.{StartOrCloseGoes};
 ghost use Rattle.segments.specs.Log.{Tries};
-ghost use Rattle.segments.specs.Crash.{DropSurvives};
+ghost use Rattle.segments.specs.Crash.{DropSurvives, RemovesUnlisted};
 ghost use Rattle.segments.specs.declared.entry.Entry.TheVariants.{Starts};
 
 use crate::entry::Entry;
@@ -31,6 +31,7 @@ impl<F: Folder<B> + Drop, B: Blob + Drop, H: Sum, R: Sum> SegmentedLog<F, B, H, 
         ensures goes { LogDropGoes segment self.old self.new result }
         ensures ready { IsLog H.sum_of R.sum_of self.new }
         ensures drops { DropSurvives H.sum_of R.sum_of segment self.old self.new }
+        ensures removes { RemovesUnlisted H.sum_of R.sum_of self.old self.new }
     {
         if self.current.is_closed() || self.manifest.is_closed() {
             return Err(Error::Closed);
@@ -82,7 +83,7 @@ impl<F: Folder<B> + Drop, B: Blob + Drop, H: Sum, R: Sum> SegmentedLog<F, B, H, 
 }
 
 // Removes the files of the segments before one that are there, the oldest first.
-#[tactic(auto, using(crate::proofs::Removals::asks_none, crate::proofs::Removals::asks_removal, crate::proofs::Removals::asks_sync, crate::proofs::Removals::ends_synced))]
+#[tactic(auto, using(crate::proofs::Removals::asks_none, crate::proofs::Removals::asks_later, crate::proofs::Removals::asks_removal, crate::proofs::Removals::asks_done, crate::proofs::Removals::asks_sync, crate::proofs::Removals::ends_synced))]
 fn remove_before<F: Folder<B>, B: Blob>(folder: &mut F, first: u64) -> io::Result<()>
     ensures below { AsksOfOlder first (F.asked folder.old) (F.asked folder.new) }
     ensures synced { IfOk result (λ u. EndsSynced (F.asked folder.new)) }

@@ -1,13 +1,18 @@
 // The records of a manifest.
-ghost use Rattle.std.specs.Prelude.{◌≡◌, ◌≤◌, ◌+◌, length, drop, IfOk, IsOkUnless, Some};
+ghost use Rattle.std.specs.Prelude.{◌≡◌, ◌≤◌, ◌<◌, ◌+◌, ◌++◌, length, drop, IfOk, IsOkUnless};
+ghost use Rattle.std.specs.Prelude.{Some, replicate};
+ghost use Rattle.std.specs.List.{list_all};
+ghost use Rattle.std.specs.Prelude.{◌==◌};
 ghost use Rattle.std.specs.Int.{w64, from_be_bytes};
-ghost use Rattle.segments.specs.Manifest.{entry_bytes, entry_in};
+ghost use Rattle.std.specs.Int.NonZero.{non_zero_u16_get};
+ghost use Rattle.segments.specs.Manifest.{entry_bytes, entry_in, padded, padding};
 ghost use Rattle.segments.specs.Log.{known_with};
 ghost use Rattle.segments.specs.declared.entry.Entry.TheVariants.{Starts, Closes};
 
 use crate::closed::Closed;
 use disk::Error;
 use std::alloc::Global;
+use std::num::NonZeroU16;
 
 /// A record of the manifest.
 #[derive(Clone, Copy)]
@@ -41,16 +46,56 @@ pub fn number_at(bytes: &[u8], at: usize) -> u64
     u64::from_be_bytes(number)
 }
 
-/// The bytes of an entry. The only error is `OutOfMemory`.
-pub fn bytes_of(alloc: Global, entry: &Entry) -> Result<Vec<u8>, Error>
-    ensures bytes { IfOk result (λ bytes. bytes.items ≡ entry_bytes entry.now) }
+// How many logical bytes the frame of an entry has that closes a segment, without zeros behind it.
+const CLOSING: u64 = 56;
+
+// How many logical bytes the frame of an entry has that says which segment is the first one.
+const STARTING: u64 = 18;
+
+/// The bytes of an entry, for a manifest that has so many logical bytes and pages of that size. An
+/// entry that closes a segment has zeros behind it if the entry of a drop would else not fit into
+/// the manifest's last page; so a drop that follows makes no file longer. The only error is
+/// `OutOfMemory`.
+pub fn bytes_of(
+    alloc: Global,
+    page_size: NonZeroU16,
+    size: u64,
+    entry: &Entry,
+) -> Result<Vec<u8>, Error>
+    ensures bytes { let P = non_zero_u16_get page_size in
+        IfOk result (λ bytes. bytes.items ≡ padded P size entry.now) }
     ensures told { IfOk result (λ bytes. entry_in bytes.items ≡ Some entry.now) }
     ensures short { IfOk result (λ bytes. length bytes.items ≤ 65535) }
     ensures err { IsOkUnless result Error.OutOfMemory }
 {
     match *entry {
-        Entry::Starts(first, page_size) => starts(alloc, first, page_size),
-        Entry::Closes(closed) => closes(alloc, closed.records, closed.len, &closed.digest),
+        Entry::Starts(first, pages) => starts(alloc, first, pages),
+        Entry::Closes(closed) => {
+            let zeros = padding(page_size, size);
+            closes(
+                alloc,
+                closed.records,
+                closed.len,
+                &closed.digest,
+                zeros as usize,
+            )
+        }
+    }
+}
+
+// How many zeros stand behind an entry that closes a segment.
+#[tactic(auto, using(crate::proofs::Entries::padding_short))]
+fn padding(page_size: NonZeroU16, size: u64) -> u64
+    ensures is { result ≡ padding (non_zero_u16_get page_size) size }
+    ensures short { result ≤ 18 }
+{
+    let page_size = page_size.get() as u64;
+    let used = (size % page_size + CLOSING) % page_size;
+    let free = (page_size - used) % page_size;
+    if free < STARTING && STARTING < page_size {
+        free + 1
+    } else {
+        0
     }
 }
 
@@ -69,10 +114,17 @@ fn starts(alloc: Global, first: u64, page_size: u16) -> Result<Vec<u8>, Error>
 }
 
 #[tactic(auto, using(crate::proofs::Entries::closed_told))]
-fn closes(alloc: Global, records: u64, len: u64, digest: &[u8]) -> Result<Vec<u8>, Error>
-    requires { length digest.now ≡ 32 }
-    ensures bytes { IfOk result (λ bytes. bytes.items
-        ≡ entry_bytes (Closes (record { records = records; len = len; digest = digest.now }))) }
+fn closes(
+    alloc: Global,
+    records: u64,
+    len: u64,
+    digest: &[u8],
+    zeros: usize,
+) -> Result<Vec<u8>, Error>
+    requires size { length digest.now ≡ 32 }
+    requires few { zeros ≤ 18 }
+    ensures bytes { let kept = record { records = records; len = len; digest = digest.now } in
+        IfOk result (λ bytes. bytes.items ≡ entry_bytes (Closes kept) ++ replicate zeros 0) }
     ensures told { IfOk result (λ bytes. entry_in bytes.items
         ≡ Some (Closes (record { records = records; len = len; digest = digest.now }))) }
     ensures short { IfOk result (λ bytes. length bytes.items ≤ 65535) }
@@ -83,7 +135,15 @@ fn closes(alloc: Global, records: u64, len: u64, digest: &[u8]) -> Result<Vec<u8
     bytes.extend_from_slice(&records.to_be_bytes())?;
     bytes.extend_from_slice(&len.to_be_bytes())?;
     bytes.extend_from_slice(digest)?;
+    bytes.resize(bytes.len() + zeros, 0)?;
     Ok(bytes)
+}
+
+// Whether each of these bytes is zero.
+fn are_zeros(bytes: &[u8]) -> bool
+    ensures { result ≡ list_all (λ byte. byte == 0) bytes.now }
+{
+    bytes.iter().all(|byte| *byte == 0)
 }
 
 /// The entry that these bytes are, if they are one.
@@ -95,7 +155,7 @@ pub fn entry_of(bytes: &[u8]) -> Option<Entry>
         let page_size = u16::from_be_bytes([bytes[9], bytes[10]]);
         return Some(Entry::Starts(number_at(bytes, 1), page_size));
     }
-    if bytes.len() != 49 || bytes[0] != 1 {
+    if bytes.len() < 49 || bytes[0] != 1 || !are_zeros(&bytes[49..]) {
         return None;
     }
     let mut digest = [0; 32];

@@ -103,6 +103,10 @@ impl Folder<FileBlob> for FileFolder {
         opened
     }
 
+    fn close(&mut self, segment: u64, blob: FileBlob, manifest: &FileBlob) {
+        self.past = FolderPast::closed(&self.past, segment, &blob, manifest);
+    }
+
     fn bytes(blob: &FileBlob) -> &[u8] {
         blob.bytes()
     }

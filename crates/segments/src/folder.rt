@@ -3,8 +3,8 @@ ghost use Rattle.std.specs.Prelude.{◌≡◌, [], ◌∷◌, ◌++◌, List, If
 ghost use Rattle.disk.specs.History.{life_of, begun};
 ghost use Rattle.paged.specs.Recovery.{IsDurable};
 ghost use Rattle.segments.specs.Folders.{call_for};
-ghost use Rattle.segments.specs.FolderEvents.{FolderEvent, folder_outcome, opening_outcome};
-ghost use Rattle.segments.specs.FolderEvents.{keeping_outcome};
+ghost use Rattle.segments.specs.FolderEvents.{FolderEvent, closing_event, folder_outcome};
+ghost use Rattle.segments.specs.FolderEvents.{keeping_outcome, opening_outcome};
 ghost use Rattle.segments.specs.declared.call.FolderCall.TheVariants as calls;
 
 use crate::call::FolderCall;
@@ -45,6 +45,15 @@ pub trait Folder<B: Blob> {
     fn open(&mut self, file: Asked) -> io::Result<B>
         ensures rests { IfOk result (λ blob. IsDurable (B.life blob).present) }
         ensures asked { let event = opening_outcome B.life (call_for file) result in
+            asked self.new ≡ asked self.old ++ event ∷ [] };
+
+    /// Takes back the blob of a segment that is closed: nobody writes it from then on. All of its
+    /// bytes are durable. `manifest` is the manifest as it is now, which doesn't list the segment yet:
+    /// it is for the record of the calls alone.
+    fn close(&mut self, segment: u64, blob: B, manifest: &B)
+        requires durable { IsDurable (B.life blob).present }
+        ensures asked { let bytes = (B.life manifest.now).present.readable in
+            let event = closing_event segment (B.life blob) bytes in
             asked self.new ≡ asked self.old ++ event ∷ [] };
 
     /// The bytes of a file that was opened.

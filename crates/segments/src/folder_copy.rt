@@ -81,6 +81,10 @@ impl Folder<VecBlob> for FolderCopy {
         opened
     }
 
+    fn close(&mut self, segment: u64, blob: VecBlob, manifest: &VecBlob) {
+        self.past = FolderPast::closed(&self.past, segment, &blob, manifest);
+    }
+
     fn bytes(blob: &VecBlob) -> &[u8] {
         blob.bytes()
     }

@@ -186,7 +186,8 @@ impl<F: Folder<B> + Drop, B: Blob + Drop, H: Sum, R: Sum> SegmentedLog<F, B, H, 
         ensures rest { IsSameButManifest self.old self.new }
         ensures tries { Tries H.sum_of R.sum_of entry.now self.old self.new }
     {
-        let bytes = bytes_of(self.alloc, entry)?;
+        let size = self.manifest.size();
+        let bytes = bytes_of(self.alloc, self.options.page_size, size, entry)?;
         let Some(listing) = self.listing.with(self.options.page_size.get(), entry)? else {
             return Err(Error::Manifest);
         };

@@ -256,7 +256,8 @@ fn listed_open<F: Folder<B>, B: Blob + Drop, H: Sum, R: Sum>(
 // that was to stand there. So they are no other file's, and no other page size's.
 fn is_begun<H: Sum, R: Sum>(alloc: Global, options: Options, bytes: &[u8]) -> Result<bool, Error> {
     let (mut manifest, _) = recover::<VecBlob, H, R>(alloc, options, VecBlob::new(alloc))?;
-    manifest.add(&bytes_of(alloc, &Entry::Starts(0, options.page_size.get()))?)?;
+    let first = Entry::Starts(0, options.page_size.get());
+    manifest.add(&bytes_of(alloc, options.page_size, 0, &first)?)?;
     let whole = manifest.blob().bytes();
     let is_left = |(left, written): (&u8, &u8)| *left == 0 || left == written;
     Ok(bytes.len() <= whole.len() && bytes.iter().zip(whole).all(is_left))

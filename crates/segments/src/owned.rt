@@ -91,6 +91,20 @@ impl<B: Blob + Drop, H: Sum, R: Sum> OwnedJournal<B, H, R> {
         &self.blob
     }
 
+    /// The blob alone, without the journal and the cache.
+    pub fn into_blob(self) -> B
+        ensures { B.life result ≡ self.life }
+    {
+        let OwnedJournal {
+            blob,
+            cache: _,
+            journal: _,
+            page_size: _,
+            records: _,
+        } = self;
+        blob
+    }
+
     /// How many records the journal has.
     pub fn records(&self) -> u64
         ensures { result ≡ self.now.records }

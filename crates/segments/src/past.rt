@@ -1,6 +1,7 @@
 // What a folder was asked for, as ghost data: nothing of it is left at run time.
 ghost use Rattle.std.specs.Prelude.{◌≡◌, [], ◌∷◌, ◌++◌};
-ghost use Rattle.segments.specs.FolderEvents.{keeping_event, plain_event, opening_with};
+ghost use Rattle.segments.specs.FolderEvents.{closing_event, keeping_event, plain_event};
+ghost use Rattle.segments.specs.FolderEvents.{opening_with};
 
 use crate::call::FolderCall;
 use crate::known::Known;
@@ -25,6 +26,7 @@ enum Last<B: Blob> {
     After(Snapshot<Snapshot<FolderPast<B>>>, FolderCall, bool),
     Opened(Snapshot<Snapshot<FolderPast<B>>>, FolderCall, Snapshot<B>),
     Kept(Snapshot<Snapshot<FolderPast<B>>>, u64, u64, Snapshot<B>, bool),
+    Closed(Snapshot<Snapshot<FolderPast<B>>>, u64, Snapshot<B>, Snapshot<B>),
 }
 
 impl<B: Blob> Model for FolderPast<B> {
@@ -72,6 +74,20 @@ impl<B: Blob> FolderPast<B> {
     {
         let past = FolderPast {
             last: Last::Opened(Snapshot::of(before), call, Snapshot::of(blob)),
+        };
+        Snapshot::of(&past)
+    }
+
+    /// This past and one call more, which took back this blob of a segment; the manifest is the other
+    /// blob.
+    pub fn closed(before: &Snapshot<Self>, segment: u64, blob: &B, manifest: &B) -> Snapshot<Self>
+        ensures { let bytes = (B.life manifest.now).present.readable in
+            let event = closing_event segment (B.life blob.now) bytes in
+            result.value ≡ before.now.value ++ event ∷ [] }
+    {
+        let before = Snapshot::of(before);
+        let past = FolderPast {
+            last: Last::Closed(before, segment, Snapshot::of(blob), Snapshot::of(manifest)),
         };
         Snapshot::of(&past)
     }

@@ -58,7 +58,7 @@ impl<F: Folder<B> + Drop, B: Blob + Drop, H: Sum, R: Sum> SegmentedLog<F, B, H, 
     fn read_closed(&mut self, place: Place) -> Result<Option<Found>, Error>
         requires log { IsLog H.sum_of R.sum_of self.old }
         requires closed { place.segment ≢ open_in self.old.listing }
-        ensures goes { LogReadGoes H.sum_of R.sum_of self.old place result }
+        ensures goes { LogReadGoes H.sum_of R.sum_of self.old self.new place result }
         ensures ready { IsLog H.sum_of R.sum_of self.new }
         ensures rest { IsSameButLoaded self.old self.new }
     {
@@ -96,7 +96,7 @@ impl<F: Folder<B> + Drop, B: Blob + Drop, H: Sum, R: Sum> SegmentedLog<F, B, H, 
     #[tactic(auto, using(crate::proofs::Readings::reads_current, crate::proofs::Joining::leaves_current))]
     pub fn read(&mut self, place: Place) -> Result<Option<Found>, Error>
         requires log { IsLog H.sum_of R.sum_of self.old }
-        ensures goes { LogReadGoes H.sum_of R.sum_of self.old place result }
+        ensures goes { LogReadGoes H.sum_of R.sum_of self.old self.new place result }
         ensures ready { IsLog H.sum_of R.sum_of self.new }
         ensures leaves { LeavesReading H.sum_of R.sum_of self.old self.new }
     {

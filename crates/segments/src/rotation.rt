@@ -1,9 +1,10 @@
 // Closing the open segment, and opening the next one.
 ghost use Rattle.std.specs.Prelude.{◌≡◌, None};
-ghost use Rattle.segments.specs.Log.{CloseCurrentGoes, CurrentKeeps, IsLog, IsSameButAsked};
-ghost use Rattle.segments.specs.Log.{IsSameButCurrent, OpenNextGoes, RotateGoes};
+ghost use Rattle.paged.specs.Recovery.{IsDurable};
+ghost use Rattle.segments.specs.Log.{CloseCurrentGoes, CurrentKeeps, HasFollowed, IsLog};
+ghost use Rattle.segments.specs.Log.{IsSameButAsked, IsSameButCurrent, OpenNextGoes, RotateGoes};
 ghost use Rattle.segments.specs.Crash.{RotationSurvives};
-ghost use Rattle.segments.specs.Owned.{records_now};
+ghost use Rattle.segments.specs.Owned.{IsOwned, records_now};
 
 use crate::closed::Closed;
 use crate::entry::Entry;
@@ -14,14 +15,16 @@ use crate::opening::{open_segment, recover};
 use crate::owned::OwnedJournal;
 use disk::Blob;
 use page::Sum;
+use std::mem;
 
 impl<F: Folder<B> + Drop, B: Blob + Drop, H: Sum, R: Sum> SegmentedLog<F, B, H, R> {
     /// Closes the open segment, whatever its size, and opens the next one.
     ///
     /// All records are committed first. Then the length and the digest of the segment's bytes are
-    /// computed, the next segment's file is made, and its name is made durable. Last, the closed
-    /// segment is listed in the manifest. So a crash while the manifest is written leaves the log
-    /// before that or after it, and both have the same records.
+    /// computed, the next segment's file is made, its name is made durable, and the folder takes the
+    /// blob of the closed segment back. Last, the closed segment is listed in the manifest. So a crash
+    /// while the manifest is written leaves the log before that or after it, and both have the same
+    /// records. Behind that entry there is room for the entry of a drop.
     ///
     /// `Closed` where a call before failed, `Layer` where the device or memory failed, `System`
     /// where the folder refused the next file or the sync of its name, `Unlisted` where the next
@@ -35,13 +38,29 @@ impl<F: Folder<B> + Drop, B: Blob + Drop, H: Sum, R: Sum> SegmentedLog<F, B, H, 
     {
         let closed = self.close_current()?;
         let next = self.open_next()?;
+        self.follow_with(next);
         match self.enter(&Entry::Closes(closed)) {
-            Ok(()) => {
-                self.current = next;
-                Ok(())
+            Ok(()) => Ok(()),
+            Err(error) => {
+                self.current.forget();
+                Err(error)
             }
-            Err(error) => Err(error),
         }
+    }
+
+    // Puts the next segment in the place of the open one, whose blob goes back to the folder.
+    fn follow_with(&mut self, next: OwnedJournal<B, H, R>)
+        requires log { IsLog H.sum_of R.sum_of self.old }
+        requires owned { IsOwned H.sum_of R.sum_of next }
+        requires pages { next.page_size ≡ self.old.page_size }
+        requires durable { IsDurable self.old.current.life.present }
+        ensures goes { HasFollowed next self.old self.new }
+        ensures ready { IsLog H.sum_of R.sum_of self.new }
+    {
+        let number = self.listing.open();
+        let last = mem::replace(&mut self.current, next);
+        self.folder
+            .close(number, last.into_blob(), self.manifest.blob());
     }
 
     // Opens the next segment. `Unlisted` where its file has bytes, which stay as they were.

@@ -44,7 +44,7 @@ impl<F: Folder<B> + Drop, B: Blob + Drop, H: Sum, R: Sum> SegmentedLog<F, B, H, 
     /// that the call can be made again.
     pub fn next(&mut self, place: &mut Place) -> Result<Option<(Place, IoBuf)>, Error>
         requires log { IsLog H.sum_of R.sum_of self.old }
-        ensures goes { NextGoes H.sum_of R.sum_of self.old place.old place.new result }
+        ensures goes { NextGoes H.sum_of R.sum_of self.old self.new place.old place.new result }
         ensures ready { IsLog H.sum_of R.sum_of self.new }
         ensures leaves { LeavesReading H.sum_of R.sum_of self.old self.new }
     {
@@ -68,7 +68,7 @@ impl<F: Folder<B> + Drop, B: Blob + Drop, H: Sum, R: Sum> SegmentedLog<F, B, H, 
     fn step(&mut self, segment: u64, offset: u64) -> Result<Step, Error>
         requires log { IsLog H.sum_of R.sum_of self.old }
         ensures goes { let at = place_at segment offset in
-            StepGoes H.sum_of R.sum_of self.old at result }
+            StepGoes H.sum_of R.sum_of self.old self.new at result }
         ensures ready { IsLog H.sum_of R.sum_of self.new }
         ensures leaves { LeavesReading H.sum_of R.sum_of self.old self.new }
     {
@@ -89,9 +89,9 @@ impl<F: Folder<B> + Drop, B: Blob + Drop, H: Sum, R: Sum> SegmentedLog<F, B, H, 
     // the open one by the end.
     fn step_after(&self, segment: u64, offset: u64) -> Step
         requires none { let at = place_at segment offset in
-            LogReadGoes H.sum_of R.sum_of self.now at (Ok None) }
+            LogReadGoes H.sum_of R.sum_of self.now self.now at (Ok None) }
         ensures { let at = place_at segment offset in
-            StepGoes H.sum_of R.sum_of self.now at (Ok result) }
+            StepGoes H.sum_of R.sum_of self.now self.now at (Ok result) }
     {
         if segment == self.listing.open() {
             return Step::End;

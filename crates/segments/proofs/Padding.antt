@@ -1,0 +1,55 @@
+-- The zeros behind an entry that closes a segment.
+use Rattle.std.specs.Prelude.{◌≡◌, ◌<◌, ◌≤◌, ◌+◌, ◌-◌, ◌%◌, ◌&&◌, ◌++◌, ◌⊎◌, ℕ, zero, suc, List, length, Bool, true, false, if◌then◌else◌, nat_lt, replicate}
+use Rattle.std.proofs.Common.{ap, ap₂, sym, ◌∙◌, refl, subst, arith, length-append}
+use Rattle.std.proofs.Math.Nat.{mod-add-mod, mod-eq_of_lt, mod_self, add-mod_left, mod-lt}
+use Rattle.std.proofs.lemmas.Bool.{cases_lt, lt-ltb, le-ltb}
+use Rattle.std.proofs.lemmas.List.{length-replicate}
+use Rattle.segments.specs.declared.closed.Closed.{Closed}
+use Rattle.segments.specs.declared.entry.Entry.TheVariants.{Closes}
+use Rattle.segments.specs.Manifest.{entry_bytes, free_after, padded, padding}
+
+-- some zeros more, by how many bytes the last page has
+more : (P size pad : ℕ) → (size + (56 + pad)) % P ≡ ((size % P + 56) % P + pad) % P
+more P size pad =
+    sym (mod-add-mod size P (56 + pad)) ∙ ap (λ n. n % P) (omega arith) ∙ sym (mod-add-mod (size % P + 56) P pad)
+
+-- one byte of the last page is used
+one_used : (P u : ℕ) → 18 < P → u < P → (P - u) % P < 18 → (u + ((P - u) % P + 1)) % P ≡ 1
+one_used P zero big below few =
+    let all : (P - 0) % P ≡ 0 = mod_self P in
+    ap (λ n. (0 + (n + 1)) % P) all ∙ mod-eq_of_lt (omega (arith, big))
+one_used P (suc u) big below few =
+    let same : (P - suc u) % P ≡ P - suc u = mod-eq_of_lt (omega (arith, below)) in
+    ap (λ n. (suc u + (n + 1)) % P) same ∙ ap (λ n. n % P) (omega (arith, below)) ∙ add-mod_left P 1 ∙ mod-eq_of_lt (omega (arith, big))
+
+-- behind the entry, and its zeros, is room for the entry of a drop
+free_enough : (P size : ℕ) → 18 < P → 18 ≤ free_after P (size + (56 + padding P size))
+free_enough P size big =
+    let u = (size % P + 56) % P in
+    let free = (P - u) % P in
+    let below : u < P = mod-lt (size % P + 56) (omega (arith, big)) in
+    elim (cases_lt free 18) [
+      | inl few ↦
+          let is : padding P size ≡ free + 1 = ap₂ (λ a b. if a && b then free + 1 else 0) (lt-ltb free 18 few) (lt-ltb 18 P big) in
+          let used : (size + (56 + padding P size)) % P ≡ 1 = more P size (padding P size) ∙ ap (λ n. (u + n) % P) is ∙ one_used P u big below few in
+          let left : free_after P (size + (56 + padding P size)) ≡ P - 1 = ap (λ n. (P - n) % P) used ∙ mod-eq_of_lt (omega (arith, big)) in
+          omega (arith, left, big)
+      | inr enough ↦
+          let is : padding P size ≡ 0 = ap (λ a. if a && nat_lt 18 P then free + 1 else 0) (le-ltb free 18 enough) in
+          let none : u + 0 ≡ u = omega arith in
+          let used : (size + (56 + padding P size)) % P ≡ u = more P size (padding P size) ∙ ap (λ n. (u + n) % P) is ∙ ap (λ n. n % P) none ∙ mod-eq_of_lt below in
+          let left : free_after P (size + (56 + padding P size)) ≡ free = ap (λ n. (P - n) % P) used in
+          omega (arith, left, enough)
+    ]
+
+-- how long the frame of an entry is that closes a segment
+padded_length : (P size : ℕ) (kept : Closed) → length kept.digest ≡ 32 → length (padded P size (Closes kept)) ≡ 49 + padding P size
+padded_length P size kept long =
+    length-append (entry_bytes (Closes kept)) (replicate (padding P size) 0)
+    ∙ ap₂ (λ a b. a + b) (ap (λ n. 17 + n) long) (length-replicate (padding P size) 0)
+
+pub room_after : (P size now : ℕ) (kept : Closed) → length kept.digest ≡ 32 → now ≡ size + (length (padded P size (Closes kept)) + 7) → 18 < P → 18 ≤ free_after P now
+room_after P size now kept long is big =
+    let framed = padded_length P size kept long in
+    let same : now ≡ size + (56 + padding P size) = omega (arith, is, framed) in
+    subst (λ n. 18 ≤ free_after P n) (sym same) (free_enough P size big)

@@ -1,0 +1,307 @@
+-- What a rotation and an append leave, shown of small logs, and refuted of something nearly right. Segment 3 is open, no
+-- segment is closed, and a page has 40 bytes. The journals and the life of the blobs are any.
+use Rattle.std.specs.Prelude.{◌≡◌, ◌≢◌, ◌≤◌, ◌<◌, ◌++◌, ℕ, zero, suc, List, [], ◌∷◌, length, get_or, replicate, Option, Some, None, Ok, Err, true, false}
+use Rattle.std.proofs.Common.{refl, sym, ap, subst, inl, inr, arith, ◌∙◌}
+use Rattle.sha2.specs.Sha256.{sha256}
+use Rattle.disk.specs.Disk.{IsImage, Life}
+use Rattle.disk.specs.declared.error.Error.TheVariants.{WriteFailed}
+use Rattle.cache.specs.CacheState.{CacheState}
+use Rattle.page.specs.Page.{text}
+use Rattle.paged.specs.Reads.{size_of}
+use Rattle.journal.specs.Frame.{records}
+use Rattle.writer_state.specs.WriterState.{WriterState}
+use Rattle.segments.specs.declared.call.FolderCall.{FolderCall}
+use Rattle.segments.specs.declared.call.FolderCall.TheVariants as calls
+use Rattle.segments.specs.declared.closed.Closed.{Closed}
+use Rattle.segments.specs.declared.entry.Entry.TheVariants.{Closes}
+use Rattle.segments.specs.declared.error.Error.TheVariants as errors
+use Rattle.segments.specs.Digests.{AreBytes, HasTwin, IsOf, IsTwin}
+use Rattle.segments.specs.FolderEvents.{FolderEvent, closing_event, keeping_event, opening_with, plain_event}
+use Rattle.segments.specs.Manifest.{ListingState, entry_bytes, free_after, listed_in, padded, padding}
+use Rattle.segments.specs.Owned.{OwnedState, without_journal}
+use Rattle.segments.specs.Log.{AppendRefused, HasFollowed, HasTwinIn, IsClosedIn, IsNotClosed, IsRotated, IsSameButCurrent, ListsTheSame, LogAppendGoes, LogState, ReadFails, RotateGoes, WasClosed, asked_turning, entered_bytes}
+use Rattle.segments.specs.Crash.{AppendSurvives, HasLetGo, ListsFrom, RemovesUnlisted, RotationSurvives, WasRemoved}
+
+-- ---- bytes and twins
+
+pub two_bytes : AreBytes (7 ∷ 255 ∷ [])
+two_bytes zero = omega arith
+two_bytes (suc zero) = omega arith
+two_bytes (suc (suc i)) = omega arith
+
+-- a greater number is no byte
+pub no_byte : AreBytes (256 ∷ []) → ⊥
+no_byte are = absurd (omega (arith, are 0))
+
+none_are_bytes : AreBytes []
+none_are_bytes i = omega arith
+
+-- what is kept of a file of no bytes
+abbrev empty : Closed
+empty = record { records = 0; len = 0; digest = sha256 [] }
+
+pub of_no_bytes : IsOf [] empty
+of_no_bytes = record { small = none_are_bytes; len = refl; digest = refl }
+
+-- another length was kept
+pub not_of_one_byte : IsOf (7 ∷ []) empty → ⊥
+not_of_one_byte is = absurd (omega (arith, is.len))
+
+-- other bytes with the digest are a twin
+pub a_twin : (content other : List ℕ) → AreBytes other → length other ≡ length content → other ≢ content → sha256 other ≡ sha256 content → IsTwin content other
+a_twin content other small long differs same = record { small = small; len = long; differs = differs; same = same }
+
+-- a content is no twin of itself
+pub no_twin_of_itself : (content : List ℕ) → IsTwin content content → ⊥
+no_twin_of_itself content is = is.differs refl
+
+-- numbers that aren't bytes, though they have the digest, are none either
+pub no_twin_of_numbers : IsTwin (1 ∷ 0 ∷ 0 ∷ 0 ∷ []) (0 ∷ 256 ∷ 0 ∷ 0 ∷ []) → ⊥
+no_twin_of_numbers is = absurd (omega (arith, is.small 1))
+
+pub has_a_twin : (content other : List ℕ) → IsTwin content other → HasTwin content
+has_a_twin content other is = (other, is)
+
+-- no bytes have a twin: it would have as many
+pub none_has_no_twin : HasTwin [] → ⊥
+none_has_no_twin has = none_other has.0 has.1.differs has.1.len where
+  none_other : (other : List ℕ) → other ≢ [] → length other ≡ 0 → ⊥
+  none_other [] differs few = differs refl
+  none_other (b ∷ other) differs few = absurd (omega (arith, few))
+
+abbrev one_closed : ListingState
+one_closed = record { first = 0; closed = empty ∷ [] }
+
+pub is_closed : IsClosedIn one_closed 0
+is_closed = (empty, refl)
+
+-- the open segment isn't closed
+pub the_open_is_not : IsClosedIn one_closed 1 → ⊥
+the_open_is_not is = absurd (cc is.1)
+
+pub a_twin_of_segment_0 : (held : ℕ → List ℕ) (other : List ℕ) → IsTwin (held 0) other → HasTwinIn held one_closed
+a_twin_of_segment_0 held other is = (0, is_closed, (other, is))
+
+-- segments that held nothing have none
+pub no_twin_of_nothing : HasTwinIn (λ n. []) one_closed → ⊥
+no_twin_of_nothing has = none_has_no_twin has.2
+
+-- ---- room behind an entry
+
+pub page_is_free : free_after 40 81 ≡ 39
+page_is_free = refl
+
+pub no_page_is_begun : free_after 40 80 ≡ 0
+no_page_is_begun = refl
+
+-- 18 and 56 bytes leave 6 of the second page
+pub seven_zeros : padding 40 18 ≡ 7
+seven_zeros = refl
+
+pub room_without_zeros : padding 4084 18 ≡ 0
+room_without_zeros = refl
+
+-- 16 would be free
+pub seventeen_zeros : padding 4084 4012 ≡ 17
+seventeen_zeros = refl
+
+-- a page of 18 bytes has no such room
+pub small_page : padding 18 18 ≡ 0
+small_page = refl
+
+pub with_zeros : padded 40 18 (Closes empty) ≡ entry_bytes (Closes empty) ++ 0 ∷ 0 ∷ 0 ∷ 0 ∷ 0 ∷ 0 ∷ 0 ∷ []
+with_zeros = refl
+
+-- ---- a log
+
+abbrev owned : CacheState → Life → WriterState → OwnedState
+owned cache life w = record { cache = cache; life = life; journal = Some w; page_size = 40; records = 0 }
+
+abbrev log : CacheState → Life → WriterState → LogState
+log cache life w =
+    record { manifest = owned cache life w; current = owned cache life w; listing = record { first = 3; closed = [] }; asked = []; loaded = None; page_size = 40; most = 20; known = 0 }
+
+-- the same, closed since a call before failed
+abbrev shut : CacheState → Life → WriterState → LogState
+shut cache life w = record (log cache life w) { current = without_journal (owned cache life w) }
+
+pub entered_with_zeros : (cache : CacheState) (life : Life) (w : WriterState) → size_of w ≡ 18
+    → entered_bytes (Closes empty) (log cache life w) ≡ entry_bytes (Closes empty) ++ replicate 7 0
+entered_with_zeros cache life w is = ap (λ n. padded 40 n (Closes empty)) is
+
+-- ---- the folder's record
+
+-- which call it is, as a number
+abbrev kind : FolderCall → ℕ
+kind (calls.Keeps segment len) = 0
+kind (calls.Removes segment) = 1
+kind calls.Syncs = 2
+kind calls.OpensManifest = 3
+kind (calls.Opens segment) = 4
+kind (calls.Closes segment) = 5
+
+abbrev number : FolderCall → ℕ
+number (calls.Keeps segment len) = segment
+number (calls.Removes segment) = segment
+number calls.Syncs = 0
+number calls.OpensManifest = 0
+number (calls.Opens segment) = segment
+number (calls.Closes segment) = segment
+
+abbrev first_kind : List FolderEvent → ℕ
+first_kind [] = 9
+first_kind (e ∷ es) = kind e.call
+
+abbrev bytes_given : List FolderEvent → ℕ
+bytes_given [] = 0
+bytes_given (e ∷ es) = length e.given
+
+pub what_closing_notes : (life : Life) → closing_event 3 life (7 ∷ []) ≡ record { call = calls.Closes 3; failed = false; given = 7 ∷ []; closed = Some life }
+what_closing_notes life = refl
+
+pub asked_in_order : (cache : CacheState) (life last : Life) (w : WriterState)
+    → asked_turning (log cache life w) last ≡ opening_with (calls.Opens 4) [] ∷ plain_event calls.Syncs false ∷ closing_event 3 last life.present.readable ∷ []
+asked_in_order cache life last w = refl
+
+pub followed : (cache : CacheState) (life : Life) (w : WriterState) (next : OwnedState)
+    → HasFollowed next (log cache life w) (record (log cache life w) { current = next; asked = closing_event 3 life life.present.readable ∷ [] })
+followed cache life w next = record { asked = refl; rest = refl }
+
+-- the manifest may not have its entry before the blob went back
+pub not_listed_before : (cache : CacheState) (life : Life) (w : WriterState) (next : OwnedState)
+    → HasFollowed next (log cache life w) (record (log cache life w) { current = next; asked = closing_event 3 life (7 ∷ life.present.readable) ∷ [] }) → ⊥
+not_listed_before cache life w next is = absurd (omega (arith, ap bytes_given is.asked))
+
+pub nothing_after_it : (cache : CacheState) (life last : Life) (w : WriterState)
+    → HasLetGo (log cache life w) last (record (log cache life w) { asked = asked_turning (log cache life w) last })
+nothing_after_it cache life last w = record { after = []; asked = refl }
+
+-- a blob that didn't go back
+pub not_let_go : (cache : CacheState) (life last : Life) (w : WriterState) → HasLetGo (log cache life w) last (log cache life w) → ⊥
+not_let_go cache life last w is = absurd (omega (arith, ap first_kind is.asked))
+
+pub lists_the_same : (cache : CacheState) (life : Life) (w : WriterState) → ListsTheSame (log cache life w) (shut cache life w)
+lists_the_same cache life w = record { listing = refl; loaded = refl; page_size = refl; most = refl; known = refl }
+
+-- a log that counts segment 3 as gone
+abbrev lost : CacheState → Life → WriterState → LogState
+lost cache life w = record (shut cache life w) { listing = record { first = 4; closed = [] } }
+
+pub not_one_less : (cache : CacheState) (life : Life) (w : WriterState) → ListsTheSame (log cache life w) (lost cache life w) → ⊥
+not_one_less cache life w is = absurd (omega (arith, ap (λ (l : ListingState). l.first) is.listing))
+
+-- ---- a rotation
+
+same_but_current : (cache : CacheState) (life : Life) (w : WriterState) → IsSameButCurrent (shut cache life w) (shut cache life w)
+same_but_current cache life w = record { manifest = refl; listing = refl; asked = refl; loaded = refl; page_size = refl; most = refl; known = refl }
+
+module _ (sum own : List ℕ → ℕ) (cache : CacheState) (life : Life) (w : WriterState) where
+  nothing_kept : (kept : Closed) → record { first = 4; closed = [] } ≡ record { first = 3; closed = [] ++ kept ∷ [] } → ⊥
+  nothing_kept kept is = absurd (omega (arith, ap (λ (l : ListingState). l.first) is))
+
+pub closed_before : (sum own : List ℕ → ℕ) (cache : CacheState) (life : Life) (w : WriterState) → IsNotClosed sum own (shut cache life w) (shut cache life w) errors.Closed
+closed_before sum own cache life w = record { rest = same_but_current cache life w; refused = (refl, refl) }
+
+-- an open log doesn't refuse as closed
+pub not_closed_before : (sum own : List ℕ → ℕ) (cache : CacheState) (life : Life) (w : WriterState) → IsNotClosed sum own (log cache life w) (log cache life w) errors.Closed → ⊥
+not_closed_before sum own cache life w is = absurd (cc is.refused.0)
+
+pub a_refused_rotation : (sum own : List ℕ → ℕ) (cache : CacheState) (life : Life) (w : WriterState) → RotateGoes sum own (shut cache life w) (shut cache life w) (Err errors.Closed)
+a_refused_rotation sum own cache life w = (refl, inl (closed_before sum own cache life w))
+
+-- after an error no segment may be left out, whatever the error is
+pub no_segment_is_lost : (sum own : List ℕ → ℕ) (cache : CacheState) (life : Life) (w : WriterState)
+    → RotateGoes sum own (log cache life w) (lost cache life w) (Err (errors.Layer WriteFailed)) → ⊥
+no_segment_is_lost sum own cache life w is = elim (is.1) [
+  | inl none ↦ absurd (omega (arith, ap (λ (l : ListingState). l.first) none.rest.listing))
+  | inr later ↦ elim later [
+    | inl closed ↦ not_one_less cache life w closed.rest
+    | inr turned ↦ not_one_less cache life w turned.rest
+  ]
+]
+
+-- a rotation that lists the segment, and never let its blob go
+pub not_rotated : (sum own : List ℕ → ℕ) (cache : CacheState) (life : Life) (w : WriterState)
+    → IsRotated sum own (log cache life w) (record (log cache life w) { listing = one_closed; asked = keeping_event 4 0 life.present.readable false ∷ [] }) → ⊥
+not_rotated sum own cache life w is = absurd (omega (arith, ap first_kind is.copied.asked))
+
+-- ---- an append
+
+pub a_refused_append : (sum own : List ℕ → ℕ) (cache : CacheState) (life : Life) (w : WriterState) → AppendRefused sum own (7 ∷ []) (shut cache life w) (shut cache life w) errors.Closed
+a_refused_append sum own cache life w = inl (omega arith, same_but_current cache life w, (refl, refl))
+
+pub an_append_to_a_closed_log : (sum own : List ℕ → ℕ) (cache : CacheState) (life : Life) (w : WriterState)
+    → LogAppendGoes sum own (7 ∷ []) (shut cache life w) (shut cache life w) (Err errors.Closed)
+an_append_to_a_closed_log sum own cache life w = (refl, a_refused_append sum own cache life w)
+
+-- an append that fails may erase no closed segment
+pub no_append_erases : (sum own : List ℕ → ℕ) (cache : CacheState) (life : Life) (w : WriterState)
+    → AppendRefused sum own (7 ∷ []) (log cache life w) (lost cache life w) (errors.Layer WriteFailed) → ⊥
+no_append_erases sum own cache life w is = elim is [
+  | inl here ↦ absurd (omega (arith, ap (λ (l : ListingState). l.first) here.1.listing))
+  | inr turned ↦ elim (turned.1) [
+    | inl failed ↦ no_segment_is_lost sum own cache life w failed
+    | inr after ↦ nothing_kept sum own cache life w after.turned.kept (after.rest.listing ∙ after.turned.listing)
+  ]
+]
+
+pub a_closed_log_survives : (sum own : List ℕ → ℕ) (cache : CacheState) (life : Life) (w : WriterState) → AppendSurvives sum own (7 ∷ []) (shut cache life w) (shut cache life w)
+a_closed_log_survives sum own cache life w = inl (same_but_current cache life w, tt)
+
+-- a log that lost a segment doesn't survive, if it goes on
+pub a_lost_segment_does_not_survive : (sum own : List ℕ → ℕ) (cache : CacheState) (life : Life) (w : WriterState)
+    → AppendSurvives sum own (7 ∷ []) (log cache life w) (record (log cache life w) { listing = record { first = 4; closed = [] } }) → ⊥
+a_lost_segment_does_not_survive sum own cache life w is = elim is [
+  | inl here ↦ absurd (omega (arith, ap (λ (l : ListingState). l.first) here.0.listing))
+  | inr later ↦ elim later [
+    | inl failed ↦ absurd (cc failed.0)
+    | inr turned ↦ nothing_kept sum own cache life w turned.turned.kept (turned.rest.listing ∙ turned.turned.listing)
+  ]
+]
+
+pub a_closed_log_turns : (sum own : List ℕ → ℕ) (cache : CacheState) (life : Life) (w : WriterState) → RotationSurvives sum own (shut cache life w) (shut cache life w)
+a_closed_log_turns sum own cache life w = tt
+
+-- a manifest that changed though no blob went back
+pub no_entry_without_a_blob : (sum own : List ℕ → ℕ) (cache : CacheState) (life : Life) (w : WriterState)
+    → RotationSurvives sum own (log cache life w) (record (log cache life w) { manifest = without_journal (owned cache life w) }) → ⊥
+no_entry_without_a_blob sum own cache life w is = elim (is (λ n. [])) [
+  | inl same ↦ absurd (cc (ap (λ (o : OwnedState). o.journal) same.0))
+  | inr turned ↦ absurd (omega (arith, ap first_kind turned.gone.asked))
+]
+
+-- ---- a read
+
+pub a_closed_segment_fails : (own : List ℕ → ℕ) (cache : CacheState) (life : Life) (w : WriterState)
+    → ReadFails own (record (log cache life w) { listing = one_closed }) (log cache life w) (record { segment = 0; offset = 0 }) WriteFailed
+a_closed_segment_fails own cache life w = inr is_closed
+
+-- of a segment that has no journal no device is asked
+pub no_device_is_asked : (own : List ℕ → ℕ) (cache : CacheState) (life : Life) (w : WriterState)
+    → ReadFails own (shut cache life w) (shut cache life w) (record { segment = 3; offset = 0 }) WriteFailed → ⊥
+no_device_is_asked own cache life w is = elim is [ inl here ↦ absurd (here.1) | inr closed ↦ absurd (cc closed.1) ]
+
+-- ---- what is removed
+
+pub was_removed : WasRemoved 0 (plain_event calls.Syncs false ∷ plain_event (calls.Removes 0) true ∷ [])
+was_removed = inr (inl refl)
+
+-- another one was
+pub another_was : WasRemoved 1 (plain_event (calls.Removes 0) false ∷ []) → ⊥
+another_was is = elim is [ inl same ↦ absurd (omega (arith, ap number same)) | inr none ↦ absurd none ]
+
+pub lists_from : ListsFrom 3 (Some (record { first = 3; closed = [] }))
+lists_from = omega arith
+
+pub not_from_a_later_one : ListsFrom 4 (Some (record { first = 3; closed = [] })) → ⊥
+not_from_a_later_one is = absurd (omega (arith, is))
+
+pub nothing_is_removed : (sum own : List ℕ → ℕ) (cache : CacheState) (life : Life) (w : WriterState) → RemovesUnlisted sum own (log cache life w) (log cache life w)
+nothing_is_removed sum own cache life w events asked segment was = absurd (subst (λ es. WasRemoved segment es) (sym asked) was)
+
+-- a file that the manifest still lists may not be removed
+pub a_listed_file_stays : (sum own : List ℕ → ℕ) (cache : CacheState) (life : Life) (w : WriterState) (bytes : List ℕ) → IsImage life.present bytes
+    → listed_in 40 (records own (text sum 40 bytes)) ≡ Some (record { first = 3; closed = [] })
+    → RemovesUnlisted sum own (log cache life w) (record (log cache life w) { asked = plain_event (calls.Removes 3) false ∷ [] }) → ⊥
+a_listed_file_stays sum own cache life w bytes image lists is =
+    not_from_a_later_one (subst (λ o. ListsFrom 4 o) lists (is (plain_event (calls.Removes 3) false ∷ []) refl 3 (inl refl) bytes image))
