@@ -1,6 +1,6 @@
 -- A record that is appended and committed.
-use Rattle.std.specs.Prelude.{◌≡◌, ◌+◌, ◌++◌, ℕ, List, [], ◌∷◌, length, Some, None, Option, IfSome, Result, Ok, Err}
-use Rattle.std.proofs.Common.{ap, sym, ◌∙◌, refl, subst, arith, length-append}
+use Rattle.std.specs.Prelude.{◌≡◌, ◌++◌, ℕ, List, [], ◌∷◌, length, Some, None, Option, IfSome, Result, Ok, Err}
+use Rattle.std.proofs.Common.{ap, ◌∙◌, refl, subst, arith, length-append}
 use Rattle.disk.specs.Disk.{Life}
 use Rattle.cache.specs.CacheState.{CacheState}
 use Rattle.crash.specs.Moments.{through_joins}

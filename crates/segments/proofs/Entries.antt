@@ -1,9 +1,9 @@
 -- An entry's bytes are that entry.
-use Rattle.std.specs.Prelude.{◌≡◌, ◌≢◌, ◌<◌, ◌+◌, ◌^◌, ◌==◌, ◌&&◌, ◌++◌, ℕ, zero, suc, List, length, take, drop, Some, None, Option, Bool, true, false, if◌then◌else◌, nat_lt, replicate}
+use Rattle.std.specs.Prelude.{◌≡◌, ◌<◌, ◌+◌, ◌^◌, ◌==◌, ◌&&◌, ◌++◌, ℕ, zero, suc, List, length, take, drop, Some, None, Option, Bool, true, false, if◌then◌else◌, nat_lt, replicate}
 use Rattle.std.specs.List.{list_all}
 use Rattle.std.proofs.Common.{ap, ap₂, sym, ◌∙◌, refl, arith, length-append, take_all, true≢false}
 use Rattle.std.proofs.lemmas.Bool.{lt-ltb, ne_eqb}
-use Rattle.std.proofs.lemmas.List.{take-append-le, drop-append, length-replicate}
+use Rattle.std.proofs.lemmas.List.{take-append-le, drop-append-le, drop_all, length-replicate}
 use Rattle.std.proofs.lemmas.Nat.{from_be_bytes-to_be_bytes_2, from_be_bytes-to_be_bytes_8}
 use Rattle.segments.specs.declared.entry.Entry.{Entry}
 use Rattle.segments.specs.declared.entry.Entry.TheVariants.{Starts, Closes}
@@ -43,9 +43,9 @@ closes_told records len digest zeros fits small size =
     let behind = digest ++ replicate zeros 0 in
     let long : length behind ≡ 32 + zeros = length-append digest (replicate zeros 0) ∙ ap₂ (λ a b. a + b) size (length-replicate zeros 0) in
     let whole : take 32 behind ≡ digest = take-append-le 32 digest (replicate zeros 0) (omega (arith, size)) ∙ take_all 32 digest (omega (arith, size)) in
-    let rest : drop 32 behind ≡ replicate zeros 0 = ap (λ n. drop n behind) (sym size) ∙ drop-append digest (replicate zeros 0) in
-    picked (length bytes == 11) (nat_lt 48 (length bytes)) true (list_all (λ b. b == 0) (drop 32 behind)) _ _ _
-    (ne_eqb (length bytes) 11 (omega (arith, long))) (lt-ltb 48 (length bytes) (omega (arith, long))) refl
+    let rest : drop 32 behind ≡ replicate zeros 0 = drop-append-le 32 digest (replicate zeros 0) (omega (arith, size)) ∙ ap (λ l. l ++ replicate zeros 0) (drop_all 32 digest (omega (arith, size))) in
+    picked ((length bytes == 11) && false) (nat_lt 48 (length bytes)) true (list_all (λ b. b == 0) (drop 32 behind)) _ _ _
+    (ap (λ b. b && false) (ne_eqb (length bytes) 11 (omega (arith, long)))) (lt-ltb 48 (length bytes) (omega (arith, long))) refl
     (ap (λ l. list_all (λ b. b == 0) l) rest ∙ zeros_pass zeros)
     (made (from_be_bytes-to_be_bytes_8 records fits) (from_be_bytes-to_be_bytes_8 len small) whole)
 

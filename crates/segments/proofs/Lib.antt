@@ -23,7 +23,8 @@ pub mod CopiesTold
 pub mod Loading
 pub mod Refusing
 pub mod DropSurvival
-pub mod Appending
+pub mod Appends
 pub mod Padding
 pub mod Removing
 pub mod RotationExamples
+pub mod TurnExamples

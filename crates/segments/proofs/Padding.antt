@@ -1,6 +1,6 @@
 -- The zeros behind an entry that closes a segment.
-use Rattle.std.specs.Prelude.{◌≡◌, ◌<◌, ◌≤◌, ◌+◌, ◌-◌, ◌%◌, ◌&&◌, ◌++◌, ◌⊎◌, ℕ, zero, suc, List, length, Bool, true, false, if◌then◌else◌, nat_lt, replicate}
-use Rattle.std.proofs.Common.{ap, ap₂, sym, ◌∙◌, refl, subst, arith, length-append}
+use Rattle.std.specs.Prelude.{◌≡◌, ◌<◌, ◌≤◌, ◌+◌, ◌-◌, ◌%◌, ◌&&◌, ℕ, zero, suc, length, if◌then◌else◌, nat_lt, replicate}
+use Rattle.std.proofs.Common.{ap, ap₂, inl, inr, sym, ◌∙◌, subst, arith, length-append}
 use Rattle.std.proofs.Math.Nat.{mod-add-mod, mod-eq_of_lt, mod_self, add-mod_left, mod-lt}
 use Rattle.std.proofs.lemmas.Bool.{cases_lt, lt-ltb, le-ltb}
 use Rattle.std.proofs.lemmas.List.{length-replicate}
@@ -16,7 +16,8 @@ more P size pad =
 -- one byte of the last page is used
 one_used : (P u : ℕ) → 18 < P → u < P → (P - u) % P < 18 → (u + ((P - u) % P + 1)) % P ≡ 1
 one_used P zero big below few =
-    let all : (P - 0) % P ≡ 0 = mod_self P in
+    let whole : P - 0 ≡ P = omega arith in
+    let all : (P - 0) % P ≡ 0 = ap (λ n. n % P) whole ∙ mod_self P in
     ap (λ n. (0 + (n + 1)) % P) all ∙ mod-eq_of_lt (omega (arith, big))
 one_used P (suc u) big below few =
     let same : (P - suc u) % P ≡ P - suc u = mod-eq_of_lt (omega (arith, below)) in
@@ -45,8 +46,9 @@ free_enough P size big =
 -- how long the frame of an entry is that closes a segment
 padded_length : (P size : ℕ) (kept : Closed) → length kept.digest ≡ 32 → length (padded P size (Closes kept)) ≡ 49 + padding P size
 padded_length P size kept long =
+    let entry : length (entry_bytes (Closes kept)) ≡ 49 = omega (arith, long) in
     length-append (entry_bytes (Closes kept)) (replicate (padding P size) 0)
-    ∙ ap₂ (λ a b. a + b) (ap (λ n. 17 + n) long) (length-replicate (padding P size) 0)
+    ∙ ap₂ (λ a b. a + b) entry (length-replicate (padding P size) 0)
 
 pub room_after : (P size now : ℕ) (kept : Closed) → length kept.digest ≡ 32 → now ≡ size + (length (padded P size (Closes kept)) + 7) → 18 < P → 18 ≤ free_after P now
 room_after P size now kept long is big =

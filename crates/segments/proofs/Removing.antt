@@ -1,6 +1,6 @@
 -- A file is removed once the manifest doesn't list it any more.
-use Rattle.std.specs.Prelude.{◌≡◌, ◌<◌, ◌≤◌, ◌+◌, ◌++◌, ◌⊎◌, ℕ, suc, List, [], ◌∷◌, Some, None, Option, IfSome, Result, Ok, Err}
-use Rattle.std.proofs.Common.{ap, sym, ◌∙◌, refl, subst, inl, inr, arith, append_assoc, append-nil}
+use Rattle.std.specs.Prelude.{◌≡◌, ◌<◌, ◌+◌, ◌++◌, ◌⊎◌, ℕ, suc, List, [], ◌∷◌, Some, None, Option, IfSome, Result, Ok, Err}
+use Rattle.std.proofs.Common.{ap, sym, ◌∙◌, subst, inl, inr, arith, append_assoc, append-nil}
 use Rattle.std.proofs.lemmas.List.{append_cancel_left}
 use Rattle.disk.specs.Disk.{IsImage}
 use Rattle.page.specs.Page.{text}
@@ -11,7 +11,7 @@ use Rattle.segments.specs.declared.error.Error.{Error}
 use Rattle.segments.specs.declared.error.Error.TheVariants as errors
 use Rattle.segments.specs.FolderEvents.{FolderEvent, keeping_event}
 use Rattle.segments.specs.Manifest.{ListingState, listed_in, open_in}
-use Rattle.segments.specs.Owned.{HasJournal, IsOwnedJournal, OwnedState}
+use Rattle.segments.specs.Owned.{HasJournal, IsOwnedJournal}
 use Rattle.segments.specs.Log.{AreOfOlder, IsDropping, IsLog, Lists, LogDropGoes, LogState}
 use Rattle.segments.specs.Crash.{ListsFrom, RemovesUnlisted, WasRemoved}
 use Rattle.segments.proofs.Surviving.{listed_of}
@@ -63,20 +63,20 @@ keeps_none segment len number is = absurd (cc is)
 
 dropping_removes : (sum own : List ℕ → ℕ) (segment : ℕ) (s t : LogState) → IsDropping segment s t → IsLog sum own t → RemovesUnlisted sum own s t
 dropping_removes sum own segment s t is log events asked number was bytes image =
-    let before = elim (is.starts) [
+    let before : (is.mid.asked ≡ s.asked) ⊎ ((e : FolderEvent) × (is.mid.asked ≡ s.asked ++ e ∷ []) × (e.call ≡ calls.Removes number → ⊥)) = elim (is.starts) [
       | inl same ↦ inl (ap (λ (l : LogState). l.asked) same.1)
       | inr started ↦ inr (
-          keeping_event (open_in is.mid.listing) is.mid.known is.mid.manifest.life.present.readable started.1.kept.failed,
-          started.1.kept.asked,
-          keeps_none (open_in is.mid.listing) is.mid.known number,
-        )
+        keeping_event (open_in is.mid.listing) is.mid.known is.mid.manifest.life.present.readable started.1.kept.failed,
+        started.1.kept.asked,
+        keeps_none (open_in is.mid.listing) is.mid.known number,
+      )
     ] in
     lists_first sum own t t.manifest.journal number bytes is.there log.manifest_pages log.manifest.1 log.lists image
     (removed_of segment t.listing.first s.asked is.mid.asked t.asked events number before is.removed.events is.removed.all is.removed.below asked was)
 
 nothing_removes : (sum own : List ℕ → ℕ) (s t : LogState) → t.asked ≡ s.asked → RemovesUnlisted sum own s t
 nothing_removes sum own s t same events asked number was =
-    let none : events ≡ [] = append_cancel_left s.asked events [] (sym asked ∙ same ∙ append-nil s.asked) in
+    let none : events ≡ [] = append_cancel_left s.asked events [] (sym asked ∙ same ∙ sym (append-nil s.asked)) in
     absurd (subst (λ es. WasRemoved number es) none was)
 
 -- a drop, by its answer

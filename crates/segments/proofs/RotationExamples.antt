@@ -1,6 +1,6 @@
 -- What a rotation and an append leave, shown of small logs, and refuted of something nearly right. Segment 3 is open, no
 -- segment is closed, and a page has 40 bytes. The journals and the life of the blobs are any.
-use Rattle.std.specs.Prelude.{◌≡◌, ◌≢◌, ◌≤◌, ◌<◌, ◌++◌, ℕ, zero, suc, List, [], ◌∷◌, length, get_or, replicate, Option, Some, None, Ok, Err, true, false}
+use Rattle.std.specs.Prelude.{◌≡◌, ◌≢◌, ◌++◌, ℕ, zero, suc, List, [], ◌∷◌, length, replicate, Some, None, Err, true, false}
 use Rattle.std.proofs.Common.{refl, sym, ap, subst, inl, inr, arith, ◌∙◌}
 use Rattle.sha2.specs.Sha256.{sha256}
 use Rattle.disk.specs.Disk.{IsImage, Life}
@@ -19,7 +19,7 @@ use Rattle.segments.specs.Digests.{AreBytes, HasTwin, IsOf, IsTwin}
 use Rattle.segments.specs.FolderEvents.{FolderEvent, closing_event, keeping_event, opening_with, plain_event}
 use Rattle.segments.specs.Manifest.{ListingState, entry_bytes, free_after, listed_in, padded, padding}
 use Rattle.segments.specs.Owned.{OwnedState, without_journal}
-use Rattle.segments.specs.Log.{AppendRefused, HasFollowed, HasTwinIn, IsClosedIn, IsNotClosed, IsRotated, IsSameButCurrent, ListsTheSame, LogAppendGoes, LogState, ReadFails, RotateGoes, WasClosed, asked_turning, entered_bytes}
+use Rattle.segments.specs.Log.{AppendRefused, HasFollowed, HasTwinIn, IsClosedIn, IsNotClosed, IsRotated, IsSameButCurrent, ListsTheSame, LogAppendGoes, LogState, ReadFails, RotateGoes, asked_turning, entered_bytes}
 use Rattle.segments.specs.Crash.{AppendSurvives, HasLetGo, ListsFrom, RemovesUnlisted, RotationSurvives, WasRemoved}
 
 -- ---- bytes and twins
@@ -37,7 +37,7 @@ none_are_bytes : AreBytes []
 none_are_bytes i = omega arith
 
 -- what is kept of a file of no bytes
-abbrev empty : Closed
+abbrev pub empty : Closed
 empty = record { records = 0; len = 0; digest = sha256 [] }
 
 pub of_no_bytes : IsOf [] empty
@@ -69,7 +69,7 @@ none_has_no_twin has = none_other has.0 has.1.differs has.1.len where
   none_other [] differs few = differs refl
   none_other (b ∷ other) differs few = absurd (omega (arith, few))
 
-abbrev one_closed : ListingState
+abbrev pub one_closed : ListingState
 one_closed = record { first = 0; closed = empty ∷ [] }
 
 pub is_closed : IsClosedIn one_closed 0
@@ -114,15 +114,15 @@ with_zeros = refl
 
 -- ---- a log
 
-abbrev owned : CacheState → Life → WriterState → OwnedState
+abbrev pub owned : CacheState → Life → WriterState → OwnedState
 owned cache life w = record { cache = cache; life = life; journal = Some w; page_size = 40; records = 0 }
 
-abbrev log : CacheState → Life → WriterState → LogState
+abbrev pub log : CacheState → Life → WriterState → LogState
 log cache life w =
     record { manifest = owned cache life w; current = owned cache life w; listing = record { first = 3; closed = [] }; asked = []; loaded = None; page_size = 40; most = 20; known = 0 }
 
 -- the same, closed since a call before failed
-abbrev shut : CacheState → Life → WriterState → LogState
+abbrev pub shut : CacheState → Life → WriterState → LogState
 shut cache life w = record (log cache life w) { current = without_journal (owned cache life w) }
 
 pub entered_with_zeros : (cache : CacheState) (life : Life) (w : WriterState) → size_of w ≡ 18
@@ -140,7 +140,7 @@ kind calls.OpensManifest = 3
 kind (calls.Opens segment) = 4
 kind (calls.Closes segment) = 5
 
-abbrev number : FolderCall → ℕ
+abbrev pub number : FolderCall → ℕ
 number (calls.Keeps segment len) = segment
 number (calls.Removes segment) = segment
 number calls.Syncs = 0
@@ -148,7 +148,7 @@ number calls.OpensManifest = 0
 number (calls.Opens segment) = segment
 number (calls.Closes segment) = segment
 
-abbrev first_kind : List FolderEvent → ℕ
+abbrev pub first_kind : List FolderEvent → ℕ
 first_kind [] = 9
 first_kind (e ∷ es) = kind e.call
 
@@ -184,7 +184,7 @@ pub lists_the_same : (cache : CacheState) (life : Life) (w : WriterState) → Li
 lists_the_same cache life w = record { listing = refl; loaded = refl; page_size = refl; most = refl; known = refl }
 
 -- a log that counts segment 3 as gone
-abbrev lost : CacheState → Life → WriterState → LogState
+abbrev pub lost : CacheState → Life → WriterState → LogState
 lost cache life w = record (shut cache life w) { listing = record { first = 4; closed = [] } }
 
 pub not_one_less : (cache : CacheState) (life : Life) (w : WriterState) → ListsTheSame (log cache life w) (lost cache life w) → ⊥
@@ -196,7 +196,7 @@ same_but_current : (cache : CacheState) (life : Life) (w : WriterState) → IsSa
 same_but_current cache life w = record { manifest = refl; listing = refl; asked = refl; loaded = refl; page_size = refl; most = refl; known = refl }
 
 module _ (sum own : List ℕ → ℕ) (cache : CacheState) (life : Life) (w : WriterState) where
-  nothing_kept : (kept : Closed) → record { first = 4; closed = [] } ≡ record { first = 3; closed = [] ++ kept ∷ [] } → ⊥
+  nothing_kept : (kept : Closed) → ◌≡◌ {A = ListingState} (record { first = 4; closed = [] }) (record { first = 3; closed = [] ++ kept ∷ [] }) → ⊥
   nothing_kept kept is = absurd (omega (arith, ap (λ (l : ListingState). l.first) is))
 
 pub closed_before : (sum own : List ℕ → ℕ) (cache : CacheState) (life : Life) (w : WriterState) → IsNotClosed sum own (shut cache life w) (shut cache life w) errors.Closed

@@ -14,7 +14,6 @@ use Rattle.journal.specs.Journal.{IsFound}
 use Rattle.journal.proofs.Frames.{records-none, records-whole}
 use Rattle.segments.specs.declared.closed.Closed.{Closed}
 use Rattle.segments.specs.declared.error.Error.{Error}
-use Rattle.segments.specs.declared.error.Error.TheVariants as errors
 use Rattle.segments.specs.declared.place.Place.{Place}
 use Rattle.segments.specs.Digests.{IsOf}
 use Rattle.segments.specs.Manifest.{ListingState, closed_at, open_in}

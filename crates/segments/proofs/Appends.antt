@@ -11,10 +11,10 @@ use Rattle.segments.specs.Crash.{AppendSurvives, CurrentSurvives, RotationSurviv
 
 -- an append that failed leaves no journal
 none_left : (sum own : List ℕ → ℕ) (bytes : List ℕ) (s t : OwnedState) (e : Error) → OwnedAppendGoes sum own bytes s t (Err e) → t.journal ≡ None
-none_left sum own bytes s t (errors.Layer e) is = none_of s.journal t.journal is where
-  none_of : {P : WriterState → Type 0} (j k : Option WriterState) → HasJournal j (λ w. (k ≡ None) × P w) → k ≡ None
-  none_of None k is = absurd is
-  none_of (Some w) k is = is.0
+none_left sum own bytes s t (errors.Layer e) is = none_of _ s.journal t.journal is where
+  none_of : (P : WriterState → Type 0) (j k : Option WriterState) → HasJournal j (λ w. (k ≡ None) × P w) → k ≡ None
+  none_of P None k is = absurd is
+  none_of P (Some w) k is = is.0
 none_left sum own bytes s t errors.Closed is = ap (λ (o : OwnedState). o.journal) is.1 ∙ is.0
 none_left sum own bytes s t (errors.System e) is = absurd is
 none_left sum own bytes s t (errors.Damaged n) is = absurd is
