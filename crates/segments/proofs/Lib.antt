@@ -27,3 +27,11 @@ pub mod Appending
 pub mod Padding
 pub mod Removing
 pub mod RotationExamples
+pub mod BytesExamples
+pub mod ManifestExamples
+pub mod OwnedExamples
+pub mod LogExamples
+pub mod CrashExamples
+pub mod ScanExamples
+pub mod InnerExamples
+pub mod OpeningExamples
