@@ -1,5 +1,5 @@
--- Bytes and blobs of a small log, which the other examples use. Pages have 18 bytes, each checksum is the sum of its bytes,
--- and each record has one byte, "c" or "d".
+-- Bytes and blobs of a small log, which the other examples use. Pages have 18 bytes, each checksum
+-- is the sum of its bytes, and each record has one byte, "c" or "d".
 use Rattle.std.specs.Prelude.{◌≡◌, ◌++◌, ℕ, List, [], ◌∷◌, replicate, slice_get, Some, None}
 use Rattle.std.proofs.Common.{refl, sym, ap, subst, inr, arith, lit≤}
 use Rattle.disk.specs.Disk.{Disk, Life, next}
@@ -18,7 +18,8 @@ use Rattle.segments.specs.Owned.{OwnedState}
 use Rattle.segments.proofs.Closing.{chance_free}
 use Rattle.segments.proofs.Surviving.{durable_image, image_of}
 
--- the frame of "c": its length, its byte, the sum of its bytes, and the mark. All bytes of the frame add up to 200
+-- the frame of "c": its length, its byte, the sum of its bytes, and the mark. All bytes of the
+-- frame add up to 200
 abbrev pub c_frame : List ℕ
 c_frame = 0 ∷ 1 ∷ 99 ∷ 0 ∷ 0 ∷ 0 ∷ 99 ∷ 1 ∷ []
 

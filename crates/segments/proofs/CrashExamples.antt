@@ -1,5 +1,6 @@
--- What a crash leaves of a log, shown of small logs, and refuted of something nearly right. Pages have 18 bytes. Closed
--- segment 0 held "c" and closed segment 1 held "d"; what was kept of them is any.
+-- What a crash leaves of a log, shown of small logs, and refuted of something nearly right. Pages
+-- have 18 bytes. Closed segment 0 held "c" and closed segment 1 held "d"; what was kept of them is
+-- any.
 use Rattle.std.specs.Prelude.{◌≡◌, ◌⊎◌, ◌≤◌, ◌++◌, ℕ, List, [], ◌∷◌, length, replicate, Option, Some, None}
 use Rattle.std.proofs.Common.{refl, sym, ap, subst, inl, inr, arith, ◌∙◌, lit≤}
 use Rattle.disk.specs.Disk.{Disk, IsImage, next}
@@ -19,7 +20,8 @@ use Rattle.segments.proofs.Surviving.{durable_image, image_of, survives_same}
 
 -- ---- the records that are left
 
--- a manifest whose one entry says that pages have 18 bytes and the log begins with segment 0: a page that is full
+-- a manifest whose one entry says that pages have 18 bytes and the log begins with segment 0: a
+-- page that is full
 abbrev pub starts_page : List ℕ
 starts_page = 0 ∷ 11 ∷ replicate 10 0 ++ 18 ∷ 0 ∷ 0 ∷ 0 ∷ 18 ∷ 1 ∷ slot_bytes 18 48 ++ slot_bytes 0 0
 
@@ -65,9 +67,9 @@ the_first_of_two = (d ∷ [], refl)
 pub the_second_of_two : AreFirstOf (c ∷ d ∷ []) (Some (d ∷ [])) → ⊥
 the_second_of_two are = c_is_not_d (d ∷ []) are.0 are.1
 
--- ---- what a crash leaves of disks that rest: an empty manifest, and for each segment the same page
+-- ---- disks that rest: an empty manifest, and for each segment the same page
 
--- what holds of the records in the bytes that rest holds of whatever is left
+-- what holds of the page's records holds of whatever a crash leaves
 left_is : (page : List ℕ) (Q : Option (List (List ℕ)) → Type 0) (manifest : List ℕ) (file : ℕ → List ℕ)
     → IsImage (resting []) manifest → ((j : ℕ) → IsImage (resting page) (file j)) → Q (Some (records add_sum (text add_sum 18 page)))
     → Q (records_left add_sum add_sum 18 held file manifest)
@@ -78,7 +80,7 @@ left_is page Q manifest file empty images holds =
     subst (λ (m : List ℕ). Q (records_left add_sum add_sum 18 held file m)) (sym none)
     (subst (λ (bytes : List ℕ). Q (Some (records add_sum (text add_sum 18 bytes)))) (sym first) holds)
 
--- and it holds of the records in the bytes that rest, where it holds of whatever is left
+-- and where it holds of whatever a crash leaves, it holds of the page's records
 is_left : (page : List ℕ) (n : ℕ) (all : List (List ℕ)) → LogKept add_sum add_sum 18 held n all (resting []) (λ j. resting page)
     → BeginWith n all (Some (records add_sum (text add_sum 18 page)))
 unfolding record_len is_record record_of frames records

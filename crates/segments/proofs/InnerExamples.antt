@@ -1,5 +1,6 @@
--- The definitions that only the clauses of inner calls name: what each holds of, and what it refuses. The logs are those of
--- `LogExamples`: `small` has an empty manifest, and `both` has two closed segments.
+-- The definitions that only the clauses of inner calls name: what each holds of, and what it
+-- refuses. The logs are those of `LogExamples`: `small` has an empty manifest, and `both` has two
+-- closed segments.
 use Rattle.std.specs.Prelude.{◌≡◌, ◌<◌, ◌++◌, ℕ, List, [], ◌∷◌, length, replicate, Some, None, Ok, Err}
 use Rattle.std.proofs.Common.{refl, ap, inl, inr, arith, lit<, lit≤}
 use Rattle.disk.specs.Disk.{next}
@@ -25,7 +26,7 @@ use Rattle.segments.proofs.OwnedExamples.{all_is_durable}
 use Rattle.segments.proofs.ScanExamples.{not_the_end, the_end}
 use Rattle.segments.proofs.Surviving.{image_of}
 
--- what was kept of a segment with so many records and bytes
+-- what was kept of a segment with so many records, bytes and such a digest
 abbrev kept_of : (count len : ℕ) (digest : List ℕ) → Closed
 kept_of count len digest = record { records = count; len = len; digest = digest }
 

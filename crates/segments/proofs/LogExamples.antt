@@ -1,6 +1,7 @@
--- What a log has, and what stands between its calls: what each of these definitions holds of, and what it refuses. The log
--- has two closed segments, number 0 with "c" and number 1 with "d", and segment 2 is open and has "c"; what was kept of the
--- closed ones is any. `small` is a log with an empty manifest, whose segment 0 is open and has "c".
+-- What a log has, and what stands between its calls: what each of these definitions holds of, and
+-- what it refuses. The log has two closed segments, number 0 with "c" and number 1 with "d", and
+-- segment 2 is open and has "c"; what was kept of the closed ones is any. `small` is a log with an
+-- empty manifest, whose segment 0 is open and has "c".
 use Rattle.std.specs.Prelude.{◌≡◌, ◌≤◌, ◌++◌, ℕ, zero, suc, List, [], ◌∷◌, length, Bool, true, false, Option, Some, None, Ok, Err}
 use Rattle.std.proofs.Common.{refl, sym, ap, inl, inr, arith, ◌∙◌, lit<, lit≤}
 use Rattle.page.specs.Page.{text}

@@ -1,6 +1,6 @@
--- Each definition of manifests, of their copies and of what a folder is asked for, computed on a few bytes, and what
--- `TakesIn` refuses. Pages have 18 bytes. The log has two closed segments, number 0 and number 1; what was kept of them is
--- any.
+-- Each definition of manifests, of their copies and of what a folder is asked for, computed on a
+-- few bytes, and what `TakesIn` refuses. Pages have 18 bytes. The log has two closed segments,
+-- number 0 and number 1; what was kept of them is any.
 use Rattle.std.specs.Prelude.{◌≡◌, ◌++◌, ℕ, List, [], ◌∷◌, replicate, true, false, Option, Some, None, Ok, Err}
 use Rattle.std.proofs.Common.{refl, ap, arith}
 use Rattle.crc32c.specs.Crc.{after_bits, after_byte, crc32c}
@@ -57,7 +57,7 @@ a_number_fits = refl
 pub no_greater_one : fitting 18446744073709551616 ≡ None
 no_greater_one = refl
 
--- the number of the first segment that a listing has, and how it ends
+-- the number of the first segment of a listing, if there is one
 abbrev first_in : Option ListingState → ℕ
 first_in None = 9
 first_in (Some l) = l.first
@@ -158,7 +158,9 @@ one_that_was_never_closed = refl
 pub an_empty_manifest : listed_in 18 [] ≡ Some none_closed
 an_empty_manifest = refl
 
--- ---- copies. The bytes after the checksum are those from 0 to 31, whose CRC-32C is published: 0x46DD794E
+-- ---- copies
+
+-- The bytes after the checksum are those from 0 to 31, whose CRC-32C is published: 0x46DD794E.
 
 abbrev known : Known
 known = record { segment = 0x0001020304050607; len = 0x08090a0b0c0d0e0f }

@@ -1,5 +1,5 @@
--- What the opening of files comes to: what each of these definitions holds of, and what it refuses. The files have nothing
--- in them, or "c". That a blob has a journal between two calls is a premise.
+-- What the opening of files comes to: what each of these definitions holds of, and what it refuses.
+-- The files have nothing in them, or "c". That a blob has a journal between two calls is a premise.
 use Rattle.std.specs.Prelude.{◌≡◌, ◌++◌, ℕ, List, [], ◌∷◌, length, Ok}
 use Rattle.std.proofs.Common.{refl, sym, ap, arith, ◌∙◌}
 use Rattle.disk.specs.Disk.{Life}

@@ -1,5 +1,6 @@
--- Each definition of a blob with a journal and a cache of its own: what it holds of, and what it refuses. The journal has
--- one record, "c", or none. That it is a journal between two calls is a premise.
+-- Each definition of a blob with a journal and a cache of its own: what it holds of, and what it
+-- refuses. The journal has one record, "c", or none. That it is a journal between two calls is a
+-- premise.
 use Rattle.std.specs.Prelude.{◌≡◌, ◌≤◌, ◌+◌, ℕ, List, [], ◌∷◌, length, Some, None, Ok, Err}
 use Rattle.std.proofs.Common.{refl, sym, ap, arith, ◌∙◌, lit≤}
 use Rattle.disk.specs.Disk.{Life, Write, next}

@@ -1,5 +1,6 @@
--- Each definition of going over a log's records, computed on the log of `LogExamples`: segment 0 held "c", segment 1 held
--- "d", and segment 2 is open and has "c". What was kept of the closed segments is any.
+-- Each definition of going over a log's records, computed on the log of `LogExamples`: segment 0
+-- held "c", segment 1 held "d", and segment 2 is open and has "c". What was kept of the closed
+-- segments is any.
 use Rattle.std.specs.Prelude.{◌≡◌, ℕ, [], ◌∷◌, length}
 use Rattle.std.proofs.Common.{refl, ap, arith}
 use Rattle.page.specs.Sums.{add_sum}
