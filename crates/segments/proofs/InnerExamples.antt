@@ -17,7 +17,7 @@ use Rattle.segments.specs.Digests.{IsOf, SameKept}
 use Rattle.segments.specs.FolderEvents.{FolderEvent}
 use Rattle.segments.specs.Manifest.{ListingState, entry_bytes, entry_in, none_closed}
 use Rattle.segments.specs.Owned.{IsOwned, OwnedState, without_journal}
-use Rattle.segments.specs.Log.{CloseCurrentGoes, EnterGoes, EnterRefused, HasLoaded, HasOpened, HeldReadGoes, IsClosedWith, IsEntered, IsKept, IsLoaded, IsSameButLoaded, IsTried, LeavesOpened, LogState, ManifestKeeps, StartFromGoes, TakeLoadedGoes, Tries}
+use Rattle.segments.specs.Log.{CloseCurrentGoes, EnterGoes, EnterRefused, HasLoaded, HasOpened, HeldReadGoes, IsEntered, IsKept, IsLoaded, IsSameButLoaded, IsTried, LeavesOpened, LogState, ManifestKeeps, StartFromGoes, TakeLoadedGoes, Tries, WasClosed}
 use Rattle.segments.specs.Scan.{IsBehind, StepGoes, far_from, place_at}
 use Rattle.segments.proofs.BytesExamples.{c, c_frame, c_life, c_page, changed_life, first_byte, life_of, none_committed, not_only, only_of, resting, rests, with_c, with_none, writer}
 use Rattle.segments.proofs.Closing.{chance_free}
@@ -48,7 +48,7 @@ entered asked = record small { manifest = record with_none { journal = Some (wri
 
 pub it_was_entered : (asked : List FolderEvent) → IsKept [] (entered asked) → IsEntered add_sum (Starts 0 18) small (entered asked)
 unfolding record_len is_record record_of frames records
-it_was_entered asked kept = record { listing = refl; there = tt; records = refl; known = refl; kept = kept }
+it_was_entered asked kept = record { listing = refl; there = tt; records = refl; size = refl; known = refl; kept = kept }
 
 -- the manifest has no record more
 pub it_was_not_written : (asked : List FolderEvent) → IsEntered add_sum (Starts 0 18) small (record small { asked = asked }) → ⊥
@@ -109,12 +109,12 @@ it_changed_for_nothing sum own (inr tried) = it_was_tried_in_vain sum own foreig
 abbrev closed : LogState
 closed = record small { current = without_journal with_c }
 
-pub it_was_closed : (len : ℕ) (digest : List ℕ) → IsOf c_page (kept_of 1 len digest) → IsClosedWith add_sum add_sum small closed (kept_of 1 len digest)
+pub it_was_closed : (len : ℕ) (digest : List ℕ) → IsOf c_page (kept_of 1 len digest) → WasClosed add_sum add_sum small c_life (kept_of 1 len digest)
 unfolding record_len is_record record_of frames records
 it_was_closed len digest is = record { shut = all_is_durable; of = is; counts = refl }
 
 -- one record more was kept than it had
-pub one_more_was_kept : (len : ℕ) (digest : List ℕ) → IsClosedWith add_sum add_sum small closed (kept_of 2 len digest) → ⊥
+pub one_more_was_kept : (len : ℕ) (digest : List ℕ) → WasClosed add_sum add_sum small c_life (kept_of 2 len digest) → ⊥
 unfolding record_len is_record record_of frames records
 one_more_was_kept len digest is = let same : ◌≡◌ {A = ℕ} 2 1 = is.counts in omega (arith, same)
 
@@ -187,11 +187,11 @@ module _ (one two : Closed) where
 
   -- ---- one frame further
 
-  pub it_ends_here : StepGoes add_sum add_sum (both one two) (place_at 2 8) (Ok End)
+  pub it_ends_here : StepGoes add_sum add_sum (both one two) (both one two) (place_at 2 8) (Ok End)
   it_ends_here = the_end one two
 
   -- the open segment follows
-  pub it_goes_on : StepGoes add_sum add_sum (both one two) (place_at 1 8) (Ok End) → ⊥
+  pub it_goes_on : StepGoes add_sum add_sum (both one two) (both one two) (place_at 1 8) (Ok End) → ⊥
   it_goes_on is = not_the_end one two is
 
 pub how_far : far_from small (place_at 0 8) ≡ 18446744073709551608

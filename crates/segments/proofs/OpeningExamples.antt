@@ -89,6 +89,7 @@ opened (calls.Removes segment) = 9
 opened calls.Syncs = 9
 opened calls.OpensManifest = 9
 opened (calls.Opens segment) = segment
+opened (calls.Closes segment) = 9
 
 abbrev second_opened : List FolderEvent → ℕ
 second_opened [] = 9

@@ -206,7 +206,7 @@ it_keeps_none keeps = another_record keeps
 
 pub it_was_added : CommitsAll add_sum add_sum 18 c_frame (resting c_page) → IsAdded add_sum add_sum 18 c (writer []) (life_of []) (writer c_frame) c_life
 unfolding record_len is_record record_of frames records
-it_was_added all = record { records = refl; committed = all; durable = rests c_page }
+it_was_added all = record { records = refl; size = refl; committed = all; durable = rests c_page }
 
 -- the journal has no more records than before
 pub it_was_not_added : IsAdded add_sum add_sum 18 d (writer c_frame) c_life (writer c_frame) c_life → ⊥
