@@ -4,6 +4,7 @@
 -- empty manifest, whose segment 0 is open and has "c".
 use Rattle.std.specs.Prelude.{◌≡◌, ◌≤◌, ◌++◌, ℕ, zero, suc, List, [], ◌∷◌, length, Bool, true, false, Option, Some, None, Ok, Err}
 use Rattle.std.proofs.Common.{refl, sym, ap, inl, inr, arith, ◌∙◌, lit<, lit≤}
+use Rattle.disk.specs.declared.error.Error.TheVariants.{WriteFailed}
 use Rattle.page.specs.Page.{text}
 use Rattle.page.specs.Sums.{add_sum}
 use Rattle.journal.specs.Frame.{frames, is_record, record_len, record_of, records, whole_frames}
@@ -15,7 +16,7 @@ use Rattle.segments.specs.Digests.{IsOf}
 use Rattle.segments.specs.FolderEvents.{FolderEvent, plain_event}
 use Rattle.segments.specs.Manifest.{ListingState, none_closed}
 use Rattle.segments.specs.Owned.{IsOwned, OwnedAppendGoes, OwnedState, without_journal}
-use Rattle.segments.specs.Log.{AppendHereGoes, CurrentKeeps, EndsSynced, HasKept, HoldsClosed, IsBeyond, IsClosedLog, IsClosedOff, IsContentOf, IsCurrentContent, IsKept, IsListed, IsLoaded, IsLog, IsReadOf, IsSameButAsked, IsSameButCurrent, IsSameButManifest, IsStartedFrom, LeavesReading, Lists, LoadedState, LogState, TellHeld, closed_records, listing_from, log_records}
+use Rattle.segments.specs.Log.{AppendHereGoes, CurrentKeeps, EndsSynced, HasKept, HoldsClosed, IsBeyond, IsClosedLog, IsClosedOff, IsContentOf, IsCurrentContent, IsDropped, IsKept, IsListed, IsLoaded, IsLog, IsReadOf, IsSameButAsked, IsSameButCurrent, IsSameButManifest, IsStartedFrom, LeavesReading, Lists, LoadedState, LogAppendGoes, LogState, TellHeld, closed_records, listing_from, log_records}
 use Rattle.segments.proofs.BytesExamples.{c, c_frame, c_page, changed_life, d, d_frame, d_page, life_of, none_committed, rests, with_c, with_none, writer}
 use Rattle.segments.proofs.OwnedExamples.{another_record, nothing_was_done}
 
@@ -262,6 +263,24 @@ pub it_was_closed_by_a_read : (sum own : List ℕ → ℕ) → LeavesReading sum
 it_was_closed_by_a_read sum own is = absurd (cc (is.journal))
 
 -- ---- appending, and the last call
+
+-- after an error the log has no open segment
+pub it_stays_open : (sum own : List ℕ → ℕ) → LogAppendGoes sum own c small small (Err (errors.Layer WriteFailed)) → ⊥
+it_stays_open sum own is = absurd (cc (is.0))
+
+-- there was nothing to drop, and the names are durable
+pub nothing_was_dropped : IsDropped 0 small (record small { asked = plain_event calls.Syncs false ∷ [] })
+nothing_was_dropped = record {
+  drops = record {
+    within = lit≤ tt;
+    mid = small;
+    starts = inl (lit≤ tt, refl);
+    there = tt;
+    rest = refl;
+    removed = record { events = plain_event calls.Syncs false ∷ []; all = refl; below = inr (refl, tt) };
+  };
+  synced = ([], refl);
+}
 
 pub it_is_closed : (sum own : List ℕ → ℕ) (s : LogState) → AppendHereGoes sum own c (record s { current = without_journal with_c }) (record s { current = without_journal with_c }) (Err errors.Closed)
 it_is_closed sum own s = (refl, refl)
