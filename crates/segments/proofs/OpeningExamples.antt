@@ -12,6 +12,8 @@ use Rattle.segments.specs.declared.call.FolderCall.{FolderCall}
 use Rattle.segments.specs.declared.call.FolderCall.TheVariants as calls
 use Rattle.segments.specs.declared.closed.Closed.{Closed}
 use Rattle.segments.specs.declared.error.Error.{Error}
+use Rattle.segments.specs.declared.past.Last.TheVariants.{Nothing}
+use Rattle.segments.specs.FolderPast.{events_of}
 use Rattle.segments.specs.FolderEvents.{FolderEvent, folder_outcome, keeping_event, keeping_outcome, opening_outcome, opening_with, plain_event}
 use Rattle.segments.specs.Manifest.{none_closed}
 use Rattle.segments.specs.Owned.{IsOwned}
@@ -203,3 +205,7 @@ a_file_was_opened = refl
 
 pub a_file_was_not : (e : Error) → opening_outcome (λ (l : Life). l) (calls.Opens 0) (Err e) ≡ plain_event (calls.Opens 0) true
 a_file_was_not e = refl
+
+-- a folder that was just begun was asked for nothing
+pub nothing_was_asked : {B : Type 0} (life : B → Life) → events_of life Nothing ≡ []
+nothing_was_asked life = refl
