@@ -32,7 +32,7 @@ ROOT = os.path.join(os.path.dirname(os.path.abspath(__file__)), "..")
 START = ("session", "specs", "Promise", "Promises")
 
 # The crates of whose definitions each has its examples: none may lack one.
-COMPLETE = ["store"]
+COMPLETE = ["store", "segments"]
 HEAD = re.compile(r"^((?:(?:abbrev|opaque|unfoldable|pub|record|data) )+)([^\s:()]+)", re.M)
 LEMMA = re.compile(
     r"^((?:  )?)((?:(?:abbrev|pub) )*)([^\s:()]+) : ([^\n]*(?:\n\1 +[^\n]*)*)\n"
