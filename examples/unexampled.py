@@ -5,7 +5,8 @@ It begins at `Promises` in crates/session/specs/Promise.antt, and at each public
 the clauses of the calls that its src/lib.rt gives out, those of the traits that it gives out, and the ghost members of
 these. From there it goes from each definition to those of the specs of all crates that it names, by the imports of its
 file. A definition counts for the crate in whose specs it stands. An example or a refutation is a lemma in a file of
-crates/*/proofs whose name ends in Examples.antt. Its statement counts, that is its type, and its proof doesn't:
+crates/*/proofs whose name ends in Examples.antt, at the top or in a module there, two spaces further in. Its statement
+counts, that is its type, and its proof doesn't:
 
 - A lemma whose statement ends in `→ ⊥` refutes the word with which the premise before the `⊥` begins:
   `RunIsExact .. → EachStepIsExact .. → ⊥` refutes `EachStepIsExact`.
@@ -31,11 +32,11 @@ ROOT = os.path.join(os.path.dirname(os.path.abspath(__file__)), "..")
 START = ("session", "specs", "Promise", "Promises")
 
 # The crates of whose definitions each has its examples: none may lack one.
-COMPLETE = ["store"]
+COMPLETE = ["store", "segments"]
 HEAD = re.compile(r"^((?:(?:abbrev|opaque|unfoldable|pub|record|data) )+)([^\s:()]+)", re.M)
 LEMMA = re.compile(
-    r"^((?:(?:abbrev|pub) )*)([^\s:()]+) : ([^\n]*(?:\n +[^\n]*)*)\n"
-    r"((?:unfolding [^\n]*\n)?(?:\2 [^\n]*\n(?:[ })\]][^\n]*\n|\n)*)*)", re.M)
+    r"^((?:  )?)((?:(?:abbrev|pub) )*)([^\s:()]+) : ([^\n]*(?:\n\1 +[^\n]*)*)\n"
+    r"((?:\1unfolding [^\n]*\n)?(?:\1\3 [^\n]*\n(?:\1[ })\]][^\n]*\n|\n)*)*)", re.M)
 FIELD = re.compile(r"^ +pub [^\s]+ :([^\n]*(?:\n    +[^\n]*)*)", re.M)
 SAYS = {"≡", "≢", "≤", "<", "⊥", "¬", "→"}
 
@@ -150,13 +151,13 @@ def lemmas():
     for crate, module, text, known in modules("crates/*/proofs/*Examples.antt"):
         stated = list(LEMMA.finditer(text))
         for lemma in stated:
-            if "abbrev" in lemma[1]:
-                known.setdefault(lemma[2], (crate, "proofs", module, lemma[2]))
+            if "abbrev" in lemma[2]:
+                known.setdefault(lemma[3], (crate, "proofs", module, lemma[3]))
         for lemma in stated:
-            if "abbrev" in lemma[1]:
-                shorts[known[lemma[2]]] = (lemma[3] + " " + lemma[4], known)
+            if "abbrev" in lemma[2]:
+                shorts[known[lemma[3]]] = (lemma[4] + " " + lemma[5], known)
             else:
-                found.append((lemma[3], known))
+                found.append((lemma[4], known))
     return shorts, found
 
 

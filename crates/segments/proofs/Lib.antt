@@ -28,3 +28,11 @@ pub mod Padding
 pub mod Removing
 pub mod RotationExamples
 pub mod TurnExamples
+pub mod BytesExamples
+pub mod ManifestExamples
+pub mod OwnedExamples
+pub mod LogExamples
+pub mod CrashExamples
+pub mod ScanExamples
+pub mod InnerExamples
+pub mod OpeningExamples

@@ -1,0 +1,302 @@
+-- What a log has, and what stands between its calls: what each of these definitions holds of, and
+-- what it refuses. The log has two closed segments, number 0 with "c" and number 1 with "d", and
+-- segment 2 is open and has "c"; what was kept of the closed ones is any. `small` is a log with an
+-- empty manifest, whose segment 0 is open and has "c".
+use Rattle.std.specs.Prelude.{◌≡◌, ◌≤◌, ◌++◌, ℕ, zero, suc, List, [], ◌∷◌, length, Bool, true, false, Option, Some, None, Ok, Err}
+use Rattle.std.proofs.Common.{refl, sym, ap, inl, inr, arith, ◌∙◌, lit<, lit≤}
+use Rattle.disk.specs.declared.error.Error.TheVariants.{WriteFailed}
+use Rattle.page.specs.Page.{text}
+use Rattle.page.specs.Sums.{add_sum}
+use Rattle.journal.specs.Frame.{frames, is_record, record_len, record_of, records, whole_frames}
+use Rattle.journal.proofs.Frames.{whole_is_whole}
+use Rattle.segments.specs.declared.call.FolderCall.TheVariants as calls
+use Rattle.segments.specs.declared.closed.Closed.{Closed}
+use Rattle.segments.specs.declared.error.Error.TheVariants as errors
+use Rattle.segments.specs.Digests.{IsOf}
+use Rattle.segments.specs.FolderEvents.{FolderEvent, plain_event}
+use Rattle.segments.specs.Manifest.{ListingState, none_closed}
+use Rattle.segments.specs.Owned.{IsOwned, OwnedAppendGoes, OwnedState, without_journal}
+use Rattle.segments.specs.Log.{AppendHereGoes, CurrentKeeps, EndsSynced, HasKept, HoldsClosed, IsBeyond, IsClosedLog, IsClosedOff, IsContentOf, IsCurrentContent, IsDropped, IsKept, IsListed, IsLoaded, IsLog, IsReadOf, IsSameButAsked, IsSameButCurrent, IsSameButManifest, IsStartedFrom, LeavesReading, Lists, LoadedState, LogAppendGoes, LogState, TellHeld, closed_records, listing_from, log_records}
+use Rattle.segments.proofs.BytesExamples.{c, c_frame, c_page, changed_life, d, d_frame, d_page, life_of, none_committed, rests, with_c, with_none, writer}
+use Rattle.segments.proofs.OwnedExamples.{another_record, nothing_was_done}
+
+-- a log of an empty manifest
+abbrev pub small : LogState
+small = record { manifest = with_none; current = with_c; listing = none_closed; asked = []; loaded = None; page_size = 18; most = 100; known = 0 }
+
+-- what the files of the closed segments hold
+abbrev pub held : ℕ → List ℕ
+held zero = c_page
+held (suc n) = d_page
+
+-- a segment of which so many bytes were kept
+abbrev kept_of : (len : ℕ) (digest : List ℕ) → Closed
+kept_of len digest = record { records = 1; len = len; digest = digest }
+
+abbrev how_many : Option ListingState → ℕ
+how_many None = 9
+how_many (Some l) = length l.closed
+
+-- ---- a closed segment
+
+pub it_holds_c : (kept : Closed) → IsOf c_page kept → HoldsClosed add_sum 18 kept c_frame
+unfolding record_len frames whole_frames
+it_holds_c kept is = record { bytes = c_page; of = is; holds = refl }
+
+-- a content doesn't end within a frame
+pub a_cut_content : (sum : List ℕ → ℕ) (P : ℕ) (kept : Closed) → HoldsClosed sum P kept (c_frame ++ 0 ∷ []) → ⊥
+unfolding record_len frames whole_frames
+a_cut_content sum P kept is =
+    let whole : whole_frames (c_frame ++ 0 ∷ []) ≡ c_frame ++ 0 ∷ [] =
+    ap whole_frames is.holds ∙ whole_is_whole (text sum P is.bytes) ∙ sym is.holds in
+    let same : ◌≡◌ {A = ℕ} 8 9 = ap length whole in omega (arith, same)
+
+abbrev pub in_memory : Closed → LoadedState
+in_memory kept = record { kept = kept; owned = with_c }
+
+pub it_is_in_memory : (kept : Closed) → IsOf c_page kept → IsOwned add_sum add_sum with_c → IsLoaded add_sum add_sum 18 (in_memory kept)
+it_is_in_memory kept is owned = record { page_size = refl; owned = owned; there = tt; holds = it_holds_c kept is }
+
+-- in memory it has pages of the log's size
+pub of_another_size : (sum own : List ℕ → ℕ) (kept : Closed) → IsLoaded sum own 16 (in_memory kept) → ⊥
+of_another_size sum own kept is = let same : ◌≡◌ {A = ℕ} 18 16 = is.page_size in omega (arith, same)
+
+-- and a journal
+pub it_was_given_up : (sum own : List ℕ → ℕ) (kept : Closed) → IsLoaded sum own 18 (record { kept = kept; owned = without_journal with_c }) → ⊥
+it_was_given_up sum own kept is = is.there
+
+-- ---- a manifest
+
+-- a manifest with nothing in it
+pub it_lists_none : Lists add_sum add_sum 18 none_closed (writer []) (life_of [])
+unfolding record_len is_record record_of frames records
+it_lists_none = record { told = refl; committed = none_committed; durable = rests [] }
+
+-- it has no entry that a segment was closed
+pub it_does_not_list_one : (kept : Closed) → Lists add_sum add_sum 18 (record { first = 0; closed = kept ∷ [] }) (writer []) (life_of []) → ⊥
+unfolding record_len is_record record_of frames records
+it_does_not_list_one kept lists = let same : ◌≡◌ {A = ℕ} 0 1 = ap how_many lists.told in omega (arith, same)
+
+pub a_log : IsOwned add_sum add_sum with_none → IsOwned add_sum add_sum with_c → IsLog add_sum add_sum small
+a_log manifest current = record {
+  manifest = manifest;
+  current = current;
+  manifest_pages = refl;
+  current_pages = refl;
+  lists = it_lists_none;
+  loaded = tt;
+}
+
+-- its listing has a segment that the manifest doesn't have
+pub another_listing : (kept : Closed) → IsLog add_sum add_sum (record small { listing = record { first = 0; closed = kept ∷ [] } }) → ⊥
+another_listing kept log = it_does_not_list_one kept log.lists
+
+-- the open segment has pages of another size
+pub other_pages : (sum own : List ℕ → ℕ) → IsLog sum own (record small { current = record with_c { page_size = 16 } }) → ⊥
+other_pages sum own log = let same : ◌≡◌ {A = ℕ} 16 18 = log.current_pages in omega (arith, same)
+
+-- ---- what stays the same
+
+pub the_manifest_changes : IsSameButManifest small (record small { manifest = without_journal with_none })
+the_manifest_changes = record { current = refl; loaded = refl; page_size = refl; most = refl }
+
+pub the_open_one_may_not : IsSameButManifest small (record small { current = without_journal with_c }) → ⊥
+the_open_one_may_not same = absurd (cc (ap (λ (o : OwnedState). o.journal) same.current))
+
+pub the_open_one_changes : IsSameButCurrent small (record small { current = without_journal with_c })
+the_open_one_changes = record { manifest = refl; listing = refl; asked = refl; loaded = refl; page_size = refl; most = refl; known = refl }
+
+pub the_manifest_may_not : IsSameButCurrent small (record small { manifest = without_journal with_none }) → ⊥
+the_manifest_may_not same = absurd (cc (ap (λ (o : OwnedState). o.journal) same.manifest))
+
+pub the_calls_change : (events : List FolderEvent) → IsSameButAsked small (record small { asked = events })
+the_calls_change events = refl
+
+pub what_is_known_may_not : (events : List FolderEvent) → IsSameButAsked small (record small { asked = events; known = 8 }) → ⊥
+what_is_known_may_not events same = let more : ◌≡◌ {A = ℕ} 8 0 = ap (λ (s : LogState). s.known) same in omega (arith, more)
+
+-- a copy was to be kept, and nothing else was done
+pub it_keeps_more : (events : List FolderEvent) → HasKept small (record small { asked = events; known = 8 }) → ⊥
+it_keeps_more events kept = let more : ◌≡◌ {A = ℕ} 8 0 = ap (λ (s : LogState). s.known) kept.rest in omega (arith, more)
+
+pub a_call_keeps : CurrentKeeps add_sum add_sum (c ∷ []) small small
+a_call_keeps = nothing_was_done
+
+-- another record stands in the place of the one that there was
+pub a_call_loses : CurrentKeeps add_sum add_sum (c ∷ []) small (record small { current = record with_c { life = changed_life } }) → ⊥
+a_call_loses keeps = another_record keeps
+
+-- ---- two closed segments
+
+module _ (one two : Closed) where
+  abbrev pub both : LogState
+  both = record { manifest = with_none; current = with_c; listing = record { first = 0; closed = one ∷ two ∷ [] }; asked = []; loaded = None; page_size = 18; most = 100; known = 3 }
+
+  pub their_records : closed_records add_sum add_sum 18 held 0 (one ∷ two ∷ []) ≡ c ∷ d ∷ []
+  unfolding record_len is_record record_of frames records
+  their_records = refl
+
+  pub all_records : log_records add_sum add_sum held both ≡ c ∷ d ∷ c ∷ []
+  unfolding record_len is_record record_of frames records
+  all_records = refl
+
+  pub they_are_held : IsOf c_page one → IsOf d_page two → TellHeld held 0 (one ∷ two ∷ [])
+  they_are_held first second = (first, (second, tt))
+
+  pub the_first_goes : listing_from 1 (record { first = 0; closed = one ∷ two ∷ [] }) ≡ record { first = 1; closed = two ∷ [] }
+  the_first_goes = refl
+
+  pub both_go : listing_from 2 (record { first = 0; closed = one ∷ two ∷ [] }) ≡ record { first = 2; closed = [] }
+  both_go = refl
+
+  -- segment 1 is the first one now, and a copy was to be kept
+  abbrev from_1 : List FolderEvent → LogState
+  from_1 asked = record both { listing = record { first = 1; closed = two ∷ [] }; asked = asked }
+
+  abbrev from_2 : List FolderEvent → LogState
+  from_2 asked = record both { listing = record { first = 2; closed = [] }; asked = asked }
+
+  pub it_starts_from_1 : (asked : List FolderEvent) → IsKept [] (from_1 asked) → IsStartedFrom 1 both (from_1 asked)
+  it_starts_from_1 asked kept = record {
+    listing = refl;
+    there = tt;
+    rest = record { current = refl; loaded = refl; page_size = refl; most = refl };
+    known = refl;
+    kept = kept;
+  }
+
+  -- one segment more was dropped
+  pub it_starts_from_2 : (asked : List FolderEvent) → IsStartedFrom 1 both (from_2 asked) → ⊥
+  it_starts_from_2 asked is = let same : ◌≡◌ {A = ℕ} 2 1 = ap (λ (l : ListingState). l.first) is.listing in omega (arith, same)
+
+  -- a log that is closed still lists its segments
+  pub it_forgets_a_segment : IsClosedOff both (record both { current = without_journal with_c; listing = record { first = 1; closed = two ∷ [] } }) → ⊥
+  it_forgets_a_segment is = let same : ◌≡◌ {A = ℕ} 1 0 = ap (λ (l : ListingState). l.first) is.listing in omega (arith, same)
+
+  pub it_was_closed_off : IsClosedOff both (record both { current = without_journal with_c; manifest = without_journal with_none })
+  it_was_closed_off = record { current = refl; listing = refl; asked = refl; loaded = refl; page_size = refl; most = refl; known = refl }
+
+  pub its_manifest_is_closed : IsClosedLog (record both { manifest = without_journal with_none })
+  its_manifest_is_closed = inr refl
+
+  pub it_is_beyond : IsBeyond 3 3 both both
+  it_is_beyond = record { same = refl; named = refl; beyond = lit< tt; stays = not_closed } where
+    not_closed : IsClosedLog both → ⊥
+    not_closed (inl none) = absurd (cc none)
+    not_closed (inr none) = absurd (cc none)
+
+  pub it_is_listed : IsListed both 1
+  it_is_listed = (two, refl)
+
+  -- the open one isn't closed
+  pub it_is_not_listed : IsListed both 2 → ⊥
+  it_is_not_listed is = let none : None ≡ Some is.0 = is.1 in absurd (cc none)
+
+  pub the_closed_content : IsOf c_page one → IsContentOf add_sum both 0 c_frame
+  the_closed_content is = inr (one, refl, it_holds_c one is)
+
+  pub the_open_content : IsContentOf add_sum both 2 c_frame
+  the_open_content = inl (refl, refl)
+
+  -- segment 2 is open, and its content is another one
+  pub another_content : IsContentOf add_sum both 2 d_frame → ⊥
+  another_content (inl is) = let same : ◌≡◌ {A = ℕ} 100 99 = ap third is.1 in omega (arith, same)
+    where
+      third : List ℕ → ℕ
+      third [] = 0
+      third (a ∷ []) = 0
+      third (a ∷ b ∷ []) = 0
+      third (a ∷ b ∷ n ∷ rest) = n
+  another_content (inr is) = let none : None ≡ Some is.0 = is.1 in absurd (cc none)
+
+  -- a record is said to stand in the segment before the open one
+  pub in_the_segment_before : (sum own : List ℕ → ℕ) (t : LogState) → AppendHereGoes sum own c both t (Ok (record { segment = 1; offset = 8 })) → ⊥
+  in_the_segment_before sum own t is = let same : ◌≡◌ {A = ℕ} 1 2 = is.0 in omega (arith, same)
+
+  pub in_the_open_one : (sum own : List ℕ → ℕ) (t : LogState) → OwnedAppendGoes sum own c with_c t.current (Ok 8) → AppendHereGoes sum own c both t (Ok (record { segment = 2; offset = 8 }))
+  in_the_open_one sum own t is = (refl, is)
+
+-- 30 bytes were kept, and the file has one more
+pub a_byte_more : (digest : List ℕ) → TellHeld (λ n. c_page ++ 0 ∷ []) 0 (kept_of 30 digest ∷ []) → ⊥
+a_byte_more digest is = let same : ◌≡◌ {A = ℕ} 30 31 = is.0.len in omega (arith, same)
+
+-- ---- reading
+
+pub a_record_is_read : IsReadOf add_sum c_frame 0 (Some (record { bytes = Some c; end = 8 }))
+unfolding record_len is_record record_of frames records
+a_record_is_read = record { within = lit< tt; held = refl; after = refl; rest = refl }
+
+pub none_is_read : (own : List ℕ → ℕ) → IsReadOf own c_frame 8 None
+none_is_read own = lit≤ tt
+
+-- a frame stands at 0
+pub it_is_passed_over : (own : List ℕ → ℕ) → IsReadOf own c_frame 0 None → ⊥
+it_is_passed_over own few = let less : 8 ≤ 0 = few in omega (arith, less)
+
+-- and it ends at 8
+pub it_ends_before : IsReadOf add_sum c_frame 0 (Some (record { bytes = Some c; end = 7 })) → ⊥
+unfolding record_len
+it_ends_before is = let same : ◌≡◌ {A = ℕ} 7 8 = is.after in omega (arith, same)
+
+pub its_content_is_c : IsCurrentContent small c_frame
+its_content_is_c = refl
+
+-- once a call failed it has no content
+pub it_has_no_content : IsCurrentContent (record small { current = without_journal with_c }) c_frame → ⊥
+it_has_no_content is = is
+
+pub it_was_only_read : (sum own : List ℕ → ℕ) → LeavesReading sum own small small
+it_was_only_read sum own = record {
+  manifest = refl;
+  listing = refl;
+  asked = refl;
+  page_size = refl;
+  most = refl;
+  known = refl;
+  current = inl refl;
+  holds = refl;
+  journal = refl;
+}
+
+-- a read doesn't close the open segment
+pub it_was_closed_by_a_read : (sum own : List ℕ → ℕ) → LeavesReading sum own small (record small { current = without_journal with_c }) → ⊥
+it_was_closed_by_a_read sum own is = absurd (cc (is.journal))
+
+-- ---- appending, and the last call
+
+-- after an error the log has no open segment
+pub it_stays_open : (sum own : List ℕ → ℕ) → LogAppendGoes sum own c small small (Err (errors.Layer WriteFailed)) → ⊥
+it_stays_open sum own is = absurd (cc (is.0))
+
+-- there was nothing to drop, and the names are durable
+pub nothing_was_dropped : IsDropped 0 small (record small { asked = plain_event calls.Syncs false ∷ [] })
+nothing_was_dropped = record {
+  drops = record {
+    within = lit≤ tt;
+    mid = small;
+    starts = inl (lit≤ tt, refl);
+    there = tt;
+    rest = refl;
+    removed = record { events = plain_event calls.Syncs false ∷ []; all = refl; below = inr (refl, tt) };
+  };
+  synced = ([], refl);
+}
+
+pub it_is_closed : (sum own : List ℕ → ℕ) (s : LogState) → AppendHereGoes sum own c (record s { current = without_journal with_c }) (record s { current = without_journal with_c }) (Err errors.Closed)
+it_is_closed sum own s = (refl, refl)
+
+pub the_last_is_a_sync : (events : List FolderEvent) → EndsSynced (events ++ plain_event calls.Syncs false ∷ [])
+the_last_is_a_sync events = (events, refl)
+
+abbrev first_failed : List FolderEvent → Bool
+first_failed [] = false
+first_failed (e ∷ es) = e.failed
+
+-- a sync that failed
+pub a_failed_sync : EndsSynced (plain_event calls.Syncs true ∷ []) → ⊥
+a_failed_sync is = not_last is.0 is.1
+  where
+    not_last : (before : List FolderEvent) → plain_event calls.Syncs true ∷ [] ≡ before ++ plain_event calls.Syncs false ∷ [] → ⊥
+    not_last [] is = let same : true ≡ false = ap first_failed is in absurd (cc same)
+    not_last (e ∷ []) is = absurd (cc is)
+    not_last (e ∷ f ∷ before) is = absurd (cc is)

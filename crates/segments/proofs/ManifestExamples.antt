@@ -1,0 +1,196 @@
+-- Each definition of manifests, of their copies and of what a folder is asked for, computed on a
+-- few bytes, and what `TakesIn` refuses. Pages have 18 bytes. The log has two closed segments,
+-- number 0 and number 1; what was kept of them is any.
+use Rattle.std.specs.Prelude.{◌≡◌, ◌++◌, ℕ, List, [], ◌∷◌, replicate, true, false, Option, Some, None, Ok, Err}
+use Rattle.std.proofs.Common.{refl, ap, arith}
+use Rattle.crc32c.specs.Crc.{after_bits, after_byte, crc32c}
+use Rattle.segments.specs.declared.call.FolderCall.TheVariants as calls
+use Rattle.segments.specs.declared.closed.Closed.{Closed}
+use Rattle.segments.specs.declared.entry.Entry.TheVariants.{Starts, Closes}
+use Rattle.segments.specs.declared.folder.Asked.TheVariants.{Manifest, Segment}
+use Rattle.segments.specs.declared.known.Known.{Known}
+use Rattle.segments.specs.Copies.{copy_body, copy_bytes, known_in}
+use Rattle.segments.specs.Folders.{call_for}
+use Rattle.segments.specs.Manifest.{ListingState, TakesIn, closed_at, closed_count, entry_bytes, entry_in, fitting, listed_after, listed_by, listed_in, listed_with, none_closed, open_in}
+
+-- ---- entries
+
+-- the log begins with segment 258, and its pages have 4,084 bytes
+abbrev starts_258 : List ℕ
+starts_258 = 0 ∷ 0 ∷ 0 ∷ 0 ∷ 0 ∷ 0 ∷ 0 ∷ 1 ∷ 2 ∷ 15 ∷ 244 ∷ []
+
+pub an_entry : entry_bytes (Starts 258 4084) ≡ starts_258
+an_entry = refl
+
+pub it_is_read : entry_in starts_258 ≡ Some (Starts 258 4084)
+unfolding entry_in
+it_is_read = refl
+
+-- its last byte is missing
+pub a_cut_entry : entry_in (0 ∷ 0 ∷ 0 ∷ 0 ∷ 0 ∷ 0 ∷ 0 ∷ 1 ∷ 2 ∷ 15 ∷ []) ≡ None
+unfolding entry_in
+a_cut_entry = refl
+
+-- an entry of a third kind
+pub no_such_kind : entry_in (2 ∷ 0 ∷ 0 ∷ 0 ∷ 0 ∷ 0 ∷ 0 ∷ 1 ∷ 2 ∷ 15 ∷ 244 ∷ []) ≡ None
+unfolding entry_in
+no_such_kind = refl
+
+-- pages have 18 bytes, and the log begins with segment 0, 1 or 2
+abbrev pub starts_0 : List ℕ
+starts_0 = replicate 10 0 ++ 18 ∷ []
+
+abbrev pub starts_1 : List ℕ
+starts_1 = replicate 8 0 ++ 1 ∷ 0 ∷ 18 ∷ []
+
+abbrev pub starts_2 : List ℕ
+starts_2 = replicate 8 0 ++ 2 ∷ 0 ∷ 18 ∷ []
+
+-- ---- listings
+
+pub the_first_is_open : open_in none_closed ≡ 0
+the_first_is_open = refl
+
+pub a_number_fits : fitting 18446744073709551615 ≡ Some 18446744073709551615
+a_number_fits = refl
+
+pub no_greater_one : fitting 18446744073709551616 ≡ None
+no_greater_one = refl
+
+-- the number of the first segment of a listing, if there is one
+abbrev first_in : Option ListingState → ℕ
+first_in None = 9
+first_in (Some l) = l.first
+
+module _ (one two : Closed) where
+  abbrev both : ListingState
+  both = record { first = 0; closed = one ∷ two ∷ [] }
+
+  abbrev last : ListingState
+  last = record { first = 1; closed = two ∷ [] }
+
+  pub the_third_is_open : open_in both ≡ 2
+  the_third_is_open = refl
+
+  pub as_it_is_after_a_drop : open_in last ≡ 2
+  as_it_is_after_a_drop = refl
+
+  pub the_second_is_closed : closed_at last 1 ≡ Some two
+  the_second_is_closed = refl
+
+  pub the_first_was_dropped : closed_at last 0 ≡ None
+  the_first_was_dropped = refl
+
+  pub the_open_one_is_not_closed : closed_at last 2 ≡ None
+  the_open_one_is_not_closed = refl
+
+  pub the_second_was_closed : listed_with 18 (Closes two) (record { first = 0; closed = one ∷ [] }) ≡ Some both
+  the_second_was_closed = refl
+
+  pub no_number_is_left : listed_with 18 (Closes one) (record { first = 18446744073709551615; closed = [] }) ≡ None
+  no_number_is_left = refl
+
+  pub the_first_is_dropped : listed_with 18 (Starts 1 18) both ≡ Some last
+  the_first_is_dropped = refl
+
+  -- the open segment stays, whatever is dropped
+  pub all_closed_are_dropped : listed_with 18 (Starts 2 18) both ≡ Some (record { first = 2; closed = [] })
+  all_closed_are_dropped = refl
+
+  pub the_open_one_is_not_dropped : listed_with 18 (Starts 3 18) both ≡ None
+  the_open_one_is_not_dropped = refl
+
+  pub nothing_comes_back : listed_with 18 (Starts 0 18) last ≡ None
+  nothing_comes_back = refl
+
+  pub of_other_pages : listed_with 18 (Starts 1 16) both ≡ None
+  of_other_pages = refl
+
+  pub by_an_entry : listed_by 18 (Some (Starts 1 18)) both ≡ Some last
+  by_an_entry = refl
+
+  pub by_no_entry : listed_by 18 None both ≡ None
+  by_no_entry = refl
+
+  pub one_after_the_other : listed_after 18 (Some both) (starts_1 ∷ starts_2 ∷ []) ≡ Some (record { first = 2; closed = [] })
+  unfolding entry_in
+  one_after_the_other = refl
+
+  -- in the other order the second one can't follow
+  pub the_other_before_the_one : listed_after 18 (Some both) (starts_2 ∷ starts_1 ∷ []) ≡ None
+  unfolding entry_in
+  the_other_before_the_one = refl
+
+  pub it_is_taken_in : TakesIn 18 (Starts 1 18) both last {E = ℕ} (Ok true)
+  it_is_taken_in = refl
+
+  pub it_is_refused : TakesIn 18 (Starts 3 18) both both {E = ℕ} (Ok false)
+  it_is_refused = (refl, refl)
+
+  pub no_memory_for_it : TakesIn 18 (Closes two) both both {E = ℕ} (Err 0)
+  no_memory_for_it = refl
+
+  -- an entry that can follow isn't refused
+  pub not_refused : TakesIn 18 (Starts 1 18) both both {E = ℕ} (Ok false) → ⊥
+  not_refused is = let none : Some last ≡ None = is.0 in absurd (cc none)
+
+  -- an entry that was taken in changes the listing
+  pub not_left_out : TakesIn 18 (Starts 1 18) both both {E = ℕ} (Ok true) → ⊥
+  not_left_out is = let same : ◌≡◌ {A = ℕ} 1 0 = ap first_in is in omega (arith, same)
+
+  -- and one that wasn't leaves it
+  pub not_by_halves : TakesIn 18 (Starts 1 18) both last {E = ℕ} (Err 0) → ⊥
+  not_by_halves is = let same : ◌≡◌ {A = ℕ} 1 0 = ap (λ (l : ListingState). l.first) is in omega (arith, same)
+
+-- two records and three
+pub five_records : (len : ℕ) (digest : List ℕ) → closed_count (record { records = 2; len = len; digest = digest } ∷ record { records = 3; len = len; digest = digest } ∷ []) ≡ 5
+five_records len digest = refl
+
+pub a_new_manifest : listed_in 18 (starts_0 ∷ []) ≡ Some none_closed
+unfolding entry_in
+a_new_manifest = refl
+
+-- no segment was closed, so none can have been dropped
+pub one_that_was_never_closed : listed_in 18 (starts_0 ∷ starts_1 ∷ []) ≡ None
+unfolding entry_in
+one_that_was_never_closed = refl
+
+pub an_empty_manifest : listed_in 18 [] ≡ Some none_closed
+an_empty_manifest = refl
+
+-- ---- copies
+
+-- The bytes after the checksum are those from 0 to 31, whose CRC-32C is published: 0x46DD794E.
+
+abbrev known : Known
+known = record { segment = 0x0001020304050607; len = 0x08090a0b0c0d0e0f }
+
+abbrev manifest : List ℕ
+manifest = 16 ∷ 17 ∷ 18 ∷ 19 ∷ 20 ∷ 21 ∷ 22 ∷ 23 ∷ 24 ∷ 25 ∷ 26 ∷ 27 ∷ 28 ∷ 29 ∷ 30 ∷ 31 ∷ []
+
+abbrev body : List ℕ
+body = 0 ∷ 1 ∷ 2 ∷ 3 ∷ 4 ∷ 5 ∷ 6 ∷ 7 ∷ 8 ∷ 9 ∷ 10 ∷ 11 ∷ 12 ∷ 13 ∷ 14 ∷ 15 ∷ manifest
+
+pub a_body : copy_body known manifest ≡ body
+a_body = refl
+
+pub a_copy : copy_bytes known manifest ≡ 0x46 ∷ 0xdd ∷ 0x79 ∷ 0x4e ∷ body
+unfolding crc32c after_byte after_bits
+a_copy = refl
+
+pub what_it_knows : known_in (0x46 ∷ 0xdd ∷ 0x79 ∷ 0x4e ∷ body) ≡ Some known
+unfolding known_in crc32c after_byte after_bits
+what_it_knows = refl
+
+-- a copy whose last byte is torn off
+pub a_torn_copy : known_in (0x46 ∷ 0xdd ∷ 0x79 ∷ 0x4e ∷ 0 ∷ 1 ∷ 2 ∷ 3 ∷ 4 ∷ 5 ∷ 6 ∷ 7 ∷ 8 ∷ 9 ∷ 10 ∷ 11 ∷ 12 ∷ 13 ∷ 14 ∷ 15 ∷ 16 ∷ 17 ∷ 18 ∷ 19 ∷ 20 ∷ 21 ∷ 22 ∷ 23 ∷ 24 ∷ 25 ∷ 26 ∷ 27 ∷ 28 ∷ 29 ∷ 30 ∷ []) ≡ None
+unfolding known_in crc32c after_byte after_bits
+a_torn_copy = refl
+
+-- ---- folders
+
+pub the_manifest_is_opened : call_for Manifest ≡ calls.OpensManifest
+the_manifest_is_opened = refl
+
+pub a_segment_is_opened : call_for (Segment 3) ≡ calls.Opens 3
+a_segment_is_opened = refl

@@ -1,0 +1,61 @@
+-- Each definition of going over a log's records, computed on the log of `LogExamples`: segment 0
+-- held "c", segment 1 held "d", and segment 2 is open and has "c". What was kept of the closed
+-- segments is any.
+use Rattle.std.specs.Prelude.{◌≡◌, ℕ, [], ◌∷◌, length}
+use Rattle.std.proofs.Common.{refl, ap, arith}
+use Rattle.page.specs.Sums.{add_sum}
+use Rattle.journal.specs.Frame.{frames, is_record, record_len, record_of, records, whole_frames}
+use Rattle.segments.specs.declared.closed.Closed.{Closed}
+use Rattle.segments.specs.Manifest.{ListingState}
+use Rattle.segments.specs.Scan.{ComesFirst, IsEnd, held_content, place_at, records_after, records_at, records_from}
+use Rattle.segments.proofs.BytesExamples.{c, c_frame, d, d_frame}
+use Rattle.segments.proofs.LogExamples.{both, held}
+use Rattle.segments.proofs.Stepping.{comes_first}
+
+module _ (one two : Closed) where
+  abbrev listing : ListingState
+  listing = record { first = 0; closed = one ∷ two ∷ [] }
+
+  pub what_the_second_held : held_content add_sum 18 held listing c_frame 1 ≡ d_frame
+  unfolding record_len frames whole_frames
+  what_the_second_held = refl
+
+  pub what_the_open_one_has : held_content add_sum 18 held listing c_frame 2 ≡ c_frame
+  what_the_open_one_has = refl
+
+  pub after_the_first : records_after add_sum add_sum 18 held listing c_frame 0 ≡ d ∷ c ∷ []
+  unfolding record_len is_record record_of frames records
+  after_the_first = refl
+
+  pub after_the_open_one : records_after add_sum add_sum 18 held listing c_frame 2 ≡ []
+  after_the_open_one = refl
+
+  pub at_the_second : records_at add_sum add_sum 18 held listing c_frame (place_at 1 0) ≡ d ∷ c ∷ []
+  unfolding record_len is_record record_of frames records whole_frames
+  at_the_second = refl
+
+  -- behind the one frame of segment 1
+  pub behind_the_second : records_at add_sum add_sum 18 held listing c_frame (place_at 1 8) ≡ c ∷ []
+  unfolding record_len is_record record_of frames records whole_frames
+  behind_the_second = refl
+
+  pub from_the_second : records_from add_sum add_sum held (both one two) (place_at 1 0) ≡ d ∷ c ∷ []
+  unfolding record_len is_record record_of frames records whole_frames
+  from_the_second = refl
+
+  pub the_first_place : ComesFirst add_sum add_sum (both one two) (place_at 0 0)
+  the_first_place = comes_first add_sum add_sum (both one two)
+
+  -- a record stands before this place
+  pub a_later_place : ComesFirst add_sum add_sum (both one two) (place_at 1 0) → ⊥
+  unfolding record_len is_record record_of frames records whole_frames
+  a_later_place first = let same : ◌≡◌ {A = ℕ} 2 3 = ap length (first held) in omega (arith, same)
+
+  pub the_end : IsEnd add_sum add_sum (both one two) (place_at 2 8)
+  unfolding record_len is_record record_of frames records
+  the_end held = refl
+
+  -- a closed segment is done there, and the open one follows
+  pub not_the_end : IsEnd add_sum add_sum (both one two) (place_at 1 8) → ⊥
+  unfolding record_len is_record record_of frames records whole_frames
+  not_the_end is = let same : ◌≡◌ {A = ℕ} 1 0 = ap length (is held) in omega (arith, same)
