@@ -44,6 +44,6 @@ pub turn_goes : (sum own : List ℕ → ℕ) (bytes : List ℕ) (s t : LogState)
     → LogAppendGoes sum own bytes s t (Err e)
 turn_goes sum own bytes s t e long is = (is.0, inr (long, inl is))
 
-pub after_survives : (sum own : List ℕ → ℕ) (bytes : List ℕ) (s m t : LogState) → IsRotated sum own s m → IsSameButCurrent m t → RotationSurvives sum own s m
-    → CurrentSurvives sum own (bytes ∷ []) m t → AppendSurvives sum own bytes s t
-after_survives sum own bytes s m t turned rest turns appends = inr (inr (record { mid = m; turned = turned; rest = rest; turns = turns; appends = appends }))
+pub after_survives : (sum own : List ℕ → ℕ) (bytes : List ℕ) (s m t : LogState) (result : Result Place Error) → IsRotated sum own s m → AppendHereGoes sum own bytes m t result → IsSameButCurrent m t
+    → RotationSurvives sum own s m → CurrentSurvives sum own (bytes ∷ []) m t → AppendSurvives sum own bytes s t result
+after_survives sum own bytes s m t result turned here rest turns appends = inr (inr (record { mid = m; turned = turned; here = here; rest = rest; turns = turns; appends = appends }))

@@ -7,7 +7,8 @@ use Rattle.std.proofs.lemmas.List.{take-append-le, drop-append-le, drop_all, len
 use Rattle.std.proofs.lemmas.Nat.{from_be_bytes-to_be_bytes_2, from_be_bytes-to_be_bytes_8}
 use Rattle.segments.specs.declared.entry.Entry.{Entry}
 use Rattle.segments.specs.declared.entry.Entry.TheVariants.{Starts, Closes}
-use Rattle.segments.specs.Manifest.{entry_bytes, entry_in}
+use Rattle.std.specs.Int.{from_be_bytes, w64}
+use Rattle.segments.specs.Manifest.{closing_in, entry_bytes, entry_in}
 
 pub starts_told : (first size : ℕ) → first < 2 ^ 64 → size < 2 ^ 16
     → entry_in (entry_bytes (Starts first size)) ≡ Some (Starts first size)
@@ -22,7 +23,7 @@ made {r} {n} {l} {m} {d} {e} a b c =
     ∙ ap (λ l. Some (Closes (record { records = n; len = l; digest = d }))) b
     ∙ ap (λ d. Some (Closes (record { records = n; len = m; digest = d }))) c
 
-picked : (a b c d : Bool) (x y z : Option Entry) → a ≡ false → b ≡ true → c ≡ true → d ≡ true → y ≡ z → (if a then x else if (b && c) && d then y else None) ≡ z
+picked : (a b c d : Bool) (x y z : Option Entry) → a ≡ false → b ≡ true → c ≡ true → d ≡ true → y ≡ z → (if a then x else if b && c then if d then y else None else None) ≡ z
 picked true b c d x y z is_not one two three same = absurd (true≢false is_not)
 picked false true true true x y z is_not one two three same = same
 picked false false c d x y z is_not one two three same = absurd (true≢false (sym one))
@@ -54,3 +55,18 @@ pub closed_told : (bytes : List ℕ) (records len : ℕ) (digest : List ℕ) (ze
     → length digest ≡ 32
     → entry_in bytes ≡ Some (Closes (record { records = records; len = len; digest = digest }))
 closed_told bytes records len digest zeros is fits small size = ap (λ b. entry_in b) is ∙ closes_told records len digest zeros fits small size
+
+-- something else than zeros stands behind an entry
+pub closing_none : (bytes rest : List ℕ) (b : Bool) → rest ≡ drop 49 bytes → b ≡ list_all (λ byte. byte == 0) rest → b ≡ false → None ≡ closing_in bytes
+closing_none bytes rest b is told none =
+    sym (ap (λ b. if b then Some (Closes (record { records = from_be_bytes w64 (drop 1 bytes); len = from_be_bytes w64 (drop 9 bytes); digest = take 32 (drop 17 bytes) })) else None)
+    (ap (λ l. list_all (λ byte. byte == 0) l) (sym is) ∙ sym told ∙ none))
+
+-- zeros alone do
+pub closing_some : (bytes rest digest : List ℕ) (records len : ℕ) (b : Bool) → rest ≡ drop 49 bytes → b ≡ list_all (λ byte. byte == 0) rest → b ≡ true
+    → records ≡ from_be_bytes w64 (drop 1 bytes) → len ≡ from_be_bytes w64 (drop 9 bytes) → digest ≡ take 32 (drop 17 bytes)
+    → Some (Closes (record { records = records; len = len; digest = digest })) ≡ closing_in bytes
+closing_some bytes rest digest records len b is told all one two three =
+    made one two three
+    ∙ sym (ap (λ b. if b then Some (Closes (record { records = from_be_bytes w64 (drop 1 bytes); len = from_be_bytes w64 (drop 9 bytes); digest = take 32 (drop 17 bytes) })) else None)
+    (ap (λ l. list_all (λ byte. byte == 0) l) (sym is) ∙ sym told ∙ all))

@@ -146,6 +146,7 @@ module _ (cache : CacheState) (life : Life) (w : WriterState) (kept : Closed) wh
   -- the folder refused to remove the file, and the manifest has the drop
   pub a_refused_removal : IsDropping 1 log (record dropped { asked = copied false ∷ plain_event (calls.Removes 0) true ∷ [] })
   a_refused_removal = record {
+    was_open = not_closed;
     within = omega arith;
     mid = dropped;
     starts = starts_at_1;

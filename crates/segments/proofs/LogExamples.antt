@@ -272,6 +272,7 @@ it_stays_open sum own is = absurd (cc (is.0))
 pub nothing_was_dropped : IsDropped 0 small (record small { asked = plain_event calls.Syncs false ∷ [] })
 nothing_was_dropped = record {
   drops = record {
+    was_open = λ closed. elim closed [ inl none ↦ absurd (cc none) | inr none ↦ absurd (cc none) ];
     within = lit≤ tt;
     mid = small;
     starts = inl (lit≤ tt, refl);

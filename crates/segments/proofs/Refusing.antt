@@ -90,6 +90,7 @@ enter_refused sum own s m n f e next current kept x turning last not none =
         last = m.current.life;
         kept = kept;
         closed = turning.closed;
+        numbered = λ full. turning.has.numbered (ap (λ (l : ListingState). open_in l) turning.first.listing ∙ full);
         asked = not.asked ∙ asked_is sum own s m n f next kept turning;
         rest = record {
           listing = not.listing ∙ lists;

@@ -1,5 +1,5 @@
 -- A rotation, step by step.
-use Rattle.std.specs.Prelude.{◌≡◌, ◌≢◌, ◌+◌, ◌++◌, ◌==◌, ℕ, List, [], ◌∷◌, length, Some, None, Option, IfSome, Bool, true, false, if◌then◌else◌}
+use Rattle.std.specs.Prelude.{◌≡◌, ◌≢◌, ◌<◌, ◌+◌, ◌++◌, ◌==◌, ℕ, List, [], ◌∷◌, length, Some, None, Option, IfSome, Bool, true, false, if◌then◌else◌}
 use Rattle.std.proofs.Common.{ap, sym, ◌∙◌, subst, refl, arith}
 use Rattle.disk.specs.Disk.{Life}
 use Rattle.segments.specs.declared.closed.Closed.{Closed}
@@ -43,6 +43,20 @@ next_of sum own s now t old next answered view numbered begun leaves durable few
   leaves = subst (λ all. OnlyRecords sum own s.page_size all next.life.present) (no_record sum own s.page_size old.present.readable few) (leaves durable);
   asked = asked;
 })
+
+some_bytes : (bytes : List ℕ) → 0 < length bytes → bytes ≢ []
+some_bytes bytes some none = absurd (omega (arith, some, ap length none))
+
+-- the next segment's file gave bytes
+pub unlisted_of : (view s : LogState) (new : List FolderEvent) (number : ℕ) (bytes : List ℕ) → view ≡ s → number ≡ open_in view.listing → 0 < length bytes
+    → new ≡ view.asked ++ events_for (number + 1) bytes
+    → (number + 1 ≡ open_in s.listing + 1) × (given : List ℕ) × (given ≢ []) × (new ≡ s.asked ++ events_for (number + 1) given)
+unlisted_of view s new number bytes is same some asked = (
+  ap (λ n. n + 1) (same ∙ ap (λ (l : LogState). open_in l.listing) is),
+  bytes,
+  some_bytes bytes some,
+  asked ∙ ap (λ (l : LogState). l.asked ++ events_for (number + 1) bytes) is,
+)
 
 pub only_some : (b : Bool) (l m : ListingState) → (if b then None else Some l) ≡ Some m → m ≡ l
 only_some true l m is = absurd (none_is m is) where

@@ -17,7 +17,7 @@ use Rattle.segments.specs.declared.entry.Entry.TheVariants.{Closes}
 use Rattle.segments.specs.declared.error.Error.TheVariants as errors
 use Rattle.segments.specs.Digests.{AreBytes, HasTwin, IsOf, IsTwin}
 use Rattle.segments.specs.FolderEvents.{FolderEvent, closing_event, keeping_event, opening_with, plain_event}
-use Rattle.segments.specs.Manifest.{ListingState, entry_bytes, free_after, listed_in, padded, padding}
+use Rattle.segments.specs.Manifest.{ListingState, closing_in, entry_bytes, free_after, listed_in, padded, padding}
 use Rattle.segments.specs.Owned.{OwnedState, without_journal}
 use Rattle.segments.specs.Log.{AppendRefused, HasFollowed, HasTwinIn, IsClosedIn, IsNotClosed, IsRotated, IsSameButCurrent, ListsTheSame, LogAppendGoes, LogState, ReadFails, RotateGoes, asked_turning, entered_bytes}
 use Rattle.segments.specs.Crash.{AppendSurvives, HasLetGo, ListsFrom, RemovesUnlisted, RotationSurvives, WasRemoved}
@@ -111,6 +111,16 @@ small_page = refl
 
 pub with_zeros : padded 40 18 (Closes empty) ≡ entry_bytes (Closes empty) ++ 0 ∷ 0 ∷ 0 ∷ 0 ∷ 0 ∷ 0 ∷ 0 ∷ []
 with_zeros = refl
+
+-- an entry with a digest of nines
+abbrev pub nines : Closed
+nines = record { records = 0; len = 0; digest = replicate 32 9 }
+
+pub zeros_behind : closing_in (entry_bytes (Closes nines) ++ 0 ∷ 0 ∷ []) ≡ Some (Closes nines)
+zeros_behind = refl
+
+pub not_zeros_behind : closing_in (entry_bytes (Closes nines) ++ 0 ∷ 1 ∷ []) ≡ None
+not_zeros_behind = refl
 
 -- ---- a log
 
@@ -245,12 +255,12 @@ no_append_erases sum own cache life w is = elim is [
   ]
 ]
 
-pub a_closed_log_survives : (sum own : List ℕ → ℕ) (cache : CacheState) (life : Life) (w : WriterState) → AppendSurvives sum own (7 ∷ []) (shut cache life w) (shut cache life w)
+pub a_closed_log_survives : (sum own : List ℕ → ℕ) (cache : CacheState) (life : Life) (w : WriterState) → AppendSurvives sum own (7 ∷ []) (shut cache life w) (shut cache life w) (Err errors.Closed)
 a_closed_log_survives sum own cache life w = inl (same_but_current cache life w, tt)
 
 -- a log that lost a segment doesn't survive, if it goes on
 pub a_lost_segment_does_not_survive : (sum own : List ℕ → ℕ) (cache : CacheState) (life : Life) (w : WriterState)
-    → AppendSurvives sum own (7 ∷ []) (log cache life w) (record (log cache life w) { listing = record { first = 4; closed = [] } }) → ⊥
+    → AppendSurvives sum own (7 ∷ []) (log cache life w) (record (log cache life w) { listing = record { first = 4; closed = [] } }) (Err errors.Closed) → ⊥
 a_lost_segment_does_not_survive sum own cache life w is = elim is [
   | inl here ↦ absurd (omega (arith, ap (λ (l : ListingState). l.first) here.0.listing))
   | inr later ↦ elim later [

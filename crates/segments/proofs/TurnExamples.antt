@@ -16,7 +16,7 @@ use Rattle.segments.specs.declared.place.Place.{Place}
 use Rattle.segments.specs.Digests.{IsOf}
 use Rattle.segments.specs.FolderEvents.{keeping_event, plain_event}
 use Rattle.segments.specs.Manifest.{ListingState, free_after, open_in}
-use Rattle.segments.specs.Owned.{IsShut, OwnedAppendGoes, OwnedState, owned_size, records_now, without_journal}
+use Rattle.segments.specs.Owned.{HasJournal, IsShut, OwnedAppendGoes, OwnedState, owned_size, records_now, without_journal}
 use Rattle.segments.specs.Log.{AppendHereGoes, AreOfOlder, AsksOfOlder, HasMore, IsAppendedTo, IsNotFollowed, IsNotListed, IsRefusedAfter, IsRotated, IsSameButCurrent, ListsTheSame, LogReadGoes, LogReadRefused, LogState, NextRefused, WasClosed, asked_turning, entered_bytes, log_records}
 use Rattle.segments.specs.Crash.{CurrentSurvives, IsRotationKept, KeepsLog, LogTurned, RotationSurvives, TurnKept, TurnedSurvives, records_left}
 use Rattle.segments.specs.Scan.{IsNextAt, IsRefusedFrom, NextGoes, StandBetween, StandBy, records_at}
@@ -25,9 +25,9 @@ use Rattle.segments.proofs.RotationExamples.{first_kind, log, lost, nothing_afte
 
 -- ---- a segment that was closed
 
-pub was_closed : (sum own : List ℕ → ℕ) (s : LogState) (last : Life) (kept : Closed) → IsShut sum own s.page_size (records_now own s.current) last
+pub was_closed : (sum own : List ℕ → ℕ) (s : LogState) (last : Life) (kept : Closed) → HasJournal s.current.journal (λ w. Unit {0}) → IsShut sum own s.page_size (records_now own s.current) last
     → IsOf last.present.readable kept → kept.records ≡ length (records_now own s.current) → WasClosed sum own s last kept
-was_closed sum own s last kept shut of counts = record { shut = shut; of = of; counts = counts }
+was_closed sum own s last kept was_open shut of counts = record { was_open = was_open; shut = shut; of = of; counts = counts }
 
 -- one record more was counted
 pub not_one_record_more : (sum own : List ℕ → ℕ) (s : LogState) (last : Life) (kept : Closed) → kept.records ≡ suc (length (records_now own s.current))
@@ -64,7 +64,7 @@ pub not_listed : (sum own : List ℕ → ℕ) (cache : CacheState) (life last : 
     → IsNotListed sum own (log cache life w) (record (shut cache life w) { manifest = without_journal (owned cache life w); asked = asked_turning (log cache life w) last })
     (errors.Layer WriteFailed)
 not_listed sum own cache life last w kept was =
-    record { last = last; kept = kept; closed = was; asked = refl; rest = record { listing = refl; loaded = refl; page_size = refl; most = refl; known = refl }; left = inr refl; refused = tt }
+    record { last = last; kept = kept; closed = was; numbered = λ is. absurd (omega (arith, is)); asked = refl; rest = record { listing = refl; loaded = refl; page_size = refl; most = refl; known = refl }; left = inr refl; refused = tt }
 
 -- the manifest may not be written before
 pub not_listed_early : (sum own : List ℕ → ℕ) (cache : CacheState) (life : Life) (w : WriterState)
@@ -271,12 +271,12 @@ no_entry_alone sum own held cache life w is = elim is [
   | inr turned ↦ absurd (omega (arith, ap first_kind turned.gone.asked))
 ]
 
-pub turned_survives : (sum own : List ℕ → ℕ) (bytes : List ℕ) (s m t : LogState) → IsRotated sum own s m → IsSameButCurrent m t → RotationSurvives sum own s m
-    → CurrentSurvives sum own (bytes ∷ []) m t → TurnedSurvives sum own bytes s t
-turned_survives sum own bytes s m t turned rest turns appends = record { mid = m; turned = turned; rest = rest; turns = turns; appends = appends }
+pub turned_survives : (sum own : List ℕ → ℕ) (bytes : List ℕ) (s m t : LogState) (result : Result Place Error) → IsRotated sum own s m → AppendHereGoes sum own bytes m t result → IsSameButCurrent m t → RotationSurvives sum own s m
+    → CurrentSurvives sum own (bytes ∷ []) m t → TurnedSurvives sum own bytes s t result
+turned_survives sum own bytes s m t result turned here rest turns appends = record { mid = m; turned = turned; here = here; rest = rest; turns = turns; appends = appends }
 
 -- a log that counts another segment as the first one
-pub no_loss_survives : (sum own : List ℕ → ℕ) (cache : CacheState) (life : Life) (w : WriterState) → TurnedSurvives sum own (7 ∷ []) (log cache life w) (lost cache life w) → ⊥
-no_loss_survives sum own cache life w is =
+pub no_loss_survives : (sum own : List ℕ → ℕ) (cache : CacheState) (life : Life) (w : WriterState) (result : Result Place Error) → TurnedSurvives sum own (7 ∷ []) (log cache life w) (lost cache life w) result → ⊥
+no_loss_survives sum own cache life w result is =
     let turned = turned_first sum own (log cache life w) is.mid is.turned in
     absurd (omega (arith, ap (λ (l : ListingState). l.first) is.rest.listing, turned))

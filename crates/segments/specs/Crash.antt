@@ -1,7 +1,7 @@
 -- What a crash leaves of a log, at each moment of a call: the records that a log has that is opened
 -- over what is left.
 use Rattle.std.specs.Prelude.{◌≡◌, ◌⊎◌, ◌≤◌, ◌+◌, ◌++◌, ℕ, List, [], ◌∷◌, length, take}
-use Rattle.std.specs.Prelude.{Option, Some, None, IfSome}
+use Rattle.std.specs.Prelude.{Option, Some, None, IfSome, Result}
 use Rattle.disk.specs.Disk.{Disk, IsImage, Life}
 use Rattle.crash.specs.Guard.{IsChanceFree}
 use Rattle.crash.specs.Kept.{Through}
@@ -10,11 +10,13 @@ use Rattle.journal.specs.Frame.{IsPrefix, records}
 use Rattle.journal.specs.Journal.{Commits, CommitsAll, OnlyRecords}
 use Rattle.segments.specs.declared.closed.Closed.{Closed}
 use Rattle.segments.specs.declared.call.FolderCall.TheVariants as calls
+use Rattle.segments.specs.declared.error.Error.{Error}
+use Rattle.segments.specs.declared.place.Place.{Place}
 use Rattle.segments.specs.Digests.{HasTwin, IsOf}
 use Rattle.segments.specs.FolderEvents.{FolderEvent, opening_with}
 use Rattle.segments.specs.Manifest.{ListingState, listed_in, open_in}
 use Rattle.segments.specs.Owned.{HasJournal, content_now, owned_size, records_now}
-use Rattle.segments.specs.Log.{IsKept, IsRotated, IsSameButCurrent, LogState, asked_turning}
+use Rattle.segments.specs.Log.{AppendHereGoes, IsKept, IsRotated, IsSameButCurrent, LogState, asked_turning}
 use Rattle.segments.specs.Log.{closed_records, events_for, listing_from, log_records}
 
 -- the records of a log whose manifest lists this, and whose files hold these bytes; each closed
@@ -121,22 +123,26 @@ abbrev pub RotationSurvives : (sum own : List ℕ → ℕ) → LogState → LogS
 RotationSurvives sum own s t = IfSome s.manifest.journal (λ m. IfSome s.current.journal (λ w.
     (held : ℕ → List ℕ) → IsRotationKept sum own held s t))
 
--- a rotation, and then an append to the next segment
-pub record TurnedSurvives (sum own : List ℕ → ℕ) (bytes : List ℕ) (s t : LogState) : Type 0 where
+-- a rotation, and then an append to the next segment, with this answer: of the log in between holds
+-- all that is said of it
+pub record TurnedSurvives (sum own : List ℕ → ℕ) (bytes : List ℕ) (s t : LogState)
+    (result : Result Place Error) : Type 0 where
   pub mid : LogState
   pub turned : IsRotated sum own s mid
+  pub here : AppendHereGoes sum own bytes mid t result
   pub rest : IsSameButCurrent mid t
   pub turns : RotationSurvives sum own s mid
   pub appends : CurrentSurvives sum own (bytes ∷ []) mid t
 
--- an append, whatever it answers: to the open segment, and nothing else was done; or a rotation that
+-- an append, with this answer: to the open segment, and nothing else was done; or a rotation that
 -- failed, by whose moments the log ended without an open segment; or a rotation, and then an append
 -- to the next segment
-abbrev pub AppendSurvives : (sum own : List ℕ → ℕ) → List ℕ → LogState → LogState → Type 0
-AppendSurvives sum own bytes s t =
+abbrev pub AppendSurvives : (sum own : List ℕ → ℕ) → List ℕ → LogState → LogState
+    → Result Place Error → Type 0
+AppendSurvives sum own bytes s t result =
     (IsSameButCurrent s t × CurrentSurvives sum own (bytes ∷ []) s t)
     ⊎ ((t.current.journal ≡ None) × RotationSurvives sum own s t)
-    ⊎ TurnedSurvives sum own bytes s t
+    ⊎ TurnedSurvives sum own bytes s t result
 
 -- ---- dropping
 

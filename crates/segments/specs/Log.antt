@@ -178,10 +178,11 @@ pub record IsSameButCurrent (s t : LogState) : Type 0 where
   pub most : t.most ≡ s.most
   pub known : t.known ≡ s.known
 
--- a segment was closed at the end of this life of its blob: it has the records that the open segment
--- of a log had, all of it is durable, and this was kept of its bytes
+-- the open segment of a log was closed, at the end of this life of its blob: it has the records that
+-- it had, all of it is durable, and this was kept of its bytes
 pub record WasClosed (sum own : List ℕ → ℕ) (s : LogState) (last : Life) (kept : Closed)
     : Type 0 where
+  pub was_open : HasJournal s.current.journal (λ w. Unit {0})
   pub shut : IsShut sum own s.page_size (records_now own s.current) last
   pub of : IsOf last.present.readable kept
   pub counts : kept.records ≡ length (records_now own s.current)
@@ -322,6 +323,7 @@ pub record IsNotListed (sum own : List ℕ → ℕ) (s t : LogState) (e : Error)
   pub last : Life
   pub kept : Closed
   pub closed : WasClosed sum own s last kept
+  pub numbered : open_in s.listing ≢ 18446744073709551615
   pub asked : t.asked ≡ asked_turning s last
   pub rest : ListsTheSame s t
   pub left : (t.manifest ≡ s.manifest) ⊎ (t.manifest.journal ≡ None)
@@ -580,10 +582,15 @@ abbrev pub StartsAt : ℕ → LogState → LogState → Type 0
 StartsAt segment s m = ((segment ≤ s.listing.first) × (m ≡ s))
     ⊎ ((s.listing.first < segment) × IsStartedFrom segment s m)
 
--- just the segments before this one were dropped, if there were such: the manifest has that, a copy
--- of it was to be kept, and only then the folder was asked to remove files, all of them older than
--- the first that stays
+-- one of the two journals is gone, since a call before failed
+abbrev pub IsClosedLog : LogState → Type 0
+IsClosedLog s = (s.current.journal ≡ None) ⊎ (s.manifest.journal ≡ None)
+
+-- just the segments before this one were dropped of an open log, if there were such: the manifest has
+-- that, a copy of it was to be kept, and only then the folder was asked to remove files, all of them
+-- older than the first that stays
 pub record IsDropping (segment : ℕ) (s t : LogState) : Type 0 where
+  pub was_open : IsClosedLog s → ⊥
   pub within : segment ≤ open_in s.listing
   pub mid : LogState
   pub starts : StartsAt segment s mid
@@ -595,10 +602,6 @@ pub record IsDropping (segment : ℕ) (s t : LogState) : Type 0 where
 pub record IsDropped (segment : ℕ) (s t : LogState) : Type 0 where
   pub drops : IsDropping segment s t
   pub synced : EndsSynced t.asked
-
--- one of the two journals is gone, since a call before failed
-abbrev pub IsClosedLog : LogState → Type 0
-IsClosedLog s = (s.current.journal ≡ None) ⊎ (s.manifest.journal ≡ None)
 
 -- the log is open, and has no such segment yet, so nothing was done
 pub record IsBeyond (segment n : ℕ) (s t : LogState) : Type 0 where

@@ -30,19 +30,23 @@ abbrev pub padded : (page_size size : ℕ) → Entry → List ℕ
 padded page_size size (Starts first pages) = entry_bytes (Starts first pages)
 padded page_size size (Closes c) = entry_bytes (Closes c) ++ replicate (padding page_size size) 0
 
--- the entry that some bytes are, by the first of them and by how many there are; none for others.
--- Behind one that closes a segment there may be zeros
-unfoldable pub entry_in : List ℕ → Option Entry
-entry_in bytes =
-    if (length bytes == 11) && (slice_index bytes 0 == 0) then
-    Some (Starts (from_be_bytes w64 (drop 1 bytes)) (from_be_bytes w16 (drop 9 bytes)))
-    else if (nat_lt 48 (length bytes) && (slice_index bytes 0 == 1))
-    && list_all (λ b. b == 0) (drop 49 bytes) then
+-- the entry that closes a segment in 49 bytes, behind which zeros may stand; none if others stand there
+abbrev pub closing_in : List ℕ → Option Entry
+closing_in bytes =
+    if list_all (λ b. b == 0) (drop 49 bytes) then
     Some (Closes (record {
       records = from_be_bytes w64 (drop 1 bytes);
       len = from_be_bytes w64 (drop 9 bytes);
       digest = take 32 (drop 17 bytes);
     }))
+    else None
+
+-- the entry that some bytes are, by the first of them and by how many there are; none for others
+unfoldable pub entry_in : List ℕ → Option Entry
+entry_in bytes =
+    if (length bytes == 11) && (slice_index bytes 0 == 0) then
+    Some (Starts (from_be_bytes w64 (drop 1 bytes)) (from_be_bytes w16 (drop 9 bytes)))
+    else if nat_lt 48 (length bytes) && (slice_index bytes 0 == 1) then closing_in bytes
     else None
 
 -- the closed segments that weren't dropped, one after the other, and the number of the first

@@ -31,7 +31,7 @@ impl<F: Folder<B> + Drop, B: Blob + Drop, H: Sum, R: Sum> SegmentedLog<F, B, H, 
         ensures ready { IsLog H.sum_of R.sum_of self.new }
         ensures adds { IfOk result (λ p.
             HasMore H.sum_of R.sum_of (bytes.now ∷ []) self.old self.new) }
-        ensures survives { AppendSurvives H.sum_of R.sum_of bytes.now self.old self.new }
+        ensures survives { AppendSurvives H.sum_of R.sum_of bytes.now self.old self.new result }
     {
         if self.current.size() < self.options.segment_size {
             return self.append_here(bytes);

@@ -5,7 +5,7 @@ ghost use Rattle.std.specs.List.{list_all};
 ghost use Rattle.std.specs.Prelude.{◌==◌};
 ghost use Rattle.std.specs.Int.{w64, from_be_bytes};
 ghost use Rattle.std.specs.Int.NonZero.{non_zero_u16_get};
-ghost use Rattle.segments.specs.Manifest.{entry_bytes, entry_in, padded, padding};
+ghost use Rattle.segments.specs.Manifest.{closing_in, entry_bytes, entry_in, padded, padding};
 ghost use Rattle.segments.specs.Log.{known_with};
 ghost use Rattle.segments.specs.declared.entry.Entry.TheVariants.{Starts, Closes};
 
@@ -84,7 +84,6 @@ pub fn bytes_of(
 }
 
 // How many zeros stand behind an entry that closes a segment.
-#[tactic(auto, using(crate::proofs::Entries::padding_short))]
 fn padding(page_size: NonZeroU16, size: u64) -> u64
     ensures is { result ≡ padding (non_zero_u16_get page_size) size }
     ensures short { result ≤ 18 }
@@ -113,7 +112,6 @@ fn starts(alloc: Global, first: u64, page_size: u16) -> Result<Vec<u8>, Error>
     Ok(bytes)
 }
 
-#[tactic(auto, using(crate::proofs::Entries::closed_told))]
 fn closes(
     alloc: Global,
     records: u64,
@@ -123,8 +121,9 @@ fn closes(
 ) -> Result<Vec<u8>, Error>
     requires size { length digest.now ≡ 32 }
     requires few { zeros ≤ 18 }
-    ensures bytes { let kept = record { records = records; len = len; digest = digest.now } in
-        IfOk result (λ bytes. bytes.items ≡ entry_bytes (Closes kept) ++ replicate zeros 0) }
+    ensures bytes { IfOk result (λ bytes. bytes.items
+        ≡ entry_bytes (Closes (record { records = records; len = len; digest = digest.now }))
+        ++ replicate zeros 0) }
     ensures told { IfOk result (λ bytes. entry_in bytes.items
         ≡ Some (Closes (record { records = records; len = len; digest = digest.now }))) }
     ensures short { IfOk result (λ bytes. length bytes.items ≤ 65535) }
@@ -146,6 +145,23 @@ fn are_zeros(bytes: &[u8]) -> bool
     bytes.iter().all(|byte| *byte == 0)
 }
 
+// The entry that closes a segment in these bytes. Whatever stands behind it must be zeros.
+fn closing_of(bytes: &[u8]) -> Option<Entry>
+    requires { 48 < length bytes.now }
+    ensures { result ≡ closing_in bytes.now }
+{
+    if are_zeros(&bytes[49..]) {
+        let mut digest = [0; 32];
+        digest.copy_from_slice(&bytes[17..49]);
+        return Some(Entry::Closes(Closed {
+            records: number_at(bytes, 1),
+            len: number_at(bytes, 9),
+            digest,
+        }));
+    }
+    None
+}
+
 /// The entry that these bytes are, if they are one.
 #[tactic(auto, unfolding(crate::specs::Manifest::entry_in))]
 pub fn entry_of(bytes: &[u8]) -> Option<Entry>
@@ -155,14 +171,8 @@ pub fn entry_of(bytes: &[u8]) -> Option<Entry>
         let page_size = u16::from_be_bytes([bytes[9], bytes[10]]);
         return Some(Entry::Starts(number_at(bytes, 1), page_size));
     }
-    if bytes.len() < 49 || bytes[0] != 1 || !are_zeros(&bytes[49..]) {
-        return None;
+    if bytes.len() > 48 && bytes[0] == 1 {
+        return closing_of(bytes);
     }
-    let mut digest = [0; 32];
-    digest.copy_from_slice(&bytes[17..49]);
-    Some(Entry::Closes(Closed {
-        records: number_at(bytes, 1),
-        len: number_at(bytes, 9),
-        digest,
-    }))
+    None
 }

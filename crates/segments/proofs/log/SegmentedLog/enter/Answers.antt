@@ -1,7 +1,8 @@
 use Rattle.std.proofs.Common.{◌∙◌, ap, refl, sym, subst}
 use Rattle.std.specs.Prelude.{◌≡◌, Err, Ok, Some}
 use Rattle.segments.specs.Log.{IsLog, LogState}
-use Rattle.segments.specs.Manifest.{listed_with}
+use Rattle.std.specs.Int.NonZero.{non_zero_u16_get}
+use Rattle.segments.specs.Manifest.{listed_with, padded}
 use Rattle.segments.specs.Owned.{OwnedAddGoes, OwnedAddKeeps}
 use Rattle.segments.proofs.Entering.{enter_failed, enter_ready, entry_tried}
 use Rattle.segments.proofs.log.SegmentedLog.enter.Goals as goal
@@ -29,7 +30,7 @@ returns-in-Ok-clause-tries g c =
     let sum = g.H.Sum.sum_of in
     let own = g.R.Sum.sum_of in
     let log = subst (λ s. IsLog sum own s) (sym c.self.view_is) c.requires.log in
-    entry_tried sum own c.args.entry.now c.in_ok-bytes.bytes.items _ c.args.self.now _ c.in-Some.listing c.add.new.self (ap (λ (l : LogState). l.manifest) c.keep.ensures.has.rest) c.self.view_is c.in_ok-bytes.ensures.bytes
+    entry_tried sum own c.args.entry.now c.in_ok-bytes.bytes.items _ c.args.self.now _ c.in-Some.listing c.add.new.self (ap (λ (l : LogState). l.manifest) c.keep.ensures.has.rest) c.self.view_is (c.in_ok-bytes.ensures.bytes ∙ ap (λ n. padded (non_zero_u16_get c.self.inside.options.page_size) n c.args.entry.now) c.size-size.ensures)
     c.in_ok-bytes.ensures.told
     (subst (λ P. listed_with P c.args.entry.now c.self.inside.listing ≡ Some c.in-Some.listing) c.get.ensures.value (sym c.in_ok-listing.ensures ∙ c.in-Some.is))
     log.manifest_pages
@@ -40,7 +41,7 @@ returns-clause-tries g c =
     let sum = g.H.Sum.sum_of in
     let own = g.R.Sum.sum_of in
     let log = subst (λ s. IsLog sum own s) (sym c.self.view_is) c.requires.log in
-    entry_tried sum own c.args.entry.now c.in_ok-bytes.bytes.items _ c.args.self.now _ c.in-Some.listing c.add.new.self refl c.self.view_is c.in_ok-bytes.ensures.bytes
+    entry_tried sum own c.args.entry.now c.in_ok-bytes.bytes.items _ c.args.self.now _ c.in-Some.listing c.add.new.self refl c.self.view_is (c.in_ok-bytes.ensures.bytes ∙ ap (λ n. padded (non_zero_u16_get c.self.inside.options.page_size) n c.args.entry.now) c.size-size.ensures)
     c.in_ok-bytes.ensures.told
     (subst (λ P. listed_with P c.args.entry.now c.self.inside.listing ≡ Some c.in-Some.listing) c.get.ensures.value (sym c.in_ok-listing.ensures ∙ c.in-Some.is))
     log.manifest_pages

@@ -2,11 +2,13 @@ use Rattle.std.proofs.Common.{ap, refl, ◌∙◌}
 use Rattle.segments.specs.Log.{LogState}
 use Rattle.segments.proofs.Refusing.{close_refused, enter_refused, next_refused}
 use Rattle.segments.proofs.Turning.{close_survives, let_go, let_go_kept, turn_survives}
-use Rattle.segments.proofs.Rotating.{Turning, rotate_goes}
+use Rattle.segments.specs.Owned.{OwnedState}
+use Rattle.segments.proofs.Rotating.{Turning, current_is, rotate_goes}
 use Rattle.segments.proofs.log.SegmentedLog.rotate.Goals as goal
+use Rattle.segments.proofs.log.SegmentedLog.rotate.Goals.{After-enter}
 use Rattle.segments.proofs.log.SegmentedLog.rotate.Given
 
-turning : (g : Given.Over) (c : goal.After-enter g)
+turning : (g : Given.Over) (c : After-enter g)
     → Turning g.H.Sum.sum_of g.R.Sum.sum_of c.args.self.now c.close_current.new.self c.open_next.new.self c.follow_with.new.self c.in_ok-next.next c.in_ok-closed.closed
 turning g c = record {
   closed = c.in_ok-closed.ensures.goes;
@@ -27,7 +29,7 @@ returns-in_err-closed-clause-turns g c =
 
 pub returns-in_err-next-clause-goes : goal.returns-in_err-next-clause-goes
 returns-in_err-next-clause-goes g c =
-    next_refused g.H.Sum.sum_of g.R.Sum.sum_of c.args.self.now c.close_current.new.self c.open_next.new.self c.in_ok-closed.closed c.in_err-next.field-0.0 c.from_residual-2.result c.from_residual-2.ensures.1
+    next_refused g.H.Sum.sum_of g.R.Sum.sum_of c.args.self.now c.close_current.new.self c.open_next.new.self c.in_ok-closed.closed c.in_err-next.field-0.0 c.from_residual-in_err-next.result c.from_residual-in_err-next.ensures.1
     c.in_ok-closed.ensures.goes c.close_current.ensures.rest c.close_current.ensures.none c.open_next.ensures.rest c.in_err-next.ensures.goes
 
 pub returns-in_err-next-clause-turns : goal.returns-in_err-next-clause-turns
@@ -35,3 +37,32 @@ returns-in_err-next-clause-turns g c =
     close_survives g.H.Sum.sum_of g.R.Sum.sum_of c.args.self.now c.close_current.new.self c.open_next.new.self c.requires.log c.close_current.ensures.keeps
     (ap (λ (l : LogState). l.manifest) c.open_next.ensures.rest ∙ c.close_current.ensures.rest.manifest)
     (ap (λ (l : LogState). l.current) c.open_next.ensures.rest)
+
+pub returns-in-Ok-clause-goes : goal.returns-in-Ok-clause-goes
+returns-in-Ok-clause-goes g c =
+    rotate_goes g.H.Sum.sum_of g.R.Sum.sum_of c.args.self.now c.close_current.new.self c.open_next.new.self c.follow_with.new.self c.in_ok-next.next c.in_ok-closed.closed (turning g c)
+    c.enter.new.self c.in-Ok.ensures.goes c.enter.ensures.rest
+
+pub returns-in-Ok-clause-turns : goal.returns-in-Ok-clause-turns
+returns-in-Ok-clause-turns g c =
+    let sum = g.H.Sum.sum_of in
+    let own = g.R.Sum.sum_of in
+    let s = c.args.self.now in
+    let next = c.in_ok-next.next in
+    let kept = c.in_ok-closed.closed in
+    turn_survives sum own s c.close_current.new.self c.open_next.new.self c.follow_with.new.self c.enter.new.self c.enter.new.self next kept c.requires.log (turning g c) c.enter.ensures.tries refl
+    (ap (λ (o : OwnedState). o.life) (c.enter.ensures.rest.current ∙ current_is sum own s c.close_current.new.self c.open_next.new.self c.follow_with.new.self next kept (turning g c)))
+    (let_go_kept sum own s c.close_current.new.self c.open_next.new.self c.follow_with.new.self c.enter.new.self next kept (turning g c) c.in-Ok.ensures.goes.kept)
+
+pub returns-in-Err-clause-turns : goal.returns-in-Err-clause-turns
+returns-in-Err-clause-turns g c =
+    let sum = g.H.Sum.sum_of in
+    let own = g.R.Sum.sum_of in
+    let s = c.args.self.now in
+    let next = c.in_ok-next.next in
+    let kept = c.in_ok-closed.closed in
+    turn_survives sum own s c.close_current.new.self c.open_next.new.self c.follow_with.new.self c.enter.new.self _ next kept c.requires.log (turning g c) c.enter.ensures.tries
+    (ap (λ (l : LogState). l.manifest) c.self.view_is)
+    (ap (λ (o : OwnedState). o.life) (c.forget.ensures.lets) ∙ ap (λ (l : LogState). l.current.life) c.self.view_is
+    ∙ ap (λ (o : OwnedState). o.life) (c.enter.ensures.rest.current ∙ current_is sum own s c.close_current.new.self c.open_next.new.self c.follow_with.new.self next kept (turning g c)))
+    (let_go sum own s c.close_current.new.self c.open_next.new.self c.follow_with.new.self _ next kept (turning g c) (ap (λ (l : LogState). l.asked) c.self.view_is ∙ c.in-Err.ensures.goes.asked))
