@@ -1,12 +1,15 @@
 -- Lengths of records, one after another.
 use Rattle.std.proofs.Common.{◌≡◌, ◌≤◌, ◌<◌, ◌+◌, ◌∙◌, ℕ, List, [], ◌∷◌, ◌++◌, length, take, drop, refl, sym, ap, arith, append_assoc, append-nil, subst}
-use Rattle.std.specs.Prelude.{Option}
+use Rattle.std.specs.Prelude.{Option, Result, Err, IsErrAnd}
 use Rattle.std.specs.Int.{w32, from_le_bytes}
 use Rattle.std.specs.List.{flat_map}
 use Rattle.std.specs.Io.KnownBytes.{Appends}
 use Rattle.std.proofs.KnownBytes.{Appends-nil, Appends-trans}
+use Rattle.protocol.specs.declared.stop.Stop.{Stop}
+use Rattle.protocol.specs.Output.{PutsBytes}
 use Rattle.protocol.specs.Request.{number_bytes}
 use Rattle.protocol.specs.Together.{lengths_in, record_starts}
+use Rattle.protocol.proofs.Written.{puts_stop}
 
 -- the first four bytes encode a length
 pub lengths_first : (bytes : List ℕ) → 4 ≤ length bytes → lengths_in bytes ≡ from_le_bytes w32 (take 4 bytes) ∷ lengths_in (drop 4 bytes)
@@ -53,6 +56,15 @@ writing_more first lengths at n rest after out mid written is before answers =
           ∙ ap (λ (ls : List ℕ). before.front ++ flat_map number_bytes (record_starts at ls)) (sym is)
           ∙ before.all;
     }
+
+-- the offset of one more record wasn't written whole
+pub writing_cut : (first : ℕ) (lengths : List ℕ) (at n : ℕ) (rest after : List ℕ) (out mid written : Option (List ℕ)) (stop : Stop) (result : Result (Unit {0}) Stop) → IsErrAnd result (λ x. x ≡ stop) → lengths_in rest ≡ n ∷ lengths_in after → Writing first lengths at rest out mid
+    → PutsBytes (number_bytes at) mid written (Err stop) → PutsBytes (flat_map number_bytes (record_starts first (lengths_in lengths))) out written result
+writing_cut first lengths at n rest after out mid written stop result same is before piece =
+    let tail = flat_map number_bytes (record_starts (at + n) (lengths_in after)) in
+    let all = flat_map number_bytes (record_starts first (lengths_in lengths)) in
+    let parts : before.front ++ (number_bytes at ++ tail) ≡ all = ap (λ (ls : List ℕ). before.front ++ flat_map number_bytes (record_starts at ls)) (sym is) ∙ before.all in
+    puts_stop before.front (number_bytes at) tail all out mid written stop result same (sym parts) before.answers piece
 
 -- the offsets of all records were written
 pub written_all : (first : ℕ) (lengths : List ℕ) (at : ℕ) (rest : List ℕ) (out written : Option (List ℕ)) → length rest < 4 → Writing first lengths at rest out written → Appends out written (flat_map number_bytes (record_starts first (lengths_in lengths)))

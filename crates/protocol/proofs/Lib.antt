@@ -3,6 +3,7 @@ pub mod Frames
 pub mod Lengths
 pub mod Spans
 pub mod Requests
+pub mod Written
 pub mod Serving
 pub mod Appended
 pub mod Taken
@@ -12,4 +13,5 @@ pub mod Opened
 mod FaultExamples
 mod SyncExamples
 mod StopExamples
+mod OutputExamples
 mod VersionExamples

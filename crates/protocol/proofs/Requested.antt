@@ -1,13 +1,13 @@
 -- Requests that were taken, from the runs of their steps and what was written.
 use Rattle.std.proofs.Common.{◌≡◌, ◌≤◌, ◌<◌, Bool, true, false, ℕ, List, [], ◌∷◌, ◌++◌, length, refl, sym, ap, ◌∙◌, subst, arith}
-use Rattle.std.specs.Prelude.{Option, Result, Ok, Err, Vec, ◌&&◌, is_some, option_map, IfErr, OnOk}
+use Rattle.std.specs.Prelude.{Option, Result, Ok, Err, Vec, ◌&&◌, is_some, option_map}
 use Rattle.std.specs.declared.alloc.Global.{Global}
 use Rattle.std.proofs.lemmas.Bool.{false≢true}
 use Rattle.disk.specs.Disk.{Life}
 use Rattle.disk.specs.declared.error.Error.{Error}
 use Rattle.cache.specs.CacheState.{CacheState}
 use Rattle.paged.specs.Reads.{size_of}
-use Rattle.session.specs.Run.{SessionState, count_open}
+use Rattle.session.specs.Run.{SessionState}
 use Rattle.session.specs.declared.steps.Step.{Step}
 use Rattle.session.specs.declared.steps.Step.TheVariants.{Append, ReadRanges}
 use Rattle.session.specs.declared.steps.Reply.{Reply}
@@ -18,17 +18,15 @@ use Rattle.protocol.specs.declared.stop.Stop.{Stop}
 use Rattle.protocol.specs.declared.stop.Stop.TheVariants.{Malformed, Version, WouldCut, Refused, Lost, LongAnswer, Failed, OutOfMemory, NoVersion}
 use Rattle.protocol.specs.declared.version.Version.{Version as ProtocolVersion}
 use Rattle.protocol.specs.declared.version.Version.TheVariants.{One, Two}
-use Rattle.std.specs.Io.KnownBytes.{Appends}
-use Rattle.protocol.specs.Answer.{IsAnswerWith, IsRefusalAnswer, IsWriteError, answer_bytes, refusal_bytes, read_only_status, unreadable_status}
-use Rattle.protocol.specs.Request.{frame_bytes, last_kind, number_bytes}
+use Rattle.protocol.specs.Answer.{IsAnswerWith, IsRefusalAnswer, PutsAnswer, unreadable_status}
+use Rattle.protocol.specs.Request.{frame_bytes, last_kind}
 use Rattle.protocol.specs.Serve.{AreSteps, IsAnswer, IsChangeRefused, Served, TakesRequest, asks_change, given_payload, gives_last, open_payload, can_be_read, last_payload, records_payload, steps_then}
 use Rattle.protocol.specs.Serve.Served.{taken, refused}
 use Rattle.protocol.specs.Taking.{Finishes, IsStepAnswer, RunsSteps, TellsUnreadable, WritesAnswer}
 use Rattle.protocol.specs.declared.request.Then.{Then}
 use Rattle.protocol.specs.Together.{tells_ranges, tells_records, ranges_in, record_bytes, record_lengths}
-use Rattle.protocol.proofs.Requests.{two_numbers}
 use Rattle.protocol.proofs.Serving.{taken_request, took_none, took_of}
-use Rattle.protocol.proofs.Taken.{is_some_mapped, some_with, writes}
+use Rattle.protocol.proofs.Taken.{is_some_mapped}
 
 -- the steps of ranges, and an answer, by whether the bytes of the request could be read
 abbrev pub StepsBy : List ℕ → List Step → Bool → Type 0
@@ -55,17 +53,10 @@ reads_ranges setting fields ranges are is = subst (StepsBy fields.items (ReadRan
 
 -- the steps of a request were run, and an answer to them was written or not
 pub runs_request : (sum : List ℕ → ℕ) (setting : Setting) (version : ProtocolVersion) (request : Request) (steps : List Step) (was now : SessionState) (cache after : CacheState) (old new : Life) (failed : Bool) (replies : List Reply) (out written : Option (List ℕ)) (wrote : Result (Unit {0}) Stop) (result : Result (Option Error) Stop)
-    → (setting.read_only && asks_change request) ≡ false → AreSteps setting request steps → RunsSteps sum steps was now cache after old new replies (Ok tt) → ((answer : List ℕ) × IsAnswer version request replies now failed answer)
+    → (setting.read_only && asks_change request) ≡ false → AreSteps setting request steps → RunsSteps sum steps was now cache after old new replies (Ok tt)
     → WritesAnswer (IsAnswer version request replies now failed) out written wrote → Finishes replies wrote result → TakesRequest sum setting version request was now old new failed out written result
-runs_request sum setting version request steps was now cache after old new failed replies out written wrote result may are runs (some, is) writes told =
-    taken_request sum setting version request steps replies was now old new failed out written wrote result may are (took_of sum steps was now cache after old new replies runs) some is writes told
-
--- there is an answer to one step
-pub some_answer : (version : ProtocolVersion) (step : Step) (replies : List Reply) (now : SessionState) (failed : Bool) → length replies ≡ 1 → (answer : List ℕ) × IsAnswer version (StepOf step) replies now failed answer
-some_answer One step [] now failed one = absurd (omega (arith, one))
-some_answer One step (reply ∷ []) now failed one = (answer_bytes reply failed, (reply, refl, refl))
-some_answer One step (reply ∷ next ∷ replies) now failed one = absurd (omega (arith, one))
-some_answer Two step replies now failed one = some_with (given_payload (StepOf step) replies now) replies (is_some now.writer) failed
+runs_request sum setting version request steps was now cache after old new failed replies out written wrote result may are runs writes told =
+    taken_request sum setting version request steps replies was now old new failed out written wrote result may are (took_of sum steps was now cache after old new replies runs) writes told
 
 -- the answer to one step is that to its request
 pub step_answers : (version : ProtocolVersion) (step : Step) (replies : List Reply) (now : SessionState) (failed : Bool) (answer : List ℕ) → IsStepAnswer version replies (is_some now.writer) failed answer → IsAnswer version (StepOf step) replies now failed answer
@@ -105,9 +96,9 @@ unreadable sum setting request was life failed out written result may are none t
 
     by_answer : (r : Result (Option Error) Stop) → TellsUnreadable out written r → TakesRequest sum setting Two request was was life life failed out written r
     by_answer (Ok fault) ((answer, told, appends), is) = ([], [], answer, served answer told, took_none sum was life, (appends, is))
-    by_answer (Err stop) is =
+    by_answer (Err stop) (is, (answer, told, part)) =
         subst (λ (x : Stop). TakesRequest sum setting Two request was was life life failed out written (Err x)) (sym is)
-        ([], [], frame_bytes (unreadable_status ∷ 0 ∷ number_bytes 0 ++ number_bytes 0 ++ []), served _ (record { number = 0; words = []; is = refl }), took_none sum was life, tt)
+        ([], [], answer, served answer told, took_none sum was life, part)
 
 -- two conditions that hold
 pub both : (a b : Bool) → a ≡ true → b ≡ true → (a && b) ≡ true
@@ -128,20 +119,16 @@ change_refused sum setting version request was life failed out written (Ok done)
 change_refused sum setting version request was life failed out written (Err stop) result may wrote told =
     subst (λ (r : Result (Option Error) Stop). TakesRequest sum setting version request was was life life failed out written r) (sym told) (by_cause stop wrote)
   where
-    some : (v : ProtocolVersion) → (answer : List ℕ) × IsChangeRefused v answer
-    some One = (refusal_bytes, refl)
-    some Two = (frame_bytes (read_only_status ∷ 0 ∷ number_bytes 0 ++ number_bytes 0 ++ []), record { number = 0; words = []; is = refl })
-
     by_cause : (x : Stop) → WritesAnswer (IsChangeRefused version) out written (Err x) → TakesRequest sum setting version request was was life life failed out written (Err x)
     by_cause LongAnswer (answer, is, long) = ([], [], answer, refused request was failed answer may is, took_none sum was life, long)
-    by_cause Failed none = ([], [], (some version).0, refused request was failed (some version).0 may (some version).1, took_none sum was life, tt)
-    by_cause OutOfMemory none = absurd none
-    by_cause (Malformed number flaw) none = absurd none
-    by_cause (Version byte) none = absurd none
-    by_cause NoVersion none = absurd none
-    by_cause (WouldCut cut) none = absurd none
-    by_cause (Refused error) none = absurd none
-    by_cause (Lost error) none = absurd none
+    by_cause Failed (answer, is, part) = ([], [], answer, refused request was failed answer may is, took_none sum was life, part)
+    by_cause OutOfMemory (answer, is, none) = absurd none
+    by_cause (Malformed number flaw) (answer, is, none) = absurd none
+    by_cause (Version byte) (answer, is, none) = absurd none
+    by_cause NoVersion (answer, is, none) = absurd none
+    by_cause (WouldCut cut) (answer, is, none) = absurd none
+    by_cause (Refused error) (answer, is, none) = absurd none
+    by_cause (Lost error) (answer, is, none) = absurd none
 
 -- ---- records
 
@@ -168,19 +155,16 @@ record_answers fields next replies now failed answer are is =
 
 -- a flush was taken, and its answer was written or not
 pub flush_taken : (sum : List ℕ → ℕ) (setting : Setting) (version : ProtocolVersion) (was : SessionState) (life : Life) (failed : Bool) (out written : Option (List ℕ)) (wrote : Result (Unit {0}) Stop) (result : Result (Option Error) Stop) → 25 ≤ last_kind version
-    → OnOk wrote (Appends out written (frame_bytes (0 ∷ []))) → IfErr wrote (IsWriteError 0) → Finishes [] wrote result → TakesRequest sum setting version Flush was was life life failed out written result
-flush_taken sum setting One was life failed out written wrote result within answers why told = absurd (omega (arith, within))
-flush_taken sum setting Two was life failed out written wrote result within answers why told =
-    taken_request sum setting Two Flush [] [] was was life life failed out written wrote result (and_false setting.read_only) refl (took_none sum was life) (frame_bytes (0 ∷ [])) refl
-    (writes (IsAnswer Two Flush [] was failed) 0 [] out written wrote refl answers why) told
+    → PutsAnswer (frame_bytes (0 ∷ [])) out written wrote → Finishes [] wrote result → TakesRequest sum setting version Flush was was life life failed out written result
+flush_taken sum setting One was life failed out written wrote result within writes told = absurd (omega (arith, within))
+flush_taken sum setting Two was life failed out written wrote result within writes told =
+    taken_request sum setting Two Flush [] [] was was life life failed out written wrote result (and_false setting.read_only) refl (took_none sum was life) (frame_bytes (0 ∷ []), refl, writes) told
 
 -- ---- what is open
 
 -- how many were counted, and the answer was written, or not
 pub open_taken : (sum : List ℕ → ℕ) (setting : Setting) (version : ProtocolVersion) (was : SessionState) (life : Life) (failed : Bool) (out written : Option (List ℕ)) (wrote : Result (Unit {0}) Stop) (result : Result (Option Error) Stop) → 26 ≤ last_kind version
-    → OnOk wrote (Appends out written (frame_bytes (0 ∷ open_payload was))) → IfErr wrote (IsWriteError 16) → Finishes [] wrote result → TakesRequest sum setting version CountOpen was was life life failed out written result
-open_taken sum setting One was life failed out written wrote result within answers why told = absurd (omega (arith, within))
-open_taken sum setting Two was life failed out written wrote result within answers why told =
-    let long : 16 ≡ length (open_payload was) = sym (two_numbers (count_open was.snapshots) (count_open was.replays)) in
-    taken_request sum setting Two CountOpen [] [] was was life life failed out written wrote result (and_false setting.read_only) refl (took_none sum was life) (frame_bytes (0 ∷ open_payload was)) refl
-    (writes (IsAnswer Two CountOpen [] was failed) 0 (open_payload was) out written wrote refl answers (subst (λ (n : ℕ). IfErr wrote (IsWriteError n)) long why)) told
+    → PutsAnswer (frame_bytes (0 ∷ open_payload was)) out written wrote → Finishes [] wrote result → TakesRequest sum setting version CountOpen was was life life failed out written result
+open_taken sum setting One was life failed out written wrote result within writes told = absurd (omega (arith, within))
+open_taken sum setting Two was life failed out written wrote result within writes told =
+    taken_request sum setting Two CountOpen [] [] was was life life failed out written wrote result (and_false setting.read_only) refl (took_none sum was life) (frame_bytes (0 ∷ open_payload was), refl, writes) told

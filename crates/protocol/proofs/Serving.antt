@@ -1,5 +1,5 @@
 -- Steps are taken and answered, one after another.
-use Rattle.std.proofs.Common.{◌≡◌, ◌⊎◌, Bool, true, false, ℕ, ◌+◌, ◌*◌, take, arith, ◌-◌, List, [], ◌∷◌, ◌++◌, length, refl, sym, ap, ◌∙◌, subst, append-nil, append_assoc, length-append, inl, inr}
+use Rattle.std.proofs.Common.{◌≡◌, ◌⊎◌, Bool, true, false, ℕ, ◌+◌, ◌*◌, take, drop, take-append-drop, arith, ◌-◌, ◌<◌, ◌^◌, List, [], ◌∷◌, ◌++◌, length, refl, sym, ap, ◌∙◌, subst, append-nil, append_assoc, length-append, inl, inr}
 use Rattle.std.specs.Prelude.{Option, Some, None, Result, Ok, Err, IfSome, IfErr, IsErrAnd, is_err, is_some, option_map, unwrap_or, ◌&&◌, ◌≢◌}
 use Rattle.std.specs.List.{Contains, flat_map}
 use Rattle.std.proofs.lemmas.List.Elements.{All-nil, All-cons, All-append, Contains-append_left, Contains-append_right, Contains-push}
@@ -27,14 +27,17 @@ use Rattle.protocol.specs.declared.stop.ReadError.{ReadError}
 use Rattle.protocol.specs.declared.stop.ReadError.TheVariants.{Malformed as IsMalformed, Failed as HasFailed, OutOfMemory as NoMemory}
 use Rattle.protocol.specs.declared.stop.Stop.{Stop}
 use Rattle.protocol.specs.declared.stop.Stop.TheVariants.{Malformed, Version, WouldCut, Refused, Lost, LongAnswer, Failed, OutOfMemory, NoVersion}
-use Rattle.protocol.specs.Answer.{fault_in, reply_error, IsTooLong, IsWriteError}
+use Rattle.protocol.specs.Answer.{AppendsRefusalPart, answer_bytes, fault_in, flaw_status, reply_error, told_status, IsTooLong, PutsAnswer}
+use Rattle.protocol.specs.Output.{AppendsPart, PutsBytes}
+use Rattle.protocol.specs.declared.stop.Flaw.{Flaw}
 use Rattle.protocol.specs.Taking.{Finishes, TellsStop, WritesAnswer}
 use Rattle.protocol.specs.Stop.{stop_at}
 use Rattle.protocol.specs.Request.{IsRequest, request_bytes, number_bytes, length_bytes, frame_bytes}
-use Rattle.protocol.proofs.Bytes.{length-number_bytes}
+use Rattle.protocol.proofs.Bytes.{length-length_bytes, length-number_bytes}
+use Rattle.protocol.proofs.Written.{part_all, part_first, part_kept, part_then, writes_short}
 use Rattle.protocol.specs.Serve.AreServed.{no_more, one_more}
 use Rattle.protocol.specs.Serve.Served.{taken}
-use Rattle.protocol.specs.Serve.{requests_bytes, AreSteps, IsAnswer, asks_change, is_close, later_fault, AnsweredAll, EndsSession, IsFaultAmong, IsAny, Took, TookFor, TookNext, Answered, TakesRequest, ReadsNext, Serves, HasBegun, IsNotBegun, Greets, Greeted, EndsEarly, Agrees, Named, hello_for, names_of, size_in, ServedAfter, ServesFile}
+use Rattle.protocol.specs.Serve.{requests_bytes, AreSteps, IsAnswer, asks_change, is_close, later_fault, AnsweredAll, EndsSession, IsFaultAmong, TellsFlawPart, TellsNoAnswer, Took, TookFor, TookNext, Answered, TakesRequest, ReadsNext, Serves, HasBegun, IsNotBegun, Greets, Greeted, HasAttempted, Agrees, Named, hello_for, names_of, size_in, ServedAfter, ServesFile}
 
 -- ---- lists of bytes
 
@@ -122,24 +125,24 @@ took_of sum steps was now cache after old new replies runs =
 
 -- an answer to a request was written, or it wasn't; this is so of those that it may have
 pub taken_request : (sum : List ℕ → ℕ) (setting : Setting) (version : ProtocolVersion) (request : Request) (steps : List Step) (replies : List Reply) (was now : SessionState) (old new : Life) (failed : Bool) (out written : Option (List ℕ)) (wrote : Result (Unit {0}) Stop) (result : Result (Option Error) Stop)
-    → (setting.read_only && asks_change request) ≡ false → AreSteps setting request steps → Took sum steps replies was now old new → (some : List ℕ) → IsAnswer version request replies now failed some → WritesAnswer (IsAnswer version request replies now failed) out written wrote → Finishes replies wrote result
+    → (setting.read_only && asks_change request) ≡ false → AreSteps setting request steps → Took sum steps replies was now old new → WritesAnswer (IsAnswer version request replies now failed) out written wrote → Finishes replies wrote result
     → TakesRequest sum setting version request was now old new failed out written result
-taken_request sum setting version request steps replies was now old new failed out written (Ok done) result may are took some is (answer, answers, appends) told =
+taken_request sum setting version request steps replies was now old new failed out written (Ok done) result may are took (answer, answers, appends) told =
     subst (λ (r : Result (Option Error) Stop). TakesRequest sum setting version request was now old new failed out written r) (sym told)
     (steps, replies, answer, taken request steps replies now failed answer may are answers, took, (appends, refl))
-taken_request sum setting version request steps replies was now old new failed out written (Err stop) result may are took some is wrote told =
+taken_request sum setting version request steps replies was now old new failed out written (Err stop) result may are took wrote told =
     subst (λ (r : Result (Option Error) Stop). TakesRequest sum setting version request was now old new failed out written r) (sym told) (by_cause stop wrote)
   where
     by_cause : (x : Stop) → WritesAnswer (IsAnswer version request replies now failed) out written (Err x) → TakesRequest sum setting version request was now old new failed out written (Err x)
     by_cause LongAnswer (answer, answers, long) = (steps, replies, answer, taken request steps replies now failed answer may are answers, took, long)
-    by_cause Failed none = (steps, replies, some, taken request steps replies now failed some may are is, took, tt)
-    by_cause OutOfMemory none = absurd none
-    by_cause (Malformed number flaw) none = absurd none
-    by_cause (Version byte) none = absurd none
-    by_cause NoVersion none = absurd none
-    by_cause (WouldCut cut) none = absurd none
-    by_cause (Refused error) none = absurd none
-    by_cause (Lost error) none = absurd none
+    by_cause Failed (answer, answers, part) = (steps, replies, answer, taken request steps replies now failed answer may are answers, took, part)
+    by_cause OutOfMemory (answer, answers, none) = absurd none
+    by_cause (Malformed number flaw) (answer, answers, none) = absurd none
+    by_cause (Version byte) (answer, answers, none) = absurd none
+    by_cause NoVersion (answer, answers, none) = absurd none
+    by_cause (WouldCut cut) (answer, answers, none) = absurd none
+    by_cause (Refused error) (answer, answers, none) = absurd none
+    by_cause (Lost error) (answer, answers, none) = absurd none
 
 -- ---- the errors of requests
 
@@ -209,30 +212,44 @@ unmoved sum setting version was now old new failed input rest out written kept a
   answers = then_kept out written kept a.bytes a.answers keeps;
 }
 
+-- the refusal of bytes that are no request wasn't written whole
+pub flaw_cut : (version : ProtocolVersion) (stop : Stop) (number status : ℕ) (flaw : Flaw) (out written : Option (List ℕ)) (other : Stop) → version ≡ Two → stop ≡ Malformed number flaw → status ≡ flaw_status flaw → (other ≡ Failed) × AppendsRefusalPart status 2 0 out written
+    → TellsStop version stop out written other
+flaw_cut version stop number status flaw out written other two is same (failed, part) =
+    subst (λ (v : ProtocolVersion). TellsStop v stop out written other) (sym two)
+    (subst (λ (x : Stop). TellsStop Two x out written other) (sym is) (inr (failed, subst (λ (n : ℕ). AppendsRefusalPart n 2 0 out written) same part)))
+
 -- no further request was read
 pub serving_stops : (sum : List ℕ → ℕ) (setting : Setting) (version : ProtocolVersion) (was now : SessionState) (old new : Life) (failed : Bool) (input rest last out written kept all : Option (List ℕ)) (fault : Option Error) (number : ℕ) (stop why : Stop)
     → Serving sum setting version was now old new failed input rest out written fault number → Keeps written kept → ReadsNext version number rest last (Err stop) → TellsStop version stop kept all why → Serves sum setting version was now old new failed input last out all (Err why)
 unfolding unmoved
 serving_stops sum setting version was now old new failed input rest last out written kept all fault number stop why before keeps reads tells = by_cause stop reads tells
   where
-    broken : (x : Stop) → x ≡ Failed → Serves sum setting version was now old new failed input last out all (Err x)
-    broken x is = subst (λ (y : Stop). Serves sum setting version was now old new failed input last out all (Err y)) (sym is) (now, new, failed, rest, written, before.answered, inl (refl, refl))
+    stays : Answered sum setting version was now old new failed input rest out kept
+    stays = unmoved sum setting version was now old new failed input rest out written kept before.answered keeps
+
+    broken : (x : Stop) → x ≡ Failed → TellsNoAnswer version rest kept all → Serves sum setting version was now old new failed input last out all (Err x)
+    broken x is told = subst (λ (y : Stop). Serves sum setting version was now old new failed input last out all (Err y)) (sym is) (now, new, failed, rest, kept, stays, inl (refl, refl, told))
 
     by_cause : (x : Stop) → ReadsNext version number rest last (Err x) → TellsStop version x kept all why → Serves sum setting version was now old new failed input last out all (Err why)
     by_cause (Malformed which flaw) (this, none) (inl (is, told)) =
         subst (λ (y : Stop). Serves sum setting version was now old new failed input last out all (Err y)) (sym is)
         (rest, kept, unmoved sum setting version was now old new failed input rest out written kept before.answered keeps, this ∙ before.counts, none, told)
-    by_cause (Malformed which flaw) none (inr is) = broken why is
+    by_cause (Malformed which flaw) (this, none) (inr (is, part)) = broken why is (inr (flaw, none, part))
     by_cause (Version byte) none tells = absurd none
     by_cause NoVersion none tells = absurd none
     by_cause (WouldCut cut) none tells = absurd none
     by_cause (Refused error) none tells = absurd none
     by_cause (Lost error) none tells = absurd none
     by_cause LongAnswer none tells = absurd none
-    by_cause Failed none (is, same) = broken why is
+    by_cause Failed none (is, same) = broken why is (inl same)
     by_cause OutOfMemory none (is, same) =
-        subst (λ (y : Stop). Serves sum setting version was now old new failed input last out all (Err y)) (sym is)
-        (now, new, failed, rest, kept, unmoved sum setting version was now old new failed input rest out written kept before.answered keeps, (refl, refl, same))
+        subst (λ (y : Stop). Serves sum setting version was now old new failed input last out all (Err y)) (sym is) (now, new, failed, rest, kept, stays, (refl, refl, same))
+
+-- no number is left for a request
+pub serving_over : (sum : List ℕ → ℕ) (setting : Setting) (version : ProtocolVersion) (was now : SessionState) (old new : Life) (failed : Bool) (input rest out written : Option (List ℕ)) (fault : Option Error) (number : ℕ) → Serving sum setting version was now old new failed input rest out written fault number
+    → Serves sum setting version was now old new failed input rest out written (Err Failed)
+serving_over sum setting version was now old new failed input rest out written fault number before = (now, new, failed, rest, written, before.answered, inl (refl, refl, inl refl))
 
 -- a request wasn't answered
 pub serving_fails : (sum : List ℕ → ℕ) (setting : Setting) (version : ProtocolVersion) (request : Request) (was mid now : SessionState) (old between new : Life) (had failed : Bool) (input rest last out written kept all : Option (List ℕ)) (fault : Option Error) (number : ℕ) (stop : Stop) (result : Result (Unit {0}) Stop)
@@ -242,6 +259,9 @@ serving_fails sum setting version request was mid now old between new had failed
 serving_fails sum setting version request was mid now old between new had failed input rest last out written kept all fault number stop (Err why) is before keeps reads takes =
     by_cause why (subst (λ (x : Stop). TakesRequest sum setting version request mid now between new failed kept all (Err x)) (sym is) takes)
   where
+    stays : Answered sum setting version was mid old between had input rest out kept
+    stays = unmoved sum setting version was mid old between had input rest out written kept before.answered keeps
+
     more : (Is : List ℕ → Type 0) → TookFor sum setting version Is request mid now between new failed → TookNext sum setting version Is mid now between new failed rest
     more Is this = (request, last, reads.0, reads.1, this)
 
@@ -252,9 +272,9 @@ serving_fails sum setting version request was mid now old between new had failed
     by_cause (WouldCut cut) none = absurd none
     by_cause (Refused error) none = absurd none
     by_cause (Lost error) none = absurd none
-    by_cause LongAnswer this = (mid, between, had, rest, written, before.answered, more IsTooLong this)
-    by_cause Failed this = (mid, between, had, rest, written, before.answered, inr (more IsAny this))
-    by_cause OutOfMemory same = (mid, between, had, rest, kept, unmoved sum setting version was mid old between had input rest out written kept before.answered keeps, same)
+    by_cause LongAnswer this = (mid, between, had, rest, kept, stays, more (λ answer. IsTooLong answer × (all ≡ kept)) this)
+    by_cause Failed this = (mid, between, had, rest, kept, stays, inr (more (λ answer. AppendsPart kept all answer) this))
+    by_cause OutOfMemory same = (mid, between, had, rest, kept, stays, same)
 
 -- a close, or the end of the input
 pub serving_ends : (sum : List ℕ → ℕ) (setting : Setting) (version : ProtocolVersion) (was now : SessionState) (old new : Life) (failed : Bool) (input rest last out written kept : Option (List ℕ)) (fault : Option Error) (number : ℕ) (result : Result (Unit {0}) Stop)
@@ -310,9 +330,9 @@ would_cut sum setting old new failed out written OutOfMemory none other same = a
 
 -- the size isn't answered
 pub greeting_fails : (sum : List ℕ → ℕ) (setting : Setting) (was now : SessionState) (old mid new : Life) (failed : Bool) (out after written : Option (List ℕ)) (stop : Stop) (result : Result (SessionState × CacheState) Stop) → IsErrAnd result (λ x. x ≡ stop)
-    → HasBegun sum setting old mid was → TakesRequest sum setting One (StepOf Size) was now mid new failed after written (Err stop) → Greets sum setting old new failed out written result
-greeting_fails sum setting was now old mid new failed out after written stop (Ok begun) is begins takes = absurd is
-greeting_fails sum setting was now old mid new failed out after written stop (Err why) is begins takes =
+    → HasBegun sum setting old mid was → Appends out after (version_byte ∷ []) → TakesRequest sum setting One (StepOf Size) was now mid new failed after written (Err stop) → Greets sum setting old new failed out written result
+greeting_fails sum setting was now old mid new failed out after written stop (Ok begun) is begins version takes = absurd is
+greeting_fails sum setting was now old mid new failed out after written stop (Err why) is begins version takes =
     by_cause why (subst (λ (x : Stop). TakesRequest sum setting One (StepOf Size) was now mid new failed after written (Err x)) (sym is) takes)
   where
     by_cause : (x : Stop) → TakesRequest sum setting One (StepOf Size) was now mid new failed after written (Err x) → Greets sum setting old new failed out written (Err x)
@@ -322,20 +342,52 @@ greeting_fails sum setting was now old mid new failed out after written stop (Er
     by_cause (WouldCut cut) none = absurd none
     by_cause (Refused error) none = absurd none
     by_cause (Lost error) none = absurd none
-    by_cause LongAnswer this = (mid, was, now, begins, this)
-    by_cause Failed this = inr (inr (mid, was, now, begins, this))
-    by_cause OutOfMemory same = inr (inl (was, subst (λ (life : Life). HasBegun sum setting old life was) (sym same.1) begins))
+    by_cause LongAnswer (steps, replies, answer, served, took, (long, same)) =
+        (mid, was, now, begins, (steps, replies, answer, served, took, (long, subst (λ (x : Option (List ℕ)). Appends out x (version_byte ∷ [])) (sym same) version)))
+    by_cause Failed (steps, replies, answer, served, took, part) =
+        inr (inr (mid, was, now, begins, (steps, replies, answer, served, took, part_then (version_byte ∷ []) answer out after written version part)))
+    by_cause OutOfMemory same =
+        (was, subst (λ (life : Life). HasBegun sum setting old life was) (sym same.1) begins, subst (λ (x : Option (List ℕ)). Appends out x (version_byte ∷ [])) (sym same.2) version)
 
 -- the greeting ended before the size was asked for
-pub greeting_cut : (sum : List ℕ → ℕ) (setting : Setting) (was : SessionState) (old new : Life) (failed : Bool) (out written : Option (List ℕ)) (result : Result (SessionState × CacheState) Stop) → IsErrAnd result (λ x. x ≡ Failed) → HasBegun sum setting old new was → Greets sum setting old new failed out written result
-greeting_cut sum setting was old new failed out written (Ok begun) is begins = absurd is
-greeting_cut sum setting was old new failed out written (Err why) is begins = subst (λ (x : Stop). Greets sum setting old new failed out written (Err x)) (sym is) (inr (inl (was, begins)))
+pub greeting_cut : (sum : List ℕ → ℕ) (setting : Setting) (was : SessionState) (old new : Life) (failed : Bool) (out written : Option (List ℕ)) (stop : Stop) (result : Result (SessionState × CacheState) Stop) → IsErrAnd result (λ x. x ≡ stop) → HasBegun sum setting old new was
+    → PutsBytes (version_byte ∷ []) out written (Err stop) → Greets sum setting old new failed out written result
+greeting_cut sum setting was old new failed out written stop (Ok begun) is begins puts = absurd is
+greeting_cut sum setting was old new failed out written stop (Err why) is begins (same, part) = subst (λ (x : Stop). Greets sum setting old new failed out written (Err x)) (sym (is ∙ same)) (inr (inl (was, begins, part)))
 
 -- the greeting couldn't be flushed
-pub greeting_unsent : (sum : List ℕ → ℕ) (setting : Setting) (was now : SessionState) (old mid new : Life) (failed : Bool) (out kept written : Option (List ℕ)) (fault : Option Error) (result : Result (SessionState × CacheState) Stop) → IsErrAnd result (λ x. x ≡ Failed)
-    → HasBegun sum setting old mid was → TakesRequest sum setting One (StepOf Size) was now mid new failed kept written (Ok fault) → (last : Option (List ℕ)) → Greets sum setting old new failed out last result
-greeting_unsent sum setting was now old mid new failed out kept written fault result is begins (steps, replies, answer, served, took, (answers, told)) last =
-    greeting_fails sum setting was now old mid new failed out kept last Failed result is begins (steps, replies, answer, served, took, tt)
+pub greeting_unsent : (sum : List ℕ → ℕ) (setting : Setting) (was now : SessionState) (old mid new : Life) (failed : Bool) (out kept written last : Option (List ℕ)) (fault : Option Error) (result : Result (SessionState × CacheState) Stop) → IsErrAnd result (λ x. x ≡ Failed)
+    → HasBegun sum setting old mid was → Appends out kept (version_byte ∷ []) → TakesRequest sum setting One (StepOf Size) was now mid new failed kept written (Ok fault) → Keeps written last → Greets sum setting old new failed out last result
+greeting_unsent sum setting was now old mid new failed out kept written last fault result is begins version (steps, replies, answer, served, took, (answers, told)) keeps =
+    greeting_fails sum setting was now old mid new failed out kept last Failed result is begins version (steps, replies, answer, served, took, part_kept answer kept written last (part_all answer kept written answers) keeps)
+
+-- the answer with an error fits a frame
+fault_short : (error : Error) (failed : Bool) → length (answer_bytes (Fault error) failed) < 2 ^ 32
+fault_short error failed =
+    let body = told_status (Fault error) failed ∷ [] in
+    omega (arith, length-append (length_bytes (length body)) body, length-length_bytes (length body))
+
+-- the recovery was refused, and the answer wasn't written whole
+pub refusal_cut : (sum : List ℕ → ℕ) (setting : Setting) (old new : Life) (failed : Bool) (out first written : Option (List ℕ)) (error : Error) (stop : Stop) (result : Result (SessionState × CacheState) Stop) → IsErrAnd result (λ x. x ≡ stop) → HasAttempted sum setting old new
+    → Appends out first (version_byte ∷ []) → PutsAnswer (answer_bytes (Fault error) failed) first written (Err stop) → Greets sum setting old new failed out written result
+refusal_cut sum setting old new failed out first written error stop (Ok begun) is had version wrote = absurd is
+refusal_cut sum setting old new failed out first written error stop (Err why) is had version wrote = subst (λ (x : Stop). Greets sum setting old new failed out written (Err x)) (sym is) (by_cause stop (short stop wrote))
+  where
+    answer : List ℕ
+    answer = answer_bytes (Fault error) failed
+
+    short : (x : Stop) → PutsAnswer answer first written (Err x) → PutsBytes answer first written (Err x)
+    short x w = writes_short answer first written (Err x) (fault_short error failed) w
+
+    by_cause : (x : Stop) → PutsBytes answer first written (Err x) → Greets sum setting old new failed out written (Err x)
+    by_cause x (same, part) = subst (λ (y : Stop). Greets sum setting old new failed out written (Err y)) (sym same) (inl (had, (error, part_then (version_byte ∷ []) answer out first written version part)))
+
+-- the recovery was refused, and the version wasn't written
+pub refusal_unheaded : (sum : List ℕ → ℕ) (setting : Setting) (old new : Life) (failed : Bool) (out written : Option (List ℕ)) (error : Error) (stop : Stop) (result : Result (SessionState × CacheState) Stop) → IsErrAnd result (λ x. x ≡ stop) → HasAttempted sum setting old new
+    → PutsBytes (version_byte ∷ []) out written (Err stop) → Greets sum setting old new failed out written result
+refusal_unheaded sum setting old new failed out written error stop (Ok begun) is had puts = absurd is
+refusal_unheaded sum setting old new failed out written error stop (Err why) is had (same, part) =
+    subst (λ (x : Stop). Greets sum setting old new failed out written (Err x)) (sym (is ∙ same)) (inl (had, (error, part_first (version_byte ∷ []) (answer_bytes (Fault error) failed) out written part)))
 
 -- the greeting was written and flushed
 pub greeted : (sum : List ℕ → ℕ) (setting : Setting) (was now : SessionState) (old mid new : Life) (failed : Bool) (out first second last : Option (List ℕ)) (fault : Option Error) → HasBegun sum setting old mid was → Appends out first (version_byte ∷ [])
@@ -356,11 +408,6 @@ greeted sum setting was now old mid new failed out first second last fault begin
 
 -- ---- a whole session
 
--- the greeting is a step too
-pub only_greeted : (sum : List ℕ → ℕ) (setting : Setting) (old new : Life) (failed : Bool) (was : SessionState) (out written : Option (List ℕ)) → Greeted sum setting old new failed was out written → EndsEarly sum setting old new failed
-only_greeted sum setting old new failed was out written g =
-    inr (inr (g.mid, g.was, was, g.begun, (g.took.0, g.took.1, g.took.2, g.took.3, g.took.4, tt)))
-
 -- no session was greeted
 pub file_not_greeted : (sum : List ℕ → ℕ) (setting : Setting) (named : Named) (old new : Life) (failed : Bool) (input out written : Option (List ℕ)) (stop : Stop) (result : Result (Unit {0}) Stop) → IsErrAnd result (λ x. x ≡ stop) → Greets sum setting old new failed out written (Err stop)
     → ServesFile sum setting named old new failed input input out written result
@@ -376,7 +423,7 @@ file_not_greeted sum setting named old new failed input out written stop (Err wh
     by_cause (Lost error) none = absurd none
     by_cause LongAnswer ends = inl ends
     by_cause Failed ends = inl ends
-    by_cause OutOfMemory ends = inl ends
+    by_cause OutOfMemory told = inl told
 
 -- the hello has the size of the session and how many bytes were cut
 pub hello_is : (setting : Setting) (checksum set_aside : List ℕ) (old between : Life) (was : SessionState) (len left size cut : ℕ) (told : Option ℕ) → len ≡ length old.present.readable → left ≡ length between.present.readable → told ≡ option_map size_of was.writer
@@ -390,18 +437,17 @@ pub file_unread : (sum : List ℕ → ℕ) (setting : Setting) (named : Named) (
     → at ≡ stop_at 0 error → TellsStop Two at greeting written stop → ServesFile sum setting named old new failed input rest out written (Err stop)
 file_unread sum setting named old new failed was input rest out greeting written error at stop g reads is told = by_error error reads (subst (λ (x : Stop). TellsStop Two x greeting written stop) is told)
   where
-    early : EndsEarly sum setting old new failed
-    early = only_greeted sum setting old new failed was out greeting g
-
     turned : (x : Stop) → stop ≡ x → ServesFile sum setting named old new failed input rest out written (Err x) → ServesFile sum setting named old new failed input rest out written (Err stop)
     turned x same served = subst (λ (y : Stop). ServesFile sum setting named old new failed input rest out written (Err y)) (sym same) served
 
     by_error : (e : ReadError) → ReadsOpening input rest (Err e) → TellsStop Two (stop_at 0 e) greeting written stop → ServesFile sum setting named old new failed input rest out written (Err stop)
     by_error (IsMalformed flaw) (cut, ends) (inl (same, tells)) =
         turned (Malformed 0 flaw) same (inl (record { was = was; greeting = greeting; greeted = g; first = refl; cut = cut; ends = ends; tells = tells }))
-    by_error (IsMalformed flaw) (cut, ends) (inr failed) = turned Failed failed (inl early)
-    by_error HasFailed none (same, kept) = turned Failed same (inl early)
-    by_error NoMemory none (same, kept) = turned OutOfMemory same (inl early)
+    by_error (IsMalformed flaw) (cut, ends) (inr (failed, part)) =
+        turned Failed failed (inr (inl (was, greeting, g, inr (ends, subst (λ (f : Flaw). TellsFlawPart Two f greeting written) cut part))))
+    by_error HasFailed none (same, kept) = turned Failed same (inr (inl (was, greeting, g, inl kept)))
+    by_error NoMemory none (same, kept) =
+        turned OutOfMemory same (inr (inl (was, subst (λ (x : Option (List ℕ)). Greeted sum setting old new failed was out x) (sym kept) g)))
 
 module _ (sum : List ℕ → ℕ) (setting : Setting) (named : Named) (old between : Life) (had : Bool) (was : SessionState) (input after out greeting told : Option (List ℕ)) (opening : Opening) where
   -- what the client begins with was read, and answered
@@ -425,7 +471,7 @@ module _ (sum : List ℕ → ℕ) (setting : Setting) (named : Named) (old betwe
       by_cause (Version byte) other = (was, agrees (Err (Version byte)) g reads other)
       by_cause NoVersion none = (was, agrees (Err NoVersion) g reads none)
       by_cause LongAnswer long = inr (inl (was, agrees (Err LongAnswer) g reads long))
-      by_cause Failed none = inl (only_greeted sum setting old between had was out greeting g)
+      by_cause Failed part = inr (inr (inl (was, agrees (Err Failed) g reads part)))
       by_cause (Malformed which flaw) none = absurd none
       by_cause (WouldCut cut) none = absurd none
       by_cause (Refused error) none = absurd none
@@ -449,8 +495,8 @@ module _ (sum : List ℕ → ℕ) (setting : Setting) (named : Named) (old betwe
       by_answer (Err (Refused error)) s = absurd s
       by_answer (Err (Lost error)) s = served (Err (Lost error)) s
       by_answer (Err LongAnswer) s = inr (inr (served (Err LongAnswer) s))
-      by_answer (Err Failed) s = inr (served (Err Failed) s)
-      by_answer (Err OutOfMemory) s = inr (served (Err OutOfMemory) s)
+      by_answer (Err Failed) s = inr (inr (inr (served (Err Failed) s)))
+      by_answer (Err OutOfMemory) s = inr (inr (served (Err OutOfMemory) s))
 
 -- ---- numbers in an answer
 
@@ -461,23 +507,21 @@ numbers_more head numbers i n more =
     append_assoc head (flat_map number_bytes (take i numbers)) (number_bytes n)
     ∙ ap (λ (l : List ℕ). head ++ l) (sym (flat_map_snoc number_bytes (take i numbers) n) ∙ ap (λ (l : List ℕ). flat_map number_bytes l) (sym more))
 
+-- those before one, that one, and those behind it
+pub numbers_split : (numbers : List ℕ) (i n : ℕ) → take (i + 1) numbers ≡ take i numbers ++ n ∷ []
+    → flat_map number_bytes numbers ≡ flat_map number_bytes (take i numbers) ++ (number_bytes n ++ flat_map number_bytes (drop (i + 1) numbers))
+numbers_split numbers i n more =
+    let front = flat_map number_bytes (take i numbers) in
+    let after = flat_map number_bytes (drop (i + 1) numbers) in
+    ap (λ (l : List ℕ). flat_map number_bytes l) (sym (take-append-drop (i + 1) numbers))
+    ∙ joined number_bytes (take (i + 1) numbers) (drop (i + 1) numbers)
+    ∙ ap (λ (l : List ℕ). flat_map number_bytes l ++ after) more
+    ∙ ap (λ (l : List ℕ). l ++ after) (flat_map_snoc number_bytes (take i numbers) n)
+    ∙ append_assoc front (number_bytes n) after
+
 -- numbers have eight bytes each
 pub length_of_numbers : (numbers : List ℕ) → length (flat_map number_bytes numbers) ≡ 8 * length numbers
 length_of_numbers [] = refl
 length_of_numbers (n ∷ ns) =
     let rest = length_of_numbers ns in
     length-append (number_bytes n) (flat_map number_bytes ns) ∙ omega (arith, rest, length-number_bytes n)
-
--- numbers that are too many for an answer
-pub numbers_unwritten : (numbers : List ℕ) (len : ℕ) (stop : Stop) (result : Result (Unit {0}) Stop) → IsErrAnd result (λ x. x ≡ stop) → len ≡ 8 * length numbers → IsWriteError len stop
-    → IfErr result (IsWriteError (length (flat_map number_bytes numbers)))
-numbers_unwritten numbers len stop (Ok done) is long why = tt
-numbers_unwritten numbers len stop (Err other) is long why =
-    subst (λ (n : ℕ). IsWriteError n other) (long ∙ sym (length_of_numbers numbers)) (subst (λ (x : Stop). IsWriteError len x) (sym is) why)
-
--- the whole answer
-pub numbers_frame : (numbers : List ℕ) → (length_bytes (8 * length numbers + 1) ++ 0 ∷ []) ++ flat_map number_bytes numbers ≡ frame_bytes (0 ∷ flat_map number_bytes numbers)
-numbers_frame numbers =
-    let all = flat_map number_bytes numbers in
-    let long : 8 * length numbers + 1 ≡ length (0 ∷ all) = omega (arith, length_of_numbers numbers) in
-    append_assoc (length_bytes (8 * length numbers + 1)) (0 ∷ []) all ∙ ap (λ (n : ℕ). length_bytes n ++ 0 ∷ all) long

@@ -1,11 +1,11 @@
 -- Answers to requests, from the replies to their steps.
-use Rattle.std.proofs.Common.{◌≡◌, ◌≢◌, ◌≤◌, ◌<◌, ◌+◌, ◌-◌, ◌*◌, suc, slice_index_or, Bool, true, false, ℕ, List, [], ◌∷◌, ◌++◌, length, refl, sym, ap, ◌∙◌, subst, append_assoc, arith}
+use Rattle.std.proofs.Common.{◌≡◌, ◌≢◌, ◌≤◌, ◌<◌, ◌+◌, ◌-◌, ◌*◌, ◌^◌, suc, slice_index_or, Bool, true, false, ℕ, List, [], ◌∷◌, ◌++◌, length, refl, sym, ap, ◌∙◌, subst, append_assoc, arith}
 use Rattle.std.proofs.lemmas.List.{length-append}
-use Rattle.std.specs.Prelude.{Option, Some, None, Result, Ok, Err, IfErr, OnOk, is_some, option_map, ◌==◌, if◌then◌else◌, slice_get}
+use Rattle.std.specs.Prelude.{Option, Some, None, Result, Ok, Err, IfErr, IsErrAnd, OnOk, is_some, option_map, ◌==◌, if◌then◌else◌, slice_get}
 use Rattle.std.proofs.lemmas.Bool.{eqb-true, ne_eqb}
 use Rattle.std.specs.Int.{w32, from_le_bytes}
 use Rattle.std.specs.List.{flat_map}
-use Rattle.std.proofs.KnownBytes.{Appends-nil, Appends-trans}
+use Rattle.std.proofs.KnownBytes.{Appends-nil}
 use Rattle.std.specs.Io.KnownBytes.{Appends}
 use Rattle.disk.specs.Error.{number_of}
 use Rattle.disk.specs.declared.error.Error.{Error}
@@ -13,13 +13,14 @@ use Rattle.disk.specs.declared.error.Error.TheVariants.{WriteFailed, ResizeFaile
 use Rattle.session.specs.declared.steps.Reply.{Reply}
 use Rattle.session.specs.declared.steps.Reply.TheVariants.{Fault}
 use Rattle.protocol.specs.declared.stop.Stop.{Stop}
-use Rattle.protocol.specs.declared.stop.Stop.TheVariants.{Malformed, Version, WouldCut, Refused, Lost, LongAnswer, Failed, OutOfMemory, NoVersion}
+use Rattle.protocol.specs.declared.stop.Stop.TheVariants.{Failed}
 use Rattle.protocol.specs.declared.version.Version.{Version as ProtocolVersion}
 use Rattle.protocol.specs.declared.version.Version.TheVariants.{One, Two}
-use Rattle.protocol.specs.Answer.{AppendsRefusal, IsAnswerWith, IsLong, IsRefusalAnswer, IsTooLong, IsWriteError, answer_bytes, advice_byte, first_refusal, refusal_from, reply_payload, status_byte, told_error, told_status}
+use Rattle.protocol.specs.Answer.{AppendsRefusal, AppendsRefusalPart, IsAnswerWith, IsRefusalAnswer, answer_bytes, advice_byte, first_refusal, refusal_from, reply_payload, status_byte, told_error, told_status, unreadable_status}
+use Rattle.protocol.specs.Output.{PutsBytes}
 use Rattle.protocol.specs.Request.{frame_bytes, length_bytes, number_bytes, last_kind}
 use Rattle.protocol.specs.Serve.{last_payload}
-use Rattle.protocol.specs.Taking.{GivesPayload, TellsRefusal, WritesAnswer}
+use Rattle.protocol.specs.Taking.{GivesPayload, TellsRefusal, TellsUnreadable, WritesAnswer}
 use Rattle.protocol.specs.Together.{lengths_in, record_starts}
 use Rattle.protocol.proofs.Bytes.{length-length_bytes, length-number_bytes}
 
@@ -34,46 +35,17 @@ pub is_two : (version : ProtocolVersion) (kind : ℕ) → 16 < kind → kind ≤
 is_two One kind above within = absurd (omega (arith, above, within))
 is_two Two kind above within = refl
 
--- an answer with a long payload is too long
-pub long_frame : (status : ℕ) (payload : List ℕ) → IsLong (length payload) → IsTooLong (frame_bytes (status ∷ payload))
-long_frame status payload long =
-    let body = status ∷ payload in
-    omega (arith, long, length-append (length_bytes (length body)) body, length-length_bytes (length body))
-
--- an answer was written, or it was too long
-pub writes : (Is : List ℕ → Type 0) (status : ℕ) (payload : List ℕ) (out written : Option (List ℕ)) (result : Result (Unit {0}) Stop) → Is (frame_bytes (status ∷ payload))
-    → OnOk result (Appends out written (frame_bytes (status ∷ payload))) → IfErr result (IsWriteError (length payload)) → WritesAnswer Is out written result
-writes Is status payload out written (Ok done) is answers why = (frame_bytes (status ∷ payload), is, answers)
-writes Is status payload out written (Err LongAnswer) is answers why = (frame_bytes (status ∷ payload), is, long_frame status payload why)
-writes Is status payload out written (Err Failed) is answers why = tt
-writes Is status payload out written (Err OutOfMemory) is answers why = absurd why
-writes Is status payload out written (Err (Malformed number flaw)) is answers why = absurd why
-writes Is status payload out written (Err (Version byte)) is answers why = absurd why
-writes Is status payload out written (Err NoVersion) is answers why = absurd why
-writes Is status payload out written (Err (WouldCut cut)) is answers why = absurd why
-writes Is status payload out written (Err (Refused error)) is answers why = absurd why
-writes Is status payload out written (Err (Lost error)) is answers why = absurd why
-
 -- a refusal was written
 pub writes_told : (Is : List ℕ → Type 0) (status advice taken : ℕ) (out written : Option (List ℕ)) (result : Result (Unit {0}) Stop) → ((answer : List ℕ) → IsRefusalAnswer status advice taken answer → Is answer)
-    → OnOk result (AppendsRefusal status advice taken out written) → IfErr result (λ stop. stop ≡ Failed) → WritesAnswer Is out written result
+    → OnOk result (AppendsRefusal status advice taken out written) → IfErr result (λ stop. (stop ≡ Failed) × AppendsRefusalPart status advice taken out written) → WritesAnswer Is out written result
 writes_told Is status advice taken out written (Ok done) is (answer, told, answers) why = (answer, is answer told, answers)
-writes_told Is status advice taken out written (Err stop) is none why = subst (λ (x : Stop). WritesAnswer Is out written (Err x)) (sym why) tt
+writes_told Is status advice taken out written (Err stop) is none (same, (answer, told, part)) = subst (λ (x : Stop). WritesAnswer Is out written (Err x)) (sym same) (answer, is answer told, part)
 
 -- ---- the first refusal, or what is given
 
 -- an answer of one kind is one of another
 pub writes_as : (Is Are : List ℕ → Type 0) (out written : Option (List ℕ)) (result : Result (Unit {0}) Stop) → ((answer : List ℕ) → Is answer → Are answer) → WritesAnswer Is out written result → WritesAnswer Are out written result
-writes_as Is Are out written (Ok done) turn (answer, is, answers) = (answer, turn answer is, answers)
-writes_as Is Are out written (Err LongAnswer) turn (answer, is, long) = (answer, turn answer is, long)
-writes_as Is Are out written (Err Failed) turn none = tt
-writes_as Is Are out written (Err OutOfMemory) turn none = absurd none
-writes_as Is Are out written (Err (Malformed number flaw)) turn none = absurd none
-writes_as Is Are out written (Err (Version byte)) turn none = absurd none
-writes_as Is Are out written (Err NoVersion) turn none = absurd none
-writes_as Is Are out written (Err (WouldCut cut)) turn none = absurd none
-writes_as Is Are out written (Err (Refused error)) turn none = absurd none
-writes_as Is Are out written (Err (Lost error)) turn none = absurd none
+writes_as Is Are out written result turn (answer, is, wrote) = (answer, turn answer is, wrote)
 
 -- by the first refusal of the replies
 abbrev AnswerOf : (payload : List ℕ) → (has_writer sync_failed : Bool) → List ℕ → Option (ℕ × Reply) → Type 0
@@ -82,25 +54,29 @@ AnswerOf payload has_writer sync_failed answer first = elim first [
   | None ↦ answer ≡ frame_bytes (0 ∷ payload)
 ]
 
--- some answer is one to these replies
-pub some_with : (payload : List ℕ) (replies : List Reply) (has_writer sync_failed : Bool) → (answer : List ℕ) × IsAnswerWith payload replies has_writer sync_failed answer
-some_with payload replies has_writer sync_failed = by_first (first_refusal replies)
-  where
-    by_first : (first : Option (ℕ × Reply)) → (answer : List ℕ) × AnswerOf payload has_writer sync_failed answer first
-    by_first (Some first) = (
-      frame_bytes (told_status first.1 sync_failed ∷ advice_byte first.1 has_writer sync_failed ∷ number_bytes first.0 ++ number_bytes 0 ++ []),
-      record { number = 0; words = []; is = refl },
-    )
-    by_first None = (frame_bytes (0 ∷ payload), refl)
-
 -- the first refusal was written
 pub told_with : (payload : List ℕ) (replies : List Reply) (has_writer sync_failed : Bool) (out written : Option (List ℕ)) → TellsRefusal replies has_writer sync_failed out written (Ok true) → WritesAnswer (IsAnswerWith payload replies has_writer sync_failed) out written (Ok tt)
 told_with payload replies has_writer sync_failed out written (taken, reply, is, (answer, told, answers)) =
     (answer, subst (λ (first : Option (ℕ × Reply)). AnswerOf payload has_writer sync_failed answer first) (sym is) told, answers)
 
--- the first refusal couldn't be written
-pub untold_with : (payload : List ℕ) (replies : List Reply) (has_writer sync_failed : Bool) (out written : Option (List ℕ)) (stop : Stop) → stop ≡ Failed → WritesAnswer (IsAnswerWith payload replies has_writer sync_failed) out written (Err stop)
-untold_with payload replies has_writer sync_failed out written stop is = subst (λ (x : Stop). WritesAnswer (IsAnswerWith payload replies has_writer sync_failed) out written (Err x)) (sym is) tt
+-- the first refusal wasn't written whole
+pub untold_with : (payload : List ℕ) (replies : List Reply) (has_writer sync_failed : Bool) (out written : Option (List ℕ)) (stop : Stop) (result : Result (Unit {0}) Stop) → IsErrAnd result (λ x. x ≡ stop) → TellsRefusal replies has_writer sync_failed out written (Err stop)
+    → WritesAnswer (IsAnswerWith payload replies has_writer sync_failed) out written result
+untold_with payload replies has_writer sync_failed out written stop (Ok done) turned tells = absurd turned
+untold_with payload replies has_writer sync_failed out written stop (Err other) turned (taken, reply, is, same, (answer, told, part)) =
+    subst (λ (x : Stop). WritesAnswer (IsAnswerWith payload replies has_writer sync_failed) out written (Err x)) (sym (turned ∙ same))
+    (answer, subst (λ (first : Option (ℕ × Reply)). AnswerOf payload has_writer sync_failed answer first) (sym is) told, part)
+
+-- so the first of these replies that refuses is told in part
+pub told_in_part : (replies : List Reply) (has_writer sync_failed : Bool) (out written : Option (List ℕ)) (taken : ℕ) (reply : Reply) (stop : Stop) (result : Result Bool Stop) → IsErrAnd result (λ x. x ≡ stop) → first_refusal replies ≡ Some (taken, reply) → stop ≡ Failed
+    → AppendsRefusalPart (told_status reply sync_failed) (advice_byte reply has_writer sync_failed) taken out written → TellsRefusal replies has_writer sync_failed out written result
+told_in_part replies has_writer sync_failed out written taken reply stop (Ok told) turned is same part = absurd turned
+told_in_part replies has_writer sync_failed out written taken reply stop (Err other) turned is same part = (taken, reply, is, turned ∙ same, part)
+
+-- bytes that couldn't be read are told in part
+pub unreadable_in_part : (out written : Option (List ℕ)) (stop : Stop) (result : Result (Option Error) Stop) → IsErrAnd result (λ x. x ≡ stop) → (stop ≡ Failed) × AppendsRefusalPart unreadable_status 0 0 out written → TellsUnreadable out written result
+unreadable_in_part out written stop (Ok fault) turned why = absurd turned
+unreadable_in_part out written stop (Err other) turned (same, part) = (turned ∙ same, part)
 
 -- no reply refuses, and this payload is given
 pub given_with : (payload : List ℕ) (replies : List Reply) (has_writer sync_failed : Bool) (out mid written : Option (List ℕ)) (result : Result (Unit {0}) Stop) → first_refusal replies ≡ None → mid ≡ out → WritesAnswer (GivesPayload payload) mid written result
@@ -161,11 +137,24 @@ no_refusal taken [] replies none same = sym same
 no_refusal taken (reply ∷ rest) replies none same = absurd (omega (arith, none))
 
 -- a refusal, as it is written
-pub told_of : (status advice taken number : ℕ) (words : List ℕ) (out written : Option (List ℕ)) (result : Result (Unit {0}) Stop) → OnOk result (Appends out written (frame_bytes (status ∷ advice ∷ number_bytes taken ++ number_bytes number ++ words)))
+pub told_of : (status advice taken number : ℕ) (words : List ℕ) (out written : Option (List ℕ)) (result : Result (Unit {0}) Stop) → PutsBytes (frame_bytes (status ∷ advice ∷ number_bytes taken ++ number_bytes number ++ words)) out written result
     → OnOk result (AppendsRefusal status advice taken out written)
 told_of status advice taken number words out written (Ok done) answers =
     (frame_bytes (status ∷ advice ∷ number_bytes taken ++ number_bytes number ++ words), record { number = number; words = words; is = refl }, answers)
 told_of status advice taken number words out written (Err stop) none = tt
+
+pub untold_of : (status advice taken number : ℕ) (words : List ℕ) (out written : Option (List ℕ)) (result : Result (Unit {0}) Stop) → PutsBytes (frame_bytes (status ∷ advice ∷ number_bytes taken ++ number_bytes number ++ words)) out written result
+    → IfErr result (λ stop. (stop ≡ Failed) × AppendsRefusalPart status advice taken out written)
+untold_of status advice taken number words out written (Ok done) answers = tt
+untold_of status advice taken number words out written (Err stop) (same, part) =
+    (same, (frame_bytes (status ∷ advice ∷ number_bytes taken ++ number_bytes number ++ words), record { number = number; words = words; is = refl }, part))
+
+-- a refusal fits a frame
+pub refusal_short : (status advice taken number : ℕ) (words : List ℕ) → length words ≤ 255 → length (frame_bytes (status ∷ advice ∷ number_bytes taken ++ number_bytes number ++ words)) < 2 ^ 32
+refusal_short status advice taken number words few =
+    let told = number_bytes taken ++ number_bytes number ++ words in
+    let body = status ∷ advice ∷ told in
+    omega (arith, few, length-append (length_bytes (length body)) body, length-length_bytes (length body), length-append (number_bytes taken ++ number_bytes number) words, length-append (number_bytes taken) (number_bytes number), length-number_bytes taken, length-number_bytes number)
 
 -- ---- records
 
@@ -179,17 +168,6 @@ starts_size (a ∷ b ∷ c ∷ d ∷ rest) at count whole =
     let first = from_le_bytes w32 (a ∷ b ∷ c ∷ d ∷ []) in
     let more = starts_size rest (at + first) (count - 1) (omega (arith, whole)) in
     length-append (number_bytes at) (flat_map number_bytes (record_starts (at + first) (lengths_in rest))) ∙ omega (arith, more, length-number_bytes at)
-
--- a head, and what it is of, are an answer
-pub whole_answer : (payload front more : List ℕ) (len : ℕ) (out first second written : Option (List ℕ)) → payload ≡ front ++ more → length front + length more ≡ len → Appends out first (length_bytes (len + 1) ++ 0 ∷ []) → Appends first second front
-    → Appends second written more → (answer : List ℕ) × GivesPayload payload answer × Appends out written answer
-whole_answer payload front more len out first second written is long head middle last =
-    let all = Appends-trans out second written ((length_bytes (len + 1) ++ 0 ∷ []) ++ front) more (Appends-trans out first second (length_bytes (len + 1) ++ 0 ∷ []) front head middle) last in
-    let size : len + 1 ≡ length (0 ∷ payload) = omega (arith, long, ap length is, length-append front more) in
-    let same : ((length_bytes (len + 1) ++ 0 ∷ []) ++ front) ++ more ≡ frame_bytes (0 ∷ payload) =
-    append_assoc (length_bytes (len + 1) ++ 0 ∷ []) front more ∙ append_assoc (length_bytes (len + 1)) (0 ∷ []) (front ++ more)
-    ∙ ap (λ (xs : List ℕ). length_bytes (len + 1) ++ 0 ∷ xs) (sym is) ∙ ap (λ (n : ℕ). length_bytes n ++ 0 ∷ payload) size in
-    (frame_bytes (0 ∷ payload), refl, subst (λ (xs : List ℕ). Appends out written xs) same all)
 
 -- nothing more was written
 pub append_none : (a b : Option (List ℕ)) → a ≡ b → Appends a b []

@@ -1,6 +1,6 @@
 -- How the reply to a step is written.
 use Rattle.std.specs.Prelude.{ℕ, List, [], ◌∷◌, ◌++◌, ◌≡◌, ◌==◌, Bool, if◌then◌else◌}
-use Rattle.std.specs.Prelude.{Option, Some, None, true, false}
+use Rattle.std.specs.Prelude.{Option, Some, None, Result, Ok, Err, true, false}
 use Rattle.std.specs.Prelude.{◌≤◌, ◌+◌, ◌^◌, length}
 use Rattle.std.specs.List.{flat_map}
 use Rattle.std.specs.Io.KnownBytes.{Appends}
@@ -18,7 +18,8 @@ use Rattle.protocol.specs.declared.stop.Flaw.{Flaw}
 use Rattle.protocol.specs.declared.stop.Flaw.TheVariants as flaw
 use Rattle.protocol.specs.declared.stop.Stop.{Stop}
 use Rattle.protocol.specs.declared.stop.Stop.TheVariants.{LongAnswer, Failed}
-use Rattle.protocol.specs.Request.{frame_bytes, number_bytes}
+use Rattle.protocol.specs.Output.{AppendsPart}
+use Rattle.protocol.specs.Request.{frame_bytes, length_bytes, number_bytes}
 
 -- the status of an answer
 abbrev pub status_byte : Reply → ℕ
@@ -124,6 +125,12 @@ abbrev pub AppendsRefusal : (status advice taken : ℕ) → (out written : Optio
 AppendsRefusal status advice taken out written =
     (answer : List ℕ) × IsRefusalAnswer status advice taken answer × Appends out written answer
 
+-- a prefix of such a refusal was written
+abbrev pub AppendsRefusalPart : (status advice taken : ℕ) → (out written : Option (List ℕ))
+    → Type 0
+AppendsRefusalPart status advice taken out written =
+    (answer : List ℕ) × IsRefusalAnswer status advice taken answer × AppendsPart out written answer
+
 -- the first of these replies that refuses, and how many are before it
 abbrev pub refusal_from : ℕ → List Reply → Option (ℕ × Reply)
 refusal_from taken [] = None
@@ -163,8 +170,24 @@ IsTooLong answer = 2 ^ 32 + 4 ≤ length answer
 abbrev pub IsLong : (len : ℕ) → Type 0
 IsLong len = 2 ^ 32 ≤ len + 1
 
--- why an answer with so many bytes after its status may not be written
-abbrev pub IsWriteError : (len : ℕ) → Stop → Type 0
-IsWriteError len LongAnswer = IsLong len
-IsWriteError len Failed = Unit {0}
-IsWriteError len _ = ⊥
+-- this answer was written; or it is too long, and nothing was written; or the output failed, and a
+-- prefix of it was written
+abbrev pub PutsAnswer : (answer : List ℕ) → (out written : Option (List ℕ)) → Result (Unit {0}) Stop
+    → Type 0
+PutsAnswer answer out written (Ok done) = Appends out written answer
+PutsAnswer answer out written (Err LongAnswer) = IsTooLong answer × (written ≡ out)
+PutsAnswer answer out written (Err Failed) = AppendsPart out written answer
+PutsAnswer answer out written (Err other) = ⊥
+
+-- the length and the status of an answer with so many bytes after them
+abbrev pub head_bytes : (status len : ℕ) → List ℕ
+head_bytes status len = length_bytes (len + 1) ++ status ∷ []
+
+-- the same for the head of an answer with so many bytes after it
+abbrev pub PutsHead : (status len : ℕ) → (out written : Option (List ℕ))
+    → Result (Unit {0}) Stop → Type 0
+PutsHead status len out written (Ok done) = Appends out written (head_bytes status len)
+PutsHead status len out written (Err LongAnswer) = IsLong len × (written ≡ out)
+PutsHead status len out written (Err Failed) =
+    AppendsPart out written (head_bytes status len)
+PutsHead status len out written (Err other) = ⊥

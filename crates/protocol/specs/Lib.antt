@@ -1,6 +1,7 @@
 pub mod Answer
 pub mod Input
 pub mod Opening
+pub mod Output
 pub mod Request
 pub mod Serve
 pub mod Stop

@@ -17,6 +17,7 @@ use Rattle.protocol.specs.declared.stop.Stop.TheVariants.{Version as OtherVersio
 use Rattle.protocol.specs.declared.version.Version.{Version as ProtocolVersion}
 use Rattle.protocol.specs.declared.version.Version.TheVariants.{One, Two}
 use Rattle.protocol.specs.Answer.{flag_byte, IsTooLong}
+use Rattle.protocol.specs.Output.{AppendsPart}
 use Rattle.protocol.specs.Request.{frame_bytes, number_bytes}
 
 -- ---- what a client begins with
@@ -121,7 +122,8 @@ hello_bytes setting checksum set_aside size cut =
     ++ text_bytes set_aside)
 
 -- what a client begins with was answered, if it is an offer; the result is the version to go on
--- with, or none if the input has no byte, or why the session stops
+-- with, or none if the input has no byte, or why the session stops. If the output failed, a prefix
+-- of the answer was written
 abbrev pub TellsOpening : Opening → (hello : List ℕ) → (out written : Option (List ℕ))
     → Result (Option ProtocolVersion) Stop → Type 0
 TellsOpening opening hello out written (Ok None) = (opening ≡ End) × (written ≡ out)
@@ -135,6 +137,9 @@ TellsOpening opening hello out written (Err (OtherVersion byte)) =
 TellsOpening opening hello out written (Err NoVersion) =
     (opening ≡ Offer None) × Appends out written known_bytes
 TellsOpening opening hello out written (Err LongAnswer) =
-    (opening ≡ Offer (Some Two)) × IsTooLong hello
-TellsOpening opening hello out written (Err Failed) = Unit {0}
+    (opening ≡ Offer (Some Two)) × IsTooLong hello × (written ≡ out)
+TellsOpening opening hello out written (Err Failed) =
+    ((opening ≡ Offer None) × AppendsPart out written known_bytes)
+    ⊎ ((opening ≡ Offer (Some One)) × AppendsPart out written agreed_bytes)
+    ⊎ ((opening ≡ Offer (Some Two)) × AppendsPart out written hello)
 TellsOpening opening hello out written (Err other) = ⊥

@@ -42,11 +42,13 @@ use Rattle.protocol.specs.declared.stop.Stop.TheVariants.{Malformed, Version, Wo
 use Rattle.protocol.specs.declared.stop.Stop.TheVariants.{Lost, LongAnswer, Failed, OutOfMemory}
 use Rattle.protocol.specs.Answer.{answer_bytes, reply_payload, refusal_bytes, IsTooLong}
 use Rattle.protocol.specs.Answer.{started_bytes, IsRefusalAnswer}
-use Rattle.protocol.specs.Answer.{AppendsRefusal, IsAnswerWith, flaw_status, read_only_status}
+use Rattle.protocol.specs.Answer.{AppendsRefusal, AppendsRefusalPart, IsAnswerWith}
+use Rattle.protocol.specs.Answer.{flaw_status, read_only_status}
 use Rattle.protocol.specs.Answer.{fault_in, reply_error}
 use Rattle.protocol.specs.Answer.{unreadable_status}
 use Rattle.protocol.specs.Opening.{hello_bytes, IsCutOffer, ReadsOpening, TellsOpening}
 use Rattle.protocol.specs.Opening.{version_byte}
+use Rattle.protocol.specs.Output.{AppendsPart}
 use Rattle.protocol.specs.Request.{IsFlawed, IsRequest, ReadsRequest, request_bytes}
 use Rattle.protocol.specs.Request.{number_bytes}
 use Rattle.protocol.specs.Together.{tells_records, tells_ranges, record_bytes, record_lengths}
@@ -242,12 +244,9 @@ abbrev pub TookFor : (List ℕ → ℕ) → Setting → ProtocolVersion → (Lis
 TookFor sum setting version Is request was now old new sync_failed =
     TookWith sum setting version (λ replies answer. Is answer) request was now old new sync_failed
 
--- any answer
-abbrev pub IsAny : List ℕ → Type 0
-IsAny answer = Unit {0}
-
 -- how a request was served and answered, by whether a sync of the file has failed by then: the
--- result is the first error of its replies, or why it wasn't answered
+-- result is the first error of its replies, or why it wasn't answered. What was written then is a
+-- prefix of the answer that belongs to its replies
 abbrev pub TakesRequest : (List ℕ → ℕ) → Setting → ProtocolVersion → Request → SessionState
     → SessionState → Life → Life → (sync_failed : Bool) → (out written : Option (List ℕ))
     → Result (Option Error) Stop → Type 0
@@ -255,9 +254,11 @@ TakesRequest sum setting version request was now old new sync_failed out written
     TookWith sum setting version (λ replies answer.
     Appends out written answer × (fault ≡ fault_in replies)) request was now old new sync_failed
 TakesRequest sum setting version request was now old new sync_failed out written (Err LongAnswer) =
-    TookFor sum setting version IsTooLong request was now old new sync_failed
+    TookFor sum setting version (λ answer. IsTooLong answer × (written ≡ out)) request was now old
+    new sync_failed
 TakesRequest sum setting version request was now old new sync_failed out written (Err Failed) =
-    TookFor sum setting version IsAny request was now old new sync_failed
+    TookFor sum setting version (λ answer. AppendsPart out written answer) request was now old new
+    sync_failed
 TakesRequest sum setting version request was now old new sync_failed out written
     (Err OutOfMemory) =
     (now ≡ was) × (new ≡ old) × (written ≡ out)
@@ -292,14 +293,37 @@ AnsweredThen sum setting version was old input out Then =
     × Answered sum setting version was mid old between had_failed input rest out written
     × Then mid between rest written
 
+-- bytes that are no request get a refusal in version 2, and no answer in version 1
+abbrev pub TellsFlaw : ProtocolVersion → Flaw → (told written : Option (List ℕ)) → Type 0
+TellsFlaw One flaw told written = Appends told written []
+TellsFlaw Two flaw told written = AppendsRefusal (flaw_status flaw) 2 0 told written
+
+-- a prefix of such a refusal was written
+abbrev pub TellsFlawPart : ProtocolVersion → Flaw → (told written : Option (List ℕ)) → Type 0
+TellsFlawPart One flaw told written = ⊥
+TellsFlawPart Two flaw told written = AppendsRefusalPart (flaw_status flaw) 2 0 told written
+
+-- what is next in the input has this flaw, and so isn't a request
+abbrev pub NextIsFlawed : ProtocolVersion → Flaw → Option (List ℕ) → Type 0
+NextIsFlawed version flaw rest = IfSome rest (λ bytes. (bytes ≢ []) × IsFlawed version flaw bytes)
+
+-- nothing more was written, or what is next in the input isn't a request, and a prefix of the
+-- refusal of that was written
+abbrev pub TellsNoAnswer : ProtocolVersion → (rest told written : Option (List ℕ)) → Type 0
+TellsNoAnswer version rest told written =
+    (written ≡ told)
+    ⊎ ((flaw : Flaw) × NextIsFlawed version flaw rest × TellsFlawPart version flaw told written)
+
 -- the input begins with requests whose steps were taken and answered, and maybe with one more,
--- whose steps were taken; nothing else was done
+-- whose steps were taken, and of whose answer a prefix was written; nothing else was done, and
+-- nothing else was written, except a prefix of the refusal of what isn't a request
 abbrev pub BreaksOff : (List ℕ → ℕ) → Setting → ProtocolVersion → SessionState → SessionState → Life
-    → Life → (sync_failed : Bool) → (input out : Option (List ℕ)) → Type 0
-BreaksOff sum setting version was now old new sync_failed input out =
+    → Life → (sync_failed : Bool) → (input out written : Option (List ℕ)) → Type 0
+BreaksOff sum setting version was now old new sync_failed input out written =
     AnsweredThen sum setting version was old input out (λ mid between rest told.
-    ((now ≡ mid) × (new ≡ between))
-    ⊎ TookNext sum setting version IsAny mid now between new sync_failed rest)
+    ((now ≡ mid) × (new ≡ between) × TellsNoAnswer version rest told written)
+    ⊎ TookNext sum setting version (λ answer. AppendsPart told written answer) mid now between new
+    sync_failed rest)
 
 -- the input begins with requests whose steps were taken and answered; nothing else was done, and
 -- nothing else was written
@@ -326,11 +350,6 @@ abbrev pub EndsSession : SessionState → Option Error → Result (Unit {0}) Sto
 EndsSession now fault (Ok done) = (is_some now.writer ≡ true) ⊎ (fault ≡ None)
 EndsSession now fault (Err (Lost error)) = (now.writer ≡ None) × (fault ≡ Some error)
 EndsSession now fault (Err other) = ⊥
-
--- bytes that are no request get a refusal in version 2, and no answer in version 1
-abbrev pub TellsFlaw : ProtocolVersion → Flaw → (told written : Option (List ℕ)) → Type 0
-TellsFlaw One flaw told written = Appends told written []
-TellsFlaw Two flaw told written = AppendsRefusal (flaw_status flaw) 2 0 told written
 
 -- whether a request is a close
 abbrev pub is_close : Request → Bool
@@ -366,13 +385,13 @@ Serves sum setting version was now old new sync_failed input rest out written
     (mid : Option (List ℕ)) × (told : Option (List ℕ))
     × (answered : Answered sum setting version was now old new sync_failed input mid out told)
     × (number ≡ length answered.requests + 1)
-    × IfSome mid (λ bytes. (bytes ≢ []) × IsFlawed version flaw bytes)
-    × TellsFlaw version flaw told written
+    × NextIsFlawed version flaw mid × TellsFlaw version flaw told written
 Serves sum setting version was now old new sync_failed input rest out written (Err LongAnswer) =
     AnsweredThen sum setting version was old input out (λ mid between after told.
-    TookNext sum setting version IsTooLong mid now between new sync_failed after)
+    TookNext sum setting version (λ answer. IsTooLong answer × (written ≡ told)) mid now between
+    new sync_failed after)
 Serves sum setting version was now old new sync_failed input rest out written (Err Failed) =
-    BreaksOff sum setting version was now old new sync_failed input out
+    BreaksOff sum setting version was now old new sync_failed input out written
 Serves sum setting version was now old new sync_failed input rest out written (Err OutOfMemory) =
     StopsUnanswered sum setting version was now old new input out written
 Serves sum setting version was now old new sync_failed input rest out written (Err other) = ⊥
@@ -433,12 +452,25 @@ TookSize sum setting Is old new sync_failed =
     (mid : Life) × (was : SessionState) × (now : SessionState) × HasBegun sum setting old mid was
     × TookFor sum setting One Is (StepOf Size) was now mid new sync_failed
 
--- no session began; or one began, and its size was asked for or not
-abbrev pub EndsEarly : (List ℕ → ℕ) → Setting → Life → Life → (sync_failed : Bool) → Type 0
-EndsEarly sum setting old new sync_failed =
-    HasAttempted sum setting old new
-    ⊎ ((was : SessionState) × HasBegun sum setting old new was)
-    ⊎ TookSize sum setting IsAny old new sync_failed
+-- the recovery was refused with some error, of whose answer a prefix was written; or a session
+-- began, and a prefix of the version was written; or its size was asked for, and a prefix of the
+-- version and of that answer was written
+abbrev pub EndsEarly : (List ℕ → ℕ) → Setting → Life → Life → (sync_failed : Bool)
+    → (out written : Option (List ℕ)) → Type 0
+EndsEarly sum setting old new sync_failed out written =
+    (HasAttempted sum setting old new × ((error : Error)
+    × AppendsPart out written (version_byte ∷ answer_bytes (Fault error) sync_failed)))
+    ⊎ ((was : SessionState) × HasBegun sum setting old new was
+    × AppendsPart out written (version_byte ∷ []))
+    ⊎ TookSize sum setting (λ answer. AppendsPart out written (version_byte ∷ answer)) old new
+    sync_failed
+
+-- a session began, and only the version was written
+abbrev pub TellsVersion : (List ℕ → ℕ) → Setting → Life → Life → (out written : Option (List ℕ))
+    → Type 0
+TellsVersion sum setting old new out written =
+    (was : SessionState) × HasBegun sum setting old new was
+    × Appends out written (version_byte ∷ [])
 
 -- a session has begun, and was greeted: by the version, and the answer to a request for the size
 pub record Greeted (sum : List ℕ → ℕ) (setting : Setting) (old new : Life) (sync_failed : Bool)
@@ -467,11 +499,12 @@ Greets sum setting old new sync_failed out written (Err (Refused error)) =
 Greets sum setting old new sync_failed out written (Err (WouldCut cut)) =
     WouldCutMore sum setting old new cut × (written ≡ out)
 Greets sum setting old new sync_failed out written (Err LongAnswer) =
-    TookSize sum setting IsTooLong old new sync_failed
+    TookSize sum setting (λ answer. IsTooLong answer × Appends out written (version_byte ∷ [])) old
+    new sync_failed
 Greets sum setting old new sync_failed out written (Err Failed) =
-    EndsEarly sum setting old new sync_failed
+    EndsEarly sum setting old new sync_failed out written
 Greets sum setting old new sync_failed out written (Err OutOfMemory) =
-    EndsEarly sum setting old new sync_failed
+    TellsVersion sum setting old new out written
 Greets sum setting old new sync_failed out written (Err other) = ⊥
 
 -- ---- a whole session
@@ -528,6 +561,16 @@ pub record OffersTooLittle (sum : List ℕ → ℕ) (setting : Setting) (old new
     pub ends : IfSome input IsCutOffer
     pub tells : TellsFlaw Two flaw greeting written
 
+-- a session was greeted, and nothing more was written, except a prefix of the refusal of an offer
+-- that was cut
+abbrev pub StopsGreeted : (List ℕ → ℕ) → Setting → Life → Life → (sync_failed : Bool)
+    → (input out written : Option (List ℕ)) → Type 0
+StopsGreeted sum setting old new sync_failed input out written =
+    (was : SessionState) × (greeting : Option (List ℕ))
+    × Greeted sum setting old new sync_failed was out greeting
+    × ((written ≡ greeting)
+    ⊎ (IfSome input IsCutOffer × TellsFlawPart Two Cut greeting written))
+
 -- a greeted session was served the requests after its opening, in its version, and it ended so
 pub record ServedAfter (sum : List ℕ → ℕ) (setting : Setting) (named : Named) (old new : Life)
     (sync_failed : Bool) (input rest out written : Option (List ℕ))
@@ -566,12 +609,16 @@ ServesFile sum setting named old new sync_failed input rest out written (Err (Re
 ServesFile sum setting named old new sync_failed input rest out written (Err (Lost error)) =
     ServedAfter sum setting named old new sync_failed input rest out written (Err (Lost error))
 ServesFile sum setting named old new sync_failed input rest out written (Err LongAnswer) =
-    TookSize sum setting IsTooLong old new sync_failed
+    TookSize sum setting (λ answer. IsTooLong answer × Appends out written (version_byte ∷ [])) old
+    new sync_failed
     ⊎ HasAgreed sum setting named old new sync_failed input rest out written (Err LongAnswer)
     ⊎ ServedAfter sum setting named old new sync_failed input rest out written (Err LongAnswer)
 ServesFile sum setting named old new sync_failed input rest out written (Err Failed) =
-    EndsEarly sum setting old new sync_failed
+    EndsEarly sum setting old new sync_failed out written
+    ⊎ StopsGreeted sum setting old new sync_failed input out written
+    ⊎ HasAgreed sum setting named old new sync_failed input rest out written (Err Failed)
     ⊎ ServedAfter sum setting named old new sync_failed input rest out written (Err Failed)
 ServesFile sum setting named old new sync_failed input rest out written (Err OutOfMemory) =
-    EndsEarly sum setting old new sync_failed
+    TellsVersion sum setting old new out written
+    ⊎ ((was : SessionState) × Greeted sum setting old new sync_failed was out written)
     ⊎ ServedAfter sum setting named old new sync_failed input rest out written (Err OutOfMemory)

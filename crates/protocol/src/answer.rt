@@ -1,11 +1,11 @@
 // Answers: how the reply to a step is written.
-ghost use Rattle.std.specs.Prelude.{◌∷◌, [], ◌++◌, ◌+◌, length, OnOk, IfErr};
+ghost use Rattle.std.specs.Prelude.{◌∷◌, ◌++◌};
 ghost use Rattle.std.specs.List.{flat_map};
-ghost use Rattle.std.specs.Io.KnownBytes.{Appends};
-ghost use Rattle.protocol.specs.Answer.{answer_bytes, refusal_bytes, reply_payload, started_bytes};
-ghost use Rattle.protocol.specs.Answer.{IsWriteError};
-ghost use Rattle.protocol.specs.Request.{frame_bytes, length_bytes, number_bytes};
+ghost use Rattle.protocol.specs.Answer.{answer_bytes, refusal_bytes, started_bytes, PutsAnswer};
+ghost use Rattle.protocol.specs.Answer.{PutsHead};
+ghost use Rattle.protocol.specs.Request.{frame_bytes, number_bytes};
 
+use crate::output::put;
 use crate::refusal::{READ_ONLY, told_status};
 use crate::request::MOST_BYTES;
 use crate::stop::Stop;
@@ -17,9 +17,8 @@ use std::io::Write;
 /// failed.
 #[tactic(auto, unfolding(crate::specs::Request::number_bytes))]
 pub fn write_answer<W: Write>(out: &mut W, reply: &Reply, sync_failed: bool) -> Result<(), Stop>
-    ensures answers { OnOk result
-        (Appends (W.contents out.old) (W.contents out.new) (answer_bytes reply.now sync_failed)) }
-    ensures err { IfErr result (IsWriteError (length (reply_payload reply.now))) }
+    ensures { PutsAnswer (answer_bytes reply.now sync_failed) (W.contents out.old) (W.contents out.new)
+        result }
 {
     match reply {
         Reply::At(number) | Reply::Length(number) => write_number(out, *number),
@@ -45,9 +44,7 @@ pub fn write_answer<W: Write>(out: &mut W, reply: &Reply, sync_failed: bool) -> 
 
 /// Writes the answer of version 1 to a request for a change by a client that may only read.
 pub fn write_refusal<W: Write>(out: &mut W) -> Result<(), Stop>
-    ensures answers { OnOk result
-        (Appends (W.contents out.old) (W.contents out.new) refusal_bytes) }
-    ensures err { IfErr result (IsWriteError 0) }
+    ensures { PutsAnswer refusal_bytes (W.contents out.old) (W.contents out.new) result }
 {
     write_frame(out, READ_ONLY, &[], &[])
 }
@@ -55,9 +52,8 @@ pub fn write_refusal<W: Write>(out: &mut W) -> Result<(), Stop>
 // Writes an answer with one number.
 #[tactic(auto, unfolding(crate::specs::Request::number_bytes))]
 fn write_number<W: Write>(out: &mut W, number: u64) -> Result<(), Stop>
-    ensures answers { OnOk result (Appends (W.contents out.old) (W.contents out.new)
-        (frame_bytes (0 ∷ number_bytes number))) }
-    ensures err { IfErr result (IsWriteError (length (number_bytes number))) }
+    ensures { let answer = frame_bytes (0 ∷ number_bytes number) in
+        PutsAnswer answer (W.contents out.old) (W.contents out.new) result }
 {
     write_frame(out, 0, &number.to_le_bytes(), &[])
 }
@@ -65,9 +61,8 @@ fn write_number<W: Write>(out: &mut W, number: u64) -> Result<(), Stop>
 // Writes an answer with these bytes and then what starting a sync answered.
 #[tactic(auto, unfolding(crate::specs::Request::number_bytes))]
 fn write_started<W: Write>(out: &mut W, front: &[u8], started: StartedSync) -> Result<(), Stop>
-    ensures answers { OnOk result (Appends (W.contents out.old) (W.contents out.new)
-        (frame_bytes (0 ∷ front.now ++ started_bytes started))) }
-    ensures err { IfErr result (IsWriteError (length (front.now ++ started_bytes started))) }
+    ensures { let answer = frame_bytes (0 ∷ front.now ++ started_bytes started) in
+        PutsAnswer answer (W.contents out.old) (W.contents out.new) result }
 {
     match started {
         StartedSync::Done => write_frame(out, 0, front, &[0]),
@@ -80,14 +75,13 @@ fn write_started<W: Write>(out: &mut W, front: &[u8], started: StartedSync) -> R
 
 // Writes an answer with these numbers, eight bytes each.
 fn write_numbers<W: Write>(out: &mut W, numbers: &[usize]) -> Result<(), Stop>
-    ensures answers { OnOk result (Appends (W.contents out.old) (W.contents out.new)
-        (frame_bytes (0 ∷ flat_map number_bytes numbers.now))) }
-    ensures err { IfErr result (IsWriteError (length (flat_map number_bytes numbers.now))) }
+    ensures { let answer = frame_bytes (0 ∷ flat_map number_bytes numbers.now) in
+        PutsAnswer answer (W.contents out.old) (W.contents out.new) result }
 {
     let len = numbers.len().checked_mul(8).ok_or(Stop::LongAnswer)?;
     write_head(out, 0, len)?;
     for number in numbers {
-        out.write_all(&(*number as u64).to_le_bytes())?;
+        put(out, &(*number as u64).to_le_bytes())?;
     }
     Ok(())
 }
@@ -99,31 +93,27 @@ pub fn write_frame<W: Write>(
     front: &[u8],
     bytes: &[u8],
 ) -> Result<(), Stop>
-    ensures answers { OnOk result (Appends (W.contents out.old) (W.contents out.new)
-        (frame_bytes (status ∷ front.now ++ bytes.now))) }
-    ensures err { IfErr result (IsWriteError (length (front.now ++ bytes.now))) }
+    ensures { let answer = frame_bytes (status ∷ front.now ++ bytes.now) in
+        PutsAnswer answer (W.contents out.old) (W.contents out.new) result }
 {
     let len = front
         .len()
         .checked_add(bytes.len())
         .ok_or(Stop::LongAnswer)?;
     write_head(out, status, len)?;
-    out.write_all(front)?;
-    out.write_all(bytes)?;
-    Ok(())
+    put(out, front)?;
+    put(out, bytes)
 }
 
 /// Writes the length and the status of an answer with so many bytes after them.
 #[tactic(auto, unfolding(crate::specs::Request::length_bytes))]
+#[inline(always)]
 pub fn write_head<W: Write>(out: &mut W, status: u8, len: usize) -> Result<(), Stop>
-    ensures answers { OnOk result (Appends (W.contents out.old) (W.contents out.new)
-        (length_bytes (len + 1) ++ status ∷ [])) }
-    ensures err { IfErr result (IsWriteError len) }
+    ensures { PutsHead status len (W.contents out.old) (W.contents out.new) result }
 {
     if len as u64 > MOST_BYTES {
         return Err(Stop::LongAnswer);
     }
     let [a, b, c, d] = (len as u32 + 1).to_le_bytes();
-    out.write_all(&[a, b, c, d, status])?;
-    Ok(())
+    put(out, &[a, b, c, d, status])
 }

@@ -6,6 +6,7 @@ mod answer;
 mod cause;
 mod input;
 mod opening;
+mod output;
 mod refusal;
 mod request;
 mod server;

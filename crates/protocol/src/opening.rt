@@ -1,14 +1,15 @@
 // How a session begins: what a client begins with, and what it is answered.
-ghost use Rattle.std.specs.Prelude.{◌≡◌, ◌+◌, IfErr, OnOk, length};
+ghost use Rattle.std.specs.Prelude.{◌≡◌};
 ghost use Rattle.std.specs.List.{flat_map};
-ghost use Rattle.std.specs.Io.KnownBytes.{Appends};
-ghost use Rattle.protocol.specs.Answer.{IsWriteError};
+ghost use Rattle.protocol.specs.Answer.{PutsAnswer};
 ghost use Rattle.protocol.specs.Opening.{highest_known, hello_bytes, ReadsOpening, ReadsVersions};
 ghost use Rattle.protocol.specs.Opening.{TellsOpening, text_bytes};
+ghost use Rattle.protocol.specs.Output.{PutsBytes};
 ghost use Rattle.protocol.specs.Request.{number_bytes};
 
 use crate::answer::{write_frame, write_head};
 use crate::input::read_front;
+use crate::output::put;
 use crate::request::MOST_BYTES;
 use crate::server::VERSION;
 use crate::setting::Setting;
@@ -132,9 +133,8 @@ fn write_hello<W: Write>(
     size: u64,
     cut: u64,
 ) -> Result<(), Stop>
-    ensures answers { let hello = hello_bytes setting.now checksum.now set_aside.now size cut in
-        OnOk result (Appends (W.contents out.old) (W.contents out.new) hello) }
-    ensures err { IfErr result (IsWriteError (length checksum.now + length set_aside.now + 82)) }
+    ensures { let hello = hello_bytes setting.now checksum.now set_aside.now size cut in
+        PutsAnswer hello (W.contents out.old) (W.contents out.new) result }
 {
     let page = u64::from(setting.page_size.get());
     let numbers = [
@@ -153,7 +153,7 @@ fn write_hello<W: Write>(
         .ok_or(Stop::LongAnswer)?;
     let len = texts.checked_add(FIXED).ok_or(Stop::LongAnswer)?;
     write_head(out, 0, len)?;
-    out.write_all(&[2, u8::from(setting.read_only)])?;
+    put(out, &[2, u8::from(setting.read_only)])?;
     write_all_numbers(out, &numbers)?;
     write_text(out, checksum)?;
     write_text(out, set_aside)
@@ -161,12 +161,11 @@ fn write_hello<W: Write>(
 
 // Writes these numbers.
 fn write_all_numbers<W: Write>(out: &mut W, numbers: &[u64]) -> Result<(), Stop>
-    ensures answers { OnOk result
-        (Appends (W.contents out.old) (W.contents out.new) (flat_map number_bytes numbers.now)) }
-    ensures failed { IfErr result (λ stop. stop ≡ Stop.Failed) }
+    ensures { let bytes = flat_map number_bytes numbers.now in
+        PutsBytes bytes (W.contents out.old) (W.contents out.new) result }
 {
     for number in numbers {
-        out.write_all(&number.to_le_bytes())?;
+        put(out, &number.to_le_bytes())?;
     }
     Ok(())
 }
@@ -174,11 +173,8 @@ fn write_all_numbers<W: Write>(out: &mut W, numbers: &[u64]) -> Result<(), Stop>
 // Writes a text: its length in bytes, and then its bytes.
 #[tactic(auto, unfolding(crate::specs::Request::number_bytes))]
 fn write_text<W: Write>(out: &mut W, text: &str) -> Result<(), Stop>
-    ensures answers { OnOk result
-        (Appends (W.contents out.old) (W.contents out.new) (text_bytes text.now)) }
-    ensures failed { IfErr result (λ stop. stop ≡ Stop.Failed) }
+    ensures { PutsBytes (text_bytes text.now) (W.contents out.old) (W.contents out.new) result }
 {
-    out.write_all(&(text.len() as u64).to_le_bytes())?;
-    out.write_all(text.as_bytes())?;
-    Ok(())
+    put(out, &(text.len() as u64).to_le_bytes())?;
+    put(out, text.as_bytes())
 }

@@ -1,8 +1,9 @@
 // Refusals of the second version: what was refused, why, and what may be done next.
 ghost use Rattle.std.specs.Prelude.{◌≡◌, ◌≤◌, ◌∷◌, ◌++◌, length, IfErr, OnOk};
-ghost use Rattle.std.specs.Io.KnownBytes.{Appends};
-ghost use Rattle.protocol.specs.Answer.{AppendsRefusal, advice_byte, advice_for, fault_in};
+ghost use Rattle.protocol.specs.Answer.{AppendsRefusal, AppendsRefusalPart, advice_byte};
+ghost use Rattle.protocol.specs.Answer.{advice_for, fault_in};
 ghost use Rattle.protocol.specs.Answer.{flaw_status, status_byte, told_error, told_status};
+ghost use Rattle.protocol.specs.Output.{PutsBytes};
 ghost use Rattle.protocol.specs.Request.{frame_bytes, number_bytes};
 ghost use Rattle.protocol.specs.Taking.{TellsRefusal};
 
@@ -156,7 +157,8 @@ pub fn write_told<W: Write>(
 ) -> Result<(), Stop>
     ensures tells { OnOk result
         (AppendsRefusal status advice taken (W.contents out.old) (W.contents out.new)) }
-    ensures failed { IfErr result (λ stop. stop ≡ Stop.Failed) }
+    ensures failed { IfErr result (λ stop. (stop ≡ Stop.Failed)
+        × AppendsRefusalPart status advice taken (W.contents out.old) (W.contents out.new)) }
 {
     let Some(error) = cause else {
         return write_cause(out, status, advice, taken, 0, &[]);
@@ -183,10 +185,9 @@ fn write_cause<W: Write>(
     words: &[u8],
 ) -> Result<(), Stop>
     requires { length words.now ≤ 255 }
-    ensures tells { let told = number_bytes taken ++ number_bytes number ++ words.now in
-        OnOk result (Appends (W.contents out.old) (W.contents out.new)
-        (frame_bytes (status ∷ advice ∷ told))) }
-    ensures failed { IfErr result (λ stop. stop ≡ Stop.Failed) }
+    ensures { let told = number_bytes taken ++ number_bytes number ++ words.now in
+        PutsBytes (frame_bytes (status ∷ advice ∷ told)) (W.contents out.old) (W.contents out.new)
+        result }
 {
     let [a, b, c, d, e, f, g, h] = taken.to_le_bytes();
     let [i, j, k, l, m, n, o, p] = number.to_le_bytes();

@@ -14,6 +14,7 @@ ghost use Rattle.protocol.specs.Taking.{TellsStop};
 
 use crate::answer::write_answer;
 use crate::opening::{Opening, read_opening, tell_opening};
+use crate::output::put;
 use crate::refusal::{status_of_flaw, write_told};
 use crate::request::{Request, read_request};
 use crate::stop::{ReadError, Stop};
@@ -135,13 +136,13 @@ fn greet<B: Blob + Cause, H: Sum, W: Write + Drop>(
     let (mut session, mut cache) = match recover::<B, H>(alloc, blob, setting) {
         Ok(begun) => begun,
         Err(Stop::Refused(error)) => {
-            out.write_all(&[VERSION])?;
+            put(out, &[VERSION])?;
             write_answer(out, &Reply::Fault(error), blob.failed_sync())?;
             return Err(Stop::Refused(error));
         }
         Err(stop) => return Err(stop),
     };
-    out.write_all(&[VERSION])?;
+    put(out, &[VERSION])?;
     let mut replies = Vec::new(alloc);
     take_request(
         alloc,

@@ -1,12 +1,11 @@
 // Requests are taken as steps of a session, and answered.
 ghost use Rattle.std.specs.Prelude.{◌≡◌, ◌<◌, ◌+◌, ◌*◌, ◌%◌, ◌^◌, ◌&&◌, ◌++◌, ◌∷◌, []};
 ghost use Rattle.std.specs.Prelude.{◌≤◌, drop, false, true, None, is_some, length};
-ghost use Rattle.std.specs.Prelude.{IfErr, IfOk, OnOk};
+ghost use Rattle.std.specs.Prelude.{IfOk, OnOk};
 ghost use Rattle.std.specs.List.{flat_map, sum};
 ghost use Rattle.session.specs.Run.{IsSessionReady};
-ghost use Rattle.std.specs.Io.KnownBytes.{Appends};
 ghost use Rattle.std.specs.Io.Buffered.{writer_buffer, writer_contents};
-ghost use Rattle.protocol.specs.Answer.{first_refusal, IsAnswerWith, IsWriteError};
+ghost use Rattle.protocol.specs.Answer.{first_refusal, IsAnswerWith, PutsAnswer};
 ghost use Rattle.protocol.specs.Request.{IsRequest, frame_bytes, number_bytes};
 ghost use Rattle.protocol.specs.Serve.{AreSteps, asks_change, gives_last};
 ghost use Rattle.protocol.specs.Serve.{is_close, IsChangeRefused, last_payload, records_payload};
@@ -17,6 +16,7 @@ ghost use Rattle.protocol.specs.Together.{lengths_in, record_starts};
 ghost use Rattle.protocol.specs.declared.version.Version.TheVariants.{Two};
 
 use crate::answer::{write_answer, write_frame, write_head, write_refusal};
+use crate::output::put;
 use crate::refusal::{READ_ONLY, UNREADABLE, first_fault, tell_refusal, write_told};
 use crate::request::{Request, Then};
 use crate::stop::Stop;
@@ -121,8 +121,7 @@ pub fn take_request<B: Blob + Cause, H: Sum, W: Write + Drop>(
 // Writes an answer without a payload, and flushes all answers.
 fn write_flushed<W: Write + Drop>(out: &mut BufWriter<W>) -> Result<(), Stop>
     ensures answers { let out_old = writer_contents W.contents out.old in
-        OnOk result (Appends out_old (writer_contents W.contents out.new) (frame_bytes (0 ∷ []))) }
-    ensures err { IfErr result (IsWriteError 0) }
+        PutsAnswer (frame_bytes (0 ∷ [])) out_old (writer_contents W.contents out.new) result }
     ensures sent { OnOk result (writer_buffer out.new ≡ []) }
 {
     write_frame(out, 0, &[], &[])?;
@@ -133,9 +132,8 @@ fn write_flushed<W: Write + Drop>(out: &mut BufWriter<W>) -> Result<(), Stop>
 // Writes an answer with how many snapshots and how many replays are open.
 #[tactic(auto, unfolding(crate::specs::Request::number_bytes))]
 fn write_open<W: Write>(out: &mut W, snapshots: usize, replays: usize) -> Result<(), Stop>
-    ensures answers { let told = number_bytes snapshots ++ number_bytes replays in
-        OnOk result (Appends (W.contents out.old) (W.contents out.new) (frame_bytes (0 ∷ told))) }
-    ensures err { IfErr result (IsWriteError 16) }
+    ensures { let told = number_bytes snapshots ++ number_bytes replays in
+        PutsAnswer (frame_bytes (0 ∷ told)) (W.contents out.old) (W.contents out.new) result }
 {
     let snapshots = (snapshots as u64).to_le_bytes();
     let replays = (replays as u64).to_le_bytes();
@@ -542,6 +540,5 @@ fn write_starts_and<W: Write>(
 {
     write_head(out, 0, 2 * lengths.len() + more.len())?;
     write_starts(out, first, lengths)?;
-    out.write_all(more)?;
-    Ok(())
+    put(out, more)
 }

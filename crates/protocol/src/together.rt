@@ -1,12 +1,13 @@
 // Requests whose bytes encode records, or ranges.
-ghost use Rattle.std.specs.Prelude.{◌≡◌, ◌<◌, ◌+◌, ◌^◌, is_some, take, drop, length, IfSome, IfErr};
-ghost use Rattle.std.specs.Prelude.{IfOk, OnOk};
+ghost use Rattle.std.specs.Prelude.{◌≡◌, ◌<◌, ◌+◌, ◌^◌, is_some, take, drop, length, IfSome};
+ghost use Rattle.std.specs.Prelude.{IfOk};
 ghost use Rattle.std.specs.List.{flat_map, sum};
-ghost use Rattle.std.specs.Io.KnownBytes.{Appends};
+ghost use Rattle.protocol.specs.Output.{PutsBytes};
 ghost use Rattle.protocol.specs.Request.{number_bytes};
 ghost use Rattle.protocol.specs.Together.{tells_ranges, tells_records, lengths_in, lengths_size};
 ghost use Rattle.protocol.specs.Together.{ranges_in, record_starts};
 
+use crate::output::put;
 use crate::request::MOST_BYTES;
 use crate::stop::Stop;
 use std::alloc::{AllocError, Global};
@@ -53,14 +54,13 @@ fn total(lengths: &[u8]) -> u64
 #[tactic(auto, unfolding(crate::specs::Request::number_bytes))]
 pub fn write_starts<W: Write>(out: &mut W, first: u64, lengths: &[u8]) -> Result<(), Stop>
     requires { first + sum (lengths_in lengths.now) < 2 ^ 64 }
-    ensures answers { OnOk result (Appends (W.contents out.old) (W.contents out.new)
-        (flat_map number_bytes (record_starts first (lengths_in lengths.now)))) }
-    ensures failed { IfErr result (λ stop. stop ≡ Stop.Failed) }
+    ensures { let starts = flat_map number_bytes (record_starts first (lengths_in lengths.now)) in
+        PutsBytes starts (W.contents out.old) (W.contents out.new) result }
 {
     let mut at = first;
     let mut rest = lengths;
     while let Some((length, after)) = rest.split_first_chunk::<4>() {
-        out.write_all(&at.to_le_bytes())?;
+        put(out, &at.to_le_bytes())?;
         at += u64::from(u32::from_le_bytes(*length));
         rest = after;
     }

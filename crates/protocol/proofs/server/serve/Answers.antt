@@ -3,7 +3,7 @@ use Rattle.std.specs.Prelude.{Option, Some, Ok, IfSome}
 use Rattle.std.specs.Io.Buffered.{reader_remaining, writer_contents}
 use Rattle.protocol.specs.Serve.{ReadsNext}
 use Rattle.protocol.specs.declared.request.Request.{Request}
-use Rattle.protocol.proofs.Serving.{at_end, close_read, serving_begins, serving_ends, serving_more, serving_stops, serving_fails}
+use Rattle.protocol.proofs.Serving.{at_end, close_read, serving_begins, serving_ends, serving_fails, serving_more, serving_over, serving_stops}
 use Rattle.protocol.proofs.server.serve.Goals as goal
 
 pub loop-number-init : goal.loop-number-init
@@ -59,3 +59,8 @@ loop-number-preserved g c =
           (reader_remaining g.R.Read.remaining c.args.input.now) rest last (writer_contents g.W.Write.contents c.args.out.now) (writer_contents g.W.Write.contents c.loop-number.out) (writer_contents g.W.Write.contents c.next_request.new.out) (writer_contents g.W.Write.contents c.take_request.new.out)
           c.loop-number.fault c.in_ok-next.next c.later-fault.result c.is_some-had_writer.result c.loop-number.number c.later-fault.ensures c.loop-number.invariant.serving c.next_request.ensures.keeps reads c.in_ok-next.ensures.takes;
     }
+
+pub returns-clause-serves : goal.returns-clause-serves
+returns-clause-serves g c =
+    serving_over g.H.Sum.sum_of c.args.setting.now c.args.version c.args.session.now c.loop-number.session (g.B.Blob.life c.args.blob.now) (g.B.Blob.life c.loop-number.blob) (g.B.Cause.sync_failed c.loop-number.blob) (reader_remaining g.R.Read.remaining c.args.input.now)
+    (reader_remaining g.R.Read.remaining c.loop-number.input) (writer_contents g.W.Write.contents c.args.out.now) (writer_contents g.W.Write.contents c.loop-number.out) c.loop-number.fault c.loop-number.number c.loop-number.invariant.serving

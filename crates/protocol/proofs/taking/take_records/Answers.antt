@@ -11,7 +11,7 @@ use Rattle.protocol.specs.declared.request.Request.TheVariants.{Records}
 use Rattle.protocol.specs.declared.version.Version.TheVariants.{Two}
 use Rattle.protocol.proofs.Appended.{bytes_after, records_reply}
 use Rattle.protocol.proofs.Requested.{no_record_steps, record_answers, record_steps, runs_request, unreadable, writer_there}
-use Rattle.protocol.proofs.Taken.{some_with, writes_as}
+use Rattle.protocol.proofs.Taken.{writes_as}
 use Rattle.protocol.proofs.taking.take_records.Goals as goal
 
 pub returns-in_default-clause-takes : goal.returns-in_default-clause-takes
@@ -54,8 +54,7 @@ returns-clause-takes g c =
     subst (λ (b : Bool). WritesAnswer (IsAnswerWith payload replies b failed) out written c.answer_records-written.result) there
     (subst (λ (rs : List Reply). WritesAnswer (IsAnswerWith (records_payload (record_lengths fields) rs) rs c.is_some-has_writer.result failed) out written c.answer_records-written.result) c.deref-3.ensures.value
     (subst (λ (ls : List ℕ). WritesAnswer (IsAnswerWith (records_payload (lengths_in ls) c.deref-3.result.now) c.deref-3.result.now c.is_some-has_writer.result failed) out written c.answer_records-written.result) is told)) in
-    let some = some_with payload replies (is_some now.writer) failed in
     runs_request g.H.Sum.sum_of c.args.setting.now Two (Records c.args.fields c.args.then) (Append bytes ∷ steps_then c.args.then) c.args.session.now now c.args.cache.now c.append_then.new.cache (g.B.Blob.life c.args.blob.now) (g.B.Blob.life c.append_then.new.blob) failed replies out written c.answer_records-written.result c.finish.result
-    (ap (λ (b : Bool). b && true) c.requires.may) (record_steps c.args.setting.now c.args.fields bytes c.args.then are content) c.in_ok-append_then.ensures.runs (some.0, record_answers c.args.fields c.args.then replies now failed some.0 are some.1)
+    (ap (λ (b : Bool). b && true) c.requires.may) (record_steps c.args.setting.now c.args.fields bytes c.args.then are content) c.in_ok-append_then.ensures.runs
     (writes_as (IsAnswerWith payload replies (is_some now.writer) failed) (IsAnswer Two (Records c.args.fields c.args.then) replies now failed) out written c.answer_records-written.result
     (λ answer given. record_answers c.args.fields c.args.then replies now failed answer are given) wrote) c.finish.ensures.told
