@@ -1,6 +1,6 @@
 -- An append to the log, by its steps.
 use Rattle.std.specs.Prelude.{◌≡◌, ◌<◌, ◌≤◌, ℕ, List, [], ◌∷◌, Some, None, Option, Result, Ok, Err}
-use Rattle.std.proofs.Common.{ap, ◌∙◌, refl, inl, inr}
+use Rattle.std.proofs.Common.{ap, ◌∙◌, refl, subst, inl, inr}
 use Rattle.writer_state.specs.WriterState.{WriterState}
 use Rattle.segments.specs.declared.error.Error.{Error}
 use Rattle.segments.specs.declared.error.Error.TheVariants as errors
@@ -25,6 +25,10 @@ none_left sum own bytes s t (errors.Outdated n) is = absurd is
 none_left sum own bytes s t errors.Manifest is = absurd is
 none_left sum own bytes s t (errors.NoSegment n) is = absurd is
 none_left sum own bytes s t errors.NumbersExhausted is = absurd is
+
+-- the open segment is so long that it is closed, as a log is put together
+pub is_long : (view s : LogState) → view ≡ s → view.most ≤ owned_size view.current.journal → s.most ≤ owned_size s.current.journal
+is_long view s is long = subst (λ (s : LogState). s.most ≤ owned_size s.current.journal) is long
 
 -- to the open segment
 pub here_goes : (sum own : List ℕ → ℕ) (bytes : List ℕ) (s t : LogState) (result : Result Place Error) → owned_size s.current.journal < s.most

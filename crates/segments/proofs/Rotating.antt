@@ -79,6 +79,10 @@ pub record Turning (sum own : List ℕ → ℕ) (s m n f : LogState) (next : Own
   pub asks : IsSameButAsked m n
   pub follows : HasFollowed next n f
 
+pub turning_of : (sum own : List ℕ → ℕ) (s m n f : LogState) (next : OwnedState) (kept : Closed) → WasClosed sum own s m.current.life kept → CurrentKeeps sum own (records_now own s.current) s m
+    → IsSameButCurrent s m → HasNext sum own m n next → IsSameButAsked m n → HasFollowed next n f → Turning sum own s m n f next kept
+turning_of sum own s m n f next kept closed keeps first has asks follows = record { closed = closed; keeps = keeps; first = first; has = has; asks = asks; follows = follows }
+
 -- ---- what a log is after these steps
 
 module _ (sum own : List ℕ → ℕ) (s m n f : LogState) (next : OwnedState) (kept : Closed) (is : Turning sum own s m n f next kept) where

@@ -1,15 +1,12 @@
 use Rattle.std.specs.Prelude.{◌<◌}
-use Rattle.std.proofs.Common.{◌≤◌, arith, inl, inr, subst}
+use Rattle.std.proofs.Common.{arith, inl, inr, subst}
 use Rattle.std.proofs.lemmas.Grind.{common_steps}
 use Rattle.segments.specs.Owned.{owned_size}
-use Rattle.segments.proofs.Appends.{after_goes, after_survives, here_goes, turn_goes}
+use Rattle.segments.proofs.Appends.{after_goes, after_survives, here_goes, is_long, turn_goes}
 use Rattle.segments.proofs.Records.{log_adds_after}
 use Rattle.segments.proofs.log.SegmentedLog.append.Given
 use Rattle.segments.proofs.log.SegmentedLog.append.Goals as goal
-use Rattle.segments.proofs.log.SegmentedLog.append.Goals.{After-append_here, After-rotate}
-
-is_long : (g : Given.Over) (c : After-rotate g) → c.args.self.now.most ≤ owned_size c.args.self.now.current.journal
-is_long g c = subst (λ s. s.most ≤ owned_size s.current.journal) c.self.view_is (omega (arith, c.if-size-self.false, c.size.ensures))
+use Rattle.segments.proofs.log.SegmentedLog.append.Goals.{After-append_here}
 
 is_short : (g : Given.Over) (c : After-append_here g) → owned_size c.args.self.now.current.journal < c.args.self.now.most
 is_short g c = subst (λ s. owned_size s.current.journal < s.most) c.self.view_is (omega (arith, c.if-size-self.true, c.size.ensures))
@@ -26,13 +23,13 @@ returns-then-size-self-clause-adds c = grind (arith, common_steps)
 
 pub returns-in-Ok-clause-goes : goal.returns-in-Ok-clause-goes
 returns-in-Ok-clause-goes g c =
-    after_goes g.H.Sum.sum_of g.R.Sum.sum_of c.args.bytes.now c.args.self.now c.rotate.new.self c.append_here-in-Ok.new.self c.append_here-in-Ok.result (is_long g c)
+    after_goes g.H.Sum.sum_of g.R.Sum.sum_of c.args.bytes.now c.args.self.now c.rotate.new.self c.append_here-in-Ok.new.self c.append_here-in-Ok.result (is_long _ c.args.self.now c.self.view_is (omega (arith, c.if-size-self.false, c.size.ensures)))
     c.in-Ok.ensures.goes c.append_here-in-Ok.ensures.goes c.append_here-in-Ok.ensures.rest
 
 pub returns-in-Ok-clause-adds : goal.returns-in-Ok-clause-adds
 returns-in-Ok-clause-adds g c =
     log_adds_after g.H.Sum.sum_of g.R.Sum.sum_of c.args.bytes.now c.args.self.now c.rotate.new.self c.append_here-in-Ok.new.self c.append_here-in-Ok.result
-    c.in-Ok.ensures.goes (is_long g c) c.append_here-in-Ok.ensures.goes c.append_here-in-Ok.ensures.rest
+    c.in-Ok.ensures.goes (is_long _ c.args.self.now c.self.view_is (omega (arith, c.if-size-self.false, c.size.ensures))) c.append_here-in-Ok.ensures.goes c.append_here-in-Ok.ensures.rest
 
 pub returns-in-Ok-clause-survives : goal.returns-in-Ok-clause-survives
 returns-in-Ok-clause-survives g c =
@@ -41,7 +38,7 @@ returns-in-Ok-clause-survives g c =
 
 pub returns-in-Err-clause-goes : goal.returns-in-Err-clause-goes
 returns-in-Err-clause-goes g c =
-    turn_goes g.H.Sum.sum_of g.R.Sum.sum_of c.args.bytes.now c.args.self.now c.rotate.new.self c.in-Err.error (is_long g c) c.in-Err.ensures.goes
+    turn_goes g.H.Sum.sum_of g.R.Sum.sum_of c.args.bytes.now c.args.self.now c.rotate.new.self c.in-Err.error (is_long _ c.args.self.now c.self.view_is (omega (arith, c.if-size-self.false, c.size.ensures))) c.in-Err.ensures.goes
 
 pub returns-in-Err-clause-survives : goal.returns-in-Err-clause-survives
 returns-in-Err-clause-survives g c = inr (inl (c.in-Err.ensures.goes.0, c.rotate.ensures.turns))

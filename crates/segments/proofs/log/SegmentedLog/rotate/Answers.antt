@@ -3,21 +3,8 @@ use Rattle.segments.specs.Log.{LogState}
 use Rattle.segments.proofs.Refusing.{close_refused, enter_refused, next_refused}
 use Rattle.segments.proofs.Turning.{close_survives, let_go, let_go_kept, turn_survives}
 use Rattle.segments.specs.Owned.{OwnedState}
-use Rattle.segments.proofs.Rotating.{Turning, current_is, rotate_goes}
+use Rattle.segments.proofs.Rotating.{current_is, rotate_goes, turning_of}
 use Rattle.segments.proofs.log.SegmentedLog.rotate.Goals as goal
-use Rattle.segments.proofs.log.SegmentedLog.rotate.Goals.{After-enter}
-use Rattle.segments.proofs.log.SegmentedLog.rotate.Given
-
-turning : (g : Given.Over) (c : After-enter g)
-    → Turning g.H.Sum.sum_of g.R.Sum.sum_of c.args.self.now c.close_current.new.self c.open_next.new.self c.follow_with.new.self c.in_ok-next.next c.in_ok-closed.closed
-turning g c = record {
-  closed = c.in_ok-closed.ensures.goes;
-  keeps = c.close_current.ensures.keeps;
-  first = c.close_current.ensures.rest;
-  has = c.in_ok-next.ensures.goes;
-  asks = c.open_next.ensures.rest;
-  follows = c.follow_with.ensures.goes;
-}
 
 pub returns-in_err-closed-clause-goes : goal.returns-in_err-closed-clause-goes
 returns-in_err-closed-clause-goes g c =
@@ -40,7 +27,16 @@ returns-in_err-next-clause-turns g c =
 
 pub returns-in-Ok-clause-goes : goal.returns-in-Ok-clause-goes
 returns-in-Ok-clause-goes g c =
-    rotate_goes g.H.Sum.sum_of g.R.Sum.sum_of c.args.self.now c.close_current.new.self c.open_next.new.self c.follow_with.new.self c.in_ok-next.next c.in_ok-closed.closed (turning g c)
+    let sum = g.H.Sum.sum_of in
+    let own = g.R.Sum.sum_of in
+    let s = c.args.self.now in
+    let m = c.close_current.new.self in
+    let n = c.open_next.new.self in
+    let f = c.follow_with.new.self in
+    let next = c.in_ok-next.next in
+    let kept = c.in_ok-closed.closed in
+    rotate_goes sum own s m n f next kept
+    (turning_of sum own s m n f next kept c.in_ok-closed.ensures.goes c.close_current.ensures.keeps c.close_current.ensures.rest c.in_ok-next.ensures.goes c.open_next.ensures.rest c.follow_with.ensures.goes)
     c.enter.new.self c.in-Ok.ensures.goes c.enter.ensures.rest
 
 pub returns-in-Ok-clause-turns : goal.returns-in-Ok-clause-turns
@@ -48,21 +44,29 @@ returns-in-Ok-clause-turns g c =
     let sum = g.H.Sum.sum_of in
     let own = g.R.Sum.sum_of in
     let s = c.args.self.now in
+    let m = c.close_current.new.self in
+    let n = c.open_next.new.self in
+    let f = c.follow_with.new.self in
     let next = c.in_ok-next.next in
     let kept = c.in_ok-closed.closed in
-    turn_survives sum own s c.close_current.new.self c.open_next.new.self c.follow_with.new.self c.enter.new.self c.enter.new.self next kept c.requires.log (turning g c) c.enter.ensures.tries refl
-    (ap (λ (o : OwnedState). o.life) (c.enter.ensures.rest.current ∙ current_is sum own s c.close_current.new.self c.open_next.new.self c.follow_with.new.self next kept (turning g c)))
-    (let_go_kept sum own s c.close_current.new.self c.open_next.new.self c.follow_with.new.self c.enter.new.self next kept (turning g c) c.in-Ok.ensures.goes.kept)
+    let turning = turning_of sum own s m n f next kept c.in_ok-closed.ensures.goes c.close_current.ensures.keeps c.close_current.ensures.rest c.in_ok-next.ensures.goes c.open_next.ensures.rest c.follow_with.ensures.goes in
+    turn_survives sum own s m n f c.enter.new.self c.enter.new.self next kept c.requires.log turning c.enter.ensures.tries refl
+    (ap (λ (o : OwnedState). o.life) (c.enter.ensures.rest.current ∙ current_is sum own s m n f next kept turning))
+    (let_go_kept sum own s m n f c.enter.new.self next kept turning c.in-Ok.ensures.goes.kept)
 
 pub returns-in-Err-clause-turns : goal.returns-in-Err-clause-turns
 returns-in-Err-clause-turns g c =
     let sum = g.H.Sum.sum_of in
     let own = g.R.Sum.sum_of in
     let s = c.args.self.now in
+    let m = c.close_current.new.self in
+    let n = c.open_next.new.self in
+    let f = c.follow_with.new.self in
     let next = c.in_ok-next.next in
     let kept = c.in_ok-closed.closed in
-    turn_survives sum own s c.close_current.new.self c.open_next.new.self c.follow_with.new.self c.enter.new.self _ next kept c.requires.log (turning g c) c.enter.ensures.tries
+    let turning = turning_of sum own s m n f next kept c.in_ok-closed.ensures.goes c.close_current.ensures.keeps c.close_current.ensures.rest c.in_ok-next.ensures.goes c.open_next.ensures.rest c.follow_with.ensures.goes in
+    turn_survives sum own s m n f c.enter.new.self _ next kept c.requires.log turning c.enter.ensures.tries
     (ap (λ (l : LogState). l.manifest) c.self.view_is)
     (ap (λ (o : OwnedState). o.life) (c.forget.ensures.lets) ∙ ap (λ (l : LogState). l.current.life) c.self.view_is
-    ∙ ap (λ (o : OwnedState). o.life) (c.enter.ensures.rest.current ∙ current_is sum own s c.close_current.new.self c.open_next.new.self c.follow_with.new.self next kept (turning g c)))
-    (let_go sum own s c.close_current.new.self c.open_next.new.self c.follow_with.new.self _ next kept (turning g c) (ap (λ (l : LogState). l.asked) c.self.view_is ∙ c.in-Err.ensures.goes.asked))
+    ∙ ap (λ (o : OwnedState). o.life) (c.enter.ensures.rest.current ∙ current_is sum own s m n f next kept turning))
+    (let_go sum own s m n f _ next kept turning (ap (λ (l : LogState). l.asked) c.self.view_is ∙ c.in-Err.ensures.goes.asked))
