@@ -111,7 +111,7 @@ closed = record small { current = without_journal with_c }
 
 pub it_was_closed : (len : ℕ) (digest : List ℕ) → IsOf c_page (kept_of 1 len digest) → WasClosed add_sum add_sum small c_life (kept_of 1 len digest)
 unfolding record_len is_record record_of frames records
-it_was_closed len digest is = record { shut = all_is_durable; of = is; counts = refl }
+it_was_closed len digest is = record { was_open = tt; shut = all_is_durable; of = is; counts = refl }
 
 -- one record more was kept than it had
 pub one_more_was_kept : (len : ℕ) (digest : List ℕ) → WasClosed add_sum add_sum small c_life (kept_of 2 len digest) → ⊥

@@ -1,5 +1,5 @@
 -- A closed segment in memory.
-use Rattle.std.specs.Prelude.{◌≡◌, ℕ, List, Some, None, Option, Result, Ok, Err}
+use Rattle.std.specs.Prelude.{◌≡◌, ◌≢◌, ℕ, List, Some, None, Option, Result, Ok, Err}
 use Rattle.std.proofs.Common.{ap, sym, ◌∙◌, subst, inr}
 use Rattle.disk.specs.Disk.{Life}
 use Rattle.page.specs.Page.{text}
@@ -13,7 +13,8 @@ use Rattle.segments.specs.declared.error.Error.TheVariants as errors
 use Rattle.segments.specs.declared.place.Place.{Place}
 use Rattle.segments.specs.Digests.{IsOf, SameKept}
 use Rattle.segments.specs.Owned.{HasJournal, IsOwned, OwnedReadGoes, OwnedReadLeaves, OwnedState, content_of}
-use Rattle.segments.specs.Log.{HasLoaded, HasOpened, HeldReadGoes, HoldsClosed, IsLoaded, IsReadOf, LoadedState, LogReadGoes, LogState}
+use Rattle.segments.specs.Log.{HasLoaded, HasOpened, HeldReadGoes, HoldsClosed, IsLoaded, IsReadOf, LoadedState, LogReadGoes, LogReadRefused, LogState, TakeLoadedGoes}
+use Rattle.segments.specs.Manifest.{open_in}
 use Rattle.segments.proofs.Joining.{content_by}
 use Rattle.segments.proofs.Readings.{reads_by}
 
@@ -97,3 +98,17 @@ reads_closed sum own s t p l (Err (errors.Outdated n)) has is = absurd is
 reads_closed sum own s t p l (Err errors.Manifest) has is = absurd is
 reads_closed sum own s t p l (Err (errors.NoSegment n)) has is = absurd is
 reads_closed sum own s t p l (Err errors.NumbersExhausted) has is = absurd is
+
+-- a closed segment couldn't be brought into memory
+pub load_refused : (sum own : List ℕ → ℕ) (s t : LogState) (p : Place) (e : Error) → p.segment ≢ open_in s.listing → TakeLoadedGoes sum own s p.segment (Err e) → LogReadRefused own s t p e
+load_refused sum own s t p (errors.NoSegment n) other is = (is.0, other, is.1)
+load_refused sum own s t p (errors.Damaged n) other is = is
+load_refused sum own s t p (errors.System e) other is = is
+load_refused sum own s t p (errors.Layer e) other is = inr is
+load_refused sum own s t p errors.Closed other is = absurd is
+load_refused sum own s t p (errors.Unlisted n) other is = absurd is
+load_refused sum own s t p (errors.Missing n) other is = absurd is
+load_refused sum own s t p (errors.Short n) other is = absurd is
+load_refused sum own s t p (errors.Outdated n) other is = absurd is
+load_refused sum own s t p errors.Manifest other is = absurd is
+load_refused sum own s t p errors.NumbersExhausted other is = absurd is

@@ -13,12 +13,12 @@ use Rattle.journal.specs.Journal.{IsAppended}
 use Rattle.segments.specs.declared.closed.Closed.{Closed}
 use Rattle.segments.specs.declared.error.Error.{Error}
 use Rattle.segments.specs.declared.place.Place.{Place}
-use Rattle.segments.specs.Digests.{AreBytes, HasTwin, IsOf}
+use Rattle.segments.specs.Digests.{EachIsByte, HasTwin, IsOf}
 use Rattle.segments.specs.Manifest.{ListingState}
 use Rattle.segments.specs.Owned.{KeepsJournal, OwnedAppendGoes, OwnedState, owned_size, records_now, records_of}
 use Rattle.segments.specs.Log.{AppendHereGoes, HasMore, IsAppendedTo, IsRotated, IsSameButCurrent, LogAppendGoes, LogState, TellHeld, closed_records, log_records}
 
-judge : (content other : List ℕ) → AreBytes other → length other ≡ length content → sha256 other ≡ sha256 content → (b : Bool) → bytes_eq other content ≡ b → (other ≡ content) ⊎ HasTwin content
+judge : (content other : List ℕ) → EachIsByte other → length other ≡ length content → sha256 other ≡ sha256 content → (b : Bool) → bytes_eq other content ≡ b → (other ≡ content) ⊎ HasTwin content
 judge content other small long same true e = inl ((bytes_eq-Decides other content).0 e)
 judge content other small long same false e =
     inr (other, record { small = small; len = long; differs = λ is. true≢false (sym ((bytes_eq-Decides other content).1 is) ∙ e); same = same })

@@ -15,7 +15,7 @@ use Rattle.segments.specs.declared.call.FolderCall.TheVariants as calls
 use Rattle.segments.specs.declared.closed.Closed.{Closed}
 use Rattle.segments.specs.declared.entry.Entry.TheVariants.{Closes}
 use Rattle.segments.specs.declared.error.Error.TheVariants as errors
-use Rattle.segments.specs.Digests.{AreBytes, HasTwin, IsOf, IsTwin}
+use Rattle.segments.specs.Digests.{EachIsByte, HasTwin, IsOf, IsTwin}
 use Rattle.segments.specs.FolderEvents.{FolderEvent, closing_event, keeping_event, opening_with, plain_event}
 use Rattle.segments.specs.Manifest.{ListingState, closing_in, entry_bytes, free_after, listed_in, padded, padding}
 use Rattle.segments.specs.Owned.{OwnedState, without_journal}
@@ -24,16 +24,16 @@ use Rattle.segments.specs.Crash.{AppendSurvives, HasLetGo, ListsFrom, RemovesUnl
 
 -- ---- bytes and twins
 
-pub two_bytes : AreBytes (7 ∷ 255 ∷ [])
+pub two_bytes : EachIsByte (7 ∷ 255 ∷ [])
 two_bytes zero = omega arith
 two_bytes (suc zero) = omega arith
 two_bytes (suc (suc i)) = omega arith
 
 -- a greater number is no byte
-pub no_byte : AreBytes (256 ∷ []) → ⊥
+pub no_byte : EachIsByte (256 ∷ []) → ⊥
 no_byte are = absurd (omega (arith, are 0))
 
-none_are_bytes : AreBytes []
+none_are_bytes : EachIsByte []
 none_are_bytes i = omega arith
 
 -- what is kept of a file of no bytes
@@ -48,7 +48,7 @@ pub not_of_one_byte : IsOf (7 ∷ []) empty → ⊥
 not_of_one_byte is = absurd (omega (arith, is.len))
 
 -- other bytes with the digest are a twin
-pub a_twin : (content other : List ℕ) → AreBytes other → length other ≡ length content → other ≢ content → sha256 other ≡ sha256 content → IsTwin content other
+pub a_twin : (content other : List ℕ) → EachIsByte other → length other ≡ length content → other ≢ content → sha256 other ≡ sha256 content → IsTwin content other
 a_twin content other small long differs same = record { small = small; len = long; differs = differs; same = same }
 
 -- a content is no twin of itself

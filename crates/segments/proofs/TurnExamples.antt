@@ -1,5 +1,5 @@
 -- What a rotation, an append and a read leave, shown of the logs of `RotationExamples`, and refuted of something nearly right.
-use Rattle.std.specs.Prelude.{◌≡◌, ◌≤◌, ◌<◌, ◌+◌, ◌++◌, ℕ, suc, List, [], ◌∷◌, length, Some, None, Ok, Err, true, false}
+use Rattle.std.specs.Prelude.{◌≡◌, ◌≤◌, ◌<◌, ◌+◌, ◌++◌, ℕ, suc, List, [], ◌∷◌, length, Some, None, Ok, Err, true, false, Result}
 use Rattle.std.proofs.Common.{refl, sym, ap, subst, inl, inr, arith, length-append, append-nil, ◌∙◌}
 use Rattle.disk.specs.Disk.{Disk, IsImage, Life}
 use Rattle.disk.specs.declared.error.Error.TheVariants.{WriteFailed}

@@ -4,18 +4,18 @@ use Rattle.sha2.specs.Sha256.{sha256}
 use Rattle.segments.specs.declared.closed.Closed.{Closed}
 
 -- each of these numbers is a byte
-abbrev pub AreBytes : List ℕ → Type 0
-AreBytes bytes = (i : ℕ) → get_or bytes i 0 < 256
+abbrev pub EachIsByte : List ℕ → Type 0
+EachIsByte bytes = (i : ℕ) → get_or bytes i 0 < 256
 
 -- this was kept of these bytes
 pub record IsOf (bytes : List ℕ) (kept : Closed) : Type 0 where
-  pub small : AreBytes bytes
+  pub small : EachIsByte bytes
   pub len : kept.len ≡ length bytes
   pub digest : kept.digest ≡ sha256 bytes
 
 -- a twin of a content: other bytes, as many, of the same SHA-256
 pub record IsTwin (content other : List ℕ) : Type 0 where
-  pub small : AreBytes other
+  pub small : EachIsByte other
   pub len : length other ≡ length content
   pub differs : other ≢ content
   pub same : sha256 other ≡ sha256 content

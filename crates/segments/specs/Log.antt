@@ -506,7 +506,7 @@ TakeLoadedGoes sum own s number (Err (errors.NoSegment n)) =
     (n ≡ number) × (closed_at s.listing number ≡ None)
 TakeLoadedGoes sum own s number (Err (errors.Damaged n)) = (n ≡ number) × IsListed s number
 TakeLoadedGoes sum own s number (Err (errors.System e)) = IsListed s number
-TakeLoadedGoes sum own s number (Err (errors.Layer e)) = Unit {0}
+TakeLoadedGoes sum own s number (Err (errors.Layer e)) = IsListed s number
 TakeLoadedGoes sum own s number (Err e) = ⊥
 
 -- the log is the same, except for the closed segment in memory

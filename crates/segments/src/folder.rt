@@ -51,7 +51,7 @@ pub trait Folder<B: Blob> {
     /// bytes are durable. `manifest` is the manifest as it is now, which doesn't list the segment yet:
     /// it is for the record of the calls alone.
     fn close(&mut self, segment: u64, blob: B, manifest: &B)
-        requires durable { IsDurable (B.life blob).present }
+        requires rests { IsDurable (B.life blob).present }
         ensures asked { let bytes = (B.life manifest.now).present.readable in
             let event = closing_event segment (B.life blob) bytes in
             asked self.new ≡ asked self.old ++ event ∷ [] };

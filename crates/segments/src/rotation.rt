@@ -53,7 +53,7 @@ impl<F: Folder<B> + Drop, B: Blob + Drop, H: Sum, R: Sum> SegmentedLog<F, B, H, 
         requires log { IsLog H.sum_of R.sum_of self.old }
         requires owned { IsOwned H.sum_of R.sum_of next }
         requires pages { next.page_size ≡ self.old.page_size }
-        requires durable { IsDurable self.old.current.life.present }
+        requires rests { IsDurable self.old.current.life.present }
         ensures goes { HasFollowed next self.old self.new }
         ensures ready { IsLog H.sum_of R.sum_of self.new }
     {

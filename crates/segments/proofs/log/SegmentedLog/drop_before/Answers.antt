@@ -1,6 +1,9 @@
-use Rattle.std.proofs.Common.{arith}
+use Rattle.std.specs.Prelude.{Err}
+use Rattle.std.proofs.Common.{arith, rules}
+use Rattle.segments.specs.declared.error.Error.TheVariants as errors
 use Rattle.segments.proofs.DropSurvival.{drop_still}
 use Rattle.segments.proofs.DropSurvival.{drop_tries}
+use Rattle.segments.proofs.Removing.{drop_removes}
 use Rattle.segments.proofs.log.SegmentedLog.drop_before.Goals as goal
 
 pub returns-clause-drops : goal.returns-clause-drops
@@ -11,3 +14,43 @@ returns-in_err-start_or_close-clause-drops g c = grind (arith, drop_still, drop_
 
 pub returns-then-open-segment-clause-drops : goal.returns-then-open-segment-clause-drops
 returns-then-open-segment-clause-drops g c = grind (arith, drop_still, drop_tries)
+
+pub returns-then-is_closed-clause-goes : goal.returns-then-is_closed-clause-goes
+returns-then-is_closed-clause-goes g c = search rules
+
+pub returns-then-is_closed-clause-ready : goal.returns-then-is_closed-clause-ready
+returns-then-is_closed-clause-ready g c = search rules
+
+pub returns-then-is_closed-clause-removes : goal.returns-then-is_closed-clause-removes
+returns-then-is_closed-clause-removes g c =
+    drop_removes g.H.Sum.sum_of g.R.Sum.sum_of c.args.segment c.args.self.now _ (Err errors.Closed) (returns-then-is_closed-clause-goes g c) (returns-then-is_closed-clause-ready g c)
+
+pub returns-then-open-segment-clause-goes : goal.returns-then-open-segment-clause-goes
+returns-then-open-segment-clause-goes g c = search rules
+
+pub returns-then-open-segment-clause-ready : goal.returns-then-open-segment-clause-ready
+returns-then-open-segment-clause-ready g c = search rules
+
+pub returns-then-open-segment-clause-removes : goal.returns-then-open-segment-clause-removes
+returns-then-open-segment-clause-removes g c =
+    drop_removes g.H.Sum.sum_of g.R.Sum.sum_of c.args.segment c.args.self.now _ (Err (errors.NoSegment c.args.segment)) (returns-then-open-segment-clause-goes g c) (returns-then-open-segment-clause-ready g c)
+
+pub returns-in_err-start_or_close-clause-goes : goal.returns-in_err-start_or_close-clause-goes
+returns-in_err-start_or_close-clause-goes g c = search rules
+
+pub returns-in_err-start_or_close-clause-ready : goal.returns-in_err-start_or_close-clause-ready
+returns-in_err-start_or_close-clause-ready g c = search rules
+
+pub returns-in_err-start_or_close-clause-removes : goal.returns-in_err-start_or_close-clause-removes
+returns-in_err-start_or_close-clause-removes g c =
+    drop_removes g.H.Sum.sum_of g.R.Sum.sum_of c.args.segment c.args.self.now _ c.from_residual.result (returns-in_err-start_or_close-clause-goes g c) (returns-in_err-start_or_close-clause-ready g c)
+
+pub returns-clause-goes : goal.returns-clause-goes
+returns-clause-goes g c = search rules
+
+pub returns-clause-ready : goal.returns-clause-ready
+returns-clause-ready g c = search rules
+
+pub returns-clause-removes : goal.returns-clause-removes
+returns-clause-removes g c =
+    drop_removes g.H.Sum.sum_of g.R.Sum.sum_of c.args.segment c.args.self.now _ _ (returns-clause-goes g c) (returns-clause-ready g c)
