@@ -92,7 +92,7 @@ fn tell_names(rt: &HostRuntime, names: &FolderNames, copy: &CopyState) -> io::Re
     }
     if names.cut_count > 0 {
         println!(rt;
-            "set aside: {} files *.cut-N, of what was cut",
+            "set aside, of what was cut: files *.cut-N: {}",
             names.cut_count
         )?;
     }

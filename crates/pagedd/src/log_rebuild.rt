@@ -122,7 +122,7 @@ fn rebuild_of<H: Sum>(
     let first = known.listing.first();
     let told = println!(rt;
         "{folder}: the manifest lists segments {first} to {last}, and {last} is the open one; \
-         {taken} entries are from {source}, and the digests of {} segments are of what is there now",
+         entries from {source}: {taken}; segments whose digest is of what is there now: {}",
         last.saturating_sub(open)
     );
     or_end(rt, told)?;
