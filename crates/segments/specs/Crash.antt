@@ -16,8 +16,9 @@ use Rattle.segments.specs.Digests.{HasTwin, IsOf}
 use Rattle.segments.specs.FolderEvents.{FolderEvent, opening_with}
 use Rattle.segments.specs.Manifest.{ListingState, listed_in, open_in}
 use Rattle.segments.specs.Owned.{HasJournal, content_now, owned_size, records_now}
-use Rattle.segments.specs.Log.{AppendHereGoes, IsKept, IsRotated, IsSameButCurrent, LogState, asked_turning}
-use Rattle.segments.specs.Log.{closed_records, events_for, listing_from, log_records}
+use Rattle.segments.specs.Log.{AppendHereGoes, IsKept, IsRotated, IsSameButCurrent, LogState}
+use Rattle.segments.specs.Log.{asked_turning, closed_records, events_for, listing_from}
+use Rattle.segments.specs.Log.{log_records}
 
 -- the records of a log whose manifest lists this, and whose files hold these bytes; each closed
 -- segment held what `held` gives for its number
@@ -208,8 +209,8 @@ pub record HasOpenedFiles (sum own : List ℕ → ℕ) (before calls : List Fold
   -- all of the open segment's bytes are known then
   pub known : s.known ≡ owned_size s.current.journal
 
--- the log of a folder was opened. An empty manifest gets its first entry, and lists no segment.
--- Last a copy of the manifest was to be kept
+-- the log of a folder was opened, and last a copy of the manifest was to be kept. That an empty
+-- manifest got its first entry before is not said
 pub record IsOpenedLog (sum own : List ℕ → ℕ) (before : List FolderEvent) (s : LogState)
     : Type 0 where
   pub calls : List FolderEvent

@@ -49,7 +49,7 @@ pub record LogState : Type 0 where
   -- how many logical bytes of the open segment were durable as the log was opened or rotated
   pub known : ℕ
 
--- from how many bytes on a segment is closed: no empty one is
+-- from how many bytes on an append closes the open segment: never one that has no byte
 abbrev pub most_for : (segment_size : ℕ) → ℕ
 most_for segment_size = if segment_size == 0 then 1 else segment_size
 
@@ -113,7 +113,7 @@ known_with (Closes kept) known = 0
 abbrev pub entered_bytes : Entry → LogState → List ℕ
 entered_bytes entry s = padded s.page_size (owned_size s.manifest.journal) entry
 
--- an entry was added to the manifest, and is durable; then a copy was to be kept
+-- an entry was added to the manifest, which is durable (`IsLog`); then a copy was to be kept
 pub record IsEntered (own : List ℕ → ℕ) (entry : Entry) (s t : LogState) : Type 0 where
   pub listing : listed_with s.page_size entry s.listing ≡ Some t.listing
   pub there : HasJournal t.manifest.journal (λ w. Unit {0})
@@ -178,8 +178,8 @@ pub record IsSameButCurrent (s t : LogState) : Type 0 where
   pub most : t.most ≡ s.most
   pub known : t.known ≡ s.known
 
--- the open segment of a log was closed, at the end of this life of its blob: it has the records that
--- it had, all of it is durable, and this was kept of its bytes
+-- the open segment of a log was closed, at the end of this life of its blob: it has the records
+-- that it had, all of it is durable, and this was kept of its bytes
 pub record WasClosed (sum own : List ℕ → ℕ) (s : LogState) (last : Life) (kept : Closed)
     : Type 0 where
   pub was_open : HasJournal s.current.journal (λ w. Unit {0})
@@ -240,8 +240,8 @@ pub record HasNext (sum own : List ℕ → ℕ) (s t : LogState) (next : OwnedSt
   pub asked : t.asked ≡ s.asked ++ events_for (open_in s.listing + 1) []
 
 -- an opening of the next segment is refused. The folder refused it; or its file has bytes, so that
--- the manifest doesn't know all; or no number is left for it, and nothing was asked; or its file was
--- opened, and the device or memory failed
+-- the manifest doesn't know all; or no number is left for it, and nothing was asked; or its file
+-- was opened, and the device or memory failed
 abbrev pub NextRefused : LogState → LogState → Error → Type 0
 NextRefused s t (errors.Layer e) = t.asked ≡ s.asked ++ events_for (open_in s.listing + 1) []
 NextRefused s t (errors.System e) = AsksInVain (open_in s.listing + 1) s.asked t.asked
@@ -317,8 +317,9 @@ pub record IsNotFollowed (sum own : List ℕ → ℕ) (s t : LogState) (e : Erro
   pub rest : ListsTheSame s t
   pub refused : NextRefused s t e
 
--- a rotation that failed as the manifest was to get its entry: all of the closed segment is durable.
--- The manifest is as it was; or it has no journal, and whether it has the entry shows at an opening
+-- a rotation that failed as the manifest was to get its entry: all of the closed segment is
+-- durable. The manifest is as it was; or it has no journal, and whether it has the entry shows at
+-- an opening
 pub record IsNotListed (sum own : List ℕ → ℕ) (s t : LogState) (e : Error) : Type 0 where
   pub last : Life
   pub kept : Closed
@@ -443,8 +444,8 @@ IsContentOf sum s segment held =
 abbrev pub IsListed : LogState → ℕ → Type 0
 IsListed s segment = IsClosedIn s.listing segment
 
--- the device or memory failed as a segment was read: the open one, with the cause that a read of its
--- journal has; or a closed one
+-- the device or memory failed as a segment was read: the open one, with the cause that a read of
+-- its journal has; or a closed one
 abbrev pub ReadFails : (own : List ℕ → ℕ) → LogState → LogState → Place → layer.Error → Type 0
 ReadFails own s t p e = ((p.segment ≡ open_in s.listing)
     × OwnedReadGoes own p.offset s.current t.current (Err (errors.Layer e)))
@@ -586,9 +587,9 @@ StartsAt segment s m = ((segment ≤ s.listing.first) × (m ≡ s))
 abbrev pub IsClosedLog : LogState → Type 0
 IsClosedLog s = (s.current.journal ≡ None) ⊎ (s.manifest.journal ≡ None)
 
--- just the segments before this one were dropped of an open log, if there were such: the manifest has
--- that, a copy of it was to be kept, and only then the folder was asked to remove files, all of them
--- older than the first that stays
+-- just the segments before this one were dropped of an open log, if there were such: the manifest
+-- has that, a copy of it was to be kept, and only then the folder was asked to remove files, all of
+-- them older than the first that stays
 pub record IsDropping (segment : ℕ) (s t : LogState) : Type 0 where
   pub was_open : IsClosedLog s → ⊥
   pub within : segment ≤ open_in s.listing

@@ -17,9 +17,10 @@ entry_bytes (Closes c) = 1 ∷ to_be_bytes w64 c.records ++ to_be_bytes w64 c.le
 abbrev pub free_after : (page_size size : ℕ) → ℕ
 free_after page_size size = (page_size - size % page_size) % page_size
 
--- how many zeros stand behind an entry that closes a segment, in a manifest that had so many logical
--- bytes. The frame of the entry has 56. If less than 18 would be free behind it, which the frame of a
--- drop's entry has, the zeros go on into the next page. A page of 18 bytes or fewer has no such room
+-- how many zeros stand behind an entry that closes a segment, in a manifest that had so many
+-- logical bytes. The frame of the entry has 56. If less than 18 would be free behind it, which the
+-- frame of a drop's entry has, the zeros go on into the next page. A page of 18 bytes or fewer has
+-- no such room
 abbrev pub padding : (page_size size : ℕ) → ℕ
 padding page_size size =
     let free = free_after page_size (size % page_size + 56) in
@@ -30,7 +31,8 @@ abbrev pub padded : (page_size size : ℕ) → Entry → List ℕ
 padded page_size size (Starts first pages) = entry_bytes (Starts first pages)
 padded page_size size (Closes c) = entry_bytes (Closes c) ++ replicate (padding page_size size) 0
 
--- the entry that closes a segment in 49 bytes, behind which zeros may stand; none if others stand there
+-- the entry that closes a segment in 49 bytes, behind which zeros may stand; none if others stand
+-- there
 abbrev pub closing_in : List ℕ → Option Entry
 closing_in bytes =
     if list_all (λ b. b == 0) (drop 49 bytes) then

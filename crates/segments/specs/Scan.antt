@@ -94,8 +94,8 @@ StepGoes sum own s t at (Ok (Passed to)) = StandBetween sum own s [] at to × Is
 StepGoes sum own s t at (Ok End) = IsEnd sum own s at
 StepGoes sum own s t at (Err e) = LogReadRefused own s t at e
 
--- a segment from a place on can't be read, and no record stands before it. Up to there, segments were
--- only read
+-- a segment from a place on can't be read, and no record stands before it. Up to there, segments
+-- were only read
 pub record IsRefusedFrom (sum own : List ℕ → ℕ) (s t : LogState) (p : Place) (e : Error)
     : Type 0 where
   pub at : Place

@@ -21,10 +21,10 @@ impl<F: Folder<B> + Drop, B: Blob + Drop, H: Sum, R: Sum> SegmentedLog<F, B, H, 
     /// nothing.
     ///
     /// `Closed` where a call before failed, and `NoSegment` where there is no such segment yet: the
-    /// open one is never dropped. Nothing is done then. `Layer` where the device or memory failed as
-    /// the manifest was written: no file is removed, and the log is closed. Whether the drop is in
-    /// the manifest shows once the log is opened again. `System` where the folder refused a call:
-    /// the drop is durable, and some of the files may be left. It may be tried again.
+    /// open one is never dropped. Nothing is done then. `Layer` where the device or memory failed
+    /// as the manifest was written: no file is removed, and the log is closed. Whether the drop is
+    /// in the manifest shows once the log is opened again. `System` where the folder refused a
+    /// call: the drop is durable, and some of the files may be left. It may be tried again.
     #[tactic(auto, using(crate::proofs::DropSurvival::drop_still, crate::proofs::DropSurvival::drop_tries))]
     pub fn drop_before(&mut self, segment: u64) -> Result<(), Error>
         requires log { IsLog H.sum_of R.sum_of self.old }

@@ -24,8 +24,8 @@ pub enum Entry {
 }
 
 impl Entry {
-    /// What is known of the open segment's logical bytes after this entry, if so many were before: a
-    /// segment that follows has none yet.
+    /// What is known of the open segment's logical bytes after this entry, if so many were before:
+    /// a segment that follows has none yet.
     pub fn known_with(&self, known: u64) -> u64
         ensures { result ≡ known_with self.now known }
     {

@@ -29,8 +29,9 @@ pub enum Error {
     /// The file of the open segment is missing. Nothing was changed: bring it back from a copy.
     #[error("segment {0} is missing, though the manifest says that it is the open one")]
     Missing(u64),
-    /// The file of the open segment has fewer logical bytes than it had as the log was opened last, as
-    /// a copy does that wasn't finished. Nothing was changed: bring the file back from another copy.
+    /// The file of the open segment has fewer logical bytes than it had as the log was opened last,
+    /// as a copy does that wasn't finished. Nothing was changed: bring the file back from another
+    /// copy.
     #[error("segment {0} has fewer bytes than it had when the log was opened last: bring it back")]
     Short(u64),
     /// The manifest is older than its copy, by which this segment was the open one. Nothing was

@@ -48,8 +48,8 @@ pub trait Folder<B: Blob> {
             asked self.new ≡ asked self.old ++ event ∷ [] };
 
     /// Takes back the blob of a segment that is closed: nobody writes it from then on. All of its
-    /// bytes are durable. `manifest` is the manifest as it is now, which doesn't list the segment yet:
-    /// it is for the record of the calls alone.
+    /// bytes are durable. `manifest` is the manifest as it is now, which doesn't list the segment
+    /// yet: it is for the record of the calls alone.
     fn close(&mut self, segment: u64, blob: B, manifest: &B)
         requires rests { IsDurable (B.life blob).present }
         ensures asked { let bytes = (B.life manifest.now).present.readable in
@@ -87,8 +87,8 @@ pub trait Folder<B: Blob> {
     fn sync(&mut self) -> io::Result<()>
         ensures asked { asked self.new ≡ asked self.old ++ folder_outcome calls.Syncs result ∷ [] };
 
-    /// Makes the copy of the manifest hold these bytes of the manifest and what is known of the open
-    /// segment, and makes that durable. After an error the copy may hold anything.
+    /// Makes the copy of the manifest hold these bytes of the manifest and what is known of the
+    /// open segment, and makes that durable. After an error the copy may hold anything.
     fn keep(&mut self, manifest: &B, known: Known) -> io::Result<()>
         ensures asked { let bytes = (B.life manifest.now).present.readable in
             let event = keeping_outcome known.segment known.len bytes result in

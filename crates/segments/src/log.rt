@@ -32,7 +32,7 @@ pub struct Options {
     /// How many bytes an opening reads at once.
     pub buffer_size: NonZeroUsize,
     /// An append rotates where the frames of the open segment have so many logical bytes or more. 0
-    /// counts as 1: no segment is closed that has no record.
+    /// counts as 1: no append closes a segment that has no record.
     pub segment_size: u64,
 }
 
@@ -156,8 +156,9 @@ impl<F: Folder<B> + Drop, B: Blob + Drop, H: Sum, R: Sum> SegmentedLog<F, B, H, 
     }
 
     /// Why the copy of the manifest couldn't be kept last, as the log was opened or as the last
-    /// entry was added; `None` where it was kept. The log goes on without one: the manifest itself is
-    /// durable. But until a copy is kept again, a manifest that is damaged can't be had back whole.
+    /// entry was added; `None` where it was kept. The log goes on without one: the manifest itself
+    /// is durable. But until a copy is kept again, a manifest that is damaged can't be had back
+    /// whole.
     pub fn copy_failure(&self) -> Option<&io::Error> {
         self.unkept.as_ref()
     }

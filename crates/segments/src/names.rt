@@ -88,8 +88,8 @@ impl Names {
     }
 }
 
-// The number of the segment whose file an entry of the folder is, with the entry. `None` for another
-// file, also for one whose name isn't UTF-8.
+// The number of the segment whose file an entry of the folder is, with the entry. `None` for
+// another file, also for one whose name isn't UTF-8.
 fn segment_of(entry: io::Result<DirEntry>) -> io::Result<Option<(u64, DirEntry)>> {
     let entry = match entry {
         Ok(entry) => entry,

@@ -24,12 +24,12 @@ impl<F: Folder<B> + Drop, B: Blob + Drop, H: Sum, R: Sum> SegmentedLog<F, B, H, 
     /// Before anything is changed, a copy of the manifest is read and compared with the files that
     /// are there. `Manifest` where the manifest can't be read, as with another page size.
     /// `Unlisted` where a segment after the open one has bytes, or where a segment has bytes and
-    /// there is no manifest: the manifest may be an old one, or be lost. `Outdated` where a copy of the
-    /// manifest knows a later segment. `Missing` where the open segment isn't there, and `Short` where
-    /// it has fewer bytes than it had as it was opened last. `System` where the system refuses a file, and `Layer` where the device
-    /// or memory failed. After an error the blobs are gone, so no clause says what their files hold:
-    /// each recovery of a journal on the way keeps what was committed (`leaves` of
-    /// [`journal::Journal::recover`]).
+    /// there is no manifest: the manifest may be an old one, or be lost. `Outdated` where a copy of
+    /// the manifest knows a later segment. `Missing` where the open segment isn't there, and
+    /// `Short` where it has fewer bytes than it had as it was opened last. `System` where the
+    /// system refuses a file, and `Layer` where the device or memory failed. After an error the
+    /// blobs are gone, so no clause says what their files hold: each recovery of a journal on the
+    /// way keeps what was committed (`leaves` of [`journal::Journal::recover`]).
     #[tactic(auto, using(crate::proofs::Beginning::parts_open))]
     pub fn open(alloc: Global, folder: F, options: Options) -> Result<Self, Error>
         ensures log { IfOk result (λ log. IsLog H.sum_of R.sum_of log) }
@@ -195,8 +195,8 @@ fn open_number<F: Folder<B>, B: Blob + Drop, H: Sum, R: Sum>(
 }
 
 // Answers the number of the open segment again, unless what was known as a copy of the manifest was
-// kept last is against it: `Outdated` where a later one was open, and `Short` where this one had more
-// bytes, by a copy of its file. It changes nothing.
+// kept last is against it: `Outdated` where a later one was open, and `Short` where this one had
+// more bytes, by a copy of its file. It changes nothing.
 fn is_known<F: Folder<B>, B: Blob + Drop, H: Sum, R: Sum>(
     alloc: Global,
     folder: &mut F,
@@ -222,9 +222,9 @@ fn is_known<F: Folder<B>, B: Blob + Drop, H: Sum, R: Sum>(
     Ok(number)
 }
 
-// The number of the open segment, by a copy of the manifest; `None` where that is missing, or has no
-// entry yet. `Manifest` where it has bytes that are none of a manifest that was begun, or where it
-// has no entry and segments have bytes.
+// The number of the open segment, by a copy of the manifest; `None` where that is missing, or has
+// no entry yet. `Manifest` where it has bytes that are none of a manifest that was begun, or where
+// it has no entry and segments have bytes.
 fn listed_open<F: Folder<B>, B: Blob + Drop, H: Sum, R: Sum>(
     alloc: Global,
     folder: &mut F,

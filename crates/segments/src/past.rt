@@ -78,8 +78,8 @@ impl<B: Blob> FolderPast<B> {
         Snapshot::of(&past)
     }
 
-    /// This past and one call more, which took back this blob of a segment; the manifest is the other
-    /// blob.
+    /// This past and one call more, which took back this blob of a segment; the manifest is the
+    /// other blob.
     pub fn closed(before: &Snapshot<Self>, segment: u64, blob: &B, manifest: &B) -> Snapshot<Self>
         ensures { let bytes = (B.life manifest.now).present.readable in
             let event = closing_event segment (B.life blob.now) bytes in

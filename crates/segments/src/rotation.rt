@@ -21,10 +21,10 @@ impl<F: Folder<B> + Drop, B: Blob + Drop, H: Sum, R: Sum> SegmentedLog<F, B, H, 
     /// Closes the open segment, whatever its size, and opens the next one.
     ///
     /// All records are committed first. Then the length and the digest of the segment's bytes are
-    /// computed, the next segment's file is made, its name is made durable, and the folder takes the
-    /// blob of the closed segment back. Last, the closed segment is listed in the manifest. So a crash
-    /// while the manifest is written leaves the log before that or after it, and both have the same
-    /// records. Behind that entry there is room for the entry of a drop.
+    /// computed, the next segment's file is made, its name is made durable, and the folder takes
+    /// the blob of the closed segment back. Last, the closed segment is listed in the manifest. So
+    /// a crash while the manifest is written leaves the log before that or after it, and both have
+    /// the same records. Behind that entry there is room for the entry of a drop.
     ///
     /// `Closed` where a call before failed, `Layer` where the device or memory failed, `System`
     /// where the folder refused the next file or the sync of its name, `Unlisted` where the next

@@ -1,6 +1,6 @@
 use Rattle.std.proofs.Common.{ap, refl, ◌∙◌}
 use Rattle.segments.specs.Log.{LogState}
-use Rattle.segments.proofs.Refusing.{close_refused, enter_refused, next_refused}
+use Rattle.segments.proofs.Refusing.{close_refused, next_refused}
 use Rattle.segments.proofs.Turning.{close_survives, let_go, let_go_kept, turn_survives}
 use Rattle.segments.specs.Owned.{OwnedState}
 use Rattle.segments.proofs.Rotating.{current_is, rotate_goes, turning_of}
