@@ -7,7 +7,7 @@ ghost use Rattle.segments.specs.Folders.{call_for};
 
 use crate::files::{Files, Name};
 use disk::{IoBufs, Past, VecBlob};
-use file::{Host, Mirror};
+use file::{Host, Mirror, OpenError};
 use segments::{Asked, Folder, FolderCall, FolderPast, Known};
 use std::cell::{RefCell, RefMut};
 use std::io;
@@ -119,7 +119,7 @@ impl MemoryFolder {
     }
 
     #[tactic(auto, using(crate::proofs::Durable::begun_durable))]
-    fn open_file(&self, file: Asked) -> io::Result<MemoryFile>
+    fn open_file(&self, file: Asked) -> Result<MemoryFile, OpenError>
         ensures { IfOk result (λ blob. IsDurable (life_of blob.kept.history).present) }
     {
         let name = Name::of(file);
@@ -136,7 +136,7 @@ impl MemoryFolder {
     }
 
     // Notes one opening more, which gave a file or failed.
-    fn note_opening(&mut self, call: FolderCall, opened: &io::Result<MemoryFile>)
+    fn note_opening(&mut self, call: FolderCall, opened: &Result<MemoryFile, OpenError>)
         ensures { let event = opening_outcome (λ b. life_of b.kept.history) call opened.now in
             self.new ≡ self.old ++ event ∷ [] }
     {
@@ -160,7 +160,7 @@ fn call_of(file: Asked) -> FolderCall
 impl Folder<MemoryFile> for MemoryFolder {
     ghost asked = { λ f. f };
 
-    fn open(&mut self, file: Asked) -> io::Result<MemoryFile> {
+    fn open(&mut self, file: Asked) -> Result<MemoryFile, OpenError> {
         let opened = self.open_file(file);
         self.note_opening(call_of(file), &opened);
         opened
@@ -172,6 +172,10 @@ impl Folder<MemoryFile> for MemoryFolder {
 
     fn bytes(blob: &MemoryFile) -> &[u8] {
         blob.bytes()
+    }
+
+    fn failed_sync(blob: &MemoryFile) -> bool {
+        blob.failed_sync()
     }
 
     fn read(&mut self, file: Asked) -> io::Result<VecBlob> {

@@ -17,7 +17,7 @@ mod runs;
 pub use host::{FileHost, Host};
 pub use keeping::keep;
 pub use mirror::Mirror;
-pub use opening::{open, read};
+pub use opening::{OpenError, open, read};
 pub use replacing::{replace, rewrite, set_aside};
 pub use runs::{RUN_SIZE, Sink, put_runs};
 

@@ -2,6 +2,7 @@
 ghost use Rattle.std.specs.Prelude.{◌≡◌, [], pos, ◌<ℤ◌, IfOk, false};
 ghost use Rattle.std.specs.Fd.{file_raw_fd};
 ghost use Rattle.disk.specs.History.{life_of, begun};
+ghost use Rattle.file.specs.declared.opening.OpenError.TheVariants.{System};
 
 use crate::runs::RUN_SIZE;
 use crate::{FileBlob, FileHost, Mirror};
@@ -14,6 +15,37 @@ use std::os::unix::fs::{FileTypeExt, MetadataExt};
 use std::path::PathBuf;
 use std::{fs, io};
 
+/// Why a file isn't opened.
+#[derive(Clone, Copy, Debug, Drop, thiserror::Error)]
+pub enum OpenError {
+    /// The system, or this library, refused a call that isn't a sync. The file is as it was, or was
+    /// made and is empty. It may be opened another time.
+    #[error("{0}")]
+    System(io::Error),
+    /// A sync of the file, or of the folder that has its name, failed. Nobody knows what of the
+    /// file is durable, and a later sync may succeed without it. So don't open it again as it is:
+    /// put a copy in its place first, by [`rewrite`](crate::rewrite).
+    #[error("a sync failed: {0}")]
+    Unsynced(io::Error),
+}
+
+impl From<io::Error> for OpenError {
+    ghost from_gives = { λ x e. e ≡ System x };
+
+    fn from(error: io::Error) -> Self {
+        OpenError::System(error)
+    }
+}
+
+// The system's own error, for callers that hand on no other.
+impl From<OpenError> for io::Error {
+    fn from(error: OpenError) -> Self {
+        match error {
+            OpenError::System(error) | OpenError::Unsynced(error) => error,
+        }
+    }
+}
+
 /// Opens a file as a blob, and makes the file where it is missing. The call syncs the file and the
 /// folder that has its name, and then reads the file whole. So all of its bytes are durable, and a
 /// recovery may follow.
@@ -21,7 +53,9 @@ use std::{fs, io};
 /// The file is locked as long as the blob lives. Its descriptor is none of the standard streams',
 /// so what the program prints never gets into the file.
 ///
-/// Each error says what to do where the system's own words don't:
+/// [`OpenError::Unsynced`] where a sync failed, which may have been asked for by an earlier
+/// process' writes. [`OpenError::System`] where any other call failed, with an error that says what
+/// to do where the system's own words don't:
 /// - `IsADirectory`: the path names a folder. `InvalidInput`: it names a fifo, a socket or a
 ///   device. None of these is opened.
 /// - `WouldBlock`: another process has the file open, or has just replaced it.
@@ -33,7 +67,7 @@ use std::{fs, io};
 /// - Any other is the system's.
 ///
 /// After an error the file is as it was, or was made and is empty.
-pub fn open(rt: &HostRuntime, path: &str) -> io::Result<FileBlob>
+pub fn open(rt: &HostRuntime, path: &str) -> Result<FileBlob, OpenError>
     ensures rests { IfOk result (λ blob. let life = life_of blob.kept.history in
         life ≡ begun life.present.readable []) }
     ensures asked { IfOk result (λ blob. blob.asked ≡ []) }
@@ -43,12 +77,26 @@ pub fn open(rt: &HostRuntime, path: &str) -> io::Result<FileBlob>
     options.read(true).write(true).create(true);
     let file = open_locked(rt, path, &options, Lock::Exclusive)?;
     let mut bytes = room_for(rt.alloc(), &file)?;
-    let room = Vec::with_capacity(rt.alloc(), RUN_SIZE)?;
-    file.sync_all()?;
-    sync_folder(rt, path)?;
+    let room = room_for_runs(rt.alloc())?;
+    let folder = folder_of(rt, path)?;
+    sync(&file)?;
+    sync(&folder)?;
     read_all(&file, &mut bytes)?;
     let host = FileHost::new(file, &bytes, room);
     Ok(Mirror::new(host, bytes))
+}
+
+// Makes what was written to a file, or the names in a folder, durable.
+fn sync(file: &File) -> Result<(), OpenError> {
+    match file.sync_all() {
+        Ok(()) => Ok(()),
+        Err(error) => Err(OpenError::Unsynced(error)),
+    }
+}
+
+// Memory for the runs that a blob will write.
+fn room_for_runs(alloc: Global) -> io::Result<Vec<u8>> {
+    Ok(Vec::with_capacity(alloc, RUN_SIZE)?)
 }
 
 /// Reads a file into a blob in memory, and changes nothing: the call makes no file and syncs none,
@@ -186,7 +234,12 @@ pub fn read_all(mut file: &File, bytes: &mut Vec<u8>) -> io::Result<()> {
 
 // Makes the name of a file durable: syncs the folder that has it.
 pub fn sync_folder(rt: &HostRuntime, path: &str) -> io::Result<()> {
+    folder_of(rt, path)?.sync_all()
+}
+
+// The folder that has the name of a file.
+fn folder_of(rt: &HostRuntime, path: &str) -> io::Result<File> {
     let mut folder: PathBuf = fs::canonicalize(rt, path)?;
     folder.pop();
-    File::open(rt, folder.as_str())?.sync_all()
+    File::open(rt, folder.as_str())
 }

@@ -6,7 +6,7 @@ ghost use Rattle.cache.specs.Pages.{IsFresh};
 use cache::CacheRef;
 use crc32c::Crc32c;
 use disk::{Blob, IoBuf};
-use file::FileBlob;
+use file::{FileBlob, OpenError};
 use paged::{
     RECOMMENDED_CAPACITY, RECOMMENDED_LIMIT, Verdict, Writer, recommended_buffer_size,
     recommended_cache, recommended_page_size, recover, survey,
@@ -17,7 +17,10 @@ use std::{env, io};
 /// Why the program ended early.
 #[derive(Debug, Drop, thiserror::Error)]
 enum FirstError {
-    /// The file can't be opened, or what goes can't be set aside.
+    /// The file can't be opened.
+    #[error("the file: {0}")]
+    Open(#[from] OpenError),
+    /// What goes can't be set aside.
     #[error("the file: {0}")]
     File(#[from] io::Error),
     /// A call of the layer was refused.

@@ -5,10 +5,10 @@ ghost use Rattle.cache.specs.Pages.{IsFresh};
 use cache::CacheRef;
 use crc32c::Crc32c;
 use disk::{Blob, Error, IoBuf};
+use file::OpenError;
 use journal::Journal;
 use paged::{RECOMMENDED_CAPACITY, recommended_buffer_size, recommended_cache};
 use std::alloc::Global;
-use std::io;
 
 /// A journal whose pages and whose records have the checksum CRC-32C.
 type Records<B> = Journal<B, Crc32c, Crc32c>;
@@ -18,7 +18,7 @@ type Records<B> = Journal<B, Crc32c, Crc32c>;
 pub enum KeptError {
     /// The file can't be opened.
     #[error("the file: {0}")]
-    File(#[from] io::Error),
+    File(#[from] OpenError),
     /// A call of the layer was refused.
     #[error("the journal: {0}")]
     Journal(#[from] Error),

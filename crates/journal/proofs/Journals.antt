@@ -25,6 +25,7 @@ use Rattle.paged_read.specs.Hand.{HandState, kept_with}
 use Rattle.paged_read.specs.Snapshots.{LeavesOthers, LeavesReads}
 use Rattle.paged_read.specs.Tail.{CanRead}
 use Rattle.paged.specs.Caches.{tail_of, KeepsReads}
+use Rattle.paged.proofs.Causes.{none_refused_same}
 use Rattle.paged.specs.Calls.{BuffersOver, IsSameWriter, TryAppendGoes}
 use Rattle.paged.specs.Goes.{AppendAnswers, AppendGoes, Holds, SyncAllGoes}
 use Rattle.paged.specs.Ready.{IsReady}
@@ -193,7 +194,7 @@ not_appended sum own w bytes after old new IdsExhausted refused = refused.cause
 not_buffered : (sum own : List ℕ → ℕ) (w now : WriterState) (bytes : List ℕ) (after : CacheState) (life : Life) (e : Error) → TryAppendGoes w (frame own bytes) now (Err e) → AppendRecordGoes sum own w bytes after life life (Err e)
 not_buffered sum own w now bytes after life OffsetOverflow (passes, same) =
     (refl, subst (λ (n : ℕ). 2 ^ 64 ≤ physical_blob_size w.page_size w.full_pages (length w.tip + n)) (length-frame own bytes) passes)
-not_buffered sum own w now bytes after life OutOfMemory tries = tt
+not_buffered sum own w now bytes after life OutOfMemory tries = none_refused_same life life refl
 not_buffered sum own w now bytes after life ReadFailed tries = absurd tries
 not_buffered sum own w now bytes after life WriteFailed tries = absurd tries
 not_buffered sum own w now bytes after life ResizeFailed tries = absurd tries

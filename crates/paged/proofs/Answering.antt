@@ -51,6 +51,7 @@ holds sum w now more old new goes covers = record {
   log = goes.log;
   completed = completed sum w now old new goes.holds covers;
   waits = goes.waits;
+  served = goes.served;
 }
 
 -- a writer that is ready is usable

@@ -22,6 +22,7 @@ use Rattle.paged.proofs.Sizes.{size_fits}
 use Rattle.paged.specs.Flush.{has_work, with_value}
 use Rattle.paged.specs.Reads.{size_of}
 use Rattle.paged.specs.Calls.{CarriesOn, Fails, Flushes, AppendsOver, Buffers, BuffersAll, TryAppendGoes, KeepsPages}
+use Rattle.paged.proofs.Causes.{none_refused_same}
 
 -- bytes are buffered, and what is written then leaves the content
 pub append_goes : (sum : List ℕ → ℕ) (w v now : WriterState) (old new : Life) (bytes : List ℕ) → IsConsistent sum w old.present → v ≡ record w { tip = w.tip ++ bytes }
@@ -40,6 +41,7 @@ append_goes sum w v now old new bytes sound is goes =
       log = h.log;
       stays = subst (λ c. StaysThrough sum w.page_size c old new) longer h.stays;
       waits = h.waits;
+      served = h.served;
     }
 
 -- bytes are buffered, and what is written then is refused
@@ -60,7 +62,7 @@ append_unasked sum w life bytes sound =
 -- bytes that weren't buffered
 pub append_unbuffered : (sum : List ℕ → ℕ) (w now : WriterState) (life : Life) (bytes : List ℕ) (e : Error) → IsConsistent sum w life.present → Buffers w bytes now (Err e) → AppendsOver sum w bytes life life (Err e)
 append_unbuffered sum w now life bytes OffsetOverflow sound goes = (refl, goes.0)
-append_unbuffered sum w now life bytes OutOfMemory sound goes = record { cause = tt; stays = append_unasked sum w life bytes sound; log = grows_same life.present life.present refl }
+append_unbuffered sum w now life bytes OutOfMemory sound goes = record { cause = none_refused_same life life refl; stays = append_unasked sum w life bytes sound; log = grows_same life.present life.present refl }
 append_unbuffered sum w now life bytes ReadFailed sound goes = absurd goes
 append_unbuffered sum w now life bytes WriteFailed sound goes = absurd goes
 append_unbuffered sum w now life bytes ResizeFailed sound goes = absurd goes

@@ -1,16 +1,40 @@
 -- Why a call of the device answers an error.
-use Rattle.std.proofs.Common.{◌≡◌, ℕ, ◌+◌, ◌^◌, ◌<◌, ◌≤◌, List, [], ◌∷◌, ◌++◌, inl, inr, length, ap, ◌∙◌, refl, sym, subst, arith, Bool, true, false, Result, Ok, Err}
+use Rattle.std.proofs.Common.{◌≡◌, ℕ, ◌+◌, ◌^◌, ◌<◌, ◌≤◌, List, [], ◌∷◌, ◌++◌, inl, inr, length, ap, ◌∙◌, refl, sym, subst, arith, append-nil, append_assoc, Bool, true, false, Result, Ok, Err}
 use Rattle.writer_state.proofs.StartedLaws.{settles_same}
 use Rattle.std.specs.Prelude.{OnOk}
 use Rattle.disk.specs.declared.started_sync.StartedSync.{StartedSync}
 use Rattle.disk.specs.declared.started_sync.StartedSync.TheVariants.{Done, Named}
-use Rattle.disk.specs.Disk.{Life, Disk, Entry, logged, disk_settled_to, WriteAt, SyncAll, WaitSync, LogGrows, WriteGoes, SyncGoes, WaitGoes, StartGoes}
+use Rattle.disk.specs.Disk.{Life, Disk, Entry, Request, logged, disk_settled_to, StartSync, WriteAt, SyncAll, WaitSync, LogGrows, WriteGoes, SyncGoes, WaitGoes, StartGoes}
 use Rattle.disk.proofs.Logs.{failed_once, failed_later, failed_sooner, one_more, grows_same}
 use Rattle.disk.specs.declared.error.Error.{Error}
 use Rattle.disk.specs.declared.error.Error.TheVariants.{ReadFailed, WriteFailed, ResizeFailed, SyncFailed, InvalidChecksum, BlobInsufficientLength, OffsetOverflow, OutOfMemory, IdsExhausted}
 use Rattle.writer_state.specs.declared.sync_state.SyncState.{SyncState}
 use Rattle.writer_state.specs.declared.sync_state.SyncState.TheVariants.{Pending}
-use Rattle.paged.specs.Calls.{CallCause, PendingSyncFailed, AsksAtMost}
+use Rattle.paged.specs.Calls.{AreServed, AsksAtMost, CallCause, NoneRefused, PendingSyncFailed}
+
+-- where no device call was made, none was refused
+pub none_refused_same : (old new : Life) → new ≡ old → NoneRefused old.present new.present
+none_refused_same old new is = ([], ap (λ (l : Life). l.present.log) is ∙ sym (append-nil old.present.log), tt)
+
+-- one device call that was answered
+pub none_refused_once : (request : Request) (a b : Disk) → b.log ≡ a.log ++ record { request = request; failed = false } ∷ [] → NoneRefused a b
+none_refused_once request a b is = (record { request = request; failed = false } ∷ [], is, (inl refl, tt))
+
+-- the start of a sync
+pub none_refused_start : (failed : Bool) (a b : Disk) → b.log ≡ a.log ++ record { request = StartSync; failed = failed } ∷ [] → NoneRefused a b
+none_refused_start failed a b is = (record { request = StartSync; failed = failed } ∷ [], is, (inr refl, tt))
+
+served_both : (xs ys : List Entry) → AreServed xs → AreServed ys → AreServed (xs ++ ys)
+served_both [] ys first second = second
+served_both (x ∷ xs) ys first second = (first.0, served_both xs ys first.1 second)
+
+-- where none was refused up to a moment, and none from there on, none was refused
+pub none_refused_joins : (a b d : Disk) → NoneRefused a b → NoneRefused b d → NoneRefused a d
+none_refused_joins a b d first second = (
+  first.0 ++ second.0,
+  second.1 ∙ ap (λ (l : List Entry). l ++ second.0) first.1 ∙ append_assoc a.log first.0 second.0,
+  served_both first.0 second.0 first.2 second.2,
+)
 
 -- a write answers an error for a failed device or for no memory, where its range fits
 pub write_cause : (s : SyncState) (offset : ℕ) (bytes : List ℕ) (sync : Bool) (old new : Life) (e : Error) → WriteGoes offset bytes sync old new (Err e) → (e ≡ OffsetOverflow → ⊥) → CallCause s old new e
@@ -21,7 +45,7 @@ write_cause s offset bytes false old new SyncFailed goes fits = cc
 write_cause s offset bytes false old new InvalidChecksum goes fits = cc
 write_cause s offset bytes false old new BlobInsufficientLength goes fits = cc
 write_cause s offset bytes false old new OffsetOverflow goes fits = absurd (fits refl)
-write_cause s offset bytes false old new OutOfMemory goes fits = tt
+write_cause s offset bytes false old new OutOfMemory goes fits = none_refused_same old new goes.0
 write_cause s offset bytes false old new IdsExhausted goes fits = cc
 write_cause s offset bytes true old new ReadFailed goes fits = absurd goes
 write_cause s offset bytes true old new WriteFailed (d, next, done) fits = failed_once (WriteAt offset (length bytes) true) old.present new.present (ap (λ l. l.present.log) next ∙ ap (λ e. e.log) done.rest)
@@ -30,7 +54,7 @@ write_cause s offset bytes true old new SyncFailed goes fits = absurd goes
 write_cause s offset bytes true old new InvalidChecksum goes fits = absurd goes
 write_cause s offset bytes true old new BlobInsufficientLength goes fits = absurd goes
 write_cause s offset bytes true old new OffsetOverflow goes fits = absurd (fits refl)
-write_cause s offset bytes true old new OutOfMemory goes fits = tt
+write_cause s offset bytes true old new OutOfMemory goes fits = none_refused_same old new goes.0
 write_cause s offset bytes true old new IdsExhausted goes fits = absurd goes
 
 -- a sync answers an error for a failed device or for no memory
@@ -42,7 +66,7 @@ sync_cause s old new SyncFailed goes = inl (failed_once SyncAll old.present new.
 sync_cause s old new InvalidChecksum goes = absurd goes
 sync_cause s old new BlobInsufficientLength goes = absurd goes
 sync_cause s old new OffsetOverflow goes = absurd goes
-sync_cause s old new OutOfMemory goes = tt
+sync_cause s old new OutOfMemory goes = none_refused_same old new goes
 sync_cause s old new IdsExhausted goes = absurd goes
 
 -- a wait answers an error for a failed device or for no memory, and also where the sync had failed
@@ -57,16 +81,16 @@ wait_cause name old new SyncFailed (failed, why, is) = elim why [
 wait_cause name old new InvalidChecksum goes = absurd goes
 wait_cause name old new BlobInsufficientLength goes = absurd goes
 wait_cause name old new OffsetOverflow goes = absurd goes
-wait_cause name old new OutOfMemory goes = tt
+wait_cause name old new OutOfMemory goes = none_refused_same old new goes
 wait_cause name old new IdsExhausted goes = absurd goes
 
 -- what a later part of a call answers has a cause in the whole call, where a sync that it waits for
 -- has failed in this call or had before
-pub cause_later : (s t : SyncState) (old mid new : Life) (e : Error) → LogGrows old.present mid.present → LogGrows mid.present new.present → (PendingSyncFailed t mid.present → CallCause s old mid SyncFailed) → CallCause t mid new e → CallCause s old new e
-cause_later s t old mid new ReadFailed grows more waits cause = cause
-cause_later s t old mid new WriteFailed grows more waits cause = failed_later WriteFailed old.present mid.present new.present grows cause
-cause_later s t old mid new ResizeFailed grows more waits cause = cause
-cause_later s t old mid new SyncFailed grows more waits cause = elim cause [
+pub cause_later : (s t : SyncState) (old mid new : Life) (e : Error) → LogGrows old.present mid.present → LogGrows mid.present new.present → NoneRefused old.present mid.present → (PendingSyncFailed t mid.present → CallCause s old mid SyncFailed) → CallCause t mid new e → CallCause s old new e
+cause_later s t old mid new ReadFailed grows more served waits cause = cause
+cause_later s t old mid new WriteFailed grows more served waits cause = failed_later WriteFailed old.present mid.present new.present grows cause
+cause_later s t old mid new ResizeFailed grows more served waits cause = cause
+cause_later s t old mid new SyncFailed grows more served waits cause = elim cause [
   | inl failed ↦ inl (failed_later SyncFailed old.present mid.present new.present grows failed)
   | inr had ↦ still (waits had)
 ]
@@ -74,11 +98,11 @@ cause_later s t old mid new SyncFailed grows more waits cause = elim cause [
     still : CallCause s old mid SyncFailed → CallCause s old new SyncFailed
     still (inl failed) = inl (failed_sooner SyncFailed old.present mid.present new.present failed more)
     still (inr had) = inr had
-cause_later s t old mid new InvalidChecksum grows more waits cause = cause
-cause_later s t old mid new BlobInsufficientLength grows more waits cause = cause
-cause_later s t old mid new OffsetOverflow grows more waits cause = cause
-cause_later s t old mid new OutOfMemory grows more waits cause = tt
-cause_later s t old mid new IdsExhausted grows more waits cause = cause
+cause_later s t old mid new InvalidChecksum grows more served waits cause = cause
+cause_later s t old mid new BlobInsufficientLength grows more served waits cause = cause
+cause_later s t old mid new OffsetOverflow grows more served waits cause = cause
+cause_later s t old mid new OutOfMemory grows more served waits cause = none_refused_joins old.present mid.present new.present served cause
+cause_later s t old mid new IdsExhausted grows more served waits cause = cause
 
 -- a write whose range fits doesn't answer that it passes the greatest offset
 pub no_overflow : (offset : ℕ) (bytes : List ℕ) (sync : Bool) (old new : Life) (e : Error) → WriteGoes offset bytes sync old new (Err e) → offset + length bytes < 2 ^ 64 → e ≡ OffsetOverflow → ⊥
@@ -97,6 +121,11 @@ write_unasked offset bytes false life e is fits = subst (λ e. WriteGoes offset 
 -- a wait that was answered is in the log
 pub waited_log : (name : ℕ) (c : ℕ × List ℕ) (d : Disk) → (logged (WaitSync name) false (disk_settled_to c d)).log ≡ d.log ++ record { request = WaitSync name; failed = false } ∷ []
 waited_log name c d = ap (λ (log : List Entry). log ++ record { request = WaitSync name; failed = false } ∷ []) (settles_same c d).1
+
+-- a wait that ended well was answered
+pub wait_served : (name : ℕ) (old new : Life) (done : Unit {0}) → WaitGoes name old new (Ok done) → NoneRefused old.present new.present
+wait_served name old new done (s, named, well, is) =
+    none_refused_once (WaitSync name) old.present new.present (ap (λ (l : Life). l.present.log) is ∙ waited_log name (s.covers, s.bytes) old.present)
 
 -- nothing was asked
 none_asked : (old new : Life) → new ≡ old → AsksAtMost 1 old new
@@ -174,7 +203,7 @@ start_cause s old new SyncFailed goes = absurd goes
 start_cause s old new InvalidChecksum goes = absurd goes
 start_cause s old new BlobInsufficientLength goes = absurd goes
 start_cause s old new OffsetOverflow goes = absurd goes
-start_cause s old new OutOfMemory goes = tt
+start_cause s old new OutOfMemory goes = none_refused_same old new goes
 start_cause s old new IdsExhausted goes = absurd goes
 
 -- the log goes on over a write

@@ -3,10 +3,10 @@
 use Rattle.std.proofs.Common.{◌≡◌, List, [], ◌∷◌, ◌++◌, length, length-append, ap, refl, sym, subst, inl, inr, arith}
 use Rattle.std.specs.Prelude.{None, Some, Ok, true, false}
 use Rattle.disk.specs.Disk.{Life, Entry, LogGrows, SomeFailed, HasFailed, next, logged, failed_at}
-use Rattle.disk.specs.Disk.Request.{ReadAt, WaitSync}
+use Rattle.disk.specs.Disk.Request.{ReadAt, StartSync, WaitSync, WriteAt}
 use Rattle.disk.specs.declared.started_sync.StartedSync.TheVariants.{Named}
 use Rattle.page.specs.declared.slot.Slot.TheVariants.{First}
-use Rattle.disk.specs.declared.error.Error.TheVariants.{ReadFailed, SyncFailed}
+use Rattle.disk.specs.declared.error.Error.TheVariants.{OutOfMemory, ReadFailed, SyncFailed}
 use Rattle.page.specs.Sums.{add_sum}
 use Rattle.page.proofs.Examples.{abcd_page, ef_page, efg_page}
 use Rattle.writer_state.specs.WriterState.{WriterState}
@@ -17,7 +17,7 @@ use Rattle.writer_state.proofs.Examples.{at_rest, with_g}
 use Rattle.paged.specs.Writer.{physical_blob_size, FitsBlob}
 use Rattle.paged.specs.Flush.{full_in, rest_of, has_work, carried, after_flush, synced, offset_of, flush_bytes, rest_bytes, footers_of, with_footers, TellsFirst, TellsFirstPage}
 use Rattle.paged.specs.Recovery.{RecoveryCause}
-use Rattle.paged.specs.Calls.{IsSettled, TryAppendGoes, CallCause, SettlesBy, sync_calls, start_calls, started_already, waited_writer}
+use Rattle.paged.specs.Calls.{AreServed, IsSettled, TryAppendGoes, CallCause, SettlesBy, sync_calls, start_calls, started_already, waited_writer}
 use Rattle.paged.specs.Direct.{fill_of, goes_direct, IsDirect}
 use Rattle.paged_read.specs.Ranges.{page_at}
 use Rattle.paged.specs.Reads.{HasWriterPages, size_of}
@@ -209,6 +209,26 @@ it_had_not_failed (inr had) = absurd (cc had)
 pub nothing_was_awaited : CallCause Dirty failed failed SyncFailed → ⊥
 nothing_was_awaited (inl fails) = no_failure failed fails
 nothing_was_awaited (inr had) = had
+
+-- a call that wrote, and then got no memory, may say so
+pub for_want_of_memory : CallCause Dirty old (next old (logged (WriteAt 0 16 false) false old.present)) OutOfMemory
+for_want_of_memory = (record { request = WriteAt 0 16 false; failed = false } ∷ [], refl, (inl refl, tt))
+
+-- a write that failed isn't told as a want of memory
+pub not_for_want_of_memory : CallCause Dirty old (next old (logged (WriteAt 0 16 false) true old.present)) OutOfMemory → ⊥
+not_for_want_of_memory (more, is, all) = not_served (subst (λ entries. AreServed entries) (sym is) all)
+  where
+    not_served : AreServed (record { request = WriteAt 0 16 false; failed = true } ∷ []) → ⊥
+    not_served (inl well, rest) = absurd (cc well)
+    not_served (inr start, rest) = absurd (cc start)
+
+-- the start of a sync that is to fail is answered: the wait for it isn't
+pub a_start_is_served : AreServed (record { request = StartSync; failed = true } ∷ [])
+a_start_is_served = (inr refl, tt)
+
+pub a_failed_wait_is_not : AreServed (record { request = WaitSync 0; failed = true } ∷ []) → ⊥
+a_failed_wait_is_not (inl well, rest) = absurd (cc well)
+a_failed_wait_is_not (inr start, rest) = absurd (cc start)
 
 -- the wait settles: the page is durable then
 pub a_wait_settles_it : SettlesBy (Pending 0) started (next started (logged (WaitSync 0) false (record ab_started { base = ab_page; since = []; settled = 1 }))) (Ok tt)

@@ -20,7 +20,7 @@ use Rattle.writer_state.proofs.Soundness.{carry_consistent, consistent_leaves, i
 use Rattle.writer_state.proofs.CallLaws.{sync_stays, sync_consistent, sync_content, write_stays, write_consistent, durable_write_consistent, write_content, write_intact}
 use Rattle.disk.proofs.Logs.{grows_same, grows_once, grows_joins}
 use Rattle.paged.proofs.Flushing.{length-rest}
-use Rattle.paged.proofs.Causes.{write_cause, sync_cause, cause_later, write_grows, sync_grows}
+use Rattle.paged.proofs.Causes.{cause_later, none_refused_joins, none_refused_once, none_refused_same, sync_cause, sync_grows, write_cause, write_grows}
 use Rattle.paged.specs.Flush.{full_in, rest_of, has_work, carried, synced, written, offset_of, flush_bytes, with_value}
 use Rattle.paged.specs.Calls.{AsksAtMost, settle_calls, sync_calls, HoldsWithin, PendingSyncFailed, CallCause, IsSameWriter, CarriesOn, Fails, Flushes, SyncsOver, Settles, IsSettled, IsWritten, WaitsForNone}
 
@@ -54,6 +54,7 @@ flush_goes sum w now rest old new (Ok done) small sound is can goes state fits =
   content = ap (λ n. content n new.present.readable) state ∙ write_content sum w old new (full_in w) rest (flush_bytes sum w rest) small sound is can refl false tt goes ∙ sym (append-nil (content w old.present.readable));
   same = subst (λ n. IsSameWriter w n) (sym state) (record { page_size = refl; id = refl; capacity = refl; full_pages = omega arith });
   log = grows_once (WriteAt (offset_of w) (length (flush_bytes sum w rest)) false) false old.present new.present (ap (λ l. l.present.log) goes.1 ∙ ap (λ e. e.log) goes.2.rest);
+  served = none_refused_once (WriteAt (offset_of w) (length (flush_bytes sum w rest)) false) old.present new.present (ap (λ l. l.present.log) goes.1 ∙ ap (λ e. e.log) goes.2.rest);
   stays = stays_nil sum w.page_size (content w old.present.readable) old new (write_stays sum w old new (full_in w) rest (flush_bytes sum w rest) small sound is can refl false (Ok tt) goes);
   waits = λ had. absurd (subst (λ (n : WriterState). PendingSyncFailed n.sync new.present) state had);
 }
@@ -65,7 +66,7 @@ flush_goes sum w now rest old new (Err e) small sound is can goes state fits = r
 
 -- going on from a writer whose durable slot was brought up to date is going on from the writer
 carried_goes_on : (sum : List ℕ → ℕ) (w now : WriterState) (old new : Life) → CarriesOn sum (carried w) old [] now new → CarriesOn sum w old [] now new
-carried_goes_on sum w now old new h = record { holds = h.holds; intact = h.intact; content = h.content; size = h.size; only = h.only; same = record { page_size = h.same.page_size; id = h.same.id; capacity = h.same.capacity; full_pages = h.same.full_pages }; log = h.log; stays = h.stays; waits = h.waits }
+carried_goes_on sum w now old new h = record { holds = h.holds; intact = h.intact; content = h.content; size = h.size; only = h.only; same = record { page_size = h.same.page_size; id = h.same.id; capacity = h.same.capacity; full_pages = h.same.full_pages }; log = h.log; stays = h.stays; waits = h.waits; served = h.served }
 
 flushes_carried : (sum : List ℕ → ℕ) (w : WriterState) (old new : Life) (result : Result WriterState Error) → Flushes sum (carried w) old new result → Flushes sum w old new result
 flushes_carried sum w old new (Ok now) h = carried_goes_on sum w now old new h
@@ -94,14 +95,15 @@ goes_on_more sum w m n old mid new first second = record {
   stays = stays_through_joins sum w.page_size (content w old.present.readable ++ []) old mid new first.stays
       (subst (λ P. StaysThrough sum P (content w old.present.readable ++ []) mid new) first.same.page_size
       (subst (λ c. StaysThrough sum m.page_size c mid new) (append-nil (content m mid.present.readable) ∙ first.content) second.stays));
-  waits = λ had. cause_later w.sync m.sync old mid new SyncFailed first.log second.log first.waits (second.waits had);
+  waits = λ had. cause_later w.sync m.sync old mid new SyncFailed first.log second.log first.served first.waits (second.waits had);
+  served = none_refused_joins old.present mid.present new.present first.served second.served;
 }
 
 -- a refusal of the later call is one of both
 pub refuses_more : (sum : List ℕ → ℕ) (w m : WriterState) (old mid new : Life) (e : Error) → CarriesOn sum w old [] m mid → Fails sum m (content m mid.present.readable) mid new e
     → Fails sum w (content w old.present.readable) old new e
 refuses_more sum w m old mid new e first second = record {
-  cause = cause_later w.sync m.sync old mid new e first.log second.log first.waits second.cause;
+  cause = cause_later w.sync m.sync old mid new e first.log second.log first.served first.waits second.cause;
   log = grows_joins old.present mid.present new.present first.log second.log;
   stays = subst (λ c. StaysThrough sum w.page_size c old new) (append-nil (content w old.present.readable))
       (stays_through_joins sum w.page_size (content w old.present.readable ++ []) old mid new first.stays
@@ -125,6 +127,7 @@ goes_on_same sum w life sound = record {
   log = grows_same life.present life.present refl;
   stays = stays_nil sum w.page_size (content w life.present.readable) life life (stays_through_start sum w.page_size (content w life.present.readable) life sound.truthful sound.vouched);
   waits = has_waited w.sync life;
+  served = none_refused_same life life refl;
 }
 
 -- a sync of the blob
@@ -138,6 +141,7 @@ settle_ok sum w now old new small sound goes state = record {
   content = ap (λ n. content n new.present.readable) state ∙ sync_content sum w old sound new tt goes ∙ sym (append-nil (content w old.present.readable));
   same = subst (λ n. IsSameWriter w n) (sym state) (record { page_size = refl; id = refl; capacity = refl; full_pages = omega arith });
   log = grows_once SyncAll false old.present new.present (ap (λ l. l.present.log) goes);
+  served = none_refused_once SyncAll old.present new.present (ap (λ l. l.present.log) goes);
   stays = stays_nil sum w.page_size (content w old.present.readable) old new (sync_stays sum w old sound new (Ok tt) goes);
   waits = λ had. absurd (subst (λ (n : WriterState). PendingSyncFailed n.sync new.present) state had);
 }
@@ -176,6 +180,7 @@ sync_durably sum w now rest old new (Ok done) small sound is rests can goes stat
     content = ap (λ n. content n new.present.readable) state ∙ write_content sum w old new (full_in w) rest (flush_bytes sum w rest) small sound is can refl true tt goes ∙ sym (append-nil (content w old.present.readable));
     same = subst (λ n. IsSameWriter w n) (sym state) (record { page_size = refl; id = refl; capacity = refl; full_pages = omega arith });
     log = grows_once (WriteAt (offset_of w) (length (flush_bytes sum w rest)) true) false old.present new.present (ap (λ l. l.present.log) goes.1 ∙ ap (λ e. e.log) goes.2.rest);
+    served = none_refused_once (WriteAt (offset_of w) (length (flush_bytes sum w rest)) true) old.present new.present (ap (λ l. l.present.log) goes.1 ∙ ap (λ e. e.log) goes.2.rest);
     stays = stays_nil sum w.page_size (content w old.present.readable) old new (write_stays sum w old new (full_in w) rest (flush_bytes sum w rest) small sound is can refl true (Ok tt) goes);
     waits = λ had. absurd (subst (λ (n : WriterState). PendingSyncFailed n.sync new.present) state had);
   },

@@ -22,7 +22,7 @@ use Rattle.paged.specs.Flush.{with_value}
 use Rattle.paged.specs.Reads.{size_of}
 use Rattle.paged.proofs.Appends.{append_fails}
 use Rattle.paged.proofs.Bypass.{IsCut}
-use Rattle.paged.proofs.Causes.{cause_later}
+use Rattle.paged.proofs.Causes.{cause_later, none_refused_joins}
 use Rattle.paged.proofs.Flushes.{begins, size_holds}
 use Rattle.paged.proofs.Sizes.{fits_by_size}
 
@@ -86,12 +86,13 @@ module _ (sum : List ℕ → ℕ) (w m : WriterState) (old mid new : Life) (xs y
     same = record { page_size = second.same.page_size ∙ first.same.page_size; id = second.same.id ∙ first.same.id; capacity = second.same.capacity ∙ first.same.capacity; full_pages = omega (arith, second.same.full_pages, first.same.full_pages) };
     log = grows_joins old.present mid.present new.present first.log second.log;
     stays = joined_stays second.stays;
-    waits = λ had. cause_later w.sync m.sync old mid new SyncFailed first.log second.log first.waits (second.waits had);
+    waits = λ had. cause_later w.sync m.sync old mid new SyncFailed first.log second.log first.served first.waits (second.waits had);
+    served = none_refused_joins old.present mid.present new.present first.served second.served;
   }
 
   refuses_join : (e : Error) → Fails sum m (content m mid.present.readable ++ ys) mid new e → Fails sum w (content w old.present.readable ++ (xs ++ ys)) old new e
   refuses_join e second = record {
-    cause = cause_later w.sync m.sync old mid new e first.log second.log first.waits second.cause;
+    cause = cause_later w.sync m.sync old mid new e first.log second.log first.served first.waits second.cause;
     log = grows_joins old.present mid.present new.present first.log second.log;
     stays = joined_stays second.stays;
   }
@@ -101,7 +102,7 @@ module _ (sum : List ℕ → ℕ) (w m : WriterState) (old mid new : Life) (xs y
   appends_stopped e is =
       let held = content w old.present.readable in
       subst (λ e. AppendsOver sum w (xs ++ ys) old mid (Err e)) (sym is) (record {
-        cause = tt;
+        cause = first.served;
         log = first.log;
         stays = subst (λ c. StaysThrough sum w.page_size c old mid) (append_assoc held xs ys) (stays_through_longer sum w.page_size (held ++ xs) (held ++ xs ++ ys) old mid (begins (held ++ xs) ys) first.stays);
       })

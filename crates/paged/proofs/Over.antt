@@ -75,6 +75,7 @@ sound_goes sum w now more old new sound goes = record {
   same = goes.same;
   log = goes.log;
   waits = goes.waits;
+  served = goes.served;
 }
 
 -- a call that `Succeeds` carries on over a blob that may be damaged, too (`CarriesOn`)
@@ -89,6 +90,7 @@ goes_over sum w now more old new goes = record {
   same = goes.same;
   log = goes.log;
   waits = goes.waits;
+  served = goes.served;
 }
 
 pub sound_syncs : (sum : List ℕ → ℕ) (w : WriterState) (old new : Life) (result : Result WriterState Error) → IsSound sum w old.present → SyncsOver sum w old new result → Syncs sum w old new result

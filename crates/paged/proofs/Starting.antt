@@ -26,7 +26,7 @@ use Rattle.disk.proofs.Logs.{failed_once}
 use Rattle.disk.specs.Disk.Request.{StartSync}
 use Rattle.paged.specs.Flush.{has_work, paired}
 use Rattle.paged.specs.Calls.{AsksAtMost, wait_calls, unstarted_calls, start_calls, CarriesOn, IsSameWriter, IsWritten, PendingSyncFailed, CallCause, StartsOver, StartedSyncKeeps, started_already}
-use Rattle.paged.proofs.Causes.{start_cause, start_grows, start_asks}
+use Rattle.paged.proofs.Causes.{none_refused_start, start_cause, start_grows, start_asks}
 use Rattle.paged.proofs.Flushes.{size_holds, stays_nil, goes_on_same, goes_on_more, refuses_more, dirty_settled}
 
 -- the newest sync has failed where its start did
@@ -70,6 +70,7 @@ module _ (sum : List ℕ → ℕ) (w : WriterState) (old new : Life) (small : Is
         content = ap (λ (v : WriterState). content v new.present.readable) state ∙ ap (λ (x : Disk). content w x.readable) there ∙ sym (append-nil (content w d.readable));
         same = subst (λ (v : WriterState). IsSameWriter w v) (sym state) (record { page_size = refl; id = refl; capacity = refl; full_pages = omega arith });
         log = start_grows old new (Ok (Named name)) (last, failed, is);
+        served = none_refused_start failed old.present new.present (ap (λ (l : Life). l.present.log) is);
         stays = stays_nil sum w.page_size (content w d.readable) old new (started_stays failed is);
         waits = λ had. newest_fails w.sync old new now name failed last is (ap (λ (v : WriterState). v.sync) state) had;
       } in (

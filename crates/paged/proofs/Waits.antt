@@ -25,7 +25,7 @@ use Rattle.paged.specs.Flush.{has_work, synced, with_value}
 use Rattle.paged_read.specs.Snapshots.{LeavesAllWriters}
 use Rattle.paged_read.proofs.Outliving.{leaves_writer}
 use Rattle.paged.specs.Calls.{AsksAtMost, wait_calls, settle_calls, sync_calls, CarriesOn, IsSameWriter, Flushes, Settles, SettlesBy, SyncsOver, PendingSyncFailed, CallCause, WaitsForNone, WaitsOver, Completes, Covers, waited_writer, waited_state}
-use Rattle.paged.proofs.Causes.{wait_cause, wait_asks, wait_grows, sync_asks}
+use Rattle.paged.proofs.Causes.{wait_cause, wait_asks, wait_grows, wait_served, sync_asks}
 use Rattle.paged.proofs.Flushes.{size_holds, stays_nil, goes_on_more, refuses_more, goes_on_same, settle_goes}
 
 -- what a wait leaves of what is readable
@@ -99,6 +99,7 @@ wait_goes sum w now name old new (Ok u) small sound state goes is =
         content = ap (λ (n : WriterState). content n new.present.readable) is ∙ ap (λ (l : List ℕ). content w l) (wait_readable name old new (Ok u) goes) ∙ sym (append-nil (content w old.present.readable));
         same = subst (λ (n : WriterState). IsSameWriter w n) (sym is) (record { page_size = refl; id = refl; capacity = refl; full_pages = omega arith });
         log = wait_grows name old new (Ok u) goes;
+        served = wait_served name old new u goes;
         stays = stays_nil sum w.page_size (content w old.present.readable) old new ((wait_leaves sum w old new name small sound (Ok u) goes).1);
         waits = λ had. absurd (subst (λ (n : WriterState). PendingSyncFailed n.sync new.present) is had);
       },

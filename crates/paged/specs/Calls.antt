@@ -1,9 +1,10 @@
 -- What each public call of a writer does, by cases on its answer. An image is a possible state of
 -- the blob after a crash, and a floor is a durable prefix of a content: one that every image keeps.
-use Rattle.std.specs.Prelude.{◌≡◌, ◌≢◌, ◌⊎◌, ◌<◌, ◌≤◌, ◌+◌, ◌*◌, ◌^◌, ◌++◌, ℕ, Bool, List, []}
-use Rattle.std.specs.Prelude.{length, nat_lt, true, if◌then◌else◌, Option, Some, None, Result, Ok}
-use Rattle.std.specs.Prelude.{Err}
-use Rattle.disk.specs.Disk.{Disk, Life, LogGrows, HasFailed, SyncGoes, WaitGoes, had_failed}
+use Rattle.std.specs.Prelude.{◌≡◌, ◌≢◌, ◌⊎◌, ◌<◌, ◌≤◌, ◌+◌, ◌*◌, ◌^◌, ◌++◌, ◌∷◌, ℕ, Bool, List}
+use Rattle.std.specs.Prelude.{[], length, nat_lt, true, false, if◌then◌else◌, Option, Some, None}
+use Rattle.std.specs.Prelude.{Result, Ok, Err}
+use Rattle.disk.specs.Disk.{Disk, Entry, Life, LogGrows, HasFailed, SyncGoes, WaitGoes}
+use Rattle.disk.specs.Disk.{StartSync, had_failed}
 use Rattle.disk.specs.declared.started_sync.StartedSync.{StartedSync}
 use Rattle.disk.specs.declared.started_sync.StartedSync.TheVariants.{Done, Named}
 use Rattle.disk.specs.declared.error.Error.{Error}
@@ -26,13 +27,24 @@ PendingSyncFailed Clean d = ⊥
 PendingSyncFailed Dirty d = ⊥
 PendingSyncFailed (Pending name) d = had_failed d.started name ≡ true
 
+-- none of these device calls was answered with an error. The start of a sync that is to fail isn't
+-- either: that shows as the sync is waited for
+abbrev pub AreServed : List Entry → Type 0
+AreServed [] = Unit {0}
+AreServed (e ∷ es) = ((e.failed ≡ false) ⊎ (e.request ≡ StartSync)) × AreServed es
+
+-- no device call from one moment to another was answered with an error
+abbrev pub NoneRefused : Disk → Disk → Type 0
+NoneRefused from to = (more : List Entry) × (to.log ≡ from.log ++ more) × AreServed more
+
 -- why a call of a writer in this state may answer this error: a write or a sync of the device
--- failed in it, or the started sync that it waited for had failed, or memory was refused
+-- failed in it, or the started sync that it waited for had failed, or memory was refused, and
+-- then no device call failed
 abbrev pub CallCause : SyncState → Life → Life → Error → Type 0
 CallCause s old new WriteFailed = HasFailed WriteFailed old.present new.present
 CallCause s old new SyncFailed =
     HasFailed SyncFailed old.present new.present ⊎ PendingSyncFailed s old.present
-CallCause s old new OutOfMemory = Unit {0}
+CallCause s old new OutOfMemory = NoneRefused old.present new.present
 CallCause s old new _ = ⊥
 
 -- at most n device calls were made
@@ -93,6 +105,7 @@ pub record Succeeds (sum : List ℕ → ℕ) (w : WriterState) (old : Life) (mor
   pub log : LogGrows old.present new.present
   -- if the sync that the writer is left waiting for has failed, it failed in this call or before it
   pub waits : PendingSyncFailed now.sync new.present → CallCause w.sync old new SyncFailed
+  pub served : NoneRefused old.present new.present
 
 -- a call fails: why, and what each of its moments keeps
 pub record Fails (sum : List ℕ → ℕ) (w : WriterState) (content : List ℕ) (old new : Life)
@@ -115,6 +128,7 @@ pub record CarriesOn (sum : List ℕ → ℕ) (w : WriterState) (old : Life) (mo
   pub same : IsSameWriter w now
   pub log : LogGrows old.present new.present
   pub waits : PendingSyncFailed now.sync new.present → CallCause w.sync old new SyncFailed
+  pub served : NoneRefused old.present new.present
 
 -- a flush, over a blob that may be damaged
 abbrev pub Flushes : (List ℕ → ℕ) → WriterState → Life → Life → Result WriterState Error → Type 0

@@ -14,8 +14,8 @@ use Rattle.paged_read.specs.Snapshots.{SnapshotReads}
 use Rattle.paged_read.specs.Tail.{CanRead, Tail}
 use Rattle.paged.specs.Writer.{physical_blob_size}
 use Rattle.paged.specs.Calls.{CallCause, Completed, Completes, HoldsWithin, PendingSyncFailed}
-use Rattle.paged.specs.Calls.{IsSameWriter, IsSettled, IsWritten, StartedSyncKeeps, start_calls}
-use Rattle.paged.specs.Calls.{waited_writer}
+use Rattle.paged.specs.Calls.{IsSameWriter, IsSettled, IsWritten, NoneRefused, StartedSyncKeeps}
+use Rattle.paged.specs.Calls.{start_calls, waited_writer}
 use Rattle.paged.specs.Reads.{size_of}
 use Rattle.paged.specs.Recovery.{IsAsOpened}
 use Rattle.paged.specs.Caches.{tail_of}
@@ -34,6 +34,8 @@ pub record Holds (sum : List ℕ → ℕ) (w : WriterState) (old : Life) (more :
   -- waiting for has failed, it failed in this call or before it
   pub completed : Completed sum w.page_size (content w old.present.readable) w.sync now.sync old new
   pub waits : PendingSyncFailed now.sync new.present → CallCause w.sync old new SyncFailed
+  -- no device call failed
+  pub served : NoneRefused old.present new.present
   -- (last, since a field hides a definition of its name from those after it)
   pub content : content now new.present.readable ≡ content w old.present.readable ++ more
 

@@ -6,6 +6,7 @@ use crate::log_names::FolderNames;
 use crate::look::read;
 use crate::pages::value_of;
 use crate::request::Request;
+use crate::serving::fail_file;
 use crate::status::Status;
 use page::Sum;
 use paged::physical_page_size;
@@ -37,6 +38,7 @@ pub fn refuse_log(rt: &HostRuntime, request: &Request, error: &Error) -> Status 
     let why = Why(error);
     match error {
         Error::System(_) | Error::Layer(_) => fail(rt, folder, why),
+        Error::Unsynced(error) => fail_file(rt, folder, error, true),
         Error::Manifest => {
             tell(rt, format_args!("{folder}: {why}"));
             match tell_fit(rt, request) {

@@ -85,7 +85,10 @@ fn make_folder(rt: &HostRuntime, request: &Request) -> Result<(), Status> {
 pub fn keep_name(rt: &HostRuntime, folder: &str) -> Result<(), Status> {
     match sync_above(rt, folder) {
         Ok(()) => Ok(()),
-        Err(error) => Err(fail(rt, folder, error)),
+        Err(error) => {
+            let words = "its name couldn't be made durable: before it is used, rename it and back";
+            Err(fail(rt, folder, format_args!("{error}: {words}")))
+        }
     }
 }
 
@@ -196,20 +199,22 @@ fn end(
     let words = "what was appended since the last sync may be lost";
     match (&client.lost, unsynced) {
         (_, Some(file)) => Err(fail_unsynced(rt, folder, file)?),
-        (Some(error), None) if client.is_unsynced() => {
-            let how = Unsynced(folder);
-            Err(fail(
-                rt,
-                folder,
-                format_args!("the log was closed: {error}: {how}"),
-            ))
-        }
+        (Some(error), None) if client.is_unsynced() => Err(fail_lost(rt, folder, error)),
         (Some(error), None) => Err(fail(
             rt,
             folder,
             format_args!("the log was closed: {error}: {words}"),
         )),
         (None, None) => Ok(Status::Done),
+    }
+}
+
+// Says that a sync closed the log which was that of the folder, or of a file that is let go of.
+fn fail_lost(rt: &HostRuntime, folder: &str, error: &Error) -> Status {
+    let how = Unsynced(folder);
+    match error {
+        Error::Unsynced(why) => fail(rt, folder, format_args!("the log was closed: {why}: {how}")),
+        _ => fail(rt, folder, format_args!("the log was closed: {error}: {how}")),
     }
 }
 

@@ -19,7 +19,7 @@ pub const CLOSED: u8 = 17;
 /// No version of an offer is known.
 pub const NO_VERSION: u8 = 24;
 
-// What a client may do after a sync of a file failed: replace the log's files by copies.
+// What a client may do after a sync of a file or of the folder failed: replace the log's files by copies.
 const REPLACE: u8 = 3;
 
 // The last status of a call of a file that failed.
@@ -65,9 +65,12 @@ fn told_status(error: &Error, sync_failed: bool) -> u8 {
     }
 }
 
-/// Whether this error is that of a failed sync.
+/// Whether this error is that of a failed sync, of a file or of the folder.
 pub fn is_failed_sync(error: &Error) -> bool {
-    matches!(error, Error::Layer(disk::Error::SyncFailed))
+    matches!(
+        error,
+        Error::Unsynced(_) | Error::Layer(disk::Error::SyncFailed)
+    )
 }
 
 /// The status of an error.
@@ -77,7 +80,7 @@ pub fn status_of(error: &Error) -> u8 {
         Error::Closed => CLOSED,
         Error::NoSegment(_) => 38,
         Error::Damaged(_) => 39,
-        Error::System(_) => 40,
+        Error::System(_) | Error::Unsynced(_) => 40,
         Error::Unlisted(_) => 41,
         Error::NumbersExhausted => 42,
         Error::Missing(_) | Error::Short(_) | Error::Outdated(_) | Error::Manifest => 43,
@@ -100,7 +103,7 @@ pub fn status_of_flaw(flaw: Flaw) -> u8 {
 // replace the log's files first, each by a copy of itself, since nobody knows what is durable.
 fn advice_after(error: &Error, is_closing: bool) -> u8 {
     match error {
-        error if is_failed_sync(error) => REPLACE,
+        Error::Unsynced(_) | Error::Layer(disk::Error::SyncFailed) => REPLACE,
         Error::NoSegment(_) | Error::Damaged(_) => 0,
         Error::Closed
         | Error::Unlisted(_)
@@ -120,7 +123,7 @@ fn advice_after(error: &Error, is_closing: bool) -> u8 {
 // The error of the system, where there is one: of the folder, or of a file that failed.
 fn cause_of<'a>(error: &'a Error, failure: Option<&'a io::Error>) -> Option<&'a io::Error> {
     match error {
-        Error::System(why) => Some(why),
+        Error::System(why) | Error::Unsynced(why) => Some(why),
         Error::Layer(error) if error.number() <= LAST_OF_FILE => failure,
         _ => None,
     }

@@ -8,17 +8,19 @@ use crate::request::Request;
 use crate::serving::fail_file;
 use crate::status::Status;
 use disk::{Blob, Error};
-use file::FileBlob;
+use file::{FileBlob, OpenError};
 use page::Sum;
 use paged::Verdict;
 use std::fs::{self, File};
 use std::io;
 
-/// Opens a file, or makes it. Where that fails, a line says why.
+/// Opens a file, or makes it. Where that fails, a line says why, and after a failed sync how to go
+/// on.
 pub fn open(rt: &HostRuntime, path: &str) -> Result<FileBlob, Status> {
     match file::open(rt, path) {
         Ok(blob) => Ok(blob),
-        Err(error) => Err(fail(rt, path, error)),
+        Err(OpenError::System(error)) => Err(fail(rt, path, error)),
+        Err(OpenError::Unsynced(error)) => Err(fail_file(rt, path, &error, true)),
     }
 }
 

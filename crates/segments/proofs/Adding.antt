@@ -76,6 +76,7 @@ add_goes sum own bytes s m t offset (Ok u) owned is committed =
 add_goes sum own bytes s m t offset (Err (errors.Layer e)) owned is failed = failed_by s.journal m.journal t.journal _ _ is failed
 add_goes sum own bytes s m t offset (Err errors.Closed) owned is failed = absurd (none_kept s.journal m.journal _ is failed.0)
 add_goes sum own bytes s m t offset (Err (errors.System e)) owned is failed = failed
+add_goes sum own bytes s m t offset (Err (errors.Unsynced e)) owned is failed = failed
 add_goes sum own bytes s m t offset (Err (errors.Damaged n)) owned is failed = failed
 add_goes sum own bytes s m t offset (Err (errors.Unlisted n)) owned is failed = failed
 add_goes sum own bytes s m t offset (Err (errors.Missing n)) owned is failed = failed

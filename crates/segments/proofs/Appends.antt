@@ -17,6 +17,7 @@ none_left sum own bytes s t (errors.Layer e) is = none_of _ s.journal t.journal 
   none_of P (Some w) k is = is.0
 none_left sum own bytes s t errors.Closed is = ap (λ (o : OwnedState). o.journal) is.1 ∙ is.0
 none_left sum own bytes s t (errors.System e) is = absurd is
+none_left sum own bytes s t (errors.Unsynced e) is = absurd is
 none_left sum own bytes s t (errors.Damaged n) is = absurd is
 none_left sum own bytes s t (errors.Unlisted n) is = absurd is
 none_left sum own bytes s t (errors.Missing n) is = absurd is

@@ -100,6 +100,7 @@ close_goes sum own s m (Err (errors.Layer e)) image owned leaves is = has_then _
 close_goes sum own s m (Err errors.Closed) image owned leaves is =
     (is.0, ap (λ (o : OwnedState). without_journal o) is.1 ∙ ap (λ (j : Option WriterState). record s { journal = j }) (sym is.0))
 close_goes sum own s m (Err (errors.System e)) image owned leaves is = is
+close_goes sum own s m (Err (errors.Unsynced e)) image owned leaves is = is
 close_goes sum own s m (Err (errors.Damaged n)) image owned leaves is = is
 close_goes sum own s m (Err (errors.Unlisted n)) image owned leaves is = is
 close_goes sum own s m (Err (errors.Missing n)) image owned leaves is = is

@@ -141,15 +141,15 @@ pub it_was_dropped : (one two : Closed) (bytes : List ℕ) → listed_in 18 (rec
     → LogDropped add_sum add_sum 18 (record { first = 0; closed = one ∷ two ∷ [] }) 1 (resting bytes)
 it_was_dropped one two bytes lists manifest image free held file =
     let same : manifest ≡ bytes = durable_image (resting bytes) manifest (rests bytes) image in
-    inr (ap (λ (m : List ℕ). records_left add_sum add_sum 18 held file m) same ∙ ap (λ (o : Option ListingState). records_by add_sum add_sum 18 held file o) lists)
+    inr (lit≤ tt, lit≤ tt, ap (λ (m : List ℕ). records_left add_sum add_sum 18 held file m) same ∙ ap (λ (o : Option ListingState). records_by add_sum add_sum 18 held file o) lists)
 
 abbrev how_many : Option (List (List ℕ)) → ℕ
 how_many None = 9
 how_many (Some rs) = length rs
 
-not_one : (left : Option (List (List ℕ))) → left ≡ Some (c ∷ []) → (left ≡ Some (c ∷ d ∷ c ∷ [])) ⊎ (left ≡ Some (d ∷ c ∷ [])) → ⊥
+not_one : (left : Option (List (List ℕ))) → left ≡ Some (c ∷ []) → (left ≡ Some (c ∷ d ∷ c ∷ [])) ⊎ ((0 ≤ 1) × (1 ≤ 2) × (left ≡ Some (d ∷ c ∷ []))) → ⊥
 not_one left is (inl all) = let same : ◌≡◌ {A = ℕ} 1 3 = ap how_many (sym is ∙ all) in omega (arith, same)
-not_one left is (inr some) = let same : ◌≡◌ {A = ℕ} 1 2 = ap how_many (sym is ∙ some) in omega (arith, same)
+not_one left is (inr some) = let same : ◌≡◌ {A = ℕ} 1 2 = ap how_many (sym is ∙ some.2) in omega (arith, same)
 
 -- a manifest that lists it from segment 2 on, one more than was to be dropped
 left_of_two : (bytes : List ℕ) → listed_in 18 (records add_sum (text add_sum 18 bytes)) ≡ Some (record { first = 2; closed = [] })
@@ -162,6 +162,23 @@ pub one_segment_more : (one two : Closed) (bytes : List ℕ) → listed_in 18 (r
 unfolding record_len is_record record_of frames records
 one_segment_more one two bytes lists dropped =
     not_one (records_left add_sum add_sum 18 held (files c_page) bytes) (left_of_two bytes lists)
+    (dropped bytes (image_of (resting bytes) (rests bytes)) (chance_free add_sum 18 (resting bytes) (rests bytes)) held (files c_page))
+
+-- a drop of segment 0, which was dropped before, doesn't bring it back into the listing
+left_of_all : (one two : Closed) (bytes : List ℕ) → listed_in 18 (records add_sum (text add_sum 18 bytes)) ≡ Some (record { first = 0; closed = one ∷ two ∷ [] })
+    → records_left add_sum add_sum 18 held (files c_page) bytes ≡ Some (c ∷ d ∷ c ∷ [])
+unfolding record_len is_record record_of frames records
+left_of_all one two bytes lists = ap (λ (o : Option ListingState). records_by add_sum add_sum 18 held (files c_page) o) lists
+
+not_all : (left : Option (List (List ℕ))) → left ≡ Some (c ∷ d ∷ c ∷ []) → (left ≡ Some (d ∷ c ∷ [])) ⊎ ((1 ≤ 0) × (0 ≤ 2) × (left ≡ Some (c ∷ c ∷ []))) → ⊥
+not_all left is (inl some) = let same : ◌≡◌ {A = ℕ} 3 2 = ap how_many (sym is ∙ some) in omega (arith, same)
+not_all left is (inr before) = omega (arith, before.0)
+
+pub a_dropped_segment_is_back : (one two : Closed) (bytes : List ℕ) → listed_in 18 (records add_sum (text add_sum 18 bytes)) ≡ Some (record { first = 0; closed = one ∷ two ∷ [] })
+    → LogDropped add_sum add_sum 18 (record { first = 1; closed = two ∷ [] }) 0 (resting bytes) → ⊥
+unfolding record_len is_record record_of frames records
+a_dropped_segment_is_back one two bytes lists dropped =
+    not_all (records_left add_sum add_sum 18 held (files c_page) bytes) (left_of_all one two bytes lists)
     (dropped bytes (image_of (resting bytes) (rests bytes)) (chance_free add_sum 18 (resting bytes) (rests bytes)) held (files c_page))
 
 -- a log whose manifest has these bytes, and which lists these segments

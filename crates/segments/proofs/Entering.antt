@@ -37,6 +37,7 @@ no_journal sum own bytes s t (errors.Layer e) is = none_of s.journal t.journal i
   none_of (Some w) k is = is
 no_journal sum own bytes s t errors.Closed is = ap (λ (o : OwnedState). o.journal) is.1 ∙ is.0
 no_journal sum own bytes s t (errors.System e) is = absurd is
+no_journal sum own bytes s t (errors.Unsynced e) is = absurd is
 no_journal sum own bytes s t (errors.Damaged n) is = absurd is
 no_journal sum own bytes s t (errors.Unlisted n) is = absurd is
 no_journal sum own bytes s t (errors.Missing n) is = absurd is

@@ -12,11 +12,12 @@ use Rattle.journal.proofs.Frames.{whole_is_whole}
 use Rattle.segments.specs.declared.call.FolderCall.TheVariants as calls
 use Rattle.segments.specs.declared.closed.Closed.{Closed}
 use Rattle.segments.specs.declared.error.Error.TheVariants as errors
+use Rattle.std_io.specs.declared.io.error.Error as io_error
 use Rattle.segments.specs.Digests.{IsOf}
 use Rattle.segments.specs.FolderEvents.{FolderEvent, plain_event}
 use Rattle.segments.specs.Manifest.{ListingState, none_closed}
 use Rattle.segments.specs.Owned.{IsOwned, OwnedAppendGoes, OwnedState, without_journal}
-use Rattle.segments.specs.Log.{AppendHereGoes, CurrentKeeps, EndsSynced, HasKept, HoldsClosed, IsBeyond, IsClosedLog, IsClosedOff, IsContentOf, IsCurrentContent, IsDropped, IsKept, IsListed, IsLoaded, IsLog, IsReadOf, IsSameButAsked, IsSameButCurrent, IsSameButManifest, IsStartedFrom, LeavesReading, Lists, LoadedState, LogAppendGoes, LogState, TellHeld, closed_records, listing_from, log_records}
+use Rattle.segments.specs.Log.{AppendHereGoes, CurrentKeeps, EndsRemoval, EndsSynced, EndsUnsynced, HasKept, HoldsClosed, IsBeyond, IsClosedLog, IsClosedOff, IsContentOf, IsCurrentContent, IsDropped, IsKept, IsListed, IsLoaded, IsLog, IsReadOf, IsSameButAsked, IsSameButCurrent, IsSameButManifest, IsStartedFrom, IsUnsyncedDrop, LeavesReading, Lists, LoadedState, LogAppendGoes, LogState, TellHeld, closed_records, listing_from, log_records}
 use Rattle.segments.proofs.BytesExamples.{c, c_frame, c_page, changed_life, d, d_frame, d_page, life_of, none_committed, rests, with_c, with_none, writer}
 use Rattle.segments.proofs.OwnedExamples.{another_record, nothing_was_done}
 
@@ -292,6 +293,42 @@ the_last_is_a_sync events = (events, refl)
 abbrev first_failed : List FolderEvent → Bool
 first_failed [] = false
 first_failed (e ∷ es) = e.failed
+
+-- the files of a drop are gone, and the names couldn't be synced: that is `Unsynced`
+pub its_sync_failed : (e : io_error.Error) → EndsRemoval (plain_event calls.Syncs true ∷ []) (Err (errors.Unsynced e))
+its_sync_failed e = ([], refl)
+
+-- and it isn't done
+pub it_is_not_done : EndsRemoval (plain_event calls.Syncs true ∷ []) (Ok tt) → ⊥
+it_is_not_done is = a_failed_sync is
+
+-- a sync that succeeded
+pub no_sync_failed : EndsUnsynced (plain_event calls.Syncs false ∷ []) → ⊥
+no_sync_failed is = not_last is.0 is.1
+  where
+    not_last : (before : List FolderEvent) → plain_event calls.Syncs false ∷ [] ≡ before ++ plain_event calls.Syncs true ∷ [] → ⊥
+    not_last [] is = let same : false ≡ true = ap first_failed is in absurd (cc same)
+    not_last (e ∷ []) is = absurd (cc is)
+    not_last (e ∷ f ∷ before) is = absurd (cc is)
+
+-- such a drop, whole
+pub its_drop_is_unsynced : IsUnsyncedDrop 0 small (record small { asked = plain_event calls.Syncs true ∷ [] })
+its_drop_is_unsynced = record {
+  drops = record {
+    was_open = λ closed. elim closed [ inl none ↦ absurd (cc none) | inr none ↦ absurd (cc none) ];
+    within = lit≤ tt;
+    mid = small;
+    starts = inl (lit≤ tt, refl);
+    there = tt;
+    rest = refl;
+    removed = record { events = plain_event calls.Syncs true ∷ []; all = refl; below = inr (refl, tt) };
+  };
+  failed = ([], refl);
+}
+
+-- nor is one whose sync succeeded
+pub its_drop_is_synced : IsUnsyncedDrop 0 small (record small { asked = plain_event calls.Syncs false ∷ [] }) → ⊥
+its_drop_is_synced is = no_sync_failed is.failed
 
 -- a sync that failed
 pub a_failed_sync : EndsSynced (plain_event calls.Syncs true ∷ []) → ⊥

@@ -12,12 +12,16 @@ use Rattle.segments.specs.declared.call.FolderCall.{FolderCall}
 use Rattle.segments.specs.declared.call.FolderCall.TheVariants as calls
 use Rattle.segments.specs.declared.closed.Closed.{Closed}
 use Rattle.segments.specs.declared.error.Error.{Error}
+use Rattle.segments.specs.declared.error.Error.TheVariants as errors
+use Rattle.segments.specs.Folders.{opening_error}
+use Rattle.file.specs.declared.opening.OpenError.TheVariants as refusals
+use Rattle.std_io.specs.declared.io.error.Error as io_error
 use Rattle.segments.specs.declared.past.Last.TheVariants.{Nothing}
 use Rattle.segments.specs.FolderPast.{events_of}
 use Rattle.segments.specs.FolderEvents.{FolderEvent, folder_outcome, keeping_event, keeping_outcome, opening_outcome, opening_with, plain_event}
 use Rattle.segments.specs.Manifest.{none_closed}
 use Rattle.segments.specs.Owned.{IsOwned}
-use Rattle.segments.specs.Log.{AreParts, AsksForSegment, AsksInVain, HasCurrent, HasManifest, HasNext, LogState, OpenNextGoes, events_for}
+use Rattle.segments.specs.Log.{AreParts, AsksForSegment, AsksUnsynced, HasCurrent, HasManifest, HasNext, LogState, OpenNextGoes, events_for}
 use Rattle.segments.specs.Crash.{AsksForLog, HasOpenedFiles, IsOpenedLog}
 use Rattle.segments.proofs.BytesExamples.{c, c_frame, c_is_not_d, c_is_told, c_life, c_page, d, d_is_told, d_page, none_committed, only_of, resting, with_c, with_none}
 use Rattle.segments.proofs.LogExamples.{it_does_not_list_one, it_lists_none, small}
@@ -181,8 +185,20 @@ no_copy_was_kept sum own is =
 
 -- ---- what a call answered
 
-pub it_was_refused : AsksInVain 1 [] (plain_event (calls.Opens 1) true ∷ [])
-it_was_refused = inl refl
+-- the file was opened, and its name couldn't be made durable
+pub its_name_is_unsynced : AsksUnsynced 1 [] (opening_with (calls.Opens 1) [] ∷ plain_event calls.Syncs true ∷ [])
+its_name_is_unsynced = inr ([], refl)
+
+-- the system refused the file: no sync was asked for
+pub it_was_refused : {B : Type 0} (life : B → Life) (e : io_error.Error) → AsksForSegment life 1 [] (plain_event (calls.Opens 1) true ∷ []) (Err (errors.System e))
+it_was_refused life e = refl
+
+-- after a failed sync of the names the error isn't told as a refusal of the file
+pub not_told_as_refused : {B : Type 0} (life : B → Life) (e : io_error.Error) → AsksForSegment life 1 [] (opening_with (calls.Opens 1) [] ∷ plain_event calls.Syncs true ∷ []) (Err (errors.System e)) → ⊥
+not_told_as_refused life e is = let same : ◌≡◌ {A = ℕ} 2 1 = ap length is in omega (arith, same)
+
+pub a_failed_sync_of_a_file : (e : io_error.Error) → opening_error (refusals.Unsynced e) ≡ errors.Unsynced e
+a_failed_sync_of_a_file e = refl
 
 abbrev second_failed : List FolderEvent → Bool
 second_failed [] = false
@@ -190,9 +206,9 @@ second_failed (e ∷ []) = false
 second_failed (e ∷ f ∷ es) = f.failed
 
 -- the file was opened, and its name is durable
-pub it_was_not_in_vain : AsksInVain 1 [] (events_for 1 []) → ⊥
-it_was_not_in_vain (inl is) = let same : ◌≡◌ {A = ℕ} 2 1 = ap length is in omega (arith, same)
-it_was_not_in_vain (inr is) = let same : false ≡ true = ap second_failed is.1 in absurd (cc same)
+pub it_was_not_unsynced : AsksUnsynced 1 [] (events_for 1 []) → ⊥
+it_was_not_unsynced (inl is) = let same : ◌≡◌ {A = ℕ} 2 1 = ap length is in omega (arith, same)
+it_was_not_unsynced (inr is) = let same : false ≡ true = ap second_failed is.1 in absurd (cc same)
 
 pub a_sync_failed : (e : Error) → folder_outcome {T = Unit {0}} calls.Syncs (Err e) ≡ plain_event calls.Syncs true
 a_sync_failed e = refl

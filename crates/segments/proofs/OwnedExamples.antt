@@ -122,7 +122,7 @@ pub an_append_to_a_closed_one : (sum own : List ℕ → ℕ) → OwnedAppendGoes
 an_append_to_a_closed_one sum own = (refl, refl)
 
 pub no_memory_for_an_append : (sum own : List ℕ → ℕ) → OwnedAppendGoes sum own c with_c closed (Err (errors.Layer OutOfMemory))
-no_memory_for_an_append sum own = (refl, tt)
+no_memory_for_an_append sum own = (refl, ([], refl, tt))
 
 -- after an error of the layer there is no journal
 pub open_after_an_error : (sum own : List ℕ → ℕ) → OwnedAppendGoes sum own c with_c with_c (Err (errors.Layer OutOfMemory)) → ⊥
@@ -133,7 +133,7 @@ pub at_another_offset : (sum own : List ℕ → ℕ) (now : WriterState) (life :
 at_another_offset sum own now life is = let same : ◌≡◌ {A = ℕ} 9 8 = is.at in omega (arith, same)
 
 pub no_memory_for_a_commit : (sum own : List ℕ → ℕ) → OwnedCommitGoes sum own with_c closed (Err (errors.Layer OutOfMemory))
-no_memory_for_a_commit sum own = (refl, tt)
+no_memory_for_a_commit sum own = (refl, ([], refl, tt))
 
 -- what was committed is durable
 pub it_was_not_synced : (sum own : List ℕ → ℕ)
@@ -141,7 +141,7 @@ pub it_was_not_synced : (sum own : List ℕ → ℕ)
 it_was_not_synced sum own is = let none : Write 0 c_page ∷ [] ≡ [] = is.durable.since in absurd (cc none)
 
 pub no_memory_for_a_start : (sum own : List ℕ → ℕ) → OwnedStartGoes sum own with_c closed (Err (errors.Layer OutOfMemory))
-no_memory_for_a_start sum own = (refl, tt)
+no_memory_for_a_start sum own = (refl, ([], refl, tt))
 
 -- a sync was started, and the journal doesn't wait for it
 pub it_does_not_wait : (sum own : List ℕ → ℕ) → OwnedStartGoes sum own with_c with_c (Ok (Named 0)) → ⊥

@@ -33,6 +33,7 @@ reads_current sum own s t p (Ok found) at is =
 reads_current sum own s t p (Err (errors.Layer e)) at is = inl (at, is)
 reads_current sum own s t p (Err errors.Closed) at is = (at, is.0)
 reads_current sum own s t p (Err (errors.System e)) at is = absurd is
+reads_current sum own s t p (Err (errors.Unsynced e)) at is = absurd is
 reads_current sum own s t p (Err (errors.Damaged n)) at is = absurd is
 reads_current sum own s t p (Err (errors.Unlisted n)) at is = absurd is
 reads_current sum own s t p (Err (errors.Missing n)) at is = absurd is

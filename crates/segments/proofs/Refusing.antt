@@ -1,16 +1,17 @@
 -- Why a rotation is refused.
-use Rattle.std.specs.Prelude.{◌≡◌, ◌⊎◌, ◌+◌, ◌++◌, ℕ, List, [], None, Result, Ok, Err}
+use Rattle.std.specs.Prelude.{◌≡◌, ◌⊎◌, ◌+◌, ◌++◌, ◌∷◌, ℕ, List, [], None, true, Result, Ok, Err}
 use Rattle.std.specs.Result.{IsErrAnd}
 use Rattle.std.proofs.Common.{ap, sym, ◌∙◌, subst, inl, inr}
+use Rattle.segments.specs.declared.call.FolderCall.TheVariants as calls
 use Rattle.segments.specs.declared.closed.Closed.{Closed}
 use Rattle.segments.specs.declared.entry.Entry.{Entry}
 use Rattle.segments.specs.declared.entry.Entry.TheVariants.{Closes}
 use Rattle.segments.specs.declared.error.Error.{Error}
 use Rattle.segments.specs.declared.error.Error.TheVariants as errors
-use Rattle.segments.specs.FolderEvents.{FolderEvent}
+use Rattle.segments.specs.FolderEvents.{FolderEvent, plain_event}
 use Rattle.segments.specs.Manifest.{ListingState, listed_with, open_in}
 use Rattle.segments.specs.Owned.{IsShut, OwnedCloseGoes, OwnedState, records_now}
-use Rattle.segments.specs.Log.{AsksInVain, EnterRefused, IsNotEntered, IsSameButAsked, IsSameButCurrent, IsSameButManifest, LogState, NextRefused, RotateGoes, WasClosed, events_for}
+use Rattle.segments.specs.Log.{AsksUnsynced, EnterRefused, IsNotEntered, IsSameButAsked, IsSameButCurrent, IsSameButManifest, LogState, NextRefused, RotateGoes, WasClosed, events_for}
 use Rattle.segments.proofs.Rotating.{Turning, asked_is, same_listing, same_loaded, same_known, same_manifest, same_most, same_pages}
 
 -- the open segment couldn't be closed
@@ -25,7 +26,9 @@ next_cause : (s m t : LogState) (e : Error) → m.asked ≡ s.asked → m.listin
 next_cause s m t (errors.Layer x) asked lists is =
     is ∙ ap (λ (es : List FolderEvent). es ++ events_for (open_in m.listing + 1) []) asked ∙ ap (λ (l : ListingState). s.asked ++ events_for (open_in l + 1) []) lists
 next_cause s m t (errors.System x) asked lists is =
-    subst (λ (l : ListingState). AsksInVain (open_in l + 1) s.asked t.asked) lists (subst (λ (es : List FolderEvent). AsksInVain (open_in m.listing + 1) es t.asked) asked is)
+    is ∙ ap (λ (es : List FolderEvent). es ++ plain_event (calls.Opens (open_in m.listing + 1)) true ∷ []) asked ∙ ap (λ (l : ListingState). s.asked ++ plain_event (calls.Opens (open_in l + 1)) true ∷ []) lists
+next_cause s m t (errors.Unsynced x) asked lists is =
+    subst (λ (l : ListingState). AsksUnsynced (open_in l + 1) s.asked t.asked) lists (subst (λ (es : List FolderEvent). AsksUnsynced (open_in m.listing + 1) es t.asked) asked is)
 next_cause s m t (errors.Unlisted k) asked lists is =
     (is.0 ∙ ap (λ (l : ListingState). open_in l + 1) lists, is.1, is.2, is.3 ∙ ap (λ (es : List FolderEvent). es ++ events_for k is.1) asked)
 next_cause s m t errors.NumbersExhausted asked lists is = (ap (λ (l : ListingState). open_in l) (sym lists) ∙ is.0, is.1 ∙ asked)
@@ -64,6 +67,7 @@ entry_cause : (s f : LogState) (entry : Entry) (e : Error) → f.manifest ≡ s.
 entry_cause s f entry errors.Closed manifest lists pages is = ap (λ (o : OwnedState). o.journal) (sym manifest) ∙ is
 entry_cause s f entry (errors.Layer x) manifest lists pages is = tt
 entry_cause s f entry (errors.System x) manifest lists pages is = is
+entry_cause s f entry (errors.Unsynced x) manifest lists pages is = is
 entry_cause s f entry (errors.Damaged k) manifest lists pages is = is
 entry_cause s f entry (errors.Unlisted k) manifest lists pages is = is
 entry_cause s f entry (errors.Missing k) manifest lists pages is = is

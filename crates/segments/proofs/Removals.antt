@@ -1,10 +1,10 @@
 -- What a folder is asked for as segments are dropped.
-use Rattle.std.specs.Prelude.{◌≡◌, ◌<◌, ◌≤◌, ◌++◌, ◌∷◌, [], ℕ, suc, List, Result, Ok, Err, IfOk}
+use Rattle.std.specs.Prelude.{◌≡◌, ◌<◌, ◌≤◌, ◌++◌, ◌∷◌, [], ℕ, suc, List, Result, Ok, Err}
 use Rattle.std.proofs.Common.{ap, sym, ◌∙◌, refl, subst, inl, inr, arith, append_assoc, append-nil}
 use Rattle.segments.specs.declared.call.FolderCall.{FolderCall}
 use Rattle.segments.specs.declared.call.FolderCall.TheVariants as calls
 use Rattle.segments.specs.FolderEvents.{FolderEvent, folder_outcome}
-use Rattle.segments.specs.Log.{AreOfOlder, AsksOfOlder, EndsSynced}
+use Rattle.segments.specs.Log.{AreOfOlder, AsksOfOlder}
 
 -- such calls, of which the last removal was of a segment before `next`
 pub record AsksBelow (next first : ℕ) (old new : List FolderEvent) : Type 0 where
@@ -46,16 +46,18 @@ asks_removal next first number old mid new result is more below after =
 pub asks_done : (next first : ℕ) (old new : List FolderEvent) → AsksBelow next first old new → AsksOfOlder first old new
 asks_done next first old new is = record { events = is.events; all = is.all; below = is.below }
 
-pub asks_sync : {T E : Type 0} (next first : ℕ) (old mid new : List FolderEvent) (result : Result T E) → AsksBelow next first old mid
+-- a sync behind removals
+pub older_then_sync : (from first : ℕ) (es : List FolderEvent) (e : FolderEvent) → e.call ≡ calls.Syncs → AreOfOlder from first es → AreOfOlder from first (es ++ e ∷ [])
+older_then_sync from first [] e is before = inr (is, tt)
+older_then_sync from first (x ∷ es) e is (inl (number, from_on, below, call, after)) = inl (number, from_on, below, call, older_then_sync (suc number) first es e is after)
+older_then_sync from first (x ∷ es) e is (inr (call, after)) = inr (call, older_then_sync from first es e is after)
+
+pub asks_sync : {T E : Type 0} (first : ℕ) (old mid new : List FolderEvent) (result : Result T E) → AsksOfOlder first old mid
     → new ≡ mid ++ folder_outcome calls.Syncs result ∷ [] → AsksOfOlder first old new
-asks_sync next first old mid new result is more =
+asks_sync first old mid new result is more =
     let e = folder_outcome calls.Syncs result in
     record {
       events = is.events ++ e ∷ [];
       all = more ∙ ap (λ es. es ++ e ∷ []) is.all ∙ append_assoc old is.events (e ∷ []);
-      below = is.more (e ∷ []) (inr (call_of calls.Syncs result, tt));
+      below = older_then_sync 0 first is.events e (call_of calls.Syncs result) is.below;
     }
-
-pub ends_synced : {T E : Type 0} (mid new : List FolderEvent) (result : Result T E) → new ≡ mid ++ folder_outcome calls.Syncs result ∷ [] → IfOk result (λ t. EndsSynced new)
-ends_synced mid new (Ok t) more = (mid, more)
-ends_synced mid new (Err e) more = tt

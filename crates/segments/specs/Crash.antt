@@ -148,14 +148,16 @@ AppendSurvives sum own bytes s t result =
 -- ---- dropping
 
 -- as the manifest gets the entry that this segment is the first one: whatever a crash leaves of the
--- manifest's disk, chance aside, the log has the segments that it had, or those from this one on
+-- manifest's disk, chance aside, the log has the segments that it had, or those from this one on,
+-- which is one of them
 abbrev pub LogDropped : (sum own : List ℕ → ℕ) → ℕ → ListingState → (segment : ℕ) → Disk → Type 0
 LogDropped sum own P l segment m =
     (manifest : List ℕ) → IsImage m manifest → IsChanceFree sum P m manifest
     → (held file : ℕ → List ℕ)
     → (records_left sum own P held file manifest ≡ records_by sum own P held file (Some l))
-    ⊎ (records_left sum own P held file manifest
-    ≡ records_by sum own P held file (Some (listing_from segment l)))
+    ⊎ ((l.first ≤ segment) × (segment ≤ open_in l)
+    × (records_left sum own P held file manifest
+    ≡ records_by sum own P held file (Some (listing_from segment l))))
 
 -- one of these calls removed the file of this segment, or was to
 abbrev pub WasRemoved : ℕ → List FolderEvent → Type 0

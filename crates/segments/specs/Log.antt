@@ -210,9 +210,10 @@ pub record HasOpened (sum own : List ℕ → ℕ) (P : ℕ) (old : Life) (o : Ow
   -- all of these records are committed
   pub committed : CommitsAll sum own P (content_now o) o.life.present
 
--- the folder refused to open a segment, or to make its name durable
-abbrev pub AsksInVain : ℕ → List FolderEvent → List FolderEvent → Type 0
-AsksInVain number old new = (new ≡ old ++ plain_event (calls.Opens number) true ∷ [])
+-- a segment was asked for, and a sync failed: one of its file, as that was opened, or the one that
+-- makes its name durable
+abbrev pub AsksUnsynced : ℕ → List FolderEvent → List FolderEvent → Type 0
+AsksUnsynced number old new = (new ≡ old ++ plain_event (calls.Opens number) true ∷ [])
     ⊎ ((given : List ℕ) × (new ≡ old ++ opening_with (calls.Opens number) given
     ∷ plain_event calls.Syncs true ∷ []))
 
@@ -226,7 +227,9 @@ abbrev pub AsksForSegment : {B : Type 0} → (B → Life) → ℕ → List Folde
     → Result B Error → Type 0
 AsksForSegment life number old new (Ok blob) =
     new ≡ old ++ events_for number (life blob).present.readable
-AsksForSegment life number old new (Err (errors.System e)) = AsksInVain number old new
+AsksForSegment life number old new (Err (errors.System e)) =
+    new ≡ old ++ plain_event (calls.Opens number) true ∷ []
+AsksForSegment life number old new (Err (errors.Unsynced e)) = AsksUnsynced number old new
 AsksForSegment life number old new (Err _) = ⊥
 
 -- the next segment was opened: it has no record, and its name is durable
@@ -244,7 +247,9 @@ pub record HasNext (sum own : List ℕ → ℕ) (s t : LogState) (next : OwnedSt
 -- was opened, and the device or memory failed
 abbrev pub NextRefused : LogState → LogState → Error → Type 0
 NextRefused s t (errors.Layer e) = t.asked ≡ s.asked ++ events_for (open_in s.listing + 1) []
-NextRefused s t (errors.System e) = AsksInVain (open_in s.listing + 1) s.asked t.asked
+NextRefused s t (errors.System e) =
+    t.asked ≡ s.asked ++ plain_event (calls.Opens (open_in s.listing + 1)) true ∷ []
+NextRefused s t (errors.Unsynced e) = AsksUnsynced (open_in s.listing + 1) s.asked t.asked
 NextRefused s t (errors.Unlisted n) = (n ≡ open_in s.listing + 1)
     × (given : List ℕ) × (given ≢ []) × (t.asked ≡ s.asked ++ events_for n given)
 NextRefused s t errors.NumbersExhausted =
@@ -542,6 +547,18 @@ abbrev pub EndsSynced : List FolderEvent → Type 0
 EndsSynced events = (before : List FolderEvent)
     × (events ≡ before ++ plain_event calls.Syncs false ∷ [])
 
+-- the last call that the folder was asked for was a sync, which failed
+abbrev pub EndsUnsynced : List FolderEvent → Type 0
+EndsUnsynced events = (before : List FolderEvent)
+    × (events ≡ before ++ plain_event calls.Syncs true ∷ [])
+
+-- how a removal of files ends, by its answer
+abbrev pub EndsRemoval : List FolderEvent → Result (Unit {0}) Error → Type 0
+EndsRemoval events (Ok u) = EndsSynced events
+EndsRemoval events (Err (errors.System e)) = Unit {0}
+EndsRemoval events (Err (errors.Unsynced e)) = EndsUnsynced events
+EndsRemoval events (Err e) = ⊥
+
 -- the listing without the segments before one
 abbrev pub listing_from : ℕ → ListingState → ListingState
 listing_from segment l =
@@ -604,6 +621,11 @@ pub record IsDropped (segment : ℕ) (s t : LogState) : Type 0 where
   pub drops : IsDropping segment s t
   pub synced : EndsSynced t.asked
 
+-- the files of a drop were removed, and the sync of the folder after that failed
+pub record IsUnsyncedDrop (segment : ℕ) (s t : LogState) : Type 0 where
+  pub drops : IsDropping segment s t
+  pub failed : EndsUnsynced t.asked
+
 -- the log is open, and has no such segment yet, so nothing was done
 pub record IsBeyond (segment n : ℕ) (s t : LogState) : Type 0 where
   pub same : t ≡ s
@@ -621,6 +643,7 @@ LogDropGoes segment s t (Err errors.Closed) = (t ≡ s) × IsClosedLog s
 LogDropGoes segment s t (Err (errors.Layer e)) =
     IsClosedOff s t × (s.listing.first < segment) × (segment ≤ open_in s.listing)
 LogDropGoes segment s t (Err (errors.System e)) = IsDropping segment s t
+LogDropGoes segment s t (Err (errors.Unsynced e)) = IsUnsyncedDrop segment s t
 LogDropGoes segment s t (Err e) = ⊥
 
 -- ---- opening

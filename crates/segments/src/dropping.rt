@@ -1,6 +1,5 @@
 // Dropping the oldest segments.
-ghost use Rattle.std.specs.Prelude.{IfOk};
-ghost use Rattle.segments.specs.Log.{AsksOfOlder, EndsSynced, IsLog, LogDropGoes, StartFromGoes};
+ghost use Rattle.segments.specs.Log.{AsksOfOlder, EndsRemoval, IsLog, LogDropGoes, StartFromGoes};
 ghost use Rattle.segments.specs.Log.{StartOrCloseGoes};
 ghost use Rattle.segments.specs.Log.{Tries};
 ghost use Rattle.segments.specs.Crash.{DropSurvives, RemovesUnlisted};
@@ -25,6 +24,8 @@ impl<F: Folder<B> + Drop, B: Blob + Drop, H: Sum, R: Sum> SegmentedLog<F, B, H, 
     /// as the manifest was written: no file is removed, and the log is closed. Whether the drop is
     /// in the manifest shows once the log is opened again. `System` where the folder refused a
     /// call: the drop is durable, and some of the files may be left. It may be tried again.
+    /// `Unsynced` where the files are gone, and the folder couldn't be synced after that: a crash
+    /// may bring some of them back, which no call reads.
     #[tactic(auto, using(crate::proofs::DropSurvival::drop_still, crate::proofs::DropSurvival::drop_tries))]
     pub fn drop_before(&mut self, segment: u64) -> Result<(), Error>
         requires log { IsLog H.sum_of R.sum_of self.old }
@@ -43,10 +44,7 @@ impl<F: Folder<B> + Drop, B: Blob + Drop, H: Sum, R: Sum> SegmentedLog<F, B, H, 
             self.start_or_close(segment)?;
         }
         let first = self.listing.first();
-        match remove_before::<F, B>(&mut self.folder, first) {
-            Ok(()) => Ok(()),
-            Err(error) => Err(Error::System(error)),
-        }
+        remove_before::<F, B>(&mut self.folder, first)
     }
 
     // Adds to the manifest that this segment is the first one. After an error the log is closed.
@@ -82,11 +80,26 @@ impl<F: Folder<B> + Drop, B: Blob + Drop, H: Sum, R: Sum> SegmentedLog<F, B, H, 
     }
 }
 
-// Removes the files of the segments before one that are there, the oldest first.
-#[tactic(auto, using(crate::proofs::Removals::asks_none, crate::proofs::Removals::asks_later, crate::proofs::Removals::asks_removal, crate::proofs::Removals::asks_done, crate::proofs::Removals::asks_sync, crate::proofs::Removals::ends_synced))]
-fn remove_before<F: Folder<B>, B: Blob>(folder: &mut F, first: u64) -> io::Result<()>
+// Removes the files of the segments before one that are there, the oldest first, and makes that
+// durable.
+#[tactic(auto, using(crate::proofs::Removals::asks_sync))]
+fn remove_before<F: Folder<B>, B: Blob>(folder: &mut F, first: u64) -> Result<(), Error>
     ensures below { AsksOfOlder first (F.asked folder.old) (F.asked folder.new) }
-    ensures synced { IfOk result (λ u. EndsSynced (F.asked folder.new)) }
+    ensures ends { EndsRemoval (F.asked folder.new) result }
+{
+    match remove_files::<F, B>(folder, first) {
+        Ok(()) => match folder.sync() {
+            Ok(()) => Ok(()),
+            Err(error) => Err(Error::Unsynced(error)),
+        },
+        Err(error) => Err(Error::System(error)),
+    }
+}
+
+// Removes the files of the segments before one that are there, the oldest first.
+#[tactic(auto, using(crate::proofs::Removals::asks_none, crate::proofs::Removals::asks_later, crate::proofs::Removals::asks_removal, crate::proofs::Removals::asks_done))]
+fn remove_files<F: Folder<B>, B: Blob>(folder: &mut F, first: u64) -> io::Result<()>
+    ensures { AsksOfOlder first (F.asked folder.old) (F.asked folder.new) }
 {
     let oldest = folder.first()?.unwrap_or(first);
     for number in oldest..first {
@@ -95,5 +108,5 @@ fn remove_before<F: Folder<B>, B: Blob>(folder: &mut F, first: u64) -> io::Resul
             folder.remove(number)?;
         }
     }
-    folder.sync()
+    Ok(())
 }

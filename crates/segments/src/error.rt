@@ -1,8 +1,10 @@
 // Why a call of a log is refused.
 ghost use Rattle.std.specs.Prelude.{◌≡◌};
 ghost use Rattle.disk.specs.declared.error.Error.TheVariants as layer;
+ghost use Rattle.segments.specs.Folders.{opening_error};
 ghost use Rattle.segments.specs.declared.error.Error.TheVariants.{Layer, System};
 
+use file::OpenError;
 use std::alloc::{AllocError, AllocFailed};
 use std::io;
 
@@ -15,9 +17,14 @@ pub enum Error {
     /// The layer below refused the call: the device, the memory or the blob's size.
     #[error("{0}")]
     Layer(disk::Error),
-    /// The folder refused the call, or a file in it; the system says why.
+    /// The folder refused the call, or a file in it; the system says why. It wasn't a sync.
     #[error("{0}")]
     System(io::Error),
+    /// A sync of the folder failed, or one of a file as it was opened. Nobody knows what of that is
+    /// durable, and a later sync may succeed without it: put copies in the place of the files
+    /// before they are opened again.
+    #[error("a sync failed: {0}")]
+    Unsynced(io::Error),
     /// The file of this closed segment doesn't hold what it held when it was closed. Bring it back
     /// from a copy; the other segments can be read.
     #[error("segment {0} doesn't hold what it held when it was closed: bring it back from a copy")]
@@ -62,6 +69,17 @@ impl From<io::Error> for Error {
 
     fn from(error: io::Error) -> Self {
         Error::System(error)
+    }
+}
+
+impl From<OpenError> for Error {
+    ghost from_gives = { λ x e. e ≡ opening_error x };
+
+    fn from(error: OpenError) -> Self {
+        match error {
+            OpenError::System(error) => Error::System(error),
+            OpenError::Unsynced(error) => Error::Unsynced(error),
+        }
     }
 }
 

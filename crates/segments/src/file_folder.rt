@@ -11,7 +11,7 @@ use crate::known::{Known, copy_of};
 use crate::names::Names;
 use crate::past::FolderPast;
 use disk::VecBlob;
-use file::FileBlob;
+use file::{FileBlob, OpenError};
 use std::fs::File;
 use std::io::ErrorKind;
 use std::marker::Model;
@@ -48,10 +48,11 @@ impl FileFolder {
     }
 
     #[tactic(auto, using(crate::proofs::Durable::begun_durable))]
-    fn open_file(&self, file: Asked) -> io::Result<FileBlob>
+    fn open_file(&self, file: Asked) -> Result<FileBlob, OpenError>
         ensures { IfOk result (λ blob. IsDurable (life_of blob.kept.history).present) }
     {
-        file::open(self.names.rt(), self.names.path_of(file)?.as_str())
+        let path = self.names.path_of(file)?;
+        file::open(self.names.rt(), path.as_str())
     }
 
     fn remove_file(&self, segment: u64) -> io::Result<()> {
@@ -81,7 +82,7 @@ impl FileFolder {
     }
 
     // Notes one opening more, which gave a file or failed.
-    fn note_opening(&mut self, file: Asked, opened: &io::Result<FileBlob>)
+    fn note_opening(&mut self, file: Asked, opened: &Result<FileBlob, OpenError>)
         ensures { let call = call_for file in
             let event = opening_outcome (λ b. life_of b.kept.history) call opened.now in
             self.new ≡ self.old ++ event ∷ [] }
@@ -97,7 +98,7 @@ impl FileFolder {
 impl Folder<FileBlob> for FileFolder {
     ghost asked = { λ f. f };
 
-    fn open(&mut self, file: Asked) -> io::Result<FileBlob> {
+    fn open(&mut self, file: Asked) -> Result<FileBlob, OpenError> {
         let opened = self.open_file(file);
         self.note_opening(file, &opened);
         opened
@@ -109,6 +110,10 @@ impl Folder<FileBlob> for FileFolder {
 
     fn bytes(blob: &FileBlob) -> &[u8] {
         blob.bytes()
+    }
+
+    fn failed_sync(blob: &FileBlob) -> bool {
+        blob.failed_sync()
     }
 
     fn read(&mut self, file: Asked) -> io::Result<VecBlob> {

@@ -10,6 +10,7 @@ ghost use Rattle.segments.specs.declared.call.FolderCall.TheVariants as calls;
 use crate::call::FolderCall;
 use crate::known::Known;
 use disk::{Blob, VecBlob};
+use file::OpenError;
 use std::io;
 
 /// A file of a log.
@@ -41,8 +42,9 @@ pub trait Folder<B: Blob> {
     ghost asked: { Self → List FolderEvent };
 
     /// Opens a file to be written, and makes it where it is missing. The bytes that the file holds
-    /// are durable then, and nobody else uses the file.
-    fn open(&mut self, file: Asked) -> io::Result<B>
+    /// are durable then, and nobody else uses the file. `Unsynced` where a sync of the file, or of
+    /// what has its name, failed.
+    fn open(&mut self, file: Asked) -> Result<B, OpenError>
         ensures rests { IfOk result (λ blob. IsDurable (B.life blob).present) }
         ensures asked { let event = opening_outcome B.life (call_for file) result in
             asked self.new ≡ asked self.old ++ event ∷ [] };
@@ -59,6 +61,10 @@ pub trait Folder<B: Blob> {
     /// The bytes of a file that was opened.
     fn bytes(blob: &B) -> &[u8]
         ensures { result.now ≡ (B.life blob.now).present.readable };
+
+    /// Whether a sync of a file that was opened failed. The layer answers most failed syncs as failed
+    /// writes, so this tells an opening which of them it was. `false` where no file is synced.
+    fn failed_sync(blob: &B) -> bool;
 
     /// Reads a file into memory, and changes nothing. `NotFound` where it is missing.
     fn read(&mut self, file: Asked) -> io::Result<VecBlob>

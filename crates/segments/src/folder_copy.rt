@@ -11,6 +11,7 @@ use crate::known::Known;
 use crate::names::Names;
 use crate::past::FolderPast;
 use disk::VecBlob;
+use file::OpenError;
 use std::io;
 use std::marker::Model;
 use std::snapshot::Snapshot;
@@ -45,10 +46,14 @@ impl FolderCopy {
     }
 
     #[tactic(auto, using(crate::proofs::Durable::begun_durable))]
-    fn copy(&self, file: Asked) -> io::Result<VecBlob>
+    fn copy(&self, file: Asked) -> Result<VecBlob, OpenError>
         ensures { IfOk result (λ blob. IsDurable (life_of blob.history).present) }
     {
-        file::read(self.names.rt(), self.names.path_of(file)?.as_str())
+        let path = self.names.path_of(file)?;
+        match file::read(self.names.rt(), path.as_str()) {
+            Ok(copy) => Ok(copy),
+            Err(error) => Err(OpenError::System(error)),
+        }
     }
 
     // Notes one call more.
@@ -59,7 +64,7 @@ impl FolderCopy {
     }
 
     // Notes one opening more, which gave a copy or failed.
-    fn note_opening(&mut self, file: Asked, opened: &io::Result<VecBlob>)
+    fn note_opening(&mut self, file: Asked, opened: &Result<VecBlob, OpenError>)
         ensures { let call = call_for file in
             let event = opening_outcome (λ b. life_of b.history) call opened.now in
             self.new ≡ self.old ++ event ∷ [] }
@@ -75,7 +80,7 @@ impl FolderCopy {
 impl Folder<VecBlob> for FolderCopy {
     ghost asked = { λ f. f };
 
-    fn open(&mut self, file: Asked) -> io::Result<VecBlob> {
+    fn open(&mut self, file: Asked) -> Result<VecBlob, OpenError> {
         let opened = self.copy(file);
         self.note_opening(file, &opened);
         opened
@@ -87,6 +92,10 @@ impl Folder<VecBlob> for FolderCopy {
 
     fn bytes(blob: &VecBlob) -> &[u8] {
         blob.bytes()
+    }
+
+    fn failed_sync(_blob: &VecBlob) -> bool {
+        false
     }
 
     fn read(&mut self, file: Asked) -> io::Result<VecBlob> {

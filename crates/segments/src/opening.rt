@@ -14,6 +14,7 @@ use crate::listing::{Listing, listing_of};
 use crate::log::{Options, SegmentedLog};
 use crate::owned::OwnedJournal;
 use disk::{Blob, IoBuf, VecBlob};
+use file::OpenError;
 use page::Sum;
 use std::alloc::Global;
 use std::io::ErrorKind;
@@ -27,8 +28,8 @@ impl<F: Folder<B> + Drop, B: Blob + Drop, H: Sum, R: Sum> SegmentedLog<F, B, H, 
     /// there is no manifest: the manifest may be an old one, or be lost. `Outdated` where a copy of
     /// the manifest knows a later segment. `Missing` where the open segment isn't there, and
     /// `Short` where it has fewer bytes than it had as it was opened last. `System` where the
-    /// system refuses a file, and `Layer` where the device or memory failed. After an error the
-    /// blobs are gone, so no clause says what their files hold: each recovery of a journal on the
+    /// system refuses a file, `Unsynced` where it can't sync a file or the folder, and `Layer` where
+    /// the device or memory failed. After an error the blobs are gone, so no clause says what their files hold: each recovery of a journal on the
     /// way keeps what was committed (`leaves` of [`journal::Journal::recover`]).
     #[tactic(auto, using(crate::proofs::Beginning::parts_open))]
     pub fn open(alloc: Global, folder: F, options: Options) -> Result<Self, Error>
@@ -66,7 +67,7 @@ impl<F: Folder<B> + Drop, B: Blob + Drop, H: Sum, R: Sum> SegmentedLog<F, B, H, 
                 };
                 match log.begin(is_new) {
                     Ok(()) => Ok(log),
-                    Err(error) => Err(error),
+                    Err(error) => Err(told_of::<F, B>(error, log.manifest.blob())),
                 }
             }
             Err(error) => Err(error),
@@ -139,11 +140,11 @@ fn open_manifest<F: Folder<B>, B: Blob + Drop, H: Sum, R: Sum>(
         IfOk result (λ r. HasManifest H.sum_of R.sum_of P r.0 r.1 old new) }
 {
     let blob = folder.open(Asked::Manifest)?;
-    let (mut manifest, entries) = recover::<B, H, R>(alloc, options, blob)?;
+    let (mut manifest, entries) = recover_file::<F, B, H, R>(alloc, options, blob)?;
     match listing_of(alloc, &entries, options.page_size.get()) {
         Ok(listing) => match manifest.commit() {
             Ok(()) => Ok((manifest, listing, entries.is_empty())),
-            Err(error) => Err(error),
+            Err(error) => Err(told_of::<F, B>(error, manifest.blob())),
         },
         Err(error) => Err(error),
     }
@@ -161,7 +162,7 @@ fn open_current<F: Folder<B>, B: Blob + Drop, H: Sum, R: Sum>(
         IfOk result (λ o. HasCurrent H.sum_of R.sum_of P o number old new) }
 {
     let blob = open_segment::<F, B>(folder, number)?;
-    match recover::<B, H, R>(alloc, options, blob) {
+    match recover_file::<F, B, H, R>(alloc, options, blob) {
         Ok((current, _)) => Ok(current),
         Err(error) => Err(Error::Layer(error)),
     }
@@ -272,9 +273,47 @@ pub fn open_segment<F: Folder<B>, B: Blob + Drop>(folder: &mut F, number: u64) -
     match folder.open(Asked::Segment(number)) {
         Ok(blob) => match folder.sync() {
             Ok(()) => Ok(blob),
-            Err(error) => Err(Error::System(error)),
+            Err(error) => Err(Error::Unsynced(error)),
         },
-        Err(error) => Err(Error::System(error)),
+        Err(OpenError::System(error)) => Err(Error::System(error)),
+        Err(OpenError::Unsynced(error)) => Err(Error::Unsynced(error)),
+    }
+}
+
+// A file with the journal that was recovered on it, and the journal's records. A failed sync is told
+// as one.
+pub fn recover_file<F: Folder<B>, B: Blob + Drop, H: Sum, R: Sum>(
+    alloc: Global,
+    options: Options,
+    blob: B,
+) -> Result<(OwnedJournal<B, H, R>, Vec<IoBuf>), disk::Error>
+    ensures has { let P = non_zero_u16_get options.page_size in
+        IfOk result (λ r. HasOpened H.sum_of R.sum_of P (B.life blob) r.0 r.1.items) }
+    ensures leaves { let P = non_zero_u16_get options.page_size in
+        IfOk result (λ r. LeavesOpened H.sum_of R.sum_of P (B.life blob) r.0) }
+{
+    let mut owned = OwnedJournal::new(alloc, blob, options.page_size, options.pages)?;
+    match owned.recover(alloc, options.capacity, options.buffer_size) {
+        Ok(records) => Ok((owned, records)),
+        Err(error) => Err(told::<F, B>(error, owned.blob())),
+    }
+}
+
+// The error of a file, `SyncFailed` where a sync of it failed, whatever the layer calls that.
+fn told<F: Folder<B>, B: Blob>(error: disk::Error, blob: &B) -> disk::Error {
+    match error {
+        disk::Error::WriteFailed | disk::Error::ResizeFailed if F::failed_sync(blob) => {
+            disk::Error::SyncFailed
+        }
+        error => error,
+    }
+}
+
+// The same for an error of the log.
+fn told_of<F: Folder<B>, B: Blob>(error: Error, blob: &B) -> Error {
+    match error {
+        Error::Layer(error) => Error::Layer(told::<F, B>(error, blob)),
+        error => error,
     }
 }
 

@@ -11,7 +11,7 @@ use crate::entry::Entry;
 use crate::error::Error;
 use crate::folder::Folder;
 use crate::log::SegmentedLog;
-use crate::opening::{open_segment, recover};
+use crate::opening::{open_segment, recover_file};
 use crate::owned::OwnedJournal;
 use disk::Blob;
 use page::Sum;
@@ -27,7 +27,8 @@ impl<F: Folder<B> + Drop, B: Blob + Drop, H: Sum, R: Sum> SegmentedLog<F, B, H, 
     /// the same records. Behind that entry there is room for the entry of a drop.
     ///
     /// `Closed` where a call before failed, `Layer` where the device or memory failed, `System`
-    /// where the folder refused the next file or the sync of its name, `Unlisted` where the next
+    /// where the folder refused the next file, `Unsynced` where a sync of it or of its name failed,
+    /// `Unlisted` where the next
     /// file has bytes, which stay, and `NumbersExhausted` where no number is left. After an error
     /// the log is closed.
     pub fn rotate(&mut self) -> Result<(), Error>
@@ -78,7 +79,7 @@ impl<F: Folder<B> + Drop, B: Blob + Drop, H: Sum, R: Sum> SegmentedLog<F, B, H, 
         if blob.len() > 0 {
             return Err(Error::Unlisted(number + 1));
         }
-        match recover::<B, H, R>(self.alloc, self.options, blob) {
+        match recover_file::<F, B, H, R>(self.alloc, self.options, blob) {
             Ok((next, _)) => Ok(next),
             Err(error) => Err(Error::Layer(error)),
         }
