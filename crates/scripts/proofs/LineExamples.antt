@@ -10,7 +10,7 @@ use Rattle.items.specs.declared.run.ItemStep.TheVariants as item
 use Rattle.session.specs.declared.steps.Step.TheVariants.{Append, DropSnapshot, Read, ReadRanges}
 use Rattle.session.specs.declared.steps.Step.TheVariants.{Scan, Snap, Sync}
 use Rattle.scripts.specs.declared.item_line.ItemLine.TheVariants as line
-use Rattle.scripts.specs.declared.script.Line.TheVariants.{Crash, Dump, Fail, Step}
+use Rattle.scripts.specs.declared.script.Line.TheVariants.{Crash, Fail, Step}
 use Rattle.scripts.specs.declared.start.First.TheVariants as first
 use Rattle.scripts.specs.declared.start.ItemStart.{ItemStart}
 use Rattle.scripts.specs.declared.start.Start.{Start}

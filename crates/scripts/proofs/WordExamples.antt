@@ -1,9 +1,11 @@
 -- The words of scripts, computed on a few of them, and which numbers and bytes are in range: the
 -- greatest that are and the least that aren't.
-use Rattle.std.proofs.Common.{◌≡◌, ℕ, zero, suc, List, [], ◌∷◌, refl, ap, arith, inl, inr, length}
-use Rattle.std.proofs.Common.{lit<, lit≤}
+use Rattle.std.proofs.Common.{◌≡◌, ℕ, zero, suc, List, [], ◌∷◌, refl, ap, ◌∙◌, arith, inl, inr}
+use Rattle.std.proofs.Common.{length, lit<, lit≤}
+use Rattle.std.proofs.lemmas.Fmt.{digits_value-decimal}
 use Rattle.std.specs.Fmt.{decimal, digits}
 use Rattle.std.specs.Prelude.{All, Err, Ok, codes, false, true}
+use Rattle.std.specs.Str.Parse.{digits_value}
 use Rattle.scripts.specs.declared.start.SumName.TheVariants.{Add, Const, Crc32c}
 use Rattle.scripts.specs.declared.word.ReadError.TheVariants.{Unreadable}
 use Rattle.scripts.specs.Script.{AreByteValues, AreRangesOfU64, HasLead, IsBufferSize, IsCacheSize}
@@ -12,7 +14,7 @@ use Rattle.scripts.specs.Script.{IsU64}
 use Rattle.scripts.specs.Script.{flag_digit, flags_text, lines_of, parts_of, range_word}
 use Rattle.scripts.specs.Script.{ranges_words, sum_word, without_last_feed, words_of}
 use Rattle.scripts.specs.Text.{hex_digits, hex_of}
-use Rattle.scripts.proofs.Numbers.{decimal-no_lead}
+use Rattle.scripts.proofs.Numbers.{decimal-no_lead, numerals}
 
 -- ---- lines and words
 
@@ -62,6 +64,13 @@ a_zero_in_front = λ v one same. decimal-no_lead (codes "042") v one same (inr (
 pub not_read_so : IsReadAs decimal IsU64 (codes "042") (Ok 42) → ⊥
 unfolding digits
 not_read_so is = omega (arith, ap (λ (word : List ℕ). length word) is.0)
+
+-- a number has 64 bits
+pub too_large : IsReadAs decimal IsU64 (codes "18446744073709551616") (Err Unreadable)
+unfolding digits
+too_large = λ v one same.
+    let value = ap (digits_value 10) same ∙ digits_value-decimal numerals v one in
+    omega (arith, one, value)
 
 -- a number that is written right isn't refused
 pub not_refused : IsReadAs decimal IsU64 (codes "42") (Err Unreadable) → ⊥
