@@ -6,3 +6,6 @@ pub mod Putting
 pub mod Reading
 pub mod Table
 pub mod Written
+pub mod PutExamples
+pub mod PageExamples
+pub mod ReadExamples

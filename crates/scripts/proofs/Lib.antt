@@ -6,3 +6,6 @@ pub mod Lines
 pub mod Numbers
 pub mod Ranges
 pub mod ScriptLines
+pub mod WordExamples
+pub mod LineExamples
+pub mod ScriptExamples
