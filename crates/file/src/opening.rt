@@ -73,6 +73,7 @@ pub fn open(rt: &HostRuntime, path: &str) -> Result<FileBlob, OpenError>
     ensures asked { IfOk result (λ blob. blob.asked ≡ []) }
     ensures well { IfOk result (λ blob. blob.kept.stopped ≡ false) }
 {
+    keep_memory(rt.alloc());
     let mut options = OpenOptions::new();
     options.read(true).write(true).create(true);
     let file = open_locked(rt, path, &options, Lock::Exclusive)?;
@@ -97,6 +98,16 @@ fn sync(file: &File) -> Result<(), OpenError> {
 // Memory for the runs that a blob will write.
 fn room_for_runs(alloc: Global) -> io::Result<Vec<u8>> {
     Ok(Vec::with_capacity(alloc, RUN_SIZE)?)
+}
+
+// A block of so many bytes is taken and let go. Each flush takes and lets go less.
+const KEPT_SIZE: usize = 1 << 20;
+
+// Has the C library keep memory that is let go: it never gives back less than twice the largest
+// block that it got from the system for one request and gave back. The block isn't written, so it
+// costs two calls of the system. Without it the memory of each flush may go back to the system.
+fn keep_memory(alloc: Global) {
+    let _ = Vec::<u8>::with_capacity(alloc, KEPT_SIZE);
 }
 
 /// Reads a file into a blob in memory, and changes nothing: the call makes no file and syncs none,

@@ -15,7 +15,7 @@ ghost use Rattle.paged.specs.Goes.{AppendGoes};
 ghost use Rattle.paged.specs.Calls.{TryAppendGoes, BuffersOver, KeepsConsistent, KeepsSound};
 ghost use Rattle.paged.specs.Calls.{KeepsPages};
 ghost use Rattle.paged.specs.Reads.{size_of};
-ghost use Rattle.paged.specs.Flush.{with_value};
+ghost use Rattle.paged.specs.Flush.{paired, with_value};
 ghost use Rattle.paged.specs.Caches.{CachesTo, KeepsReads, PutsOnceWaited};
 
 use crate::Writer;
@@ -90,6 +90,36 @@ impl<B: Blob, H: Sum, Phase> Writer<B, H, Phase> {
         let at = self.size();
         self.append_bytes(blob, cache, bytes)?;
         Ok((self, at))
+    }
+
+    /// Appends bytes as [`append`](Writer::append) does, through `&mut`: the writer stays where it
+    /// is kept, and isn't moved. The call answers the logical offset of the first byte, and makes
+    /// the same device calls.
+    ///
+    /// The errors are those of `append`: `OffsetOverflow` where the new size passes what fits,
+    /// `WriteFailed` and `SyncFailed` where the device failed, and `OutOfMemory` where memory was
+    /// refused. The writer is of no use after each of these: drop it, and recover the blob.
+    pub fn append_lent(
+        &mut self,
+        blob: &mut B,
+        cache: &mut CacheRef,
+        bytes: &[u8],
+    ) -> Result<u64, Error>
+        requires ready { CanGoOn H.sum_of self.old cache.old (B.life blob.old) }
+        ensures goes { let old = B.life blob.old in let new = B.life blob.new in
+            AppendGoes H.sum_of self.old bytes.now old new (paired self.new result) }
+        ensures ready { let old = B.life blob.old in let new = B.life blob.new in
+            let answer = paired self.new result in
+            StaysUsable H.sum_of (λ r. r.0) self.old cache.old cache.new old new answer }
+        ensures owes { let old = B.life blob.old in let new = B.life blob.new in
+            let all = content self.old old.present.readable ++ bytes.now in
+            Owes H.sum_of self.old all cache.old cache.new old new }
+        ensures costs { let old = B.life blob.old in let new = B.life blob.new in
+            AppendCosts self.old bytes.now cache.old cache.new old new (paired self.new result) }
+    {
+        let at = self.size();
+        self.append_bytes(blob, cache, bytes)?;
+        Ok(at)
     }
 
     /// [`append`](Writer::append) through `&mut`. After an error the writer is of no use.

@@ -1,8 +1,12 @@
 // Standard input and output, each of which keeps why it failed last.
 use std::io::{self, BufReader, BufWriter, Read, Stdin, Stdout, Write};
 
-/// So many bytes of requests are taken by one call of the system, and so many of answers are given.
-const PIECE: usize = 1 << 16;
+/// So many bytes of requests are taken by one call of the system. Requests that have come whole are
+/// read where they stand, so the buffer has room for several long ones.
+const INPUT_PIECE: usize = 1 << 18;
+
+/// So many bytes of answers are given by one call of the system.
+const OUTPUT_PIECE: usize = 1 << 16;
 
 /// Standard input.
 #[derive(Drop)]
@@ -94,8 +98,8 @@ pub struct Streams {
 impl Streams {
     /// Those of the running program.
     pub fn of(rt: &HostRuntime) -> io::Result<Box<Self>> {
-        let input = BufReader::with_capacity(rt.alloc(), PIECE, Input::of(rt))?;
-        let out = BufWriter::with_capacity(rt.alloc(), PIECE, Output::of(rt))?;
+        let input = BufReader::with_capacity(rt.alloc(), INPUT_PIECE, Input::of(rt))?;
+        let out = BufWriter::with_capacity(rt.alloc(), OUTPUT_PIECE, Output::of(rt))?;
         Ok(Box::new(rt.alloc(), Streams { input, out })?)
     }
 }

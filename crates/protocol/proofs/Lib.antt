@@ -1,6 +1,7 @@
 pub mod Bytes
 pub mod Frames
 pub mod Lengths
+pub mod Lent
 pub mod Spans
 pub mod Requests
 pub mod Written

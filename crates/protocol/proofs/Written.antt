@@ -154,6 +154,11 @@ module _ (status len : ℕ) (payload : List ℕ) where
   frame_ends before bytes a b c (Err stop) long is first piece =
       frame_breaks before bytes [] a b c stop (Err stop) refl long (is ∙ ap (λ (l : List ℕ). before ++ l) (sym (append-nil bytes))) first piece
 
+-- an answer, as its bytes are written
+pub puts_answer : (answer : List ℕ) (a b : Option (List ℕ)) (result : Result (Unit {0}) Stop) → PutsBytes answer a b result → PutsAnswer answer a b result
+puts_answer answer a b (Ok done) wrote = wrote
+puts_answer answer a b (Err stop) (failed, part) = subst (λ (x : Stop). PutsAnswer answer a b (Err x)) (sym failed) part
+
 -- an answer that fits a frame
 pub writes_short : (answer : List ℕ) (a b : Option (List ℕ)) (result : Result (Unit {0}) Stop) → length answer < 2 ^ 32 → PutsAnswer answer a b result → PutsBytes answer a b result
 writes_short answer a b (Ok done) short wrote = wrote

@@ -49,7 +49,8 @@ use Rattle.protocol.specs.Answer.{unreadable_status}
 use Rattle.protocol.specs.Opening.{hello_bytes, IsCutOffer, ReadsOpening, TellsOpening}
 use Rattle.protocol.specs.Opening.{version_byte}
 use Rattle.protocol.specs.Output.{AppendsPart}
-use Rattle.protocol.specs.Request.{IsFlawed, IsRequest, ReadsRequest, request_bytes}
+use Rattle.protocol.specs.Request.{AreFields, IsFlawed, IsRequest, ReadsRequest, frame_bytes}
+use Rattle.protocol.specs.Request.{request_bytes}
 use Rattle.protocol.specs.Request.{number_bytes}
 use Rattle.protocol.specs.Together.{tells_records, tells_ranges, record_bytes, record_lengths}
 use Rattle.protocol.specs.Together.{ranges_in, record_starts}
@@ -273,6 +274,18 @@ ReadsNext version number input rest (Err (Malformed which flaw)) =
 ReadsNext version number input rest (Err Failed) = Unit {0}
 ReadsNext version number input rest (Err OutOfMemory) = Unit {0}
 ReadsNext version number input rest (Err other) = ⊥
+
+-- bytes begin with the frame of an append of `lent`
+abbrev pub LendsAppend : (bytes lent : List ℕ) → Type 0
+LendsAppend bytes lent =
+    (rest : List ℕ) × (bytes ≡ frame_bytes (1 ∷ lent) ++ rest) × AreFields lent
+
+-- a request was taken that had come whole, or none was, and the input is as it was
+abbrev pub TakesHeld : ProtocolVersion → Option (List ℕ) → Option (List ℕ) → Option Request
+    → Type 0
+TakesHeld version input rest (Some request) =
+    ReadsRequest version input rest (Ok (Some request))
+TakesHeld version input rest None = rest ≡ input
 
 -- one more request was read, whose steps were taken, and `Is` holds for its answer
 abbrev pub TookNext : (List ℕ → ℕ) → Setting → ProtocolVersion → (List ℕ → Type 0) → SessionState

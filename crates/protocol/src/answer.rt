@@ -49,13 +49,14 @@ pub fn write_refusal<W: Write>(out: &mut W) -> Result<(), Stop>
     write_frame(out, READ_ONLY, &[], &[])
 }
 
-// Writes an answer with one number.
-#[tactic(auto, unfolding(crate::specs::Request::number_bytes))]
+// Writes an answer with one number, by one call.
+#[tactic(auto, unfolding(crate::specs::Request::number_bytes, crate::specs::Request::length_bytes))]
 fn write_number<W: Write>(out: &mut W, number: u64) -> Result<(), Stop>
     ensures { let answer = frame_bytes (0 ∷ number_bytes number) in
         PutsAnswer answer (W.contents out.old) (W.contents out.new) result }
 {
-    write_frame(out, 0, &number.to_le_bytes(), &[])
+    let [a, b, c, d, e, f, g, h] = number.to_le_bytes();
+    put(out, &[9, 0, 0, 0, 0, a, b, c, d, e, f, g, h])
 }
 
 // Writes an answer with these bytes and then what starting a sync answered.

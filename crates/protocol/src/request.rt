@@ -75,8 +75,8 @@ pub fn read_request<R: BufRead>(
     Ok(Some(request))
 }
 
-// The length that four bytes encode.
-fn length_of(bytes: &[u8; 4]) -> u32
+/// The length that four bytes encode.
+pub fn length_of(bytes: &[u8; 4]) -> u32
     ensures small { result < 2 ^ 32 }
     ensures told { length_bytes result ≡ bytes.now }
 {

@@ -1,24 +1,25 @@
 // Serving: requests are read, taken as steps of a session, and answered.
-ghost use Rattle.std.specs.Prelude.{◌≡◌, ℕ, List, Option, [], IfOk, OnOk, length};
+ghost use Rattle.std.specs.Prelude.{◌≡◌, ◌++◌, ℕ, List, Option, None, [], IfOk, IfSome, OnOk};
+ghost use Rattle.std.specs.Prelude.{length};
 ghost use Rattle.std.specs.Io.Buffered.{reader_buffer, reader_remaining};
 ghost use Rattle.std.specs.Io.Buffered.{writer_buffer, writer_contents};
-ghost use Rattle.std.specs.Io.KnownBytes.{Keeps};
+ghost use Rattle.std.specs.Io.KnownBytes.{Consumes, Keeps};
 ghost use Rattle.disk.specs.Disk.{Life};
 ghost use Rattle.session.specs.Run.{IsSessionReady};
 ghost use Rattle.protocol.specs.Input.{IsSent, has_frame};
 ghost use Rattle.protocol.specs.Opening.{ReadsOpening};
 ghost use Rattle.protocol.specs.Serve.{EndsSession, Greeted, Greets, ReadsNext};
 ghost use Rattle.protocol.specs.Serve.{RecoversSession, Serves, ServesFile, is_close, later_fault};
-ghost use Rattle.protocol.specs.Serve.{names_of};
+ghost use Rattle.protocol.specs.Serve.{LendsAppend, TakesHeld, names_of};
 ghost use Rattle.protocol.specs.Taking.{TellsStop};
 
 use crate::answer::write_answer;
 use crate::opening::{Opening, read_opening, tell_opening};
 use crate::output::put;
 use crate::refusal::{status_of_flaw, write_told};
-use crate::request::{Request, read_request};
+use crate::request::{Request, length_of, read_request};
 use crate::stop::{ReadError, Stop};
-use crate::taking::take_request;
+use crate::taking::{take_append, take_request};
 use crate::version::Version;
 use crate::{Cause, Setting};
 use cache::CacheRef;
@@ -26,7 +27,7 @@ use disk::{Blob, Error};
 use page::Sum;
 use session::{Reply, Session, Step};
 use std::alloc::Global;
-use std::io::{BufReader, BufWriter, Read, Write};
+use std::io::{BufRead, BufReader, BufWriter, Read, Write};
 
 /// The first version of the protocol.
 pub const VERSION: u8 = 1;
@@ -229,6 +230,16 @@ pub fn serve<B: Blob + Cause, H: Sum, R: Read, W: Write + Drop>(
     let mut replies = Vec::new(alloc);
     let mut fault = None;
     for number in 1..u64::MAX {
+        if !setting.read_only
+            && let Some(lent) = lent_append(input.buffer())
+        {
+            let held_writer = session.size().is_some();
+            let len = 5 + lent.len();
+            let taken = take_append(alloc, version, session, blob, cache, setting, lent, out);
+            pass(input, len);
+            fault = later(fault, taken?, held_writer);
+            continue;
+        }
         let request = match next_request(alloc, version, number, input, out) {
             Ok(Some(request)) => request,
             Ok(None) => return end(session, fault),
@@ -252,6 +263,33 @@ pub fn serve<B: Blob + Cause, H: Sum, R: Read, W: Write + Drop>(
         fault = later(fault, next, had_writer);
     }
     Err(Stop::Failed)
+}
+
+// The bytes of an append, if these bytes begin with its whole frame.
+fn lent_append(bytes: &[u8]) -> Option<&[u8]>
+    ensures { IfSome result (λ lent. LendsAppend bytes.now lent.now) }
+{
+    let (four, rest) = bytes.split_first_chunk::<4>()?;
+    let length = length_of(four);
+    let (kind, rest) = rest.split_first()?;
+    if *kind != 1 || length == 0 {
+        return None;
+    }
+    let len = length as usize - 1;
+    if len > rest.len() {
+        return None;
+    }
+    Some(&rest[..len])
+}
+
+// Passes so many bytes of the buffered input.
+fn pass<R: Read>(input: &mut BufReader<R>, count: usize)
+    ensures { let input_old = reader_remaining R.remaining input.old in
+        let input_new = reader_remaining R.remaining input.new in
+        (front rest : List ℕ) → reader_buffer input.old ≡ front ++ rest → length front ≡ count
+        → Consumes input_old input_new front }
+{
+    input.consume(count);
 }
 
 // Answers bytes that are no request, in version 2, and returns why the session stops.
@@ -299,7 +337,7 @@ fn end<B: Blob, H: Sum>(session: &Session<B, H>, fault: Option<Error>) -> Result
 }
 
 // Reads the request of this number. If the request hasn't come whole, all answers are flushed
-// before the read, which may wait for the rest.
+// before the read, which may wait for the rest. One that has come whole is read where it stands.
 fn next_request<R: Read, W: Write + Drop>(
     alloc: Global,
     version: Version,
@@ -316,8 +354,28 @@ fn next_request<R: Read, W: Write + Drop>(
 {
     if !holds_frame(input.buffer()) {
         out.flush()?;
+    } else if let Some(request) = take_held(alloc, version, input) {
+        return Ok(Some(request));
     }
     read_sent(alloc, version, number, input, out)
+}
+
+// Takes the request that stands at the front of the buffered input. If none stands there, the input
+// is left as it is.
+fn take_held<R: Read>(alloc: Global, version: Version, input: &mut BufReader<R>) -> Option<Request>
+    ensures buffer { result ≡ None → reader_buffer input.new ≡ reader_buffer input.old }
+    ensures takes { let input_old = reader_remaining R.remaining input.old in
+        let input_new = reader_remaining R.remaining input.new in
+        TakesHeld version input_old input_new result }
+{
+    let mut held = input.buffer();
+    let len = held.len();
+    let Ok(Some(request)) = read_request(alloc, version, &mut held) else {
+        return None;
+    };
+    let taken = len - held.len();
+    input.consume(taken);
+    Some(request)
 }
 
 // Whether these bytes begin with a whole frame: then its request is read without waiting.

@@ -1,8 +1,10 @@
 // Requests are taken as steps of a session, and answered.
 ghost use Rattle.std.specs.Prelude.{◌≡◌, ◌<◌, ◌+◌, ◌*◌, ◌%◌, ◌^◌, ◌&&◌, ◌++◌, ◌∷◌, []};
 ghost use Rattle.std.specs.Prelude.{◌≤◌, drop, false, true, None, is_some, length};
-ghost use Rattle.std.specs.Prelude.{IfOk, OnOk};
+ghost use Rattle.std.specs.Prelude.{IfOk, OnOk, ℕ, Vec};
+ghost use Rattle.std.specs.declared.alloc.Global.{Global};
 ghost use Rattle.std.specs.List.{flat_map, sum};
+ghost use Rattle.session.specs.declared.steps.Step.TheVariants.{Append as AppendStep};
 ghost use Rattle.session.specs.Run.{IsSessionReady};
 ghost use Rattle.std.specs.Io.Buffered.{writer_buffer, writer_contents};
 ghost use Rattle.protocol.specs.Answer.{first_refusal, IsAnswerWith, PutsAnswer};
@@ -26,7 +28,7 @@ use crate::{Cause, Setting};
 use cache::CacheRef;
 use disk::{Blob, Error, StartedSync};
 use page::Sum;
-use session::{Reply, Session, Step, run};
+use session::{Reply, Session, Step, append, run};
 use std::alloc::{AllocError, Global};
 use std::io::{self, BufWriter, Write};
 
@@ -116,6 +118,55 @@ pub fn take_request<B: Blob + Cause, H: Sum, W: Write + Drop>(
         }
         Request::Close => unreachable!(),
     }
+}
+
+/// Takes an append of bytes that it is lent, and then writes its answer, as [`take_request`] does
+/// for the request with these bytes.
+pub fn take_append<B: Blob + Cause, H: Sum, W: Write>(
+    alloc: Global,
+    version: Version,
+    session: &mut Session<B, H>,
+    blob: &mut B,
+    cache: &mut CacheRef,
+    _setting: &Setting,
+    bytes: &[u8],
+    out: &mut W,
+) -> Result<Option<Error>, Stop>
+    requires may { _setting.now.read_only ≡ false }
+    requires ready { let old = (B.life blob.old).present in
+        IsSessionReady H.sum_of session.old cache.old old }
+    ensures ready { let new = (B.life blob.new).present in
+        IsSessionReady H.sum_of session.new cache.new new }
+    ensures takes { let old = B.life blob.old in let new = B.life blob.new in
+        (owned : Vec ℕ Global) × (owned.items ≡ bytes.now)
+        × TakesRequest H.sum_of _setting.now version (Request.Step (AppendStep owned)) session.old
+        session.new old new (B.sync_failed blob.new) (W.contents out.old) (W.contents out.new)
+        result }
+{
+    // A step has a vector: the proof takes this one, and gives it the bytes.
+    let _owned: Vec<u8> = Vec::new(alloc);
+    let reply = append(session, blob, cache, bytes);
+    let replies = [reply];
+    let has_writer = session.size().is_some();
+    let failed = blob.failed_sync();
+    let written = answer(
+        alloc,
+        version,
+        out,
+        &replies,
+        has_writer,
+        failed,
+        blob.cause(),
+    );
+    told_of(&replies, written)
+}
+
+// The first error among these replies, or why the answer wasn't written.
+fn told_of(replies: &[Reply], written: Result<(), Stop>) -> Result<Option<Error>, Stop>
+    ensures { Finishes replies.now written result }
+{
+    written?;
+    Ok(first_fault(replies))
 }
 
 // Writes an answer without a payload, and flushes all answers.

@@ -136,7 +136,7 @@ impl<B: Blob, H: Sum, Phase> Held<B, H, Phase> {
         }
     }
 
-    fn append(&mut self, blob: &mut B, cache: &mut CacheRef, bytes: &[u8]) -> Reply
+    pub(crate) fn append(&mut self, blob: &mut B, cache: &mut CacheRef, bytes: &[u8]) -> Reply
         requires sound { HasSoundWriter H.sum_of self.old (B.life blob.old).present }
         requires cached { FitsWriter self.old cache.old (B.life blob.old).present }
         requires fresh { IsFresh cache.old }
@@ -147,15 +147,15 @@ impl<B: Blob, H: Sum, Phase> Held<B, H, Phase> {
         ensures tails { let old = B.life blob.old in let new = B.life blob.new in
             LeavesTaken H.sum_of self.old self.new cache.old cache.new old new }
     {
-        let Some(writer) = self.writer.take() else {
+        let Some(writer) = &mut self.writer else {
             return Reply::Closed;
         };
-        match writer.append(blob, cache, bytes) {
-            Ok((writer, at)) => {
-                self.writer = Some(writer);
-                Reply::At(at)
+        match writer.append_lent(blob, cache, bytes) {
+            Ok(at) => Reply::At(at),
+            Err(error) => {
+                self.writer = None;
+                Reply::Fault(error)
             }
-            Err(error) => Reply::Fault(error),
         }
     }
 

@@ -13,5 +13,5 @@ mod sessions;
 mod snapshots;
 mod steps;
 
-pub use sessions::{Session, run};
+pub use sessions::{Session, append, run};
 pub use steps::{Reply, Step};

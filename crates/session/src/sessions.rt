@@ -1,5 +1,6 @@
 // Sessions: lists of steps over one blob.
-ghost use Rattle.std.specs.Prelude.{◌≡◌, option_map, IfErr, OnOk, false};
+ghost use Rattle.std.specs.Prelude.{◌≡◌, ◌∷◌, [], ℕ, Vec, option_map, IfErr, OnOk, false};
+ghost use Rattle.std.specs.declared.alloc.Global.{Global};
 ghost use Rattle.cache.specs.CacheState.{CacheState};
 ghost use Rattle.cache.specs.Pages.{IsFresh};
 ghost use Rattle.paged_read.specs.Replay.{LeavesAllReplays};
@@ -15,7 +16,8 @@ ghost use Rattle.session.specs.Run.{IsSessionReady, TookNone};
 ghost use Rattle.session.specs.Promise.{Promises, RepresentsWhereSound, closed, session_of};
 ghost use Rattle.session.specs.Calls.{DidBegin, is_given, IsOfEither, KeepsSnapshots};
 ghost use Rattle.session.specs.Calls.{KeepsUncut};
-ghost use Rattle.session.specs.Calls.{DidCall, DidTruncate, LeavesTaken, RunGoes, Steps, TakenBy};
+ghost use Rattle.session.specs.Calls.{DidAppend, DidCall, DidTruncate, LeavesTaken, RunGoes};
+ghost use Rattle.session.specs.Calls.{Steps, TakenBy};
 ghost use Rattle.session.specs.Calls.{DidWaitFor};
 
 use crate::held::Held;
@@ -173,6 +175,27 @@ impl<B: Blob, H: Sum> Session<B, H> {
         }
     }
 
+    /// Appends these bytes by the writer, in its phase.
+    fn append(&mut self, blob: &mut B, cache: &mut CacheRef, bytes: &[u8]) -> Reply
+        requires sound { HasSoundWriter H.sum_of self.old.writer (B.life blob.old).present }
+        requires cached { FitsWriter self.old.writer cache.old (B.life blob.old).present }
+        requires fresh { IsFresh cache.old }
+        ensures goes { let old = B.life blob.old in let new = B.life blob.new in
+            DidAppend H.sum_of self.old.writer self.new.writer bytes.now cache.old cache.new old
+            new result }
+        ensures names { self.new.names ≡ self.old.names }
+        ensures rest { KeepsSnapshots self.old self.new }
+        ensures cached { FitsWriter self.new.writer cache.new (B.life blob.new).present }
+        ensures fresh_ids { IsFresh cache.old → IsFresh cache.new }
+        ensures tails { let old = B.life blob.old in let new = B.life blob.new in
+            LeavesTaken H.sum_of self.old.writer self.new.writer cache.old cache.new old new }
+    {
+        match &mut self.phase {
+            WriterPhase::Recovery(held) => held.append(blob, cache, bytes),
+            WriterPhase::Appending(held) => held.append(blob, cache, bytes),
+        }
+    }
+
     // The device is asked, not the writer, which may be gone.
     fn wait_sync(&self, blob: &mut B, name: u64) -> Reply
         ensures goes { let given = is_given self.now.names name in
@@ -233,6 +256,37 @@ impl<B: Blob, H: Sum> Session<B, H> {
             WriterPhase::Appending(held) => held.reply(Reply::NotRecovering),
         }
     }
+}
+
+/// Appends bytes that it is lent, and answers the reply: it does what a [`run`] of the one step
+/// [`Step::Append`] of these bytes does, but makes no list of steps or of replies.
+///
+/// `At` has the logical offset of the first byte. `Closed` if there is no writer. `Fault` if the
+/// append was refused, which ends the writer: with the errors of
+/// [`append_lent`](paged::Writer::append_lent).
+pub fn append<B: Blob, H: Sum>(
+    session: &mut Session<B, H>,
+    blob: &mut B,
+    cache: &mut CacheRef,
+    bytes: &[u8],
+) -> Reply
+    requires ready { let old = (B.life blob.old).present in
+        IsSessionReady H.sum_of session.old cache.old old }
+    ensures ready { let new = (B.life blob.new).present in
+        IsSessionReady H.sum_of session.new cache.new new }
+    ensures runs { let old = B.life blob.old in let new = B.life blob.new in
+        (owned : Vec ℕ Global) → owned.items ≡ bytes.now
+        → RunGoes H.sum_of (Step.Append owned ∷ []) session.old session.new cache.old cache.new old
+        new [] (result ∷ []) }
+    ensures promises { let old = B.life blob.old in let new = B.life blob.new in
+        (owned : Vec ℕ Global) → owned.items ≡ bytes.now
+        → Promises H.sum_of (Step.Append owned ∷ []) session.old session.new old new []
+        (result ∷ []) }
+    ensures others { LeavesOtherBlobs session.old session.new cache.old cache.new }
+{
+    // A step has a vector: the proof takes this one, and gives it the bytes.
+    let _owned: Vec<u8> = Vec::new(session.alloc);
+    session.append(blob, cache, bytes)
 }
 
 /// Takes the steps in order over the session's blob, and adds one reply a step to `replies`. The

@@ -1,56 +1,13 @@
-use Rattle.std.proofs.Common.{rules, ◌≡◌, inl, Some, None, refl, sym, subst}
-use Rattle.std.specs.Prelude.{Option}
-use Rattle.writer_state.specs.WriterState.{WriterState}
-use Rattle.session.specs.declared.steps.Reply.TheVariants.{At, Fault}
-use Rattle.session.specs.Calls.{DidAppend}
-use Rattle.session.proofs.Below.{can_in, leaves_on, leaves_gone, sound_in}
+use Rattle.std.proofs.Common.{rules, ◌≡◌, Some, None, refl}
+use Rattle.session.proofs.Below.{leaves_on, leaves_gone}
 use Rattle.session.proofs.held.Held.append.Goals as goal
-
-pub append-requires : goal.append-requires
-append-requires g c =
-    let at : c.args.self.now ≡ Some c.in-Some.writer = search rules in
-    let d = (g.B.Blob.life c.args.blob.now).present in
-    record { ready = inl (record { sound = sound_in g.H.Sum.sum_of c.args.self.now c.in-Some.writer d at c.requires.sound; can = can_in c.args.self.now c.in-Some.writer c.args.cache.now d at c.requires.cached; fresh = c.requires.fresh }) }
-
-pub returns-in-Ok-clause-goes : goal.returns-in-Ok-clause-goes
-returns-in-Ok-clause-goes g c =
-    let at : c.args.self.now ≡ Some c.in-Some.writer = search rules in
-    let is = c.in-Ok.ensures in
-    let old = g.B.Blob.life c.args.blob.now in
-    let new = g.B.Blob.life c.append.new.blob in
-    subst (λ (o : Option WriterState). DidAppend g.H.Sum.sum_of o (Some c.in-Ok.writer) c.args.bytes.now c.args.cache.now c.append.new.cache old new (At c.in-Ok.at)) (sym at) (
-      c.in-Ok.writer,
-      refl,
-      is.ready.0 (record { sound = sound_in g.H.Sum.sum_of c.args.self.now c.in-Some.writer (g.B.Blob.life c.args.blob.now).present at c.requires.sound; can = can_in c.args.self.now c.in-Some.writer c.args.cache.now (g.B.Blob.life c.args.blob.now).present at c.requires.cached; fresh = c.requires.fresh }),
-      record { goes = is.goes; owes = is.owes; costs = is.costs },
-    )
-
-pub returns-in-Err-clause-goes : goal.returns-in-Err-clause-goes
-returns-in-Err-clause-goes g c =
-    let at : c.args.self.now ≡ Some c.in-Some.writer = search rules in
-    let none : c.take.new.self ≡ None = search rules in
-    let is = c.in-Err.ensures in
-    let old = g.B.Blob.life c.args.blob.now in
-    let new = g.B.Blob.life c.append.new.blob in
-    subst (λ (o : Option WriterState). DidAppend g.H.Sum.sum_of o c.take.new.self c.args.bytes.now c.args.cache.now c.append.new.cache old new (Fault c.in-Err.error)) (sym at) (
-      none,
-      record { goes = is.goes; owes = is.owes; costs = is.costs },
-    )
 
 pub returns-in-Ok-clause-tails : goal.returns-in-Ok-clause-tails
 returns-in-Ok-clause-tails g c =
     let at : c.args.self.now ≡ Some c.in-Some.writer = search rules in
-    leaves_on g.H.Sum.sum_of c.args.self.now c.in-Some.writer c.in-Ok.writer c.args.cache.now c.append.new.cache (g.B.Blob.life c.args.blob.now) (g.B.Blob.life c.append.new.blob) at c.in-Ok.ensures.goes.answers.holds.same c.in-Ok.ensures.owes.tails c.in-Ok.ensures.owes.replays c.in-Ok.ensures.owes.others c.in-Ok.ensures.owes.cached.settings
+    leaves_on g.H.Sum.sum_of c.args.self.now c.in-Some.writer c.append_lent.new.self c.args.cache.now c.append_lent.new.cache (g.B.Blob.life c.args.blob.now) (g.B.Blob.life c.append_lent.new.blob) at c.in-Ok.ensures.goes.answers.holds.same c.in-Ok.ensures.owes.tails c.in-Ok.ensures.owes.replays c.in-Ok.ensures.owes.others c.in-Ok.ensures.owes.cached.settings
 
 pub returns-in-Err-clause-tails : goal.returns-in-Err-clause-tails
 returns-in-Err-clause-tails g c =
     let at : c.args.self.now ≡ Some c.in-Some.writer = search rules in
-    let none : c.take.new.self ≡ None = search rules in
-    leaves_gone g.H.Sum.sum_of c.args.self.now c.take.new.self c.in-Some.writer c.args.cache.now c.append.new.cache (g.B.Blob.life c.args.blob.now) (g.B.Blob.life c.append.new.blob) at none c.in-Err.ensures.owes.tails c.in-Err.ensures.owes.replays c.in-Err.ensures.owes.others c.in-Err.ensures.owes.cached.settings
-
-pub returns-in-Ok-clause-cached : goal.returns-in-Ok-clause-cached
-returns-in-Ok-clause-cached g c =
-    let at : c.args.self.now ≡ Some c.in-Some.writer = search rules in
-    let ready = c.in-Ok.ensures.ready.0 (record { sound = sound_in g.H.Sum.sum_of c.args.self.now c.in-Some.writer (g.B.Blob.life c.args.blob.now).present at c.requires.sound; can = can_in c.args.self.now c.in-Some.writer c.args.cache.now (g.B.Blob.life c.args.blob.now).present at c.requires.cached; fresh = c.requires.fresh }) in
-    let can = ready.can in
-    search rules
+    leaves_gone g.H.Sum.sum_of c.args.self.now None c.in-Some.writer c.args.cache.now c.append_lent.new.cache (g.B.Blob.life c.args.blob.now) (g.B.Blob.life c.append_lent.new.blob) at refl c.in-Err.ensures.owes.tails c.in-Err.ensures.owes.replays c.in-Err.ensures.owes.others c.in-Err.ensures.owes.cached.settings
