@@ -12,7 +12,7 @@ use Rattle.journal.proofs.Frames.{whole_is_whole}
 use Rattle.segments.specs.declared.call.FolderCall.TheVariants as calls
 use Rattle.segments.specs.declared.closed.Closed.{Closed}
 use Rattle.segments.specs.declared.error.Error.TheVariants as errors
-use Rattle.std_io.specs.declared.io.error.Error as io_error
+use Rattle.std.specs.declared.io.Error as io_error
 use Rattle.segments.specs.Digests.{IsOf}
 use Rattle.segments.specs.FolderEvents.{FolderEvent, plain_event}
 use Rattle.segments.specs.Manifest.{ListingState, none_closed}
@@ -298,10 +298,6 @@ first_failed (e ∷ es) = e.failed
 pub its_sync_failed : (e : io_error.Error) → EndsRemoval (plain_event calls.Syncs true ∷ []) (Err (errors.Unsynced e))
 its_sync_failed e = ([], refl)
 
--- and it isn't done
-pub it_is_not_done : EndsRemoval (plain_event calls.Syncs true ∷ []) (Ok tt) → ⊥
-it_is_not_done is = a_failed_sync is
-
 -- a sync that succeeded
 pub no_sync_failed : EndsUnsynced (plain_event calls.Syncs false ∷ []) → ⊥
 no_sync_failed is = not_last is.0 is.1
@@ -338,3 +334,7 @@ a_failed_sync is = not_last is.0 is.1
     not_last [] is = let same : true ≡ false = ap first_failed is in absurd (cc same)
     not_last (e ∷ []) is = absurd (cc is)
     not_last (e ∷ f ∷ before) is = absurd (cc is)
+
+-- and it isn't done
+pub it_is_not_done : EndsRemoval (plain_event calls.Syncs true ∷ []) (Ok tt) → ⊥
+it_is_not_done is = a_failed_sync is

@@ -15,7 +15,7 @@ use Rattle.segments.specs.declared.error.Error.{Error}
 use Rattle.segments.specs.declared.error.Error.TheVariants as errors
 use Rattle.segments.specs.Folders.{opening_error}
 use Rattle.file.specs.declared.opening.OpenError.TheVariants as refusals
-use Rattle.std_io.specs.declared.io.error.Error as io_error
+use Rattle.std.specs.declared.io.Error as io_error
 use Rattle.segments.specs.declared.past.Last.TheVariants.{Nothing}
 use Rattle.segments.specs.FolderPast.{events_of}
 use Rattle.segments.specs.FolderEvents.{FolderEvent, folder_outcome, keeping_event, keeping_outcome, opening_outcome, opening_with, plain_event}
