@@ -12,6 +12,7 @@ pub mod Requested
 pub mod Beginning
 pub mod Opened
 mod FaultExamples
+mod LentExamples
 mod SyncExamples
 mod StopExamples
 mod OutputExamples

@@ -1,5 +1,5 @@
 -- Requests that were taken, from the runs of their steps and what was written.
-use Rattle.std.proofs.Common.{◌≡◌, ◌≤◌, ◌<◌, Bool, true, false, ℕ, List, [], ◌∷◌, ◌++◌, length, refl, sym, ap, ◌∙◌, subst, arith}
+use Rattle.std.proofs.Common.{◌≡◌, ◌≤◌, ◌<◌, Bool, true, false, ℕ, List, [], ◌∷◌, length, refl, sym, ap, ◌∙◌, subst, arith}
 use Rattle.std.specs.Prelude.{Option, Result, Ok, Err, Vec, ◌&&◌, is_some, option_map}
 use Rattle.std.specs.declared.alloc.Global.{Global}
 use Rattle.std.proofs.lemmas.Bool.{false≢true}
@@ -11,6 +11,7 @@ use Rattle.session.specs.Run.{SessionState}
 use Rattle.session.specs.declared.steps.Step.{Step}
 use Rattle.session.specs.declared.steps.Step.TheVariants.{Append, ReadRanges}
 use Rattle.session.specs.declared.steps.Reply.{Reply}
+use Rattle.session.specs.declared.steps.Reply.TheVariants.{At}
 use Rattle.protocol.specs.declared.request.Request.{Request}
 use Rattle.protocol.specs.declared.request.Request.TheVariants.{Step as StepOf, Records, Ranges, SyncSize, Look, Flush, CountOpen, Close}
 use Rattle.protocol.specs.declared.setting.Setting.{Setting}
@@ -19,7 +20,7 @@ use Rattle.protocol.specs.declared.stop.Stop.TheVariants.{Malformed, Version, Wo
 use Rattle.protocol.specs.declared.version.Version.{Version as ProtocolVersion}
 use Rattle.protocol.specs.declared.version.Version.TheVariants.{One, Two}
 use Rattle.protocol.specs.Answer.{IsAnswerWith, IsRefusalAnswer, PutsAnswer, unreadable_status}
-use Rattle.protocol.specs.Request.{frame_bytes, last_kind}
+use Rattle.protocol.specs.Request.{frame_bytes, last_kind, number_bytes}
 use Rattle.protocol.specs.Serve.{AreSteps, IsAnswer, IsChangeRefused, Served, TakesRequest, asks_change, given_payload, gives_last, open_payload, can_be_read, last_payload, records_payload, steps_then}
 use Rattle.protocol.specs.Serve.Served.{taken, refused}
 use Rattle.protocol.specs.Taking.{Finishes, IsStepAnswer, RunsSteps, TellsUnreadable, WritesAnswer}
@@ -62,6 +63,21 @@ runs_request sum setting version request steps was now cache after old new faile
 pub step_answers : (version : ProtocolVersion) (step : Step) (replies : List Reply) (now : SessionState) (failed : Bool) (answer : List ℕ) → IsStepAnswer version replies (is_some now.writer) failed answer → IsAnswer version (StepOf step) replies now failed answer
 step_answers One step replies now failed answer is = is
 step_answers Two step replies now failed answer is = is
+
+-- an append was taken, and answered by its offset
+pub append_taken : (sum : List ℕ → ℕ) (setting : Setting) (version : ProtocolVersion) (bytes : Vec ℕ Global) (was now : SessionState) (cache after : CacheState) (old new : Life) (failed : Bool) (at : ℕ) (out written : Option (List ℕ)) (wrote : Result (Unit {0}) Stop) (result : Result (Option Error) Stop)
+    → setting.read_only ≡ false → RunsSteps sum (Append bytes ∷ []) was now cache after old new (At at ∷ []) (Ok tt) → PutsAnswer (frame_bytes (0 ∷ number_bytes at)) out written wrote → Finishes [] wrote result → TakesRequest sum setting version (StepOf (Append bytes)) was now old new failed out written result
+append_taken sum setting version bytes was now cache after old new failed at out written wrote result may runs writes told =
+    runs_request sum setting version (StepOf (Append bytes)) (Append bytes ∷ []) was now cache after old new failed (At at ∷ []) out written wrote result (ap (λ (b : Bool). b && true) may) refl runs
+    (frame_bytes (0 ∷ number_bytes at), answers version, writes) (ends wrote told)
+  where
+    answers : (v : ProtocolVersion) → IsAnswer v (StepOf (Append bytes)) (At at ∷ []) now failed (frame_bytes (0 ∷ number_bytes at))
+    answers One = (At at, refl, refl)
+    answers Two = refl
+
+    ends : (w : Result (Unit {0}) Stop) → Finishes [] w result → Finishes (At at ∷ []) w result
+    ends (Ok done) is = is
+    ends (Err stop) is = is
 
 -- the answer to a request that is answered by the last reply
 pub last_answers : (setting : Setting) (request : Request) (steps : List Step) (replies : List Reply) (now : SessionState) (failed : Bool) (answer : List ℕ) → gives_last request ≡ true → AreSteps setting request steps → 0 < length steps

@@ -49,9 +49,9 @@ pub fn write_refusal<W: Write>(out: &mut W) -> Result<(), Stop>
     write_frame(out, READ_ONLY, &[], &[])
 }
 
-// Writes an answer with one number, by one call.
+/// Writes an answer with one number, by one call.
 #[tactic(auto, unfolding(crate::specs::Request::number_bytes, crate::specs::Request::length_bytes))]
-fn write_number<W: Write>(out: &mut W, number: u64) -> Result<(), Stop>
+pub fn write_number<W: Write>(out: &mut W, number: u64) -> Result<(), Stop>
     ensures { let answer = frame_bytes (0 ∷ number_bytes number) in
         PutsAnswer answer (W.contents out.old) (W.contents out.new) result }
 {

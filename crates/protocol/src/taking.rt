@@ -17,7 +17,7 @@ ghost use Rattle.protocol.specs.Taking.{IsStepAnswer, RunsSteps, TellsUnreadable
 ghost use Rattle.protocol.specs.Together.{lengths_in, record_starts};
 ghost use Rattle.protocol.specs.declared.version.Version.TheVariants.{Two};
 
-use crate::answer::{write_answer, write_frame, write_head, write_refusal};
+use crate::answer::{write_answer, write_frame, write_head, write_number, write_refusal};
 use crate::output::put;
 use crate::refusal::{READ_ONLY, UNREADABLE, first_fault, tell_refusal, write_told};
 use crate::request::{Request, Then};
@@ -146,6 +146,11 @@ pub fn take_append<B: Blob + Cause, H: Sum, W: Write>(
     // A step has a vector: the proof takes this one, and gives it the bytes.
     let _owned: Vec<u8> = Vec::new(alloc);
     let reply = append(session, blob, cache, bytes);
+    if let Reply::At(at) = reply {
+        // Each version answers so, whatever else there is to tell.
+        let written = write_number(out, at);
+        return told_of(&[], written);
+    }
     let replies = [reply];
     let has_writer = session.size().is_some();
     let failed = blob.failed_sync();
