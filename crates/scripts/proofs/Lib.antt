@@ -9,3 +9,4 @@ pub mod ScriptLines
 pub mod WordExamples
 pub mod LineExamples
 pub mod ScriptExamples
+pub mod ReplyExamples

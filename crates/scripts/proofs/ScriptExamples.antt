@@ -14,8 +14,8 @@ use Rattle.scripts.specs.declared.script.Script.TheVariants as script
 use Rattle.scripts.specs.declared.start.First.TheVariants as first
 use Rattle.scripts.specs.declared.stop.Stop.TheVariants.{Unreadable}
 use Rattle.scripts.specs.Play.{IsNoScript, IsScript, Plays}
-use Rattle.scripts.specs.Script.{Form, IsReadable, IsUnreadable}
-use Rattle.scripts.specs.Script.{ReadsScript, item_line_words, line_words, lines_of}
+use Rattle.scripts.specs.Script.{Form, IsLine, IsReadable, IsUnreadable, ReadsLines, ReadsScript}
+use Rattle.scripts.specs.Script.{item_line_words, line_words, lines_of}
 use Rattle.scripts.specs.Script.{of_items, of_session, words_of}
 use Rattle.scripts.proofs.LineExamples.{it_is_a_start, it_is_an_item_start, item_start}
 use Rattle.scripts.proofs.LineExamples.{item_start_line, start, start_line}
@@ -185,6 +185,26 @@ pub a_later_line_is_named :
     ReadsScript (start_line ∷ codes "sink" ∷ codes "sank" ∷ []) (Err (Unreadable 3)) → ⊥
 a_later_line_is_named (some, within, of_session, is, before) = no_sink (before 1 (lit< tt))
 a_later_line_is_named (some, within, of_items, is, before) = of_the_other_form (before 0 (lit< tt))
+
+-- the first line after the first has the number 2
+pub two_are_read : (lines : Vec Line Global) → lines.items ≡ Step Sync ∷ Step (Read 1 1) ∷ []
+    → ReadsLines line_words IsLine (codes "sync" ∷ codes "read 1 1" ∷ []) (Ok lines)
+unfolding digits
+two_are_read lines are = rw are refl
+
+pub line_3_is_named :
+    ReadsLines line_words IsLine (codes "sync" ∷ codes "read 042 2" ∷ []) (Err (Unreadable 3))
+line_3_is_named = (lit< tt, lit< tt, a_zero_in_front, before)
+  where
+    before : (index : ℕ) → index + 2 < 3
+        → (read : Line) × (words_of (get_or (codes "sync" ∷ codes "read 042 2" ∷ []) index [])
+          ≡ line_words read)
+    before zero within = (Step Sync, refl)
+    before (suc index) within = absurd (omega (arith, within))
+
+pub line_2_is_named :
+    ReadsLines line_words IsLine (codes "sync" ∷ codes "read 042 2" ∷ []) (Err (Unreadable 2)) → ⊥
+line_2_is_named (after, within, is, before) = is (Step Sync) tt refl
 
 pub it_is_a_script : (lines : Vec Line Global) → lines.items ≡ Step Sync ∷ Step (Read 0 2) ∷ []
     → IsScript (codes "start 4084 65536 16 crc32c\nsync\nread 0 2\n")
