@@ -173,12 +173,15 @@ it_goes_beside (inl (room, held)) = omega (arith, room)
 it_goes_beside (inr (full, (gone, there, none, held))) = omega (arith, held.count)
 
 pub the_second_is_put : Puts (0, 1) efgh one two
-the_second_is_put = inl (lit< tt, record {
-  settings = same_settings one.pages two.pages;
-  here = refl;
-  others = λ other key gone. rw (apart other (0, 1) key) refl;
-  count = refl;
-})
+the_second_is_put = inl (
+  lit< tt,
+  record {
+    settings = same_settings one.pages two.pages;
+    here = refl;
+    others = λ other key gone. rw (apart other (0, 1) key) refl;
+    count = refl;
+  },
+)
 
 pub the_third_is_put : Puts (0, 2) ijkl two evicted
 the_third_is_put = inr (refl, the_first_goes)
@@ -199,23 +202,26 @@ pub both_are_put : PutsAll 0 0 2 (codes "abcdefghi") (holds []) two
 both_are_put = (one, first, (two, the_second_is_put, refl))
   where
     first : Puts (0, 0) abcd (holds []) one
-    first = inl (lit< tt, record {
-      settings = same_settings [] one.pages;
-      here = refl;
-      others = λ other key gone. rw (apart other (0, 0) key) refl;
-      count = refl;
-    })
+    first = inl (
+      lit< tt,
+      record {
+        settings = same_settings [] one.pages;
+        here = refl;
+        others = λ other key gone. rw (apart other (0, 0) key) refl;
+        count = refl;
+      },
+    )
 
 -- each page goes under its own number
 pub they_are_crossed : PutsAll 0 0 2 (codes "abcdefgh") (holds []) crossed → ⊥
 they_are_crossed (mid, first, (end, second, same)) =
     let was = (put_weakly (0, 0) abcd (holds []) mid first).here in
     let size : mid.page_size ≡ 4 =
-      (put_weakly (0, 0) abcd (holds []) mid first).settings.page_size in
+    (put_weakly (0, 0) abcd (holds []) mid first).settings.page_size in
     let here = (put_weakly (0, 1) (take mid.page_size efgh) mid end second).here in
     let e : Some abcd ≡ Some efgh =
-      ap (λ (c : CacheState). cached_page c (0, 1)) same ∙ here
-      ∙ ap (λ (P : ℕ). Some (take P efgh)) size in
+    ap (λ (c : CacheState). cached_page c (0, 1)) same ∙ here
+    ∙ ap (λ (P : ℕ). Some (take P efgh)) size in
     omega (arith, ap first_byte e)
 
 pub two_whole_pages : put_count 4 0 11 ≡ 2

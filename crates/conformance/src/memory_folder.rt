@@ -119,7 +119,7 @@ impl MemoryFolder {
     }
 
     #[tactic(auto, using(crate::proofs::Durable::begun_durable))]
-    fn open_file(&self, file: Asked) -> Result<MemoryFile, OpenError>
+    fn open_file(&self, file: Asked) -> io::Result<MemoryFile>
         ensures { IfOk result (λ blob. IsDurable (life_of blob.kept.history).present) }
     {
         let name = Name::of(file);
@@ -161,7 +161,10 @@ impl Folder<MemoryFile> for MemoryFolder {
     ghost asked = { λ f. f };
 
     fn open(&mut self, file: Asked) -> Result<MemoryFile, OpenError> {
-        let opened = self.open_file(file);
+        let opened = match self.open_file(file) {
+            Ok(blob) => Ok(blob),
+            Err(error) => Err(OpenError::System(error)),
+        };
         self.note_opening(call_of(file), &opened);
         opened
     }

@@ -151,7 +151,9 @@ pub fn check_unopened(
         }
     }
     match error {
-        Error::System(_) | Error::Unsynced(_) | Error::Layer(_) => Ok(refuse_log(rt, request, error)),
+        Error::System(_) | Error::Unsynced(_) | Error::Layer(_) => Ok(refuse_log(
+            rt, request, error,
+        )),
         _ => Ok(Status::NotWhole),
     }
 }

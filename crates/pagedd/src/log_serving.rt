@@ -214,7 +214,11 @@ fn fail_lost(rt: &HostRuntime, folder: &str, error: &Error) -> Status {
     let how = Unsynced(folder);
     match error {
         Error::Unsynced(why) => fail(rt, folder, format_args!("the log was closed: {why}: {how}")),
-        _ => fail(rt, folder, format_args!("the log was closed: {error}: {how}")),
+        _ => fail(
+            rt,
+            folder,
+            format_args!("the log was closed: {error}: {how}"),
+        ),
     }
 }
 

@@ -198,7 +198,7 @@ line_3_is_named = (lit< tt, lit< tt, a_zero_in_front, before)
   where
     before : (index : ℕ) → index + 2 < 3
         → (read : Line) × (words_of (get_or (codes "sync" ∷ codes "read 042 2" ∷ []) index [])
-          ≡ line_words read)
+        ≡ line_words read)
     before zero within = (Step Sync, refl)
     before (suc index) within = absurd (omega (arith, within))
 
@@ -227,7 +227,7 @@ it_is_no_script = (lit< tt, lit≤ tt, of_session, a_zero_in_front, before)
   where
     before : (index : ℕ) → index + 1 < 3
         → IsReadable of_session index
-            (get_or (start_line ∷ codes "sync" ∷ codes "read 042 2" ∷ []) index [])
+        (get_or (start_line ∷ codes "sync" ∷ codes "read 042 2" ∷ []) index [])
     before zero within = the_first_line
     before (suc zero) within = (Step Sync, refl)
     before (suc (suc index)) within = absurd (omega (arith, within))

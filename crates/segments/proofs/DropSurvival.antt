@@ -48,8 +48,12 @@ dropped_at sum own P segment l m rs told lists lists_more made listed has e comm
     let first = only.only manifest image free in
     elim (two_cases rs (entry_bytes (Starts segment P)) back long first.0 first.1) [
       | inl same ↦ inl (ap (λ rs. records_by sum own P held file (listed_in P rs)) same ∙ ap (λ o. records_by sum own P held file o) lists)
-      | inr same ↦ inr (listed.0, listed.1, ap (λ rs. records_by sum own P held file (listed_in P rs)) same ∙ ap (λ o. records_by sum own P held file o) lists_more
-          ∙ ap (λ (m : ListingState). records_by sum own P held file (Some m)) made)
+      | inr same ↦ inr (
+        listed.0,
+        listed.1,
+        ap (λ rs. records_by sum own P held file (listed_in P rs)) same ∙ ap (λ o. records_by sum own P held file o) lists_more
+            ∙ ap (λ (m : ListingState). records_by sum own P held file (Some m)) made,
+      )
     ]
 
 drop_by : (sum own : List ℕ → ℕ) (P segment : ℕ) (l m : ListingState) (j : Option WriterState) (old new : Life)
