@@ -106,6 +106,19 @@ fn overlap<B: Blob, H: Sum>(
     Ok(offset)
 }
 
+/// Appends twice through a writer that stays where it is, and reads what was appended last.
+fn append_in_place<B: Blob, H: Sum>(
+    writer: &mut Writer<B, H>,
+    blob: &mut B,
+    cache: &mut CacheRef,
+) -> Result<IoBuf, Error>
+    requires ready { IsReady H.sum_of writer.old cache.old (B.life blob.old) }
+{
+    writer.append_lent(blob, cache, b"hello")?;
+    let offset = writer.append_lent(blob, cache, b" in its place")?;
+    writer.read_at(blob, cache, offset, 13)?.coalesce()
+}
+
 /// Opens a new blob, commits, and looks at it with its page size and with another.
 pub fn keep_and_look(alloc: Global) -> Result<(Outlook, Outlook), Error> {
     let mut blob = VecBlob::new(alloc);
@@ -142,4 +155,13 @@ pub fn keep_and_go_on(alloc: Global) -> Result<u64, Error> {
     let mut cache = new_cache(alloc)?;
     let recovery = open::<Crc32c>(alloc, &mut blob, &mut cache)?;
     overlap(Writer::from(recovery), &mut blob, &mut cache)
+}
+
+/// Opens a new blob, and appends through a writer that stays where it is.
+pub fn keep_in_place(alloc: Global) -> Result<IoBuf, Error> {
+    let mut blob = VecBlob::new(alloc);
+    let mut cache = new_cache(alloc)?;
+    let recovery = open::<Crc32c>(alloc, &mut blob, &mut cache)?;
+    let mut writer: Writer<VecBlob, Crc32c> = Writer::from(recovery);
+    append_in_place(&mut writer, &mut blob, &mut cache)
 }

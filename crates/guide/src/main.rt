@@ -13,7 +13,9 @@ mod sum;
 mod value;
 
 use crate::beside::{keep_and_copy, keep_and_look_back, keep_and_replay_a_snapshot, keep_two};
-use crate::calls::{keep, keep_a_replay, keep_a_snapshot, keep_and_go_on, keep_and_look};
+use crate::calls::{
+    keep, keep_a_replay, keep_a_snapshot, keep_and_go_on, keep_and_look, keep_in_place,
+};
 use crate::kept::{KeptError, keep_in_file};
 use crate::own_journal::{Journal, JournalError};
 use crate::readings::{Reading, keep_and_look_at_readings, keep_readings};
@@ -47,6 +49,9 @@ fn show_calls(rt: &HostRuntime) -> io::Result<()> {
     }
     if let Ok(offset) = keep_and_go_on(alloc) {
         println!(rt; "appended at {offset} meanwhile")?;
+    }
+    if let Ok(bytes) = keep_in_place(alloc) {
+        println!(rt; "appended{}", text_of(&bytes))?;
     }
     if let Ok((Some(at), size)) = keep_a_value(alloc) {
         println!(rt; "a value at {at}, {size} bytes")?;
