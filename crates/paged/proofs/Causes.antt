@@ -10,7 +10,7 @@ use Rattle.disk.specs.declared.error.Error.{Error}
 use Rattle.disk.specs.declared.error.Error.TheVariants.{ReadFailed, WriteFailed, ResizeFailed, SyncFailed, InvalidChecksum, BlobInsufficientLength, OffsetOverflow, OutOfMemory, IdsExhausted}
 use Rattle.writer_state.specs.declared.sync_state.SyncState.{SyncState}
 use Rattle.writer_state.specs.declared.sync_state.SyncState.TheVariants.{Pending}
-use Rattle.paged.specs.Calls.{AreServed, AsksAtMost, CallCause, NoneRefused, PendingSyncFailed}
+use Rattle.paged.specs.Calls.{AreGranted, AsksAtMost, CallCause, NoneRefused, PendingSyncFailed}
 
 -- where no device call was made, none was refused
 pub none_refused_same : (old new : Life) → new ≡ old → NoneRefused old.present new.present
@@ -24,7 +24,7 @@ none_refused_once request a b is = (record { request = request; failed = false }
 pub none_refused_start : (failed : Bool) (a b : Disk) → b.log ≡ a.log ++ record { request = StartSync; failed = failed } ∷ [] → NoneRefused a b
 none_refused_start failed a b is = (record { request = StartSync; failed = failed } ∷ [], is, (inr refl, tt))
 
-served_both : (xs ys : List Entry) → AreServed xs → AreServed ys → AreServed (xs ++ ys)
+served_both : (xs ys : List Entry) → AreGranted xs → AreGranted ys → AreGranted (xs ++ ys)
 served_both [] ys first second = second
 served_both (x ∷ xs) ys first second = (first.0, served_both xs ys first.1 second)
 

@@ -17,7 +17,7 @@ use Rattle.writer_state.proofs.Examples.{at_rest, with_g}
 use Rattle.paged.specs.Writer.{physical_blob_size, FitsBlob}
 use Rattle.paged.specs.Flush.{full_in, rest_of, has_work, carried, after_flush, synced, offset_of, flush_bytes, rest_bytes, footers_of, with_footers, TellsFirst, TellsFirstPage}
 use Rattle.paged.specs.Recovery.{RecoveryCause}
-use Rattle.paged.specs.Calls.{AreServed, IsSettled, TryAppendGoes, CallCause, SettlesBy, sync_calls, start_calls, started_already, waited_writer}
+use Rattle.paged.specs.Calls.{AreGranted, IsSettled, TryAppendGoes, CallCause, SettlesBy, sync_calls, start_calls, started_already, waited_writer}
 use Rattle.paged.specs.Direct.{fill_of, goes_direct, IsDirect}
 use Rattle.paged_read.specs.Ranges.{page_at}
 use Rattle.paged.specs.Reads.{HasWriterPages, size_of}
@@ -216,17 +216,17 @@ for_want_of_memory = (record { request = WriteAt 0 16 false; failed = false } �
 
 -- a write that failed isn't told as a want of memory
 pub not_for_want_of_memory : CallCause Dirty old (next old (logged (WriteAt 0 16 false) true old.present)) OutOfMemory → ⊥
-not_for_want_of_memory (more, is, all) = not_served (subst (λ entries. AreServed entries) (sym is) all)
+not_for_want_of_memory (more, is, all) = not_served (subst (λ entries. AreGranted entries) (sym is) all)
   where
-    not_served : AreServed (record { request = WriteAt 0 16 false; failed = true } ∷ []) → ⊥
+    not_served : AreGranted (record { request = WriteAt 0 16 false; failed = true } ∷ []) → ⊥
     not_served (inl well, rest) = absurd (cc well)
     not_served (inr start, rest) = absurd (cc start)
 
 -- the start of a sync that is to fail is answered: the wait for it isn't
-pub a_start_is_served : AreServed (record { request = StartSync; failed = true } ∷ [])
+pub a_start_is_served : AreGranted (record { request = StartSync; failed = true } ∷ [])
 a_start_is_served = (inr refl, tt)
 
-pub a_failed_wait_is_not : AreServed (record { request = WaitSync 0; failed = true } ∷ []) → ⊥
+pub a_failed_wait_is_not : AreGranted (record { request = WaitSync 0; failed = true } ∷ []) → ⊥
 a_failed_wait_is_not (inl well, rest) = absurd (cc well)
 a_failed_wait_is_not (inr start, rest) = absurd (cc start)
 

@@ -29,13 +29,13 @@ PendingSyncFailed (Pending name) d = had_failed d.started name ≡ true
 
 -- none of these device calls was answered with an error. The start of a sync that is to fail isn't
 -- either: that shows as the sync is waited for
-abbrev pub AreServed : List Entry → Type 0
-AreServed [] = Unit {0}
-AreServed (e ∷ es) = ((e.failed ≡ false) ⊎ (e.request ≡ StartSync)) × AreServed es
+abbrev pub AreGranted : List Entry → Type 0
+AreGranted [] = Unit {0}
+AreGranted (e ∷ es) = ((e.failed ≡ false) ⊎ (e.request ≡ StartSync)) × AreGranted es
 
 -- no device call from one moment to another was answered with an error
 abbrev pub NoneRefused : Disk → Disk → Type 0
-NoneRefused from to = (more : List Entry) × (to.log ≡ from.log ++ more) × AreServed more
+NoneRefused from to = (more : List Entry) × (to.log ≡ from.log ++ more) × AreGranted more
 
 -- why a call of a writer in this state may answer this error: a write or a sync of the device
 -- failed in it, or the started sync that it waited for had failed, or memory was refused, and

@@ -193,7 +193,7 @@ its_name_is_unsynced = inr ([], refl)
 pub it_was_refused : {B : Type 0} (life : B → Life) (e : io_error.Error) → AsksForSegment life 1 [] (plain_event (calls.Opens 1) true ∷ []) (Err (errors.System e))
 it_was_refused life e = refl
 
--- after a failed sync of the names the error isn't told as a refusal of the file
+-- after a failed sync of the names the error isn't that of a file that was refused
 pub not_told_as_refused : {B : Type 0} (life : B → Life) (e : io_error.Error) → AsksForSegment life 1 [] (opening_with (calls.Opens 1) [] ∷ plain_event calls.Syncs true ∷ []) (Err (errors.System e)) → ⊥
 not_told_as_refused life e is = let same : ◌≡◌ {A = ℕ} 2 1 = ap length is in omega (arith, same)
 

@@ -63,7 +63,7 @@ pub trait Folder<B: Blob> {
         ensures { result.now ≡ (B.life blob.now).present.readable };
 
     /// Whether a sync of a file that was opened failed. The layer answers most failed syncs as failed
-    /// writes, so this tells an opening which of them it was. `false` where no file is synced.
+    /// writes, so an opening asks for this after an error. `false` where no file is synced.
     fn failed_sync(blob: &B) -> bool;
 
     /// Reads a file into memory, and changes nothing. `NotFound` where it is missing.

@@ -280,8 +280,8 @@ pub fn open_segment<F: Folder<B>, B: Blob + Drop>(folder: &mut F, number: u64) -
     }
 }
 
-// A file with the journal that was recovered on it, and the journal's records. A failed sync is told
-// as one.
+// A file with the journal that was recovered on it, and the journal's records. After a failed sync
+// the error is `SyncFailed`.
 pub fn recover_file<F: Folder<B>, B: Blob + Drop, H: Sum, R: Sum>(
     alloc: Global,
     options: Options,
