@@ -60,6 +60,7 @@ REASONS = {
     "paged::Sealed::new": "`Writer::snapshot` makes it",
     "items::ItemSession::into_items": "its clause is an equation, and it can't fail",
     "segments::Entry::known_with": "`SegmentedLog::rotate` and `drop_before` take an entry in so",
+    "segments::Folder::close": "`SegmentedLog::rotate` gives the blob of a closed segment back so",
     "segments::Folder::last_with_bytes": "`SegmentedLog::open` asks a folder for it",
     **{f"segments::Listing::{name}": LISTING
        for name in ("first", "open", "closed", "records", "reserve")},

@@ -298,6 +298,9 @@ first_failed (e ∷ es) = e.failed
 pub its_sync_failed : (e : io_error.Error) → EndsRemoval (plain_event calls.Syncs true ∷ []) (Err (errors.Unsynced e))
 its_sync_failed e = ([], refl)
 
+pub the_last_failed : (events : List FolderEvent) → EndsUnsynced (events ++ plain_event calls.Syncs true ∷ [])
+the_last_failed events = (events, refl)
+
 -- a sync that succeeded
 pub no_sync_failed : EndsUnsynced (plain_event calls.Syncs false ∷ []) → ⊥
 no_sync_failed is = not_last is.0 is.1
