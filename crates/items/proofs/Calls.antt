@@ -43,6 +43,7 @@ held_on sum w now more old new goes same = record {
   log = goes.log;
   completed = completed_by_none sum w.page_size (Rattle.writer_state.specs.Sound.content w old.present.readable) w.sync now.sync old new same;
   waits = goes.waits;
+  served = goes.served;
   content = goes.content;
 }
 

@@ -39,6 +39,7 @@ goes_on sum w now more old new holds sound stays = record {
   same = holds.same;
   log = holds.log;
   waits = holds.waits;
+  served = holds.served;
 }
 
 -- a writer whose call was refused, whatever the call
