@@ -214,7 +214,7 @@ nothing_was_awaited (inr had) = had
 pub for_want_of_memory : CallCause Dirty old (next old (logged (WriteAt 0 16 false) false old.present)) OutOfMemory
 for_want_of_memory = (record { request = WriteAt 0 16 false; failed = false } ∷ [], refl, (inl refl, tt))
 
--- a write that failed is no want of memory
+-- a write that failed isn't told as a want of memory
 pub not_for_want_of_memory : CallCause Dirty old (next old (logged (WriteAt 0 16 false) true old.present)) OutOfMemory → ⊥
 not_for_want_of_memory (more, is, all) = not_served (subst (λ entries. AreGranted entries) (sym is) all)
   where
