@@ -9,6 +9,7 @@ use file::OpenError;
 use journal::Journal;
 use paged::{RECOMMENDED_CAPACITY, recommended_buffer_size, recommended_cache};
 use std::alloc::Global;
+use std::io;
 
 /// A journal whose pages and whose records have the checksum CRC-32C.
 type Records<B> = Journal<B, Crc32c, Crc32c>;
@@ -18,7 +19,10 @@ type Records<B> = Journal<B, Crc32c, Crc32c>;
 pub enum KeptError {
     /// The file can't be opened.
     #[error("the file: {0}")]
-    File(#[from] OpenError),
+    Open(#[from] OpenError),
+    /// The system refused another call, as one that prints.
+    #[error("the system: {0}")]
+    System(#[from] io::Error),
     /// A call of the layer was refused.
     #[error("the journal: {0}")]
     Journal(#[from] Error),
