@@ -4,7 +4,7 @@ use clap::{Arg, ArgAction, Command, value_parser};
 use std::alloc::{AllocError, Global};
 
 /// The version of the program.
-pub const VERSION: &str = "0.10.0";
+pub const VERSION: &str = "0.10.1";
 
 /// The greatest buffer, and the most pages of a cache.
 const MOST: i64 = 0xFFFF_FFFF;
@@ -167,7 +167,7 @@ const ROWS: [Row; 23] = [
     Row {
         name: "cache",
         takes: Takes::Size,
-        default: Some("64"),
+        default: Some("1024"),
         help: "the pages that may be held in memory",
         commands: &WITH_WRITER,
     },

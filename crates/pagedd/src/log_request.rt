@@ -111,6 +111,19 @@ fn read_body<R: BufRead>(
     Ok(Some(LogRequest { task, bytes }))
 }
 
+/// A request that has bytes, if its whole frame stands at the front of these bytes, and those that
+/// it has. `None` for each other request, and for one that is refused for its length.
+pub fn lent_request(version: Version, held: &[u8]) -> Option<(LogTask, &[u8])> {
+    let (four, rest) = held.split_first_chunk::<4>()?;
+    let len = (u32::from_le_bytes(*four) as usize).checked_sub(1)?;
+    let (kind, rest) = rest.split_first()?;
+    if !is_known(version, *kind) || !has_bytes(*kind) || is_too_long(*kind, len) {
+        return None;
+    }
+    let (bytes, _) = rest.split_at_checked(len)?;
+    Some((task_of_bytes(*kind), bytes))
+}
+
 // Whether there is a kind of this number.
 fn is_known(version: Version, kind: u8) -> bool {
     match kind {
@@ -123,6 +136,20 @@ fn is_known(version: Version, kind: u8) -> bool {
 // Whether a request of this kind has bytes in the place of fields, as many as its frame holds.
 fn has_bytes(kind: u8) -> bool {
     matches!(kind, 1 | 17 | 18)
+}
+
+// Whether a record of so many bytes is longer than one may be.
+fn is_too_long(kind: u8, len: usize) -> bool {
+    kind == 1 && len > MOST_BYTES
+}
+
+// What is asked by a request of a kind that has bytes.
+fn task_of_bytes(kind: u8) -> LogTask {
+    match kind {
+        1 => LogTask::Append,
+        17 => LogTask::Records { syncs: false },
+        _ => LogTask::Records { syncs: true },
+    }
 }
 
 // How many bytes the fields of any other kind have.
@@ -141,7 +168,7 @@ fn read_of_bytes<R: BufRead>(
     kind: u8,
     len: usize,
 ) -> Result<LogRequest, Unread> {
-    if kind == 1 && len > MOST_BYTES {
+    if is_too_long(kind, len) {
         skip_bytes(input, len)?;
         let bytes = Vec::new(alloc);
         return Ok(LogRequest {
@@ -150,12 +177,10 @@ fn read_of_bytes<R: BufRead>(
         });
     }
     let bytes = read_bytes(alloc, input, len)?;
-    let task = match kind {
-        1 => LogTask::Append,
-        17 => LogTask::Records { syncs: false },
-        _ => LogTask::Records { syncs: true },
-    };
-    Ok(LogRequest { task, bytes })
+    Ok(LogRequest {
+        task: task_of_bytes(kind),
+        bytes,
+    })
 }
 
 // Reads a place: the number of a segment, and an offset.

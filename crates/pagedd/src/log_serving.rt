@@ -9,7 +9,7 @@ use crate::log_hello::{Hello, greet, greet_refused, read_opening, tell_opening};
 use crate::log_lock::lock_folder;
 use crate::log_put::sync_above;
 use crate::log_refusing::refuse_log;
-use crate::log_request::{LogRequest, read_request};
+use crate::log_request::{LogRequest, lent_request, read_request};
 use crate::log_status::{is_failed_sync, status_of, status_of_flaw};
 use crate::log_taking::{Client, take_request, unsynced_of};
 use crate::request::Request;
@@ -24,7 +24,7 @@ use protocol::{Cause, Stop, Version};
 use segments::{Asked, Error, FileFolder, Folder, FolderCopy, SegmentedLog};
 use std::alloc::{AllocError, Global};
 use std::fs::{self, File};
-use std::io::{self, BufReader, BufWriter, Read, Write};
+use std::io::{self, BufRead, BufReader, BufWriter, Read, Write};
 
 /// Serves the log of a folder, or for reading alone a copy of it in memory. A folder that is
 /// missing is made, except for reading alone.
@@ -270,12 +270,20 @@ fn serve_requests<F: Folder<B> + Drop, B: Blob + Cause + Drop, H: Sum, R: Read, 
     requires log { IsLog H.sum_of H.sum_of log.old }
 {
     for number in 1..u64::MAX {
+        // Records that have come whole are appended from where they stand.
+        if let Some((task, bytes)) = lent_request(client.version, input.buffer()) {
+            let len = bytes.len().saturating_add(5);
+            let taken = take_request(alloc, client, log, task, bytes, out);
+            input.consume(len);
+            taken?;
+            continue;
+        }
         let request = match next_request(alloc, client.version, number, input, out) {
             Ok(Some(request)) => request,
             Ok(None) => return Ok(()),
             Err(stop) => return Err(tell_flaw(alloc, client.version, stop, out)),
         };
-        take_request(alloc, client, log, &request, out)?;
+        take_request(alloc, client, log, request.task, &request.bytes, out)?;
     }
     Err(Stop::Failed)
 }

@@ -3,7 +3,7 @@ ghost use Rattle.segments.specs.Log.{IsLog};
 
 use crate::log_answer::{Refusal, write_answer, write_found, write_places, write_refusal};
 use crate::log_records::{Records, length_of, split_record};
-use crate::log_request::{LogRequest, LogTask};
+use crate::log_request::LogTask;
 use crate::log_status::{AT_END, Failure, NO_RECORDS, READ_ONLY, is_failed_sync, refusal_of};
 use disk::Blob;
 use journal::MOST_BYTES;
@@ -40,22 +40,22 @@ impl Client {
     }
 }
 
-/// Takes a request, unless it is refused, and writes its answer.
+/// Takes a request with these bytes, unless it is refused, and writes its answer.
 pub fn take_request<F: Folder<B> + Drop, B: Blob + Cause + Drop, H: Sum, W: Write>(
     alloc: Global,
     client: &mut Client,
     log: &mut SegmentedLog<F, B, H, H>,
-    request: &LogRequest,
+    task: LogTask,
+    bytes: &[u8],
     out: &mut W,
 ) -> Result<(), Stop>
     requires log { IsLog H.sum_of H.sum_of log.old }
     ensures log { IsLog H.sum_of H.sum_of log.new }
 {
-    if client.read_only && request.task.is_change() {
+    if client.read_only && task.is_change() {
         return refuse(alloc, client, out, READ_ONLY);
     }
-    let bytes = request.bytes.as_slice();
-    match request.task {
+    match task {
         LogTask::Append => take_append(alloc, client, log, bytes, out),
         LogTask::AppendTooLong => refuse(alloc, client, out, NO_RECORDS),
         LogTask::Records { syncs } => take_records(alloc, client, log, bytes, syncs, out),

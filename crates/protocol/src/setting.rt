@@ -32,7 +32,7 @@ impl Default for Setting {
             page_size: NonZeroU16::new(4084).unwrap(),
             capacity: 65_536,
             buffer_size: NonZeroUsize::new(65_536).unwrap(),
-            pages: NonZeroUsize::new(64).unwrap(),
+            pages: NonZeroUsize::new(1024).unwrap(),
             read_only: false,
             allowed: 4096,
         }

@@ -3,7 +3,7 @@
 -- segment 2 is open and has "c"; what was kept of the closed ones is any. `small` is a log with an
 -- empty manifest, whose segment 0 is open and has "c".
 use Rattle.std.specs.Prelude.{◌≡◌, ◌≤◌, ◌++◌, ℕ, zero, suc, List, [], ◌∷◌, length, Bool, true, false, Option, Some, None, Ok, Err}
-use Rattle.std.proofs.Common.{refl, sym, ap, inl, inr, arith, ◌∙◌, lit<, lit≤}
+use Rattle.std.proofs.Common.{refl, sym, subst, ap, inl, inr, arith, ◌∙◌, lit<, lit≤}
 use Rattle.disk.specs.declared.error.Error.TheVariants.{WriteFailed}
 use Rattle.page.specs.Page.{text}
 use Rattle.page.specs.Sums.{add_sum}
@@ -17,7 +17,7 @@ use Rattle.segments.specs.Digests.{IsOf}
 use Rattle.segments.specs.FolderEvents.{FolderEvent, plain_event}
 use Rattle.segments.specs.Manifest.{ListingState, none_closed}
 use Rattle.segments.specs.Owned.{IsOwned, OwnedAppendGoes, OwnedState, without_journal}
-use Rattle.segments.specs.Log.{AppendHereGoes, CurrentKeeps, EndsRemoval, EndsSynced, EndsUnsynced, HasKept, HoldsClosed, IsBeyond, IsClosedLog, IsClosedOff, IsContentOf, IsCurrentContent, IsDropped, IsKept, IsListed, IsLoaded, IsLog, IsReadOf, IsSameButAsked, IsSameButCurrent, IsSameButManifest, IsStartedFrom, IsUnsyncedDrop, LeavesReading, Lists, LoadedState, LogAppendGoes, LogState, TellHeld, closed_records, listing_from, log_records}
+use Rattle.segments.specs.Log.{AppendHereGoes, AreDone, AsksNoSync, AsksWell, CurrentKeeps, EndsRemoval, EndsSynced, EndsUnsynced, HasKept, HoldsClosed, IsBeyond, IsClosedLog, IsClosedOff, IsContentOf, IsCurrentContent, IsDropped, IsKept, IsListed, IsLoaded, IsLog, IsReadOf, IsRefusedDrop, IsSameButAsked, IsSameButCurrent, IsSameButManifest, IsStartedFrom, IsUnsyncedDrop, LeavesReading, Lists, LoadedState, LogAppendGoes, LogState, NoneSyncs, TellHeld, closed_records, listing_from, log_records}
 use Rattle.segments.proofs.BytesExamples.{c, c_frame, c_page, changed_life, d, d_frame, d_page, life_of, none_committed, rests, with_c, with_none, writer}
 use Rattle.segments.proofs.OwnedExamples.{another_record, nothing_was_done}
 
@@ -282,6 +282,7 @@ nothing_was_dropped = record {
     removed = record { events = plain_event calls.Syncs false ∷ []; all = refl; below = inr (refl, tt) };
   };
   synced = ([], refl);
+  done = (plain_event calls.Syncs false ∷ [], refl, (refl, tt));
 }
 
 pub it_is_closed : (sum own : List ℕ → ℕ) (s : LogState) → AppendHereGoes sum own c (record s { current = without_journal with_c }) (record s { current = without_journal with_c }) (Err errors.Closed)
@@ -295,7 +296,7 @@ first_failed [] = false
 first_failed (e ∷ es) = e.failed
 
 -- the files of a drop are gone, and the names couldn't be synced: that is `Unsynced`
-pub its_sync_failed : (e : io_error.Error) → EndsRemoval (plain_event calls.Syncs true ∷ []) (Err (errors.Unsynced e))
+pub its_sync_failed : (e : io_error.Error) → EndsRemoval [] (plain_event calls.Syncs true ∷ []) (Err (errors.Unsynced e))
 its_sync_failed e = ([], refl)
 
 pub the_last_failed : (events : List FolderEvent) → EndsUnsynced (events ++ plain_event calls.Syncs true ∷ [])
@@ -339,5 +340,57 @@ a_failed_sync is = not_last is.0 is.1
     not_last (e ∷ f ∷ before) is = absurd (cc is)
 
 -- and it isn't done
-pub it_is_not_done : EndsRemoval (plain_event calls.Syncs true ∷ []) (Ok tt) → ⊥
-it_is_not_done is = a_failed_sync is
+pub it_is_not_done : EndsRemoval [] (plain_event calls.Syncs true ∷ []) (Ok tt) → ⊥
+it_is_not_done is = a_failed_sync is.0
+
+-- a removal that failed is none that was done, also if a sync behind it succeeds
+pub a_removal_failed : AsksWell [] (plain_event (calls.Removes 0) true ∷ plain_event calls.Syncs false ∷ []) → ⊥
+a_removal_failed (events, all, done) =
+    let failed = subst (λ (es : List FolderEvent). AreDone es) (sym all) done in
+    absurd (cc failed.0)
+
+pub then_it_is_not_done : EndsRemoval [] (plain_event (calls.Removes 0) true ∷ plain_event calls.Syncs false ∷ []) (Ok tt) → ⊥
+then_it_is_not_done is = a_removal_failed is.1
+
+pub a_removal_is_done : EndsRemoval [] (plain_event (calls.Removes 0) false ∷ plain_event calls.Syncs false ∷ []) (Ok tt)
+a_removal_is_done = ((plain_event (calls.Removes 0) false ∷ [], refl), (plain_event (calls.Removes 0) false ∷ plain_event calls.Syncs false ∷ [], refl, (refl, refl, tt)))
+
+pub both_are_done : AreDone (plain_event (calls.Removes 0) false ∷ plain_event calls.Syncs false ∷ [])
+both_are_done = (refl, refl, tt)
+
+-- a refused removal is `System`: no sync was asked for
+pub a_removal_is_refused : (e : io_error.Error) → EndsRemoval [] (plain_event (calls.Removes 0) true ∷ []) (Err (errors.System e))
+a_removal_is_refused e = (plain_event (calls.Removes 0) true ∷ [], refl, none_of_it)
+
+pub none_of_it : NoneSyncs (plain_event (calls.Removes 0) true ∷ [])
+none_of_it = ((λ same. absurd (cc same)), tt)
+
+-- so a failed sync isn't
+pub a_sync_was_asked : AsksNoSync [] (plain_event calls.Syncs true ∷ []) → ⊥
+a_sync_was_asked (events, all, none) =
+    let syncs = subst (λ (es : List FolderEvent). NoneSyncs es) (sym all) none in
+    syncs.0 refl
+
+pub it_is_no_refusal : (e : io_error.Error) → EndsRemoval [] (plain_event calls.Syncs true ∷ []) (Err (errors.System e)) → ⊥
+it_is_no_refusal e is = a_sync_was_asked is
+
+-- such a drop, whole: a folder that couldn't be looked at
+pub its_drop_is_refused : IsRefusedDrop 0 small small
+its_drop_is_refused = record {
+  drops = record {
+    was_open = λ closed. elim closed [ inl none ↦ absurd (cc none) | inr none ↦ absurd (cc none) ];
+    within = lit≤ tt;
+    mid = small;
+    starts = inl (lit≤ tt, refl);
+    there = tt;
+    rest = refl;
+    removed = record { events = []; all = refl; below = tt };
+  };
+  unsynced = ([], refl, tt);
+}
+
+-- a drop that got as far as a sync wasn't refused
+pub its_drop_got_further : IsRefusedDrop 0 small (record small { asked = plain_event calls.Syncs true ∷ [] }) → ⊥
+its_drop_got_further is =
+    let none = elim (is.drops.starts) [ inl same ↦ ap (λ (l : LogState). l.asked) same.1 | inr later ↦ absurd (omega (arith, later.0)) ] in
+    a_sync_was_asked (subst (λ (es : List FolderEvent). AsksNoSync es (plain_event calls.Syncs true ∷ [])) none is.unsynced)

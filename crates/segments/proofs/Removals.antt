@@ -1,16 +1,17 @@
 -- What a folder is asked for as segments are dropped.
-use Rattle.std.specs.Prelude.{◌≡◌, ◌<◌, ◌≤◌, ◌++◌, ◌∷◌, [], ℕ, suc, List, Result, Ok, Err}
+use Rattle.std.specs.Prelude.{◌≡◌, ◌≢◌, ◌<◌, ◌≤◌, ◌++◌, ◌∷◌, [], ℕ, suc, List, false, Result, Ok, Err}
 use Rattle.std.proofs.Common.{ap, sym, ◌∙◌, refl, subst, inl, inr, arith, append_assoc, append-nil}
 use Rattle.segments.specs.declared.call.FolderCall.{FolderCall}
 use Rattle.segments.specs.declared.call.FolderCall.TheVariants as calls
 use Rattle.segments.specs.FolderEvents.{FolderEvent, folder_outcome}
-use Rattle.segments.specs.Log.{AreOfOlder, AsksOfOlder}
+use Rattle.segments.specs.Log.{AreDone, AreOfOlder, AsksNoSync, AsksOfOlder, AsksWell, NoneSyncs}
 
 -- such calls, of which the last removal was of a segment before `next`
 pub record AsksBelow (next first : ℕ) (old new : List FolderEvent) : Type 0 where
   pub events : List FolderEvent
   pub all : new ≡ old ++ events
   pub below : AreOfOlder 0 first events
+  pub none : NoneSyncs events
   pub more : (es : List FolderEvent) → AreOfOlder next first es → AreOfOlder 0 first (events ++ es)
 
 -- a later bound is a stronger one
@@ -20,15 +21,22 @@ later from next first (e ∷ es) before (inl is) = inl (is.0, omega (arith, befo
 later from next first (e ∷ es) before (inr is) = inr (is.0, later from next first es before is.1)
 
 pub asks_none : (next first : ℕ) (events : List FolderEvent) → AsksBelow next first events events
-asks_none next first events = record { events = []; all = sym (append-nil events); below = tt; more = λ es is. later 0 next first es (omega arith) is }
+asks_none next first events = record { events = []; all = sym (append-nil events); below = tt; none = tt; more = λ es is. later 0 next first es (omega arith) is }
 
 call_of : {T E : Type 0} (call : FolderCall) (result : Result T E) → (folder_outcome call result).call ≡ call
 call_of call (Ok t) = refl
 call_of call (Err e) = refl
 
+none_more : (es : List FolderEvent) (e : FolderEvent) → e.call ≢ calls.Syncs → NoneSyncs es → NoneSyncs (es ++ e ∷ [])
+none_more [] e is none = (is, tt)
+none_more (x ∷ es) e is none = (none.0, none_more es e is none.1)
+
+no_sync : (number : ℕ) (call : FolderCall) → call ≡ calls.Removes number → call ≢ calls.Syncs
+no_sync number call is = λ same. absurd (cc (sym is ∙ same))
+
 pub asks_later : (from next first : ℕ) (old new : List FolderEvent) → AsksBelow from first old new → from ≤ next → AsksBelow next first old new
 asks_later from next first old new is before =
-    record { events = is.events; all = is.all; below = is.below; more = λ es then. is.more es (later from next first es before then) }
+    record { events = is.events; all = is.all; below = is.below; none = is.none; more = λ es then. is.more es (later from next first es before then) }
 
 pub asks_removal : {T E : Type 0} (next first number : ℕ) (old mid new : List FolderEvent) (result : Result T E) → AsksBelow number first old mid
     → new ≡ mid ++ folder_outcome (calls.Removes number) result ∷ [] → number < first → next ≡ suc number → AsksBelow next first old new
@@ -39,12 +47,29 @@ asks_removal next first number old mid new result is more below after =
       events = is.events ++ e ∷ [];
       all = more ∙ ap (λ es. es ++ e ∷ []) is.all ∙ append_assoc old is.events (e ∷ []);
       below = is.more (e ∷ []) (inl (number, omega arith, below, call, tt));
+      none = none_more is.events e (no_sync number e.call call) is.none;
       more = λ es then. subst (λ all. AreOfOlder 0 first all) (sym (append_assoc is.events (e ∷ []) es))
           (is.more (e ∷ es) (inl (number, omega arith, below, call, subst (λ n. AreOfOlder n first es) after then)));
     }
 
 pub asks_done : (next first : ℕ) (old new : List FolderEvent) → AsksBelow next first old new → AsksOfOlder first old new
 asks_done next first old new is = record { events = is.events; all = is.all; below = is.below }
+
+pub asks_no_sync : (next first : ℕ) (old new : List FolderEvent) → AsksBelow next first old new → AsksNoSync old new
+asks_no_sync next first old new is = (is.events, is.all, is.none)
+
+-- nothing was asked, so nothing failed
+pub asks_well : (events : List FolderEvent) → AsksWell events events
+asks_well events = ([], sym (append-nil events), tt)
+
+done_more : (es : List FolderEvent) (e : FolderEvent) → e.failed ≡ false → AreDone es → AreDone (es ++ e ∷ [])
+done_more [] e is done = (is, tt)
+done_more (x ∷ es) e is done = (done.0, done_more es e is done.1)
+
+-- one call more, which succeeded
+pub well_more : (old mid new : List FolderEvent) (e : FolderEvent) → AsksWell old mid → new ≡ mid ++ e ∷ [] → e.failed ≡ false → AsksWell old new
+well_more old mid new e (events, all, done) more is =
+    (events ++ e ∷ [], more ∙ ap (λ (es : List FolderEvent). es ++ e ∷ []) all ∙ append_assoc old events (e ∷ []), done_more events e is done)
 
 -- a sync behind removals
 pub older_then_sync : (from first : ℕ) (es : List FolderEvent) (e : FolderEvent) → e.call ≡ calls.Syncs → AreOfOlder from first es → AreOfOlder from first (es ++ e ∷ [])

@@ -82,7 +82,7 @@ nothing_removes sum own s t same events asked number was =
 -- a drop, by its answer
 pub drop_removes : (sum own : List ℕ → ℕ) (segment : ℕ) (s t : LogState) (result : Result (Unit {0}) Error) → LogDropGoes segment s t result → IsLog sum own t → RemovesUnlisted sum own s t
 drop_removes sum own segment s t (Ok u) is log = dropping_removes sum own segment s t is.drops log
-drop_removes sum own segment s t (Err (errors.System e)) is log = dropping_removes sum own segment s t is log
+drop_removes sum own segment s t (Err (errors.System e)) is log = dropping_removes sum own segment s t is.drops log
 drop_removes sum own segment s t (Err (errors.Unsynced e)) is log = dropping_removes sum own segment s t is.drops log
 drop_removes sum own segment s t (Err (errors.NoSegment n)) is log = nothing_removes sum own s t (ap (λ (l : LogState). l.asked) is.same)
 drop_removes sum own segment s t (Err errors.Closed) is log = nothing_removes sum own s t (ap (λ (l : LogState). l.asked) is.0)

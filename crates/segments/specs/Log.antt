@@ -552,12 +552,31 @@ abbrev pub EndsUnsynced : List FolderEvent → Type 0
 EndsUnsynced events = (before : List FolderEvent)
     × (events ≡ before ++ plain_event calls.Syncs true ∷ [])
 
--- how a removal of files ends, by its answer
-abbrev pub EndsRemoval : List FolderEvent → Result (Unit {0}) Error → Type 0
-EndsRemoval events (Ok u) = EndsSynced events
-EndsRemoval events (Err (errors.System e)) = Unit {0}
-EndsRemoval events (Err (errors.Unsynced e)) = EndsUnsynced events
-EndsRemoval events (Err e) = ⊥
+-- none of these calls failed
+abbrev pub AreDone : List FolderEvent → Type 0
+AreDone [] = Unit {0}
+AreDone (e ∷ es) = (e.failed ≡ false) × AreDone es
+
+-- none of these calls is a sync
+abbrev pub NoneSyncs : List FolderEvent → Type 0
+NoneSyncs [] = Unit {0}
+NoneSyncs (e ∷ es) = (e.call ≢ calls.Syncs) × NoneSyncs es
+
+-- no call that the folder was asked for failed
+abbrev pub AsksWell : (old new : List FolderEvent) → Type 0
+AsksWell old new = (events : List FolderEvent) × (new ≡ old ++ events) × AreDone events
+
+-- the folder wasn't asked for a sync
+abbrev pub AsksNoSync : (old new : List FolderEvent) → Type 0
+AsksNoSync old new = (events : List FolderEvent) × (new ≡ old ++ events) × NoneSyncs events
+
+-- how a removal of files ends, by its answer: no removal failed, and the sync after them didn't; or
+-- no sync was asked for; or the sync failed
+abbrev pub EndsRemoval : (old new : List FolderEvent) → Result (Unit {0}) Error → Type 0
+EndsRemoval old new (Ok u) = EndsSynced new × AsksWell old new
+EndsRemoval old new (Err (errors.System e)) = AsksNoSync old new
+EndsRemoval old new (Err (errors.Unsynced e)) = EndsUnsynced new
+EndsRemoval old new (Err e) = ⊥
 
 -- the listing without the segments before one
 abbrev pub listing_from : ℕ → ListingState → ListingState
@@ -616,10 +635,16 @@ pub record IsDropping (segment : ℕ) (s t : LogState) : Type 0 where
   pub rest : IsSameButAsked mid t
   pub removed : AsksOfOlder t.listing.first mid.asked t.asked
 
--- a drop was done: the names of the files are durable
+-- a drop was done: no removal failed, and the names of the files are durable
 pub record IsDropped (segment : ℕ) (s t : LogState) : Type 0 where
   pub drops : IsDropping segment s t
   pub synced : EndsSynced t.asked
+  pub done : AsksWell drops.mid.asked t.asked
+
+-- a removal was refused, or the folder couldn't be looked at: it wasn't asked for a sync
+pub record IsRefusedDrop (segment : ℕ) (s t : LogState) : Type 0 where
+  pub drops : IsDropping segment s t
+  pub unsynced : AsksNoSync drops.mid.asked t.asked
 
 -- the files of a drop were removed, and the sync of the folder after that failed
 pub record IsUnsyncedDrop (segment : ℕ) (s t : LogState) : Type 0 where
@@ -642,7 +667,7 @@ LogDropGoes segment s t (Err (errors.NoSegment n)) = IsBeyond segment n s t
 LogDropGoes segment s t (Err errors.Closed) = (t ≡ s) × IsClosedLog s
 LogDropGoes segment s t (Err (errors.Layer e)) =
     IsClosedOff s t × (s.listing.first < segment) × (segment ≤ open_in s.listing)
-LogDropGoes segment s t (Err (errors.System e)) = IsDropping segment s t
+LogDropGoes segment s t (Err (errors.System e)) = IsRefusedDrop segment s t
 LogDropGoes segment s t (Err (errors.Unsynced e)) = IsUnsyncedDrop segment s t
 LogDropGoes segment s t (Err e) = ⊥
 

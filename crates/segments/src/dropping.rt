@@ -1,5 +1,7 @@
 // Dropping the oldest segments.
-ghost use Rattle.segments.specs.Log.{AsksOfOlder, EndsRemoval, IsLog, LogDropGoes, StartFromGoes};
+ghost use Rattle.std.specs.Prelude.{OnOk};
+ghost use Rattle.segments.specs.Log.{AsksNoSync, AsksOfOlder, AsksWell, EndsRemoval, IsLog};
+ghost use Rattle.segments.specs.Log.{LogDropGoes, StartFromGoes};
 ghost use Rattle.segments.specs.Log.{StartOrCloseGoes};
 ghost use Rattle.segments.specs.Log.{Tries};
 ghost use Rattle.segments.specs.Crash.{DropSurvives, RemovesUnlisted};
@@ -85,7 +87,7 @@ impl<F: Folder<B> + Drop, B: Blob + Drop, H: Sum, R: Sum> SegmentedLog<F, B, H, 
 #[tactic(auto, using(crate::proofs::Removals::asks_sync))]
 fn remove_before<F: Folder<B>, B: Blob>(folder: &mut F, first: u64) -> Result<(), Error>
     ensures below { AsksOfOlder first (F.asked folder.old) (F.asked folder.new) }
-    ensures ends { EndsRemoval (F.asked folder.new) result }
+    ensures ends { EndsRemoval (F.asked folder.old) (F.asked folder.new) result }
 {
     match remove_files::<F, B>(folder, first) {
         Ok(()) => match folder.sync() {
@@ -97,9 +99,11 @@ fn remove_before<F: Folder<B>, B: Blob>(folder: &mut F, first: u64) -> Result<()
 }
 
 // Removes the files of the segments before one that are there, the oldest first.
-#[tactic(auto, using(crate::proofs::Removals::asks_none, crate::proofs::Removals::asks_later, crate::proofs::Removals::asks_removal, crate::proofs::Removals::asks_done))]
+#[tactic(auto, using(crate::proofs::Removals::asks_none, crate::proofs::Removals::asks_later, crate::proofs::Removals::asks_removal, crate::proofs::Removals::asks_done, crate::proofs::Removals::asks_no_sync, crate::proofs::Removals::asks_well, crate::proofs::Removals::well_more))]
 fn remove_files<F: Folder<B>, B: Blob>(folder: &mut F, first: u64) -> io::Result<()>
-    ensures { AsksOfOlder first (F.asked folder.old) (F.asked folder.new) }
+    ensures below { AsksOfOlder first (F.asked folder.old) (F.asked folder.new) }
+    ensures unsynced { AsksNoSync (F.asked folder.old) (F.asked folder.new) }
+    ensures done { OnOk result (AsksWell (F.asked folder.old) (F.asked folder.new)) }
 {
     let oldest = folder.first()?.unwrap_or(first);
     for number in oldest..first {

@@ -6,6 +6,7 @@ ghost use Rattle.segments.specs.Digests.{SameKept};
 
 use crate::closed::Closed;
 use crate::error::Error;
+use crate::folder_copy::FolderCopy;
 use crate::log::Options;
 use crate::opening::recover;
 use crate::owned::OwnedJournal;
@@ -47,7 +48,7 @@ impl<H: Sum, R: Sum> Loaded<H, R> {
         if !closed.is_of(blob.bytes()) {
             return Ok(None);
         }
-        match recover::<VecBlob, H, R>(alloc, options, blob) {
+        match recover::<FolderCopy, VecBlob, H, R>(alloc, options, blob) {
             Ok((owned, _)) => Ok(Some(Loaded { closed, owned })),
             Err(error) => Err(error),
         }

@@ -10,6 +10,7 @@ ghost use Rattle.segments.specs.Crash.{HasOpenedFiles, IsOpenedLog};
 use crate::entry::{Entry, bytes_of};
 use crate::error::Error;
 use crate::folder::{Asked, Folder};
+use crate::folder_copy::FolderCopy;
 use crate::listing::{Listing, listing_of};
 use crate::log::{Options, SegmentedLog};
 use crate::owned::OwnedJournal;
@@ -29,8 +30,9 @@ impl<F: Folder<B> + Drop, B: Blob + Drop, H: Sum, R: Sum> SegmentedLog<F, B, H, 
     /// the manifest knows a later segment. `Missing` where the open segment isn't there, and
     /// `Short` where it has fewer bytes than it had as it was opened last. `System` where the
     /// system refuses a file, `Unsynced` where it can't sync a file or the folder, and `Layer` where
-    /// the device or memory failed. After an error the blobs are gone, so no clause says what their files hold: each recovery of a journal on the
-    /// way keeps what was committed (`leaves` of [`journal::Journal::recover`]).
+    /// the device or memory failed. After an error the blobs are gone, so no clause says what their
+    /// files hold: each recovery of a journal on the way keeps what was committed (`leaves` of
+    /// [`journal::Journal::recover`]).
     #[tactic(auto, using(crate::proofs::Beginning::parts_open))]
     pub fn open(alloc: Global, folder: F, options: Options) -> Result<Self, Error>
         ensures log { IfOk result (λ log. IsLog H.sum_of R.sum_of log) }
@@ -67,7 +69,7 @@ impl<F: Folder<B> + Drop, B: Blob + Drop, H: Sum, R: Sum> SegmentedLog<F, B, H, 
                 };
                 match log.begin(is_new) {
                     Ok(()) => Ok(log),
-                    Err(error) => Err(told_of::<F, B>(error, log.manifest.blob())),
+                    Err(error) => Err(error_of::<F, B>(error, log.manifest.blob())),
                 }
             }
             Err(error) => Err(error),
@@ -140,11 +142,11 @@ fn open_manifest<F: Folder<B>, B: Blob + Drop, H: Sum, R: Sum>(
         IfOk result (λ r. HasManifest H.sum_of R.sum_of P r.0 r.1 old new) }
 {
     let blob = folder.open(Asked::Manifest)?;
-    let (mut manifest, entries) = recover_file::<F, B, H, R>(alloc, options, blob)?;
+    let (mut manifest, entries) = recover::<F, B, H, R>(alloc, options, blob)?;
     match listing_of(alloc, &entries, options.page_size.get()) {
         Ok(listing) => match manifest.commit() {
             Ok(()) => Ok((manifest, listing, entries.is_empty())),
-            Err(error) => Err(told_of::<F, B>(error, manifest.blob())),
+            Err(error) => Err(error_of::<F, B>(error, manifest.blob())),
         },
         Err(error) => Err(error),
     }
@@ -162,7 +164,7 @@ fn open_current<F: Folder<B>, B: Blob + Drop, H: Sum, R: Sum>(
         IfOk result (λ o. HasCurrent H.sum_of R.sum_of P o number old new) }
 {
     let blob = open_segment::<F, B>(folder, number)?;
-    match recover_file::<F, B, H, R>(alloc, options, blob) {
+    match recover::<F, B, H, R>(alloc, options, blob) {
         Ok((current, _)) => Ok(current),
         Err(error) => Err(Error::Layer(error)),
     }
@@ -216,7 +218,7 @@ fn is_known<F: Folder<B>, B: Blob + Drop, H: Sum, R: Sum>(
         return Ok(number);
     }
     let copy = folder.read(Asked::Segment(number))?;
-    let (current, _) = recover::<VecBlob, H, R>(alloc, options, copy)?;
+    let (current, _) = recover::<FolderCopy, VecBlob, H, R>(alloc, options, copy)?;
     if current.size() < known.len {
         return Err(Error::Short(number));
     }
@@ -240,7 +242,7 @@ fn listed_open<F: Folder<B>, B: Blob + Drop, H: Sum, R: Sum>(
         Err(error) => return Err(Error::System(error)),
     };
     let bytes = Vec::from_slice(alloc, copy.bytes())?;
-    let (_, entries) = recover::<VecBlob, H, R>(alloc, options, copy)?;
+    let (_, entries) = recover::<FolderCopy, VecBlob, H, R>(alloc, options, copy)?;
     if entries.is_empty() {
         // With another page size the manifest's pages have no text, and so no entry.
         return if bytes.is_empty() || !is_used && is_begun::<H, R>(alloc, options, &bytes)? {
@@ -256,7 +258,11 @@ fn listed_open<F: Folder<B>, B: Blob + Drop, H: Sum, R: Sum>(
 // Whether a crash may have left these bytes of a manifest's first write: each is zero, or the byte
 // that was to stand there. So they are no other file's, and no other page size's.
 fn is_begun<H: Sum, R: Sum>(alloc: Global, options: Options, bytes: &[u8]) -> Result<bool, Error> {
-    let (mut manifest, _) = recover::<VecBlob, H, R>(alloc, options, VecBlob::new(alloc))?;
+    let (mut manifest, _) = recover::<FolderCopy, VecBlob, H, R>(
+        alloc,
+        options,
+        VecBlob::new(alloc),
+    )?;
     let first = Entry::Starts(0, options.page_size.get());
     manifest.add(&bytes_of(alloc, options.page_size, 0, &first)?)?;
     let whole = manifest.blob().bytes();
@@ -280,9 +286,9 @@ pub fn open_segment<F: Folder<B>, B: Blob + Drop>(folder: &mut F, number: u64) -
     }
 }
 
-// A file with the journal that was recovered on it, and the journal's records. After a failed sync
-// the error is `SyncFailed`.
-pub fn recover_file<F: Folder<B>, B: Blob + Drop, H: Sum, R: Sum>(
+// A file, or a copy of one in memory, with the journal that was recovered on it, and the journal's
+// records. After a failed sync the error is `SyncFailed`.
+pub fn recover<F: Folder<B>, B: Blob + Drop, H: Sum, R: Sum>(
     alloc: Global,
     options: Options,
     blob: B,
@@ -295,12 +301,12 @@ pub fn recover_file<F: Folder<B>, B: Blob + Drop, H: Sum, R: Sum>(
     let mut owned = OwnedJournal::new(alloc, blob, options.page_size, options.pages)?;
     match owned.recover(alloc, options.capacity, options.buffer_size) {
         Ok(records) => Ok((owned, records)),
-        Err(error) => Err(told::<F, B>(error, owned.blob())),
+        Err(error) => Err(cause_of::<F, B>(error, owned.blob())),
     }
 }
 
 // The error of a file, `SyncFailed` where a sync of it failed, whatever the layer calls that.
-fn told<F: Folder<B>, B: Blob>(error: disk::Error, blob: &B) -> disk::Error {
+fn cause_of<F: Folder<B>, B: Blob>(error: disk::Error, blob: &B) -> disk::Error {
     match error {
         disk::Error::WriteFailed | disk::Error::ResizeFailed if F::failed_sync(blob) => {
             disk::Error::SyncFailed
@@ -310,27 +316,9 @@ fn told<F: Folder<B>, B: Blob>(error: disk::Error, blob: &B) -> disk::Error {
 }
 
 // The same for an error of the log.
-fn told_of<F: Folder<B>, B: Blob>(error: Error, blob: &B) -> Error {
+fn error_of<F: Folder<B>, B: Blob>(error: Error, blob: &B) -> Error {
     match error {
-        Error::Layer(error) => Error::Layer(told::<F, B>(error, blob)),
+        Error::Layer(error) => Error::Layer(cause_of::<F, B>(error, blob)),
         error => error,
-    }
-}
-
-// A blob with the journal that was recovered on it, and the journal's records.
-pub fn recover<B: Blob + Drop, H: Sum, R: Sum>(
-    alloc: Global,
-    options: Options,
-    blob: B,
-) -> Result<(OwnedJournal<B, H, R>, Vec<IoBuf>), disk::Error>
-    ensures has { let P = non_zero_u16_get options.page_size in
-        IfOk result (λ r. HasOpened H.sum_of R.sum_of P (B.life blob) r.0 r.1.items) }
-    ensures leaves { let P = non_zero_u16_get options.page_size in
-        IfOk result (λ r. LeavesOpened H.sum_of R.sum_of P (B.life blob) r.0) }
-{
-    let mut owned = OwnedJournal::new(alloc, blob, options.page_size, options.pages)?;
-    match owned.recover(alloc, options.capacity, options.buffer_size) {
-        Ok(records) => Ok((owned, records)),
-        Err(error) => Err(error),
     }
 }

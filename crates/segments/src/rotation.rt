@@ -11,7 +11,7 @@ use crate::entry::Entry;
 use crate::error::Error;
 use crate::folder::Folder;
 use crate::log::SegmentedLog;
-use crate::opening::{open_segment, recover_file};
+use crate::opening::{open_segment, recover};
 use crate::owned::OwnedJournal;
 use disk::Blob;
 use page::Sum;
@@ -79,7 +79,7 @@ impl<F: Folder<B> + Drop, B: Blob + Drop, H: Sum, R: Sum> SegmentedLog<F, B, H, 
         if blob.len() > 0 {
             return Err(Error::Unlisted(number + 1));
         }
-        match recover_file::<F, B, H, R>(self.alloc, self.options, blob) {
+        match recover::<F, B, H, R>(self.alloc, self.options, blob) {
             Ok((next, _)) => Ok(next),
             Err(error) => Err(Error::Layer(error)),
         }
