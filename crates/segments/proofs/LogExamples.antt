@@ -343,33 +343,41 @@ a_failed_sync is = not_last is.0 is.1
 pub it_is_not_done : EndsRemoval [] (plain_event calls.Syncs true ∷ []) (Ok tt) → ⊥
 it_is_not_done is = a_failed_sync is.0
 
--- a removal that failed is none that was done, also if a sync behind it succeeds
+-- a removal that failed isn't done, also if a sync behind it succeeds
+pub one_failed : AreDone (plain_event (calls.Removes 0) true ∷ plain_event calls.Syncs false ∷ []) → ⊥
+one_failed done = absurd (cc done.0)
+
 pub a_removal_failed : AsksWell [] (plain_event (calls.Removes 0) true ∷ plain_event calls.Syncs false ∷ []) → ⊥
-a_removal_failed (events, all, done) =
-    let failed = subst (λ (es : List FolderEvent). AreDone es) (sym all) done in
-    absurd (cc failed.0)
+a_removal_failed (events, all, done) = one_failed (subst (λ (es : List FolderEvent). AreDone es) (sym all) done)
 
 pub then_it_is_not_done : EndsRemoval [] (plain_event (calls.Removes 0) true ∷ plain_event calls.Syncs false ∷ []) (Ok tt) → ⊥
 then_it_is_not_done is = a_removal_failed is.1
 
-pub a_removal_is_done : EndsRemoval [] (plain_event (calls.Removes 0) false ∷ plain_event calls.Syncs false ∷ []) (Ok tt)
-a_removal_is_done = ((plain_event (calls.Removes 0) false ∷ [], refl), (plain_event (calls.Removes 0) false ∷ plain_event calls.Syncs false ∷ [], refl, (refl, refl, tt)))
-
 pub both_are_done : AreDone (plain_event (calls.Removes 0) false ∷ plain_event calls.Syncs false ∷ [])
 both_are_done = (refl, refl, tt)
 
--- a refused removal is `System`: no sync was asked for
-pub a_removal_is_refused : (e : io_error.Error) → EndsRemoval [] (plain_event (calls.Removes 0) true ∷ []) (Err (errors.System e))
-a_removal_is_refused e = (plain_event (calls.Removes 0) true ∷ [], refl, none_of_it)
+pub both_were_asked : AsksWell [] (plain_event (calls.Removes 0) false ∷ plain_event calls.Syncs false ∷ [])
+both_were_asked = (plain_event (calls.Removes 0) false ∷ plain_event calls.Syncs false ∷ [], refl, both_are_done)
 
-pub none_of_it : NoneSyncs (plain_event (calls.Removes 0) true ∷ [])
-none_of_it = ((λ same. absurd (cc same)), tt)
+pub a_removal_is_done : EndsRemoval [] (plain_event (calls.Removes 0) false ∷ plain_event calls.Syncs false ∷ []) (Ok tt)
+a_removal_is_done = ((plain_event (calls.Removes 0) false ∷ [], refl), both_were_asked)
+
+-- a refused removal is `System`: no sync was asked for
+pub it_is_no_sync : NoneSyncs (plain_event (calls.Removes 0) true ∷ [])
+it_is_no_sync = ((λ same. absurd (cc same)), tt)
+
+pub a_removal_alone : AsksNoSync [] (plain_event (calls.Removes 0) true ∷ [])
+a_removal_alone = (plain_event (calls.Removes 0) true ∷ [], refl, it_is_no_sync)
+
+pub a_removal_is_refused : (e : io_error.Error) → EndsRemoval [] (plain_event (calls.Removes 0) true ∷ []) (Err (errors.System e))
+a_removal_is_refused e = a_removal_alone
 
 -- so a failed sync isn't
+pub it_is_a_sync : NoneSyncs (plain_event calls.Syncs true ∷ []) → ⊥
+it_is_a_sync none = none.0 refl
+
 pub a_sync_was_asked : AsksNoSync [] (plain_event calls.Syncs true ∷ []) → ⊥
-a_sync_was_asked (events, all, none) =
-    let syncs = subst (λ (es : List FolderEvent). NoneSyncs es) (sym all) none in
-    syncs.0 refl
+a_sync_was_asked (events, all, none) = it_is_a_sync (subst (λ (es : List FolderEvent). NoneSyncs es) (sym all) none)
 
 pub it_is_no_refusal : (e : io_error.Error) → EndsRemoval [] (plain_event calls.Syncs true ∷ []) (Err (errors.System e)) → ⊥
 it_is_no_refusal e is = a_sync_was_asked is
