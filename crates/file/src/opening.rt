@@ -53,8 +53,8 @@ impl From<OpenError> for io::Error {
 /// The file is locked as long as the blob lives. Its descriptor is none of the standard streams',
 /// so what the program prints never gets into the file.
 ///
-/// [`OpenError::Unsynced`] where a sync failed: what couldn't be made durable may be what an earlier
-/// process wrote. [`OpenError::System`] where any other call failed, with an error that says what
+/// [`OpenError::Unsynced`] where a sync failed, which may have been asked for by an earlier
+/// process' writes. [`OpenError::System`] where any other call failed, with an error that says what
 /// to do where the system's own words don't:
 /// - `IsADirectory`: the path names a folder. `InvalidInput`: it names a fifo, a socket or a
 ///   device. None of these is opened.
