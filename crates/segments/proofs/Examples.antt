@@ -144,11 +144,10 @@ module _ (cache : CacheState) (life : Life) (w : WriterState) (kept : Closed) wh
   not_started_at_0 is = elim is [ inl same ↦ absurd (omega (arith, ap (λ (l : LogState). l.listing.first) same.1)) | inr later ↦ absurd (omega (arith, later.0)) ]
 
   -- the folder refused to remove the file, and the manifest has the drop
-  pub a_refused_removal : IsDropping 1 log (record dropped { asked = copied false ∷ plain_event (calls.Removes 0) true ∷ [] })
+  pub a_refused_removal : IsDropping 1 log dropped (record dropped { asked = copied false ∷ plain_event (calls.Removes 0) true ∷ [] })
   a_refused_removal = record {
     was_open = not_closed;
     within = omega arith;
-    mid = dropped;
     starts = starts_at_1;
     there = tt;
     rest = refl;
@@ -159,23 +158,23 @@ module _ (cache : CacheState) (life : Life) (w : WriterState) (kept : Closed) wh
   same_at_0 m is = elim is [ inl same ↦ same.1 | inr later ↦ absurd (omega (arith, later.0)) ]
 
   -- a file of a segment that stays may not be removed, whatever the answer
-  pub a_live_file_stays : IsDropping 0 log (record log { asked = plain_event (calls.Removes 0) false ∷ [] }) → ⊥
-  a_live_file_stays is =
-      let none = ap (λ (l : LogState). l.asked) (same_at_0 is.mid is.starts) in
+  pub a_live_file_stays : (mid : LogState) → IsDropping 0 log mid (record log { asked = plain_event (calls.Removes 0) false ∷ [] }) → ⊥
+  a_live_file_stays mid is =
+      let none = ap (λ (l : LogState). l.asked) (same_at_0 mid is.starts) in
       let all = is.removed.all ∙ ap (λ (events : List FolderEvent). events ++ is.removed.events) none in
       let older = subst (λ (events : List FolderEvent). AreOfOlder 0 0 events) (sym all) is.removed.below in
       elim older [ inl removal ↦ absurd (omega (arith, removal.2)) | inr synced ↦ absurd (cc synced.0) ]
 
   -- a file may not be removed before the copy is to be kept
-  pub not_removed_before : IsDropping 1 log (record dropped { asked = plain_event (calls.Removes 0) false ∷ copied false ∷ [] }) → ⊥
-  not_removed_before is = elim (is.starts) [
+  pub not_removed_before : (mid : LogState) → IsDropping 1 log mid (record dropped { asked = plain_event (calls.Removes 0) false ∷ copied false ∷ [] }) → ⊥
+  not_removed_before mid is = elim (is.starts) [
     | inl none ↦ absurd (omega (arith, none.0))
     | inr later ↦ absurd (omega (arith, ap (first_of kind) (is.removed.all ∙ ap (λ (calls : List FolderEvent). calls ++ is.removed.events) later.1.kept.asked)))
   ]
 
   -- a drop that the manifest doesn't have isn't done
-  pub not_done_by_a_closed_manifest : IsDropping 1 log (record dropped { manifest = without_journal owned }) → ⊥
-  not_done_by_a_closed_manifest is = is.there
+  pub not_done_by_a_closed_manifest : (mid : LogState) → IsDropping 1 log mid (record dropped { manifest = without_journal owned }) → ⊥
+  not_done_by_a_closed_manifest mid is = is.there
 
   -- a drop whose removals weren't made durable isn't done
   pub not_done_without_a_sync : IsDropped 1 log dropped → ⊥

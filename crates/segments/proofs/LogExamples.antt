@@ -17,7 +17,7 @@ use Rattle.segments.specs.Digests.{IsOf}
 use Rattle.segments.specs.FolderEvents.{FolderEvent, plain_event}
 use Rattle.segments.specs.Manifest.{ListingState, none_closed}
 use Rattle.segments.specs.Owned.{IsOwned, OwnedAppendGoes, OwnedState, without_journal}
-use Rattle.segments.specs.Log.{AppendHereGoes, AreDone, AsksNoSync, AsksWell, CurrentKeeps, EndsRemoval, EndsSynced, EndsUnsynced, HasKept, HoldsClosed, IsBeyond, IsClosedLog, IsClosedOff, IsContentOf, IsCurrentContent, IsDropped, IsKept, IsListed, IsLoaded, IsLog, IsReadOf, IsRefusedDrop, IsSameButAsked, IsSameButCurrent, IsSameButManifest, IsStartedFrom, IsUnsyncedDrop, LeavesReading, Lists, LoadedState, LogAppendGoes, LogState, NoneSyncs, TellHeld, closed_records, listing_from, log_records}
+use Rattle.segments.specs.Log.{AppendHereGoes, AreDone, AsksNoSync, AsksWell, CurrentKeeps, EndsRemoval, EndsSynced, EndsUnsynced, HasKept, HoldsClosed, IsBeyond, IsClosedLog, IsClosedOff, IsContentOf, IsCurrentContent, IsDropped, IsKept, IsListed, IsLoaded, IsLog, IsReadOf, IsRefusedDrop, IsSameButAsked, IsSameButCurrent, IsSameButManifest, IsStartedFrom, IsUnsyncedDrop, LeavesReading, Lists, LoadedState, LogAppendGoes, LogState, NoneSyncs, StartsAt, TellHeld, closed_records, listing_from, log_records}
 use Rattle.segments.proofs.BytesExamples.{c, c_frame, c_page, changed_life, d, d_frame, d_page, life_of, none_committed, rests, with_c, with_none, writer}
 use Rattle.segments.proofs.OwnedExamples.{another_record, nothing_was_done}
 
@@ -272,17 +272,17 @@ it_stays_open sum own is = absurd (cc (is.0))
 -- there was nothing to drop, and the names are durable
 pub nothing_was_dropped : IsDropped 0 small (record small { asked = plain_event calls.Syncs false ∷ [] })
 nothing_was_dropped = record {
+  mid = small;
   drops = record {
     was_open = λ closed. elim closed [ inl none ↦ absurd (cc none) | inr none ↦ absurd (cc none) ];
     within = lit≤ tt;
-    mid = small;
     starts = inl (lit≤ tt, refl);
     there = tt;
     rest = refl;
     removed = record { events = plain_event calls.Syncs false ∷ []; all = refl; below = inr (refl, tt) };
   };
   synced = ([], refl);
-  done = (plain_event calls.Syncs false ∷ [], refl, (refl, tt));
+  done = record { events = plain_event calls.Syncs false ∷ []; all = refl; done = (refl, tt) };
 }
 
 pub it_is_closed : (sum own : List ℕ → ℕ) (s : LogState) → AppendHereGoes sum own c (record s { current = without_journal with_c }) (record s { current = without_journal with_c }) (Err errors.Closed)
@@ -314,10 +314,10 @@ no_sync_failed is = not_last is.0 is.1
 -- such a drop, whole
 pub its_drop_is_unsynced : IsUnsyncedDrop 0 small (record small { asked = plain_event calls.Syncs true ∷ [] })
 its_drop_is_unsynced = record {
+  mid = small;
   drops = record {
     was_open = λ closed. elim closed [ inl none ↦ absurd (cc none) | inr none ↦ absurd (cc none) ];
     within = lit≤ tt;
-    mid = small;
     starts = inl (lit≤ tt, refl);
     there = tt;
     rest = refl;
@@ -348,16 +348,16 @@ pub one_failed : AreDone (plain_event (calls.Removes 0) true ∷ plain_event cal
 one_failed done = absurd (cc done.0)
 
 pub a_removal_failed : AsksWell [] (plain_event (calls.Removes 0) true ∷ plain_event calls.Syncs false ∷ []) → ⊥
-a_removal_failed (events, all, done) = one_failed (subst (λ (es : List FolderEvent). AreDone es) (sym all) done)
+a_removal_failed is = one_failed (subst (λ (es : List FolderEvent). AreDone es) (sym is.all) is.done)
 
 pub then_it_is_not_done : EndsRemoval [] (plain_event (calls.Removes 0) true ∷ plain_event calls.Syncs false ∷ []) (Ok tt) → ⊥
 then_it_is_not_done is = a_removal_failed is.1
 
 pub both_are_done : AreDone (plain_event (calls.Removes 0) false ∷ plain_event calls.Syncs false ∷ [])
-both_are_done = (refl, refl, tt)
+both_are_done = (refl, (refl, tt))
 
 pub both_were_asked : AsksWell [] (plain_event (calls.Removes 0) false ∷ plain_event calls.Syncs false ∷ [])
-both_were_asked = (plain_event (calls.Removes 0) false ∷ plain_event calls.Syncs false ∷ [], refl, both_are_done)
+both_were_asked = record { events = plain_event (calls.Removes 0) false ∷ plain_event calls.Syncs false ∷ []; all = refl; done = both_are_done }
 
 pub a_removal_is_done : EndsRemoval [] (plain_event (calls.Removes 0) false ∷ plain_event calls.Syncs false ∷ []) (Ok tt)
 a_removal_is_done = ((plain_event (calls.Removes 0) false ∷ [], refl), both_were_asked)
@@ -367,7 +367,7 @@ pub it_is_no_sync : NoneSyncs (plain_event (calls.Removes 0) true ∷ [])
 it_is_no_sync = ((λ same. absurd (cc same)), tt)
 
 pub a_removal_alone : AsksNoSync [] (plain_event (calls.Removes 0) true ∷ [])
-a_removal_alone = (plain_event (calls.Removes 0) true ∷ [], refl, it_is_no_sync)
+a_removal_alone = record { events = plain_event (calls.Removes 0) true ∷ []; all = refl; none = it_is_no_sync }
 
 pub a_removal_is_refused : (e : io_error.Error) → EndsRemoval [] (plain_event (calls.Removes 0) true ∷ []) (Err (errors.System e))
 a_removal_is_refused e = a_removal_alone
@@ -377,7 +377,7 @@ pub it_is_a_sync : NoneSyncs (plain_event calls.Syncs true ∷ []) → ⊥
 it_is_a_sync none = none.0 refl
 
 pub a_sync_was_asked : AsksNoSync [] (plain_event calls.Syncs true ∷ []) → ⊥
-a_sync_was_asked (events, all, none) = it_is_a_sync (subst (λ (es : List FolderEvent). NoneSyncs es) (sym all) none)
+a_sync_was_asked is = it_is_a_sync (subst (λ (es : List FolderEvent). NoneSyncs es) (sym is.all) is.none)
 
 pub it_is_no_refusal : (e : io_error.Error) → EndsRemoval [] (plain_event calls.Syncs true ∷ []) (Err (errors.System e)) → ⊥
 it_is_no_refusal e is = a_sync_was_asked is
@@ -385,20 +385,22 @@ it_is_no_refusal e is = a_sync_was_asked is
 -- such a drop, whole: a folder that couldn't be looked at
 pub its_drop_is_refused : IsRefusedDrop 0 small small
 its_drop_is_refused = record {
+  mid = small;
   drops = record {
     was_open = λ closed. elim closed [ inl none ↦ absurd (cc none) | inr none ↦ absurd (cc none) ];
     within = lit≤ tt;
-    mid = small;
     starts = inl (lit≤ tt, refl);
     there = tt;
     rest = refl;
     removed = record { events = []; all = refl; below = tt };
   };
-  unsynced = ([], refl, tt);
+  unsynced = record { events = []; all = refl; none = tt };
 }
 
 -- a drop that got as far as a sync wasn't refused
 pub its_drop_got_further : IsRefusedDrop 0 small (record small { asked = plain_event calls.Syncs true ∷ [] }) → ⊥
 its_drop_got_further is =
-    let none = elim (is.drops.starts) [ inl same ↦ ap (λ (l : LogState). l.asked) same.1 | inr later ↦ absurd (omega (arith, later.0)) ] in
-    a_sync_was_asked (subst (λ (es : List FolderEvent). AsksNoSync es (plain_event calls.Syncs true ∷ [])) none is.unsynced)
+    a_sync_was_asked (subst (λ (es : List FolderEvent). AsksNoSync es (plain_event calls.Syncs true ∷ [])) (none is.mid is.drops.starts) is.unsynced)
+  where
+    none : (mid : LogState) → StartsAt 0 small mid → mid.asked ≡ []
+    none mid starts = elim starts [ inl same ↦ ap (λ (l : LogState). l.asked) same.1 | inr later ↦ absurd (omega (arith, later.0)) ]

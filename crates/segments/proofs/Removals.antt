@@ -56,11 +56,20 @@ pub asks_done : (next first : ℕ) (old new : List FolderEvent) → AsksBelow ne
 asks_done next first old new is = record { events = is.events; all = is.all; below = is.below }
 
 pub asks_no_sync : (next first : ℕ) (old new : List FolderEvent) → AsksBelow next first old new → AsksNoSync old new
-asks_no_sync next first old new is = (is.events, is.all, is.none)
+asks_no_sync next first old new is = record { events = is.events; all = is.all; none = is.none }
+
+-- a removal more is no sync
+pub asks_none_more : (next first number : ℕ) (old mid new : List FolderEvent) (e : FolderEvent) → AsksBelow next first old mid → e.call ≡ calls.Removes number
+    → new ≡ mid ++ e ∷ [] → AsksNoSync old new
+asks_none_more next first number old mid new e is call more = record {
+  events = is.events ++ e ∷ [];
+  all = more ∙ ap (λ (es : List FolderEvent). es ++ e ∷ []) is.all ∙ append_assoc old is.events (e ∷ []);
+  none = none_more is.events e (no_sync number e.call call) is.none;
+}
 
 -- nothing was asked, so nothing failed
 pub asks_well : (events : List FolderEvent) → AsksWell events events
-asks_well events = ([], sym (append-nil events), tt)
+asks_well events = record { events = []; all = sym (append-nil events); done = tt }
 
 done_more : (es : List FolderEvent) (e : FolderEvent) → e.failed ≡ false → AreDone es → AreDone (es ++ e ∷ [])
 done_more [] e is done = (is, tt)
@@ -68,8 +77,11 @@ done_more (x ∷ es) e is done = (done.0, done_more es e is done.1)
 
 -- one call more, which succeeded
 pub well_more : (old mid new : List FolderEvent) (e : FolderEvent) → AsksWell old mid → new ≡ mid ++ e ∷ [] → e.failed ≡ false → AsksWell old new
-well_more old mid new e (events, all, done) more is =
-    (events ++ e ∷ [], more ∙ ap (λ (es : List FolderEvent). es ++ e ∷ []) all ∙ append_assoc old events (e ∷ []), done_more events e is done)
+well_more old mid new e well more is = record {
+  events = well.events ++ e ∷ [];
+  all = more ∙ ap (λ (es : List FolderEvent). es ++ e ∷ []) well.all ∙ append_assoc old well.events (e ∷ []);
+  done = done_more well.events e is well.done;
+}
 
 -- a sync behind removals
 pub older_then_sync : (from first : ℕ) (es : List FolderEvent) (e : FolderEvent) → e.call ≡ calls.Syncs → AreOfOlder from first es → AreOfOlder from first (es ++ e ∷ [])

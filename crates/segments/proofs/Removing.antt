@@ -61,18 +61,18 @@ removed_of segment first old mid new events number (inr more) removals is below 
 keeps_none : (segment len number : ℕ) → calls.Keeps segment len ≡ calls.Removes number → ⊥
 keeps_none segment len number is = absurd (cc is)
 
-dropping_removes : (sum own : List ℕ → ℕ) (segment : ℕ) (s t : LogState) → IsDropping segment s t → IsLog sum own t → RemovesUnlisted sum own s t
-dropping_removes sum own segment s t is log events asked number was bytes image =
-    let before : (is.mid.asked ≡ s.asked) ⊎ ((e : FolderEvent) × (is.mid.asked ≡ s.asked ++ e ∷ []) × (e.call ≡ calls.Removes number → ⊥)) = elim (is.starts) [
+dropping_removes : (sum own : List ℕ → ℕ) (segment : ℕ) (s mid t : LogState) → IsDropping segment s mid t → IsLog sum own t → RemovesUnlisted sum own s t
+dropping_removes sum own segment s mid t is log events asked number was bytes image =
+    let before : (mid.asked ≡ s.asked) ⊎ ((e : FolderEvent) × (mid.asked ≡ s.asked ++ e ∷ []) × (e.call ≡ calls.Removes number → ⊥)) = elim (is.starts) [
       | inl same ↦ inl (ap (λ (l : LogState). l.asked) same.1)
       | inr started ↦ inr (
-        keeping_event (open_in is.mid.listing) is.mid.known is.mid.manifest.life.present.readable started.1.kept.failed,
+        keeping_event (open_in mid.listing) mid.known mid.manifest.life.present.readable started.1.kept.failed,
         started.1.kept.asked,
-        keeps_none (open_in is.mid.listing) is.mid.known number,
+        keeps_none (open_in mid.listing) mid.known number,
       )
     ] in
     lists_first sum own t t.manifest.journal number bytes is.there log.manifest_pages log.manifest.1 log.lists image
-    (removed_of segment t.listing.first s.asked is.mid.asked t.asked events number before is.removed.events is.removed.all is.removed.below asked was)
+    (removed_of segment t.listing.first s.asked mid.asked t.asked events number before is.removed.events is.removed.all is.removed.below asked was)
 
 nothing_removes : (sum own : List ℕ → ℕ) (s t : LogState) → t.asked ≡ s.asked → RemovesUnlisted sum own s t
 nothing_removes sum own s t same events asked number was =
@@ -81,9 +81,9 @@ nothing_removes sum own s t same events asked number was =
 
 -- a drop, by its answer
 pub drop_removes : (sum own : List ℕ → ℕ) (segment : ℕ) (s t : LogState) (result : Result (Unit {0}) Error) → LogDropGoes segment s t result → IsLog sum own t → RemovesUnlisted sum own s t
-drop_removes sum own segment s t (Ok u) is log = dropping_removes sum own segment s t is.drops log
-drop_removes sum own segment s t (Err (errors.System e)) is log = dropping_removes sum own segment s t is.drops log
-drop_removes sum own segment s t (Err (errors.Unsynced e)) is log = dropping_removes sum own segment s t is.drops log
+drop_removes sum own segment s t (Ok u) is log = dropping_removes sum own segment s is.mid t is.drops log
+drop_removes sum own segment s t (Err (errors.System e)) is log = dropping_removes sum own segment s is.mid t is.drops log
+drop_removes sum own segment s t (Err (errors.Unsynced e)) is log = dropping_removes sum own segment s is.mid t is.drops log
 drop_removes sum own segment s t (Err (errors.NoSegment n)) is log = nothing_removes sum own s t (ap (λ (l : LogState). l.asked) is.same)
 drop_removes sum own segment s t (Err errors.Closed) is log = nothing_removes sum own s t (ap (λ (l : LogState). l.asked) is.0)
 drop_removes sum own segment s t (Err (errors.Layer e)) is log = nothing_removes sum own s t is.0.asked

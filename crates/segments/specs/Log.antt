@@ -563,12 +563,16 @@ NoneSyncs [] = Unit {0}
 NoneSyncs (e ∷ es) = (e.call ≢ calls.Syncs) × NoneSyncs es
 
 -- no call that the folder was asked for failed
-abbrev pub AsksWell : (old new : List FolderEvent) → Type 0
-AsksWell old new = (events : List FolderEvent) × (new ≡ old ++ events) × AreDone events
+pub record AsksWell (old new : List FolderEvent) : Type 0 where
+  pub events : List FolderEvent
+  pub all : new ≡ old ++ events
+  pub done : AreDone events
 
 -- the folder wasn't asked for a sync
-abbrev pub AsksNoSync : (old new : List FolderEvent) → Type 0
-AsksNoSync old new = (events : List FolderEvent) × (new ≡ old ++ events) × NoneSyncs events
+pub record AsksNoSync (old new : List FolderEvent) : Type 0 where
+  pub events : List FolderEvent
+  pub all : new ≡ old ++ events
+  pub none : NoneSyncs events
 
 -- how a removal of files ends, by its answer: no removal failed, and the sync after them didn't; or
 -- no sync was asked for; or the sync failed
@@ -624,12 +628,11 @@ abbrev pub IsClosedLog : LogState → Type 0
 IsClosedLog s = (s.current.journal ≡ None) ⊎ (s.manifest.journal ≡ None)
 
 -- just the segments before this one were dropped of an open log, if there were such: the manifest
--- has that, a copy of it was to be kept, and only then the folder was asked to remove files, all of
--- them older than the first that stays
-pub record IsDropping (segment : ℕ) (s t : LogState) : Type 0 where
+-- has that, a copy of it was to be kept, and only then, from the log `mid` on, the folder was asked
+-- to remove files, all of them older than the first that stays
+pub record IsDropping (segment : ℕ) (s mid t : LogState) : Type 0 where
   pub was_open : IsClosedLog s → ⊥
   pub within : segment ≤ open_in s.listing
-  pub mid : LogState
   pub starts : StartsAt segment s mid
   pub there : HasJournal t.manifest.journal (λ w. Unit {0})
   pub rest : IsSameButAsked mid t
@@ -637,18 +640,21 @@ pub record IsDropping (segment : ℕ) (s t : LogState) : Type 0 where
 
 -- a drop was done: no removal failed, and the names of the files are durable
 pub record IsDropped (segment : ℕ) (s t : LogState) : Type 0 where
-  pub drops : IsDropping segment s t
+  pub mid : LogState
+  pub drops : IsDropping segment s mid t
   pub synced : EndsSynced t.asked
-  pub done : AsksWell drops.mid.asked t.asked
+  pub done : AsksWell mid.asked t.asked
 
 -- a removal was refused, or the folder couldn't be looked at: it wasn't asked for a sync
 pub record IsRefusedDrop (segment : ℕ) (s t : LogState) : Type 0 where
-  pub drops : IsDropping segment s t
-  pub unsynced : AsksNoSync drops.mid.asked t.asked
+  pub mid : LogState
+  pub drops : IsDropping segment s mid t
+  pub unsynced : AsksNoSync mid.asked t.asked
 
 -- the files of a drop were removed, and the sync of the folder after that failed
 pub record IsUnsyncedDrop (segment : ℕ) (s t : LogState) : Type 0 where
-  pub drops : IsDropping segment s t
+  pub mid : LogState
+  pub drops : IsDropping segment s mid t
   pub failed : EndsUnsynced t.asked
 
 -- the log is open, and has no such segment yet, so nothing was done
