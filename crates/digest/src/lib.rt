@@ -3,7 +3,13 @@
 #![tactic(auto)]
 
 mod digest;
+mod poly;
+mod powers;
 mod sha;
+#[cfg(test)]
+mod tests;
+mod words;
 
 pub use digest::Digest;
+pub use poly::PolyDigest;
 pub use sha::ShaDigest;
