@@ -1,5 +1,5 @@
--- Each definition of the digests, computed on a few bytes, and refuted of another result. The digests were computed by
--- the program of docs/DIGEST.md.
+-- Each definition of the digests, computed on a few bytes, and refuted of another result. The
+-- program of docs/DIGEST.md computed the digests.
 use Rattle.std.proofs.Common.{◌≡◌, ◌+◌, ◌*◌, ◌%◌, ◌^◌, ℕ, List, [], ◌∷◌, get_or, replicate, refl, ap, arith}
 use Rattle.digest.specs.Poly.{point_a, point_b, poly_digest, prime, value, value_of, word}
 use Rattle.digest.specs.Powers.{dot, power, powers}
@@ -21,9 +21,6 @@ a_point_of_e = refl
 
 pub not_one_point : point_a ≡ point_b → ⊥
 not_one_point is = omega (arith, is)
-
-pub not_a_factor_of_one : point_b ≡ 1 → ⊥
-not_a_factor_of_one is = omega (arith, is)
 
 -- ---- words
 
@@ -97,10 +94,10 @@ pub of_a_block_and_a_byte : poly_digest (replicate 225 1)
 unfolding poly_digest value word
 of_a_block_and_a_byte = refl
 
--- zeros at the end aren't lost: "a" and a zero
-pub not_a_byte : poly_digest (97 ∷ 0 ∷ []) ≡ poly_digest (97 ∷ []) → ⊥
+-- a zero after "a" changes the digest
+pub not_the_digest_of_a_byte : poly_digest (97 ∷ 0 ∷ []) ≡ poly_digest (97 ∷ []) → ⊥
 unfolding poly_digest value word
-not_a_byte is = omega (arith, ap (λ (l : List ℕ). get_or l 0 0) is)
+not_the_digest_of_a_byte is = omega (arith, ap (λ (l : List ℕ). get_or l 0 0) is)
 
 -- ---- sums of products
 

@@ -22,11 +22,11 @@ value x h (suc n) bytes = value x ((h * x + word bytes) % prime) n (drop 7 bytes
 abbrev pub value_of : (x : ℕ) → List ℕ → ℕ
 value_of x bytes = value x (length bytes) (div_ceil (length bytes) 7) bytes
 
--- the first point: 60 bits of pi
+-- the first point: the first 64 bits of the fraction of pi, modulo the prime
 abbrev pub point_a : ℕ
 point_a = 306080434274633940
 
--- the second point: 61 bits of e
+-- the second point: the first 64 bits of the fraction of e, modulo the prime
 abbrev pub point_b : ℕ
 point_b = 1720746016311683695
 

@@ -9,8 +9,9 @@ use crate::Digest;
 use crate::powers::{POWERS_A, POWERS_B};
 use crate::words::{last_word, word_at};
 
-/// The values of a polynomial, whose coefficients are the bytes, at two points modulo the prime
-/// 2^61 - 1. It detects accidental damage. It keeps no adversary out, since its points are fixed.
+/// A polynomial whose coefficients are words of the bytes: its values at two points modulo the prime
+/// 2^61 - 1. It is for accidental damage only, and keeps no adversary out, since its points are
+/// fixed.
 pub struct PolyDigest;
 
 impl Digest for PolyDigest {

@@ -2,7 +2,7 @@
 use crate::Digest;
 use sha2::Sha512_256;
 
-/// SHA-512/256 of FIPS 180-4.
+/// SHA-512/256 of FIPS 180-4: the digest to take by default.
 pub struct ShaDigest;
 
 impl Digest for ShaDigest {
