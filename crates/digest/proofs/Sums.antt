@@ -4,19 +4,19 @@ use Rattle.std.proofs.Math.Nat.{mod-lt, mod-eq_of_lt, mod-add-mod, add-mul, mul_
 use Rattle.std.proofs.lemmas.Nat.{mul-mod_first, mul-mod_second}
 use Rattle.std.proofs.lemmas.List.{drop-drop, get_or-drop, take_all}
 use Rattle.std.specs.Int.{div_ceil}
-use Rattle.digest.specs.Poly.{prime, value, value_of, word}
+use Rattle.digest.specs.Poly.{prime, poly_value, poly_value_of, word}
 use Rattle.digest.specs.Powers.{dot, power, powers}
 
 -- some words, and then others
-value-add : (x h m n : ℕ) (bytes : List ℕ) → value x h (m + n) bytes ≡ value x (value x h m bytes) n (drop (7 * m) bytes)
-unfolding value
-value-add x h zero n bytes = ap (λ (k : ℕ). value x h k bytes) (zero-add n)
+value-add : (x h m n : ℕ) (bytes : List ℕ) → poly_value x h (m + n) bytes ≡ poly_value x (poly_value x h m bytes) n (drop (7 * m) bytes)
+unfolding poly_value
+value-add x h zero n bytes = ap (λ (k : ℕ). poly_value x h k bytes) (zero-add n)
 value-add x h (suc m) n bytes =
     let count : suc m + n ≡ suc (m + n) = omega arith in
     let at : 7 + 7 * m ≡ 7 * suc m = omega arith in
-    ap (λ (k : ℕ). value x h k bytes) count
+    ap (λ (k : ℕ). poly_value x h k bytes) count
     ∙ value-add x ((h * x + word bytes) % prime) m n (drop 7 bytes)
-    ∙ ap (λ (rest : List ℕ). value x (value x ((h * x + word bytes) % prime) m (drop 7 bytes)) n rest) (drop-drop (7 * m) 7 bytes ∙ ap (λ (k : ℕ). drop k bytes) at)
+    ∙ ap (λ (rest : List ℕ). poly_value x (poly_value x ((h * x + word bytes) % prime) m (drop 7 bytes)) n rest) (drop-drop (7 * m) 7 bytes ∙ ap (λ (k : ℕ). drop k bytes) at)
 
 -- a word is taken into the sum of those after it
 word_in_sum : (h x w X D : ℕ) → ((h * x + w) % prime * X + D) % prime ≡ (h * (X * x % prime) + (w * X + D)) % prime
@@ -34,8 +34,8 @@ word_in_sum h x w X D =
     ∙ ap (λ (k : ℕ). (k + (w * X + D)) % prime) (sym back)
     ∙ mod-add-mod (h * (X * x % prime)) prime (w * X + D)
 
-sum_of_value : (x h n : ℕ) (bytes : List ℕ) → h < prime → value x h n bytes ≡ (h * power x n + dot (powers x n) bytes) % prime
-unfolding value power powers
+sum_of_value : (x h n : ℕ) (bytes : List ℕ) → h < prime → poly_value x h n bytes ≡ (h * power x n + dot (powers x n) bytes) % prime
+unfolding poly_value power powers
 sum_of_value x h zero bytes small =
     let e : h * 1 + 0 ≡ h = omega arith in sym (ap (λ (k : ℕ). k % prime) e ∙ mod-eq_of_lt small)
 sum_of_value x h (suc n) bytes small =
@@ -43,8 +43,8 @@ sum_of_value x h (suc n) bytes small =
     ∙ word_in_sum h x (word bytes) (power x n) (dot (powers x n) (drop 7 bytes))
 
 -- the value after some words, at least one, as one sum
-value-sum : (x h n : ℕ) (bytes : List ℕ) → value x h (suc n) bytes ≡ (h * power x (suc n) + dot (powers x (suc n)) bytes) % prime
-unfolding value power powers
+value-sum : (x h n : ℕ) (bytes : List ℕ) → poly_value x h (suc n) bytes ≡ (h * power x (suc n) + dot (powers x (suc n)) bytes) % prime
+unfolding poly_value power powers
 value-sum x h n bytes =
     sum_of_value x ((h * x + word bytes) % prime) n (drop 7 bytes) (mod-lt (h * x + word bytes) (lit< tt))
     ∙ word_in_sum h x (word bytes) (power x n) (dot (powers x n) (drop 7 bytes))
@@ -119,7 +119,7 @@ summed_more total table bytes first i d sum word_now product summed below is_wor
 
 -- a block's sum
 pub block_value : (x h : ℕ) (table bytes : List ℕ) (product total r : ℕ) → table ≡ powers x 33 → product ≡ h * get_or table 0 0 → total ≡ product + dot (take 32 (drop 1 table)) bytes
-    → r ≡ total % prime → r ≡ value x h 32 bytes
+    → r ≡ total % prime → r ≡ poly_value x h 32 bytes
 block_value x h table bytes product total r is_table is_product is_total is =
     let first : get_or table 0 0 ≡ power x 32 = ap (λ (t : List ℕ). get_or t 0 0) is_table ∙ get_or-powers x 0 32 0 in
     let others : take 32 (drop 1 table) ≡ powers x 32 = ap (λ (t : List ℕ). take 32 (drop 1 t)) is_table ∙ ap (take 32) (drop-powers x 1 32) ∙ take-powers x 32 in
@@ -129,7 +129,7 @@ block_value x h table bytes product total r is_table is_product is_total is =
 
 -- the sum of the last words, of which the table's last m + 1 are the factors
 pub ending_value : (x h k m : ℕ) (table bytes : List ℕ) (product total last r : ℕ) → k + m ≡ 31 → table ≡ powers x 33 → product ≡ h * get_or table k 0
-    → total ≡ product + dot (take m (drop (suc k) table)) bytes → last ≡ word (drop (7 * m) bytes) → r ≡ (total + last) % prime → r ≡ value x h (suc m) bytes
+    → total ≡ product + dot (take m (drop (suc k) table)) bytes → last ≡ word (drop (7 * m) bytes) → r ≡ (total + last) % prime → r ≡ poly_value x h (suc m) bytes
 ending_value x h k m table bytes product total last r places is_table is_product is_total is_last is =
     let long : 33 ≡ k + suc (suc m) = omega arith in
     let longer : k + suc (suc m) ≡ suc k + suc m = omega arith in
@@ -142,15 +142,15 @@ ending_value x h k m table bytes product total last r places is_table is_product
     is ∙ ap (λ (t : ℕ). t % prime) whole ∙ sym (value-sum x h m bytes)
 
 -- n words after k blocks
-pub words_after : (x h k a n m r : ℕ) (bytes : List ℕ) → a ≡ value x h (32 * k) bytes → r ≡ value x a n (drop (224 * k) bytes) → 32 * k + n ≡ m → r ≡ value x h m bytes
+pub words_after : (x h k a n m r : ℕ) (bytes : List ℕ) → a ≡ poly_value x h (32 * k) bytes → r ≡ poly_value x a n (drop (224 * k) bytes) → 32 * k + n ≡ m → r ≡ poly_value x h m bytes
 words_after x h k a n m r bytes before is count =
     let at : 224 * k ≡ 7 * (32 * k) = omega arith in
-    is ∙ ap (λ (c : ℕ). value x c n (drop (224 * k) bytes)) before
-    ∙ ap (λ (z : ℕ). value x (value x h (32 * k) bytes) n (drop z bytes)) at
+    is ∙ ap (λ (c : ℕ). poly_value x c n (drop (224 * k) bytes)) before
+    ∙ ap (λ (z : ℕ). poly_value x (poly_value x h (32 * k) bytes) n (drop z bytes)) at
     ∙ sym (value-add x h (32 * k) n bytes)
-    ∙ ap (λ (z : ℕ). value x h z bytes) count
+    ∙ ap (λ (z : ℕ). poly_value x h z bytes) count
 
 -- the value of no words is the length
-pub value_of_none : (x : ℕ) (bytes : List ℕ) → length bytes ≡ 0 → 0 ≡ value_of x bytes
-unfolding value
-value_of_none x bytes none = sym (ap (λ (len : ℕ). value x len (div_ceil len 7) bytes) none)
+pub value_of_none : (x : ℕ) (bytes : List ℕ) → length bytes ≡ 0 → 0 ≡ poly_value_of x bytes
+unfolding poly_value
+value_of_none x bytes none = sym (ap (λ (len : ℕ). poly_value x len (div_ceil len 7) bytes) none)

@@ -14,13 +14,13 @@ word bytes = from_le_bytes w64 bytes % 72057594037927936
 
 -- the value at x of the polynomial whose coefficients are h and then n words of these bytes, that
 -- of the highest power first
-unfoldable pub value : (x h n : ℕ) → List ℕ → ℕ
-value x h zero bytes = h
-value x h (suc n) bytes = value x ((h * x + word bytes) % prime) n (drop 7 bytes)
+unfoldable pub poly_value : (x h n : ℕ) → List ℕ → ℕ
+poly_value x h zero bytes = h
+poly_value x h (suc n) bytes = poly_value x ((h * x + word bytes) % prime) n (drop 7 bytes)
 
 -- the value of a string at x: its length is the first coefficient, and its words are the others
-abbrev pub value_of : (x : ℕ) → List ℕ → ℕ
-value_of x bytes = value x (length bytes) (div_ceil (length bytes) 7) bytes
+abbrev pub poly_value_of : (x : ℕ) → List ℕ → ℕ
+poly_value_of x bytes = poly_value x (length bytes) (div_ceil (length bytes) 7) bytes
 
 -- the first point: the first 64 bits of the fraction of pi, modulo the prime
 abbrev pub point_a : ℕ
@@ -33,8 +33,8 @@ point_b = 1720746016311683695
 -- the digest: the values at both points, eight bytes each, and sixteen zeros
 unfoldable pub poly_digest : List ℕ → List ℕ
 poly_digest bytes =
-    to_le_bytes w64 (value_of point_a bytes)
-    ++ to_le_bytes w64 (value_of point_b bytes) ++ replicate 16 0
+    to_le_bytes w64 (poly_value_of point_a bytes)
+    ++ to_le_bytes w64 (poly_value_of point_b bytes) ++ replicate 16 0
 
 -- a digest has 32 bytes
 pub length-poly_digest : (bytes : List ℕ) → length (poly_digest bytes) ≡ 32

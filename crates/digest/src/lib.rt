@@ -6,8 +6,6 @@ mod digest;
 mod poly;
 mod powers;
 mod sha;
-#[cfg(test)]
-mod tests;
 mod words;
 
 pub use digest::Digest;

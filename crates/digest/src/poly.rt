@@ -2,16 +2,16 @@
 // one sum of products, of which only the total is reduced by the prime.
 ghost use Rattle.std.specs.Prelude.{◌≡◌, ◌<◌, ◌≤◌, ◌+◌, ◌*◌, ◌%◌, ◌^◌, ℕ, length, drop, take};
 ghost use Rattle.std.specs.Int.{div_ceil};
-ghost use Rattle.digest.specs.Poly.{prime, value, value_of};
+ghost use Rattle.digest.specs.Poly.{prime, poly_value, poly_value_of};
 ghost use Rattle.digest.specs.Powers.{dot, powers};
 
 use crate::Digest;
 use crate::powers::{POWERS_A, POWERS_B};
 use crate::words::{last_word, word_at};
 
-/// A polynomial whose coefficients are words of the bytes: its values at two points modulo the prime
-/// 2^61 - 1. It is for accidental damage only, and keeps no adversary out, since its points are
-/// fixed.
+/// A polynomial whose coefficients are words of the bytes: its values at two points modulo the
+/// prime 2^61 - 1. It is for accidental damage only, and keeps no adversary out, since its points
+/// are fixed.
 pub struct PolyDigest;
 
 impl Digest for PolyDigest {
@@ -104,7 +104,7 @@ fn with_words(total: u128, bytes: &[u8], table: &[u64; 33], first: usize, n: usi
 fn block(h: u64, bytes: &[u8], table: &[u64; 33]) -> u64
     requires h { h < 2 ^ 63 }
     requires bytes { 225 ≤ length bytes.now }
-    ensures value { (x : ℕ) → table.now ≡ powers x 33 → result ≡ value x h 32 bytes.now }
+    ensures value { (x : ℕ) → table.now ≡ powers x 33 → result ≡ poly_value x h 32 bytes.now }
     ensures small { result < 2 ^ 61 }
 {
     reduced(with_words(times(h, table[0]), bytes, table, 1, 32))
@@ -117,7 +117,7 @@ fn ending(h: u64, bytes: &[u8], table: &[u64; 33]) -> u64
     requires some { 0 < length bytes.now }
     requires few { length bytes.now ≤ 224 }
     ensures { (x : ℕ) → table.now ≡ powers x 33
-        → result ≡ value x h (div_ceil (length bytes.now) 7) bytes.now }
+        → result ≡ poly_value x h (div_ceil (length bytes.now) 7) bytes.now }
 {
     let n = bytes.len().div_ceil(7);
     let total = with_words(times(h, table[32 - n]), bytes, table, 33 - n, n - 1);
@@ -127,7 +127,7 @@ fn ending(h: u64, bytes: &[u8], table: &[u64; 33]) -> u64
 // The value of a string at the point whose powers these are.
 #[inline(never)]
 fn value_at(bytes: &[u8], table: &[u64; 33]) -> u64
-    ensures { (x : ℕ) → table.now ≡ powers x 33 → result ≡ value_of x bytes.now }
+    ensures { (x : ℕ) → table.now ≡ powers x 33 → result ≡ poly_value_of x bytes.now }
 {
     let len = bytes.len();
     if len == 0 {

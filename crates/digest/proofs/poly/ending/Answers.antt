@@ -1,5 +1,5 @@
 use Rattle.std.proofs.Common.{◌≡◌, ◌+◌, ◌-◌, ◌%◌, ℕ, suc, ◌∙◌, ap, sym, arith, drop, take}
-use Rattle.digest.specs.Poly.{value}
+use Rattle.digest.specs.Poly.{poly_value}
 use Rattle.digest.specs.Powers.{dot}
 use Rattle.digest.proofs.Sums.{ending_value}
 use Rattle.digest.proofs.poly.ending.Goals as goal
@@ -15,4 +15,4 @@ returns c x table =
     (c.with_words-total.ensures.value ∙ ap (λ (f : ℕ). c.times.result + dot (take m (drop f c.args.table.now)) c.args.bytes.now) after)
     c.last_word.ensures.word
     (c.reduced.ensures.value ∙ ap (λ (w : ℕ). (c.with_words-total.result + w) % 2305843009213693951) c.from.ensures)
-    ∙ ap (λ (k : ℕ). value x c.args.h k c.args.bytes.now) (sym some ∙ c.div_ceil-n.ensures)
+    ∙ ap (λ (k : ℕ). poly_value x c.args.h k c.args.bytes.now) (sym some ∙ c.div_ceil-n.ensures)

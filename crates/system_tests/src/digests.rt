@@ -1,5 +1,5 @@
 // The digests as they were built, beside published and computed ones.
-use crate::{Digest, PolyDigest, ShaDigest};
+use digest::{Digest, PolyDigest, ShaDigest};
 use std::test::Fail;
 
 // The halves of a digest, each as a number whose first byte is the highest.
