@@ -183,7 +183,7 @@ c_is_read_of_closed kept is = of_c add_sum kept 0 (Some c_found) is a_record_is_
 pub none_is_read_of_closed : (own : List ℕ → ℕ) (kept : Closed) → IsOf c_page kept → IsReadOfClosed add_sum own 18 kept 8 None
 none_is_read_of_closed own kept is = of_c own kept 8 None is (none_is_read own)
 
--- a read goes forward, also in a segment that nobody has whole
+-- so a read goes forward
 pub it_stays_where_it_was : (sum own : List ℕ → ℕ) (kept : Closed) → IsReadOfClosed sum own 18 kept 8 (Some c_found) → ⊥
 it_stays_where_it_was sum own kept is = it_ends_where_it_begins is.forward
 

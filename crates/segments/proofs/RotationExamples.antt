@@ -21,7 +21,7 @@ use Rattle.segments.specs.Digests.{EachIsByte, HasTwin, IsOf, IsTwin}
 use Rattle.segments.specs.FolderEvents.{FolderEvent, closing_event, keeping_event, opening_with, plain_event}
 use Rattle.segments.specs.Manifest.{ListingState, closing_in, entry_bytes, free_after, listed_in, padded, padding}
 use Rattle.segments.specs.Owned.{OwnedState, without_journal}
-use Rattle.segments.specs.Log.{AppendRefused, HasFollowed, HasTwinAt, HasTwinIn, HasTwinOf, HoldsClosed, IsClosedIn, IsNotClosed, IsReadOfClosed, IsRotated, IsSameButCurrent, ListsTheSame, LogAppendGoes, LogState, ReadFails, RotateGoes, asked_turning, entered_bytes}
+use Rattle.segments.specs.Log.{AppendRefused, HasFollowed, HasTwinAt, HasTwinIn, HasTwinOf, HoldsClosed, IsClosedIn, IsNotClosed, IsReadOfClosed, IsRotated, IsSameButCurrent, ListsTheSame, LogAppendGoes, LogState, ReadFails, RotateGoes, TellHeld, asked_turning, entered_bytes}
 use Rattle.segments.specs.Crash.{AppendSurvives, HasLetGo, ListsFrom, RemovesUnlisted, RotationSurvives, WasRemoved}
 
 -- ---- bytes and twins
@@ -126,6 +126,17 @@ no_twin_where_none_is_closed sum P held has = not_listed (nat_lt has.0 3) (has.0
 it_holds_nothing : HoldsClosed add_sum 18 empty []
 unfolding record_len frames whole_frames
 it_holds_nothing = record { bytes = []; of = of_no_bytes; holds = refl }
+
+none_are_held : (bytes content : List ℕ) → length bytes ≡ 0 → content ≡ whole_frames (text add_sum 18 bytes) → content ≡ []
+unfolding record_len frames whole_frames
+none_are_held [] content few holds = holds
+none_are_held (b ∷ bytes) content few holds = absurd (omega (arith, few))
+
+-- so the segment held no byte
+pub it_holds_one_byte : (b : ℕ) → TellHeld add_sum 18 (λ n. b ∷ []) 0 (empty ∷ []) → ⊥
+it_holds_one_byte b is =
+    let none = none_are_held is.0.bytes (b ∷ []) (sym is.0.of.len) is.0.holds in
+    absurd (omega (arith, ap length none))
 
 -- no frame is found in it
 pub nothing_is_found : (own : List ℕ → ℕ) (f : Found) → IsReadOfClosed add_sum own 18 empty 0 (Some f) → ⊥
