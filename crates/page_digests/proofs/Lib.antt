@@ -1,0 +1,12 @@
+pub mod Paging
+pub mod Twins
+pub mod Growth
+pub mod Payloads
+pub mod Filled
+pub mod Verified
+pub mod Pieces
+pub mod ListReads
+pub mod ContentReads
+pub mod Rebuilt
+pub mod Costs
+pub mod RangeCosts

@@ -1,0 +1,9 @@
+pub mod Pages
+pub mod Seals
+pub mod Growing
+pub mod Sources
+pub mod Past
+pub mod Reads
+pub mod Lists
+pub mod Contents
+pub mod Rebuilds

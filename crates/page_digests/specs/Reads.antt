@@ -1,0 +1,121 @@
+-- Reads of parts of a content and of its levels, each compared with its digest.
+use Rattle.std.specs.Prelude.{◌≡◌, ◌↔◌, ◌<◌, ◌≤◌, ◌+◌, ◌-◌, ◌*◌, ◌/◌, ◌++◌, ◌∷◌, [], ℕ, zero, suc}
+use Rattle.std.specs.Prelude.{List, length, Bool, true, Option, Some, Result, Ok, Err, OnOk}
+use Rattle.page_digests.specs.Pages.{list_len, list_of, page_at, page_len, top_len, top_of}
+use Rattle.page_digests.specs.Seals.{IsVerified, IsWrong}
+use Rattle.page_digests.specs.Sources.{ReadsLast, SourceRead, gave, refused}
+use Rattle.page_digests.specs.declared.error.Error.{Error}
+use Rattle.page_digests.specs.declared.error.Error.TheVariants.{Damaged, OutOfMemory, System}
+use Rattle.page_digests.specs.declared.seal.Seal.{Seal}
+
+-- where page i of a content stands in its file: 12 bytes of other things stand behind each page
+abbrev pub page_offset : (P i : ℕ) → ℕ
+page_offset P i = i * (P + 12)
+
+-- a range has bytes of page i
+abbrev pub IsTouched : (P offset len i : ℕ) → Type 0
+IsTouched P offset len i = (i * P < offset + len) × (offset < i * P + P)
+
+-- ---- how much is read
+
+-- how many pages of P bytes so many bytes from an offset on have bytes of
+abbrev pub pages_touched : (P offset len : ℕ) → ℕ
+pages_touched P offset zero = 0
+pages_touched P offset (suc n) = (offset + n) / P - offset / P + 1
+
+-- so many bytes from `from` on were read in order, page by page, and each page once at most: of
+-- `count` reads `base` were made before. If there was one since, the last page is held
+pub record IsReadOn (P from len base count : ℕ) (cached : Option ℕ) : Type 0 where
+  pub calls : count ≤ base + pages_touched P from len
+  pub held : base < count → cached ≡ Some ((from + len - 1) / P)
+
+-- the digest of page i is read on from the list, whatever was read of it before
+abbrev pub ReadsDigestOn : {T E : Type 0} → (P i : ℕ) → (old new : List SourceRead)
+    → (before after : Option ℕ) → Result T E → Type 0
+ReadsDigestOn P i old new before after result =
+    (from len base : ℕ) → from + len ≡ i * 32 → IsReadOn P from len base (length old) before
+    → (length new ≤ base + pages_touched P from (len + 32))
+    × OnOk result (IsReadOn P from (len + 32) base (length new) after)
+
+-- ---- one read
+
+-- a read into a buffer, by its answer
+abbrev pub FillsGoes : (offset len : ℕ) → (old new : List SourceRead) → (bytes : List ℕ)
+    → Result (Unit {0}) Error → Type 0
+FillsGoes offset len old new bytes (Ok _) =
+    (new ≡ old ++ gave offset bytes ∷ []) × (length bytes ≡ len)
+FillsGoes offset len old new bytes (Err Damaged) = ⊥
+FillsGoes offset len old new bytes (Err (System e)) = new ≡ old ++ refused offset len ∷ []
+FillsGoes offset len old new bytes (Err OutOfMemory) = new ≡ old
+
+-- a read into a buffer that is compared with a digest, by its answer
+abbrev pub ComparesGoes : (List ℕ → List ℕ) → (offset len : ℕ) → (digest : List ℕ)
+    → (old new : List SourceRead) → (bytes : List ℕ) → Result Bool Error → Type 0
+ComparesGoes d offset len digest old new bytes (Ok is_same) =
+    (new ≡ old ++ gave offset bytes ∷ []) × (length bytes ≡ len)
+    × ((is_same ≡ true) ↔ (d bytes ≡ digest))
+ComparesGoes d offset len digest old new bytes (Err Damaged) = ⊥
+ComparesGoes d offset len digest old new bytes (Err (System e)) =
+    new ≡ old ++ refused offset len ∷ []
+ComparesGoes d offset len digest old new bytes (Err OutOfMemory) = new ≡ old
+
+-- the last read gave bytes that are this part of whatever content this was kept of
+abbrev pub ReadsVerified : (List ℕ → List ℕ) → (P : ℕ) → Seal → (of : List ℕ → List ℕ)
+    → (offset : ℕ) → (old new : List SourceRead) → Type 0
+ReadsVerified d P seal of offset old new =
+    (bytes : List ℕ) × ReadsLast old new (gave offset bytes) × IsVerified d P seal of bytes
+
+-- the last read gave as many bytes as this part has, and they aren't it
+abbrev pub ReadsWrong : (List ℕ → List ℕ) → (P : ℕ) → Seal → (of : List ℕ → List ℕ)
+    → (offset len : ℕ) → (old new : List SourceRead) → Type 0
+ReadsWrong d P seal of offset len old new =
+    (bytes : List ℕ) × ReadsLast old new (gave offset bytes) × (length bytes ≡ len)
+    × IsWrong d P seal of bytes
+
+-- ---- the parts: the top stands behind the list in the list's file
+
+abbrev pub TopIsWrong : (List ℕ → List ℕ) → (P : ℕ) → Seal → (old new : List SourceRead) → Type 0
+TopIsWrong d P seal old new =
+    ReadsWrong d P seal (top_of d P) (list_len P seal.len) (top_len P seal.len) old new
+
+abbrev pub TopIsRefused : (P : ℕ) → Seal → (old new : List SourceRead) → Type 0
+TopIsRefused P seal old new =
+    ReadsLast old new (refused (list_len P seal.len) (top_len P seal.len))
+
+-- the top can't be had, since it is wrong or was refused; or memory was
+abbrev pub TopFails : (List ℕ → List ℕ) → (P : ℕ) → Seal → (old new : List SourceRead) → Error
+    → Type 0
+TopFails d P seal old new Damaged = TopIsWrong d P seal old new
+TopFails d P seal old new (System e) = TopIsRefused P seal old new
+TopFails d P seal old new OutOfMemory = new ≡ old
+
+-- page j of the list
+abbrev pub ListPageIsWrong : (List ℕ → List ℕ) → (P : ℕ) → Seal → (j : ℕ)
+    → (old new : List SourceRead) → Type 0
+ListPageIsWrong d P seal j old new =
+    ReadsWrong d P seal (λ content. page_at P j (list_of d P content)) (j * P)
+    (page_len P (list_len P seal.len) j) old new
+
+abbrev pub ListPageIsRefused : (P : ℕ) → Seal → (j : ℕ) → (old new : List SourceRead) → Type 0
+ListPageIsRefused P seal j old new =
+    ReadsLast old new (refused (j * P) (page_len P (list_len P seal.len) j))
+
+-- page i of the content
+abbrev pub PageIsWrong : (List ℕ → List ℕ) → (P : ℕ) → Seal → (i : ℕ)
+    → (old new : List SourceRead) → Type 0
+PageIsWrong d P seal i old new =
+    ReadsWrong d P seal (page_at P i) (page_offset P i) (page_len P seal.len i) old new
+
+abbrev pub PageIsRefused : (P : ℕ) → Seal → (i : ℕ) → (old new : List SourceRead) → Type 0
+PageIsRefused P seal i old new =
+    ReadsLast old new (refused (page_offset P i) (page_len P seal.len i))
+
+-- the digest of page i can't be had, since a page of the list that has bytes of it is wrong or was
+-- refused; or memory was
+abbrev pub DigestFails : (List ℕ → List ℕ) → (P : ℕ) → Seal → (i : ℕ)
+    → (old new : List SourceRead) → Error → Type 0
+DigestFails d P seal i old new Damaged =
+    (j : ℕ) × IsTouched P (i * 32) 32 j × ListPageIsWrong d P seal j old new
+DigestFails d P seal i old new (System e) =
+    (j : ℕ) × IsTouched P (i * 32) 32 j × ListPageIsRefused P seal j old new
+DigestFails d P seal i old new OutOfMemory = Unit {0}

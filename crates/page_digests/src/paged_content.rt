@@ -1,0 +1,211 @@
+// A content in a file of which nothing is believed.
+ghost use Rattle.std.specs.Prelude.{◌≡◌, ◌↔◌, ◌<◌, ◌≤◌, ◌+◌, ◌*◌, IfErr, IfOk, true};
+ghost use Rattle.std.specs.Int.NonZero.{non_zero_u16_get};
+ghost use Rattle.page_digests.specs.Contents.{IsOpened, LoadGoes, PieceGoes, RangeGoes};
+ghost use Rattle.page_digests.specs.Contents.{ReadGoes, ReadIntoGoes, SoundGoes};
+ghost use Rattle.page_digests.specs.Reads.{TopFails};
+ghost use Rattle.page_digests.specs.Pages.{page_count};
+
+use crate::error::Error;
+use crate::list::PagedList;
+use crate::pages::{BETWEEN, LEN_LIMIT, list_len, page_len};
+use crate::reading::read_compared;
+use crate::seal::Seal;
+use crate::source::Source;
+use crate::unopened::Unopened;
+use digest::Digest;
+use std::alloc::Global;
+use std::marker::Model;
+use std::num::NonZeroU16;
+
+/// A content in a file, and its list in another: of both each page is compared with its digest
+/// before it is used. The page of the content and the page of the list that were read last are
+/// held, so that the next read in them asks for nothing.
+#[derive(Drop)]
+pub struct PagedContent<F: Source, D: Digest> {
+    file: F,
+    list: PagedList<F, D>,
+    seal: Seal,
+    page_size: usize,
+    cached: Option<usize>,
+    page: Vec<u8>,
+}
+
+impl<F: Source, D: Digest> Model for PagedContent<F, D> {
+    ghost use Rattle.page_digests.specs.Contents.{IsPaged, PagedState};
+
+    ghost Value = { PagedState };
+
+    ghost view = { λ c. record {
+      seal = c.seal;
+      page_size = c.page_size;
+      cached = c.cached;
+      cached_list = c.list.cached;
+      reads = F.reads c.file;
+      list_reads = c.list.reads;
+    } };
+
+    ghost invariant = { λ c. IsPaged D.digest_of c.list c.seal c.page_size c.cached c.page.items };
+}
+
+impl<F: Source + Drop, D: Digest> PagedContent<F, D> {
+    /// Opens a content of which `seal` was kept, by pages of `page_size` bytes. In `file` each of
+    /// its pages is followed by 12 bytes of other things; in `list_file` its list is followed by
+    /// the top. The top is read and compared with the root: `Damaged` if it has another digest.
+    pub fn open(
+        alloc: Global,
+        file: F,
+        list_file: F,
+        seal: Seal,
+        page_size: NonZeroU16,
+    ) -> Result<Self, Unopened<F>>
+        requires { seal.len < LEN_LIMIT }
+        ensures opens { let P = non_zero_u16_get page_size in
+            IfOk result (λ c. IsOpened D.digest_of P seal (F.reads file) (F.reads list_file) c) }
+        ensures fails { let P = non_zero_u16_get page_size in
+            IfErr result (λ u. (F.reads u.file ≡ F.reads file)
+            × TopFails D.digest_of P seal (F.reads list_file) (F.reads u.list_file) u.error) }
+    {
+        let page_size = usize::from(page_size.get());
+        let whole = list_len(seal.len as usize, page_size);
+        let len = list_len(whole, page_size);
+        let mut list_file = list_file;
+        let mut top = Vec::new(alloc);
+        match read_compared::<F, D>(&mut list_file, whole as u64, len, &seal.root, &mut top) {
+            Ok(true) => Ok(PagedContent {
+                file,
+                list: PagedList::new(alloc, list_file, seal, page_size, top),
+                seal,
+                page_size,
+                cached: None,
+                page: Vec::new(alloc),
+            }),
+            Ok(false) => Err(Unopened {
+                error: Error::Damaged,
+                file,
+                list_file,
+            }),
+            Err(error) => Err(Unopened {
+                error,
+                file,
+                list_file,
+            }),
+        }
+    }
+
+    /// How many bytes the content has.
+    pub fn len(&self) -> u64
+        ensures { result ≡ self.now.seal.len }
+    {
+        self.seal.len
+    }
+
+    /// How many pages the content has.
+    pub fn page_count(&self) -> u64
+        ensures { result ≡ page_count self.now.page_size self.now.seal.len }
+    {
+        self.seal.len.div_ceil(self.page_size as u64)
+    }
+
+    /// Whether the file holds page `number` as it was. The file is read for it anew, also where the
+    /// page was read last. `Damaged` if a page of the list isn't as it was, by which that would be
+    /// known.
+    #[tactic(auto, using(crate::proofs::Paging::page_within))]
+    pub fn page_is_sound(&mut self, number: u64) -> Result<bool, Error>
+        requires { number < page_count self.old.page_size self.old.seal.len }
+        ensures { SoundGoes D.digest_of number self.old self.new result }
+    {
+        self.cached = None;
+        let i = number as usize;
+        let digest = self.list.digest(i)?;
+        let offset = (i * (self.page_size + BETWEEN)) as u64;
+        let len = page_len(self.seal.len as usize, self.page_size, i);
+        let is_sound = read_compared::<F, D>(&mut self.file, offset, len, &digest, &mut self.page)?;
+        if !is_sound {
+            return Ok(false);
+        }
+        self.cached = Some(i);
+        Ok(true)
+    }
+
+    // Whether page `number` was read last.
+    fn holds(&self, number: usize) -> bool
+        ensures { (result ≡ true) ↔ (self.now.cached ≡ Some number) }
+    {
+        self.cached == Some(number)
+    }
+
+    // Reads page `number`, unless it was read last.
+    fn load(&mut self, number: usize) -> Result<(), Error>
+        requires { number < page_count self.old.page_size self.old.seal.len }
+        ensures { LoadGoes D.digest_of number self.old self.new result }
+    {
+        if self.holds(number) {
+            return Ok(());
+        }
+        let is_sound = self.page_is_sound(number as u64)?;
+        if is_sound {
+            Ok(())
+        } else {
+            Err(Error::Damaged)
+        }
+    }
+
+    // Appends bytes of the content from byte `at` on, at most so many, as far as their page goes.
+    // Answers how many.
+    #[tactic(auto, using(crate::proofs::Paging::page_of_byte))]
+    fn append_piece(&mut self, bytes: &mut Vec<u8>, at: usize, most: usize) -> Result<usize, Error>
+        requires within { at + most ≤ self.old.seal.len }
+        requires some { 0 < most }
+        ensures { PieceGoes D.digest_of at most self.old self.new bytes.old.items bytes.new.items
+            result }
+    {
+        let (number, skip) = (at / self.page_size, at % self.page_size);
+        self.load(number)?;
+        let n = most.min(self.page_size - skip);
+        bytes.extend_from_slice(&self.page[skip..skip + n])?;
+        Ok(n)
+    }
+
+    // Appends a range of the content. After an error part of it may be appended.
+    fn append_range(&mut self, bytes: &mut Vec<u8>, offset: usize, len: usize) -> Result<(), Error>
+        requires { offset + len ≤ self.old.seal.len }
+        ensures { RangeGoes D.digest_of offset len self.old self.new bytes.old.items bytes.new.items
+            result }
+    {
+        // The proof takes the bounds of the sums from the invariant, which a use of a field opens.
+        let _ = &self.seal;
+        let mut done = 0;
+        while done < len {
+            done += self.append_piece(bytes, offset + done, len - done)?;
+        }
+        Ok(())
+    }
+
+    /// Appends the `len` bytes of the content from byte `offset` on to a buffer. After an error the
+    /// buffer is as it was. `Damaged` if a page of the content or of the list that is needed isn't
+    /// as it was; the other pages can be read still.
+    pub fn read_into(&mut self, bytes: &mut Vec<u8>, offset: u64, len: usize) -> Result<(), Error>
+        requires { offset + len ≤ self.old.seal.len }
+        ensures { ReadIntoGoes D.digest_of offset len self.old self.new bytes.old.items
+            bytes.new.items result }
+    {
+        let before = bytes.len();
+        let result = self.append_range(bytes, offset as usize, len);
+        if result.is_err() {
+            bytes.truncate(before);
+        }
+        result
+    }
+
+    /// The `len` bytes of the content from byte `offset` on. `Damaged` if a page of the content or
+    /// of the list that is needed isn't as it was; the other pages can be read still.
+    pub fn read(&mut self, alloc: Global, offset: u64, len: usize) -> Result<Vec<u8>, Error>
+        requires { offset + len ≤ self.old.seal.len }
+        ensures { ReadGoes D.digest_of offset len self.old self.new result }
+    {
+        let mut bytes = Vec::with_capacity(alloc, len)?;
+        self.append_range(&mut bytes, offset as usize, len)?;
+        Ok(bytes)
+    }
+}

@@ -1,0 +1,14 @@
+// A content that isn't opened.
+use crate::error::Error;
+
+/// Why a content isn't opened, and its files, so that its levels can be built again from the
+/// content's: see [`rebuild_levels`](crate::rebuild_levels).
+#[derive(Drop)]
+pub struct Unopened<F> {
+    /// Why the top isn't known.
+    pub error: Error,
+    /// The content's file, of which nothing was read.
+    pub file: F,
+    /// The list's file.
+    pub list_file: F,
+}
