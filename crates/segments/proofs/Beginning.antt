@@ -21,9 +21,9 @@ from_first first l is =
 -- the records of an opened log are those that are left by its files' bytes
 pub left_by : (sum own : List ℕ → ℕ) (manifest bytes : List ℕ) (s : LogState) → listed_in s.page_size (records own (text sum s.page_size manifest)) ≡ Some s.listing
     → records_now own s.current ≡ records own (text sum s.page_size bytes)
-    → (held file : ℕ → List ℕ) → file (open_in s.listing) ≡ bytes → records_left sum own s.page_size held file manifest ≡ Some (log_records sum own held s)
+    → (held file : ℕ → List ℕ) → file (open_in s.listing) ≡ bytes → records_left sum own s.page_size held file manifest ≡ Some (log_records own held s)
 left_by sum own manifest bytes s listed told held file same =
-    let before = closed_records sum own s.page_size held s.listing.first s.listing.closed in
+    let before = closed_records own held s.listing.first s.listing.closed in
     ap (λ o. records_by sum own s.page_size held file o) listed
     ∙ ap (λ b. Some (before ++ records own (text sum s.page_size b))) same
     ∙ ap (λ rs. Some (before ++ rs)) (sym told)

@@ -19,9 +19,9 @@ use Rattle.segments.specs.Manifest.{ListingState, entry_bytes, entry_in, none_cl
 use Rattle.segments.specs.Owned.{IsOwned, OwnedState, without_journal}
 use Rattle.segments.specs.Log.{CloseCurrentGoes, EnterGoes, EnterRefused, HasLoaded, HasOpened, HeldReadGoes, IsEntered, IsKept, IsLoaded, IsSameButLoaded, IsTried, LeavesOpened, LogState, ManifestKeeps, StartFromGoes, TakeLoadedGoes, Tries, WasClosed}
 use Rattle.segments.specs.Scan.{IsBehind, StepGoes, far_from, place_at}
-use Rattle.segments.proofs.BytesExamples.{c, c_frame, c_life, c_page, changed_life, first_byte, life_of, none_committed, not_only, only_of, resting, rests, with_c, with_none, writer}
+use Rattle.segments.proofs.BytesExamples.{c, c_life, c_page, changed_life, first_byte, life_of, none_committed, not_only, only_of, resting, rests, with_c, with_none, writer}
 use Rattle.segments.proofs.Closing.{chance_free}
-use Rattle.segments.proofs.LogExamples.{both, in_memory, it_holds_c, none_is_read, small}
+use Rattle.segments.proofs.LogExamples.{both, in_memory, none_is_read_of_closed, small}
 use Rattle.segments.proofs.OwnedExamples.{all_is_durable}
 use Rattle.segments.proofs.ScanExamples.{not_the_end, the_end}
 use Rattle.segments.proofs.Surviving.{image_of}
@@ -152,7 +152,7 @@ pub and_the_open_one_is_closed : (kept : Closed) → IsSameButLoaded small (reco
 and_the_open_one_is_closed kept same = absurd (cc (ap (λ (o : OwnedState). o.journal) same.current))
 
 pub none_at_its_end : (own : List ℕ → ℕ) (kept : Closed) → IsOf c_page kept → HeldReadGoes add_sum own 18 kept 8 (Ok None)
-none_at_its_end own kept is = (c_frame, it_holds_c kept is, none_is_read own)
+none_at_its_end own kept is = none_is_read_of_closed own kept is
 
 -- a closed segment can be read, whether or not the log is closed
 pub it_is_called_closed : (sum own : List ℕ → ℕ) (kept : Closed) → HeldReadGoes sum own 18 kept 0 (Err errors.Closed) → ⊥

@@ -1,6 +1,6 @@
 -- A closed segment in memory.
 use Rattle.std.specs.Prelude.{◌≡◌, ◌≢◌, ℕ, List, Some, None, Option, Result, Ok, Err}
-use Rattle.std.proofs.Common.{ap, sym, ◌∙◌, subst, inr}
+use Rattle.std.proofs.Common.{ap, sym, ◌∙◌, subst, inl, inr}
 use Rattle.disk.specs.Disk.{Life}
 use Rattle.page.specs.Page.{text}
 use Rattle.writer_state.specs.WriterState.{WriterState}
@@ -13,10 +13,11 @@ use Rattle.segments.specs.declared.error.Error.TheVariants as errors
 use Rattle.segments.specs.declared.place.Place.{Place}
 use Rattle.segments.specs.Digests.{IsOf, SameKept}
 use Rattle.segments.specs.Owned.{HasJournal, IsOwned, OwnedReadGoes, OwnedReadLeaves, OwnedState, content_of}
-use Rattle.segments.specs.Log.{HasLoaded, HasOpened, HeldReadGoes, HoldsClosed, IsLoaded, IsReadOf, LoadedState, LogReadGoes, LogReadRefused, LogState, TakeLoadedGoes}
+use Rattle.segments.specs.Log.{HasLoaded, HasOpened, HeldReadGoes, HoldsClosed, IsLoaded, IsReadOf, IsReadOfClosed, LoadedState, LogReadGoes, LogReadRefused, LogState, TakeLoadedGoes}
 use Rattle.segments.specs.Manifest.{open_in}
 use Rattle.segments.proofs.Joining.{content_by}
-use Rattle.segments.proofs.Readings.{reads_by}
+use Rattle.segments.proofs.Readings.{read_forward, reads_by}
+use Rattle.segments.proofs.Records.{same_content}
 
 there_of : (P : WriterState → Type 0) (j : Option WriterState) → HasJournal j P → HasJournal j (λ w. Unit {0})
 there_of P None is = is
@@ -59,8 +60,15 @@ pub held_read : (sum own : List ℕ → ℕ) (P : ℕ) (l : LoadedState) (t : Ow
     → OwnedReadGoes own offset l.owned t result → HeldReadGoes sum own P l.kept offset result
 held_read sum own P l t offset (Ok found) loaded is =
     let read = reads_by own l.owned.journal t.journal offset l.owned.life t.life found is in
-    let same = is_content read.0 l.owned.journal l.owned.life read.1 in
-    (content_of l.owned.journal l.owned.life, loaded.holds, subst (λ held. IsReadOf own held offset found) same read.2)
+    let now = content_of l.owned.journal l.owned.life in
+    let is_read : IsReadOf own now offset found = subst (λ content. IsReadOf own content offset found) (is_content read.0 l.owned.journal l.owned.life read.1) read.2 in
+    record {
+      forward = read_forward own now offset found is_read;
+      reads = λ content holds. elim (same_content sum P l.kept content now holds loaded.holds) [
+        | inl same ↦ inl (subst (λ content. IsReadOf own content offset found) same is_read)
+        | inr twin ↦ inr twin
+      ];
+    }
 held_read sum own P l t offset (Err (errors.Layer e)) loaded is = tt
 held_read sum own P l t offset (Err errors.Closed) loaded is = absurd (not_there l.owned.journal loaded.there is.0)
 held_read sum own P l t offset (Err (errors.System e)) loaded is = absurd is
@@ -76,18 +84,29 @@ held_read sum own P l t offset (Err errors.NumbersExhausted) loaded is = absurd 
 
 -- ---- a read of a closed segment
 
-same_holds : (sum : List ℕ → ℕ) (P : ℕ) (one other : Closed) (held : List ℕ) → SameKept one other → HoldsClosed sum P one held → HoldsClosed sum P other held
-same_holds sum P one other held same is = record {
-  bytes = is.bytes;
-  of = record { small = is.of.small; len = sym same.len ∙ is.of.len; digest = sym same.digest ∙ is.of.digest };
-  holds = is.holds;
+same_of : (bytes : List ℕ) (one other : Closed) → one.len ≡ other.len → one.digest ≡ other.digest → IsOf bytes one → IsOf bytes other
+same_of bytes one other len digest is = record { small = is.small; len = sym len ∙ is.len; digest = sym digest ∙ is.digest }
+
+-- the same length and the same digest were kept of both, so each content of the one is one of the other
+same_reads : (sum own : List ℕ → ℕ) (P : ℕ) (one other : Closed) (offset : ℕ) (found : Option Found) → SameKept one other → IsReadOfClosed sum own P one offset found
+    → IsReadOfClosed sum own P other offset found
+same_reads sum own P one other offset found same is = record {
+  forward = is.forward;
+  reads = λ content holds.
+      elim (is.reads content (record { bytes = holds.bytes; of = same_of holds.bytes other one (sym same.len) (sym same.digest) holds.of; holds = holds.holds })) [
+        | inl read ↦ inl read
+        | inr twin ↦ inr (record {
+          holds = record { bytes = twin.holds.bytes; of = same_of twin.holds.bytes one other same.len same.digest twin.holds.of; holds = twin.holds.holds };
+          twin = twin.twin;
+        })
+      ];
 }
 
 pub reads_closed : (sum own : List ℕ → ℕ) (s t : LogState) (p : Place) (l : LoadedState) (result : Result (Option Found) Error) → HasLoaded sum own s p.segment l
     → HeldReadGoes sum own l.owned.page_size l.kept p.offset result → LogReadGoes sum own s t p result
 reads_closed sum own s t p l (Ok found) has is =
-    let holds = subst (λ P. HoldsClosed sum P l.kept is.0) has.loaded.page_size is.1 in
-    (is.0, inr (has.kept, has.listed, same_holds sum s.page_size l.kept has.kept is.0 has.same holds), is.2)
+    let reads = subst (λ P. IsReadOfClosed sum own P l.kept p.offset found) has.loaded.page_size is in
+    inr (has.kept, has.listed, same_reads sum own s.page_size l.kept has.kept p.offset found has.same reads)
 reads_closed sum own s t p l (Err (errors.Layer e)) has is = inr (has.kept, has.listed)
 reads_closed sum own s t p l (Err errors.Closed) has is = absurd is
 reads_closed sum own s t p l (Err (errors.System e)) has is = absurd is

@@ -2,37 +2,36 @@
 -- what it refuses. The log has two closed segments, number 0 with "c" and number 1 with "d", and
 -- segment 2 is open and has "c"; what was kept of the closed ones is any. `small` is a log with an
 -- empty manifest, whose segment 0 is open and has "c".
-use Rattle.std.specs.Prelude.{◌≡◌, ◌≤◌, ◌++◌, ℕ, zero, suc, List, [], ◌∷◌, length, Bool, true, false, Option, Some, None, Ok, Err}
+use Rattle.std.specs.Prelude.{◌≡◌, ◌<◌, ◌≤◌, ◌++◌, ℕ, zero, suc, List, [], ◌∷◌, length, Bool, true, false, Option, Some, None, Ok, Err}
 use Rattle.std.proofs.Common.{refl, sym, subst, ap, inl, inr, arith, ◌∙◌, lit<, lit≤}
 use Rattle.disk.specs.declared.error.Error.TheVariants.{WriteFailed}
 use Rattle.page.specs.Page.{text}
 use Rattle.page.specs.Sums.{add_sum}
+use Rattle.journal.specs.declared.frame.Found.{Found}
 use Rattle.journal.specs.Frame.{frames, is_record, record_len, record_of, records, whole_frames}
 use Rattle.journal.proofs.Frames.{whole_is_whole}
 use Rattle.segments.specs.declared.call.FolderCall.TheVariants as calls
 use Rattle.segments.specs.declared.closed.Closed.{Closed}
 use Rattle.segments.specs.declared.error.Error.TheVariants as errors
 use Rattle.std.specs.declared.io.Error as io_error
-use Rattle.segments.specs.Digests.{IsOf}
+use Rattle.segments.specs.Digests.{IsOf, IsTwin}
 use Rattle.segments.specs.FolderEvents.{FolderEvent, plain_event}
 use Rattle.segments.specs.Manifest.{ListingState, none_closed}
 use Rattle.segments.specs.Owned.{IsOwned, OwnedAppendGoes, OwnedState, without_journal}
-use Rattle.segments.specs.Log.{AppendHereGoes, AreDone, AsksNoSync, AsksWell, CurrentKeeps, EndsRemoval, EndsSynced, EndsUnsynced, HasKept, HoldsClosed, IsBeyond, IsClosedLog, IsClosedOff, IsContentOf, IsCurrentContent, IsDropped, IsKept, IsListed, IsLoaded, IsLog, IsReadOf, IsRefusedDrop, IsSameButAsked, IsSameButCurrent, IsSameButManifest, IsStartedFrom, IsUnsyncedDrop, LeavesReading, Lists, LoadedState, LogAppendGoes, LogState, NoneSyncs, StartsAt, TellHeld, closed_records, listing_from, log_records}
+use Rattle.segments.specs.Log.{AppendHereGoes, AreDone, AsksNoSync, AsksWell, CurrentKeeps, EndsBehind, EndsRemoval, EndsSynced, EndsUnsynced, HasKept, HasTwinOf, HoldsClosed, IsBeyond, IsClosedLog, IsClosedOff, IsCurrentContent, IsDropped, IsKept, IsListed, IsLoaded, IsLog, IsReadOf, IsReadOfClosed, IsReadOfOpen, IsRefusedDrop, IsSameButAsked, IsSameButCurrent, IsSameButManifest, IsStartedFrom, IsUnsyncedDrop, LeavesReading, Lists, LoadedState, LogAppendGoes, LogReadGoes, LogState, NoneSyncs, StartsAt, TellHeld, closed_records, listing_from, log_records}
 use Rattle.segments.proofs.BytesExamples.{c, c_frame, c_page, changed_life, d, d_frame, d_page, life_of, none_committed, rests, with_c, with_none, writer}
 use Rattle.segments.proofs.OwnedExamples.{another_record, nothing_was_done}
+use Rattle.segments.proofs.Readings.{read_forward}
+use Rattle.segments.proofs.Records.{same_content}
 
 -- a log of an empty manifest
 abbrev pub small : LogState
 small = record { manifest = with_none; current = with_c; listing = none_closed; asked = []; loaded = None; page_size = 18; most = 100; known = 0 }
 
--- what the files of the closed segments hold
+-- what the closed segments held
 abbrev pub held : ℕ → List ℕ
-held zero = c_page
-held (suc n) = d_page
-
--- a segment of which so many bytes were kept
-abbrev kept_of : (len : ℕ) (digest : List ℕ) → Closed
-kept_of len digest = record { records = 1; len = len; digest = digest }
+held zero = c_frame
+held (suc n) = d_frame
 
 abbrev how_many : Option ListingState → ℕ
 how_many None = 9
@@ -44,6 +43,10 @@ pub it_holds_c : (kept : Closed) → IsOf c_page kept → HoldsClosed add_sum 18
 unfolding record_len frames whole_frames
 it_holds_c kept is = record { bytes = c_page; of = is; holds = refl }
 
+pub it_holds_d : (kept : Closed) → IsOf d_page kept → HoldsClosed add_sum 18 kept d_frame
+unfolding record_len frames whole_frames
+it_holds_d kept is = record { bytes = d_page; of = is; holds = refl }
+
 -- a content doesn't end within a frame
 pub a_cut_content : (sum : List ℕ → ℕ) (P : ℕ) (kept : Closed) → HoldsClosed sum P kept (c_frame ++ 0 ∷ []) → ⊥
 unfolding record_len frames whole_frames
@@ -51,6 +54,14 @@ a_cut_content sum P kept is =
     let whole : whole_frames (c_frame ++ 0 ∷ []) ≡ c_frame ++ 0 ∷ [] =
     ap whole_frames is.holds ∙ whole_is_whole (text sum P is.bytes) ∙ sym is.holds in
     let same : ◌≡◌ {A = ℕ} 8 9 = ap length whole in omega (arith, same)
+
+pub it_has_a_twin : (kept : Closed) (other : List ℕ) → IsOf c_page kept → IsTwin c_page other → HasTwinOf add_sum 18 kept c_frame
+unfolding record_len frames whole_frames
+it_has_a_twin kept other is twin = record { holds = record { bytes = c_page; of = is; holds = refl }; twin = (other, twin) }
+
+-- what isn't a segment's content has no twin either
+pub a_cut_content_has_none : (sum : List ℕ → ℕ) (P : ℕ) (kept : Closed) → HasTwinOf sum P kept (c_frame ++ 0 ∷ []) → ⊥
+a_cut_content_has_none sum P kept has = a_cut_content sum P kept has.holds
 
 abbrev pub in_memory : Closed → LoadedState
 in_memory kept = record { kept = kept; owned = with_c }
@@ -127,22 +138,71 @@ a_call_keeps = nothing_was_done
 pub a_call_loses : CurrentKeeps add_sum add_sum (c ∷ []) small (record small { current = record with_c { life = changed_life } }) → ⊥
 a_call_loses keeps = another_record keeps
 
+-- ---- a frame of a content
+
+-- the frame of "c" as it is found
+abbrev c_found : Found
+c_found = record { bytes = Some c; end = 8 }
+
+pub a_record_is_read : IsReadOf add_sum c_frame 0 (Some c_found)
+unfolding record_len is_record record_of frames records
+a_record_is_read = record { within = lit< tt; held = refl; after = refl; rest = refl }
+
+pub none_is_read : (own : List ℕ → ℕ) → IsReadOf own c_frame 8 None
+none_is_read own = lit≤ tt
+
+-- a frame stands at 0
+pub it_is_passed_over : (own : List ℕ → ℕ) → IsReadOf own c_frame 0 None → ⊥
+it_is_passed_over own few = let less : 8 ≤ 0 = few in omega (arith, less)
+
+-- and it ends at 8
+pub it_ends_before : IsReadOf add_sum c_frame 0 (Some (record { bytes = Some c; end = 7 })) → ⊥
+unfolding record_len
+it_ends_before is = let same : ◌≡◌ {A = ℕ} 7 8 = is.after in omega (arith, same)
+
+pub it_goes_forward : EndsBehind 0 (Some c_found)
+it_goes_forward = lit< tt
+
+-- a frame has bytes
+pub it_ends_where_it_begins : EndsBehind 8 (Some c_found) → ⊥
+it_ends_where_it_begins forward = let less : 8 < 8 = forward in omega (arith, less)
+
+-- what is read of "c" is read of a closed segment that held it
+of_c : (own : List ℕ → ℕ) (kept : Closed) (offset : ℕ) (found : Option Found) → IsOf c_page kept → IsReadOf own c_frame offset found → IsReadOfClosed add_sum own 18 kept offset found
+of_c own kept offset found is read = record {
+  forward = read_forward own c_frame offset found read;
+  reads = λ content holds. elim (same_content add_sum 18 kept content c_frame holds (it_holds_c kept is)) [
+    | inl same ↦ inl (subst (λ content. IsReadOf own content offset found) same read)
+    | inr twin ↦ inr twin
+  ];
+}
+
+pub c_is_read_of_closed : (kept : Closed) → IsOf c_page kept → IsReadOfClosed add_sum add_sum 18 kept 0 (Some c_found)
+c_is_read_of_closed kept is = of_c add_sum kept 0 (Some c_found) is a_record_is_read
+
+pub none_is_read_of_closed : (own : List ℕ → ℕ) (kept : Closed) → IsOf c_page kept → IsReadOfClosed add_sum own 18 kept 8 None
+none_is_read_of_closed own kept is = of_c own kept 8 None is (none_is_read own)
+
+-- so a read goes forward
+pub it_stays_where_it_was : (sum own : List ℕ → ℕ) (kept : Closed) → IsReadOfClosed sum own 18 kept 8 (Some c_found) → ⊥
+it_stays_where_it_was sum own kept is = it_ends_where_it_begins is.forward
+
 -- ---- two closed segments
 
 module _ (one two : Closed) where
   abbrev pub both : LogState
   both = record { manifest = with_none; current = with_c; listing = record { first = 0; closed = one ∷ two ∷ [] }; asked = []; loaded = None; page_size = 18; most = 100; known = 3 }
 
-  pub their_records : closed_records add_sum add_sum 18 held 0 (one ∷ two ∷ []) ≡ c ∷ d ∷ []
+  pub their_records : closed_records add_sum held 0 (one ∷ two ∷ []) ≡ c ∷ d ∷ []
   unfolding record_len is_record record_of frames records
   their_records = refl
 
-  pub all_records : log_records add_sum add_sum held both ≡ c ∷ d ∷ c ∷ []
+  pub all_records : log_records add_sum held both ≡ c ∷ d ∷ c ∷ []
   unfolding record_len is_record record_of frames records
   all_records = refl
 
-  pub they_are_held : IsOf c_page one → IsOf d_page two → TellHeld held 0 (one ∷ two ∷ [])
-  they_are_held first second = (first, (second, tt))
+  pub they_are_held : IsOf c_page one → IsOf d_page two → TellHeld add_sum 18 held 0 (one ∷ two ∷ [])
+  they_are_held first second = (it_holds_c one first, (it_holds_d two second, tt))
 
   pub the_first_goes : listing_from 1 (record { first = 0; closed = one ∷ two ∷ [] }) ≡ record { first = 1; closed = two ∷ [] }
   the_first_goes = refl
@@ -193,22 +253,16 @@ module _ (one two : Closed) where
   pub it_is_not_listed : IsListed both 2 → ⊥
   it_is_not_listed is = let none : None ≡ Some is.0 = is.1 in absurd (cc none)
 
-  pub the_closed_content : IsOf c_page one → IsContentOf add_sum both 0 c_frame
-  the_closed_content is = inr (one, refl, it_holds_c one is)
+  pub a_closed_one_is_read : (t : LogState) → IsOf c_page one → LogReadGoes add_sum add_sum both t (record { segment = 0; offset = 0 }) (Ok (Some c_found))
+  a_closed_one_is_read t is = inr (one, refl, c_is_read_of_closed one is)
 
-  pub the_open_content : IsContentOf add_sum both 2 c_frame
-  the_open_content = inl (refl, refl)
+  pub the_open_one_is_read : (t : LogState) → LogReadGoes add_sum add_sum both t (record { segment = 2; offset = 0 }) (Ok (Some c_found))
+  the_open_one_is_read t = inl (refl, (c_frame, refl, a_record_is_read))
 
-  -- segment 2 is open, and its content is another one
-  pub another_content : IsContentOf add_sum both 2 d_frame → ⊥
-  another_content (inl is) = let same : ◌≡◌ {A = ℕ} 100 99 = ap third is.1 in omega (arith, same)
-    where
-      third : List ℕ → ℕ
-      third [] = 0
-      third (a ∷ []) = 0
-      third (a ∷ b ∷ []) = 0
-      third (a ∷ b ∷ n ∷ rest) = n
-  another_content (inr is) = let none : None ≡ Some is.0 = is.1 in absurd (cc none)
+  -- a frame stands there
+  pub the_open_one_is_passed_over : (sum own : List ℕ → ℕ) (t : LogState) → LogReadGoes sum own both t (record { segment = 2; offset = 0 }) (Ok None) → ⊥
+  the_open_one_is_passed_over sum own t (inl is) = omega (arith, ap length is.1.1, is.1.2)
+  the_open_one_is_passed_over sum own t (inr is) = let none : None ≡ Some is.0 = is.1 in absurd (cc none)
 
   -- a record is said to stand in the segment before the open one
   pub in_the_segment_before : (sum own : List ℕ → ℕ) (t : LogState) → AppendHereGoes sum own c both t (Ok (record { segment = 1; offset = 8 })) → ⊥
@@ -217,27 +271,11 @@ module _ (one two : Closed) where
   pub in_the_open_one : (sum own : List ℕ → ℕ) (t : LogState) → OwnedAppendGoes sum own c with_c t.current (Ok 8) → AppendHereGoes sum own c both t (Ok (record { segment = 2; offset = 8 }))
   in_the_open_one sum own t is = (refl, is)
 
--- 30 bytes were kept, and the file has one more
-pub a_byte_more : (digest : List ℕ) → TellHeld (λ n. c_page ++ 0 ∷ []) 0 (kept_of 30 digest ∷ []) → ⊥
-a_byte_more digest is = let same : ◌≡◌ {A = ℕ} 30 31 = is.0.len in omega (arith, same)
+-- a closed segment didn't hold a part of a frame
+pub a_cut_one_is_held : (sum : List ℕ → ℕ) (P : ℕ) (kept : Closed) → TellHeld sum P (λ n. c_frame ++ 0 ∷ []) 0 (kept ∷ []) → ⊥
+a_cut_one_is_held sum P kept is = a_cut_content sum P kept is.0
 
--- ---- reading
-
-pub a_record_is_read : IsReadOf add_sum c_frame 0 (Some (record { bytes = Some c; end = 8 }))
-unfolding record_len is_record record_of frames records
-a_record_is_read = record { within = lit< tt; held = refl; after = refl; rest = refl }
-
-pub none_is_read : (own : List ℕ → ℕ) → IsReadOf own c_frame 8 None
-none_is_read own = lit≤ tt
-
--- a frame stands at 0
-pub it_is_passed_over : (own : List ℕ → ℕ) → IsReadOf own c_frame 0 None → ⊥
-it_is_passed_over own few = let less : 8 ≤ 0 = few in omega (arith, less)
-
--- and it ends at 8
-pub it_ends_before : IsReadOf add_sum c_frame 0 (Some (record { bytes = Some c; end = 7 })) → ⊥
-unfolding record_len
-it_ends_before is = let same : ◌≡◌ {A = ℕ} 7 8 = is.after in omega (arith, same)
+-- ---- the open segment is read
 
 pub its_content_is_c : IsCurrentContent small c_frame
 its_content_is_c = refl
@@ -245,6 +283,13 @@ its_content_is_c = refl
 -- once a call failed it has no content
 pub it_has_no_content : IsCurrentContent (record small { current = without_journal with_c }) c_frame → ⊥
 it_has_no_content is = is
+
+pub c_is_read_of_the_open : IsReadOfOpen add_sum small 0 (Some c_found)
+c_is_read_of_the_open = (c_frame, refl, a_record_is_read)
+
+-- a frame stands at 0
+pub none_is_read_of_the_open : (own : List ℕ → ℕ) → IsReadOfOpen own small 0 None → ⊥
+none_is_read_of_the_open own is = omega (arith, ap length is.1, is.2)
 
 pub it_was_only_read : (sum own : List ℕ → ℕ) → LeavesReading sum own small small
 it_was_only_read sum own = record {

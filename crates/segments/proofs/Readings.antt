@@ -1,6 +1,6 @@
--- A read of the open segment.
+-- A read of the open segment, and where a read goes on.
 use Rattle.std.specs.Prelude.{◌≡◌, ℕ, List, Some, None, Option, Result, Ok, Err}
-use Rattle.std.proofs.Common.{refl, inl}
+use Rattle.std.proofs.Common.{refl, inl, arith}
 use Rattle.disk.specs.Disk.{Life}
 use Rattle.writer_state.specs.WriterState.{WriterState}
 use Rattle.writer_state.specs.Sound.{content}
@@ -11,12 +11,17 @@ use Rattle.segments.specs.declared.error.Error.TheVariants as errors
 use Rattle.segments.specs.declared.place.Place.{Place}
 use Rattle.segments.specs.Manifest.{open_in}
 use Rattle.segments.specs.Owned.{HasJournal, OwnedReadGoes}
-use Rattle.segments.specs.Log.{IsReadOf, LogReadGoes, LogState}
+use Rattle.segments.specs.Log.{EndsBehind, IsReadOf, LogReadGoes, LogState}
 
 read_of : (own : List ℕ → ℕ) (held : List ℕ) (offset : ℕ) (old new : Life) (found : Option Found)
     → ReadRecordGoes own held offset old new (Ok found) → IsReadOf own held offset found
 read_of own held offset old new None is = is.0
 read_of own held offset old new (Some f) is = is.0
+
+-- a frame ends behind its offset
+pub read_forward : (own : List ℕ → ℕ) (content : List ℕ) (offset : ℕ) (found : Option Found) → IsReadOf own content offset found → EndsBehind offset found
+read_forward own content offset None is = tt
+read_forward own content offset (Some f) is = omega (arith, is.after, is.within)
 
 pub reads_by : (own : List ℕ → ℕ) (j k : Option WriterState) (offset : ℕ) (old new : Life) (found : Option Found)
     → HasJournal j (λ w. (k ≡ Some w) × ReadRecordGoes own (content w old.present.readable) offset old new (Ok found))
@@ -28,8 +33,7 @@ reads_by own (Some w) k offset old new found is =
 pub reads_current : (sum own : List ℕ → ℕ) (s t : LogState) (p : Place) (result : Result (Option Found) Error) → p.segment ≡ open_in s.listing
     → OwnedReadGoes own p.offset s.current t.current result → LogReadGoes sum own s t p result
 reads_current sum own s t p (Ok found) at is =
-    let held = reads_by own s.current.journal t.current.journal p.offset s.current.life t.current.life found is in
-    (held.0, inl (at, held.1), held.2)
+    inl (at, reads_by own s.current.journal t.current.journal p.offset s.current.life t.current.life found is)
 reads_current sum own s t p (Err (errors.Layer e)) at is = inl (at, is)
 reads_current sum own s t p (Err errors.Closed) at is = (at, is.0)
 reads_current sum own s t p (Err (errors.System e)) at is = absurd is

@@ -1,14 +1,16 @@
 -- What a rotation and an append leave, shown of small logs, and refuted of something nearly right. Segment 3 is open, no
 -- segment is closed, and a page has 40 bytes. The journals and the life of the blobs are any.
-use Rattle.std.specs.Prelude.{◌≡◌, ◌≢◌, ◌++◌, ℕ, zero, suc, List, [], ◌∷◌, length, replicate, Some, None, Err, true, false}
+use Rattle.std.specs.Prelude.{◌≡◌, ◌≢◌, ◌-◌, ◌++◌, ℕ, zero, suc, List, [], ◌∷◌, length, nat_lt, replicate, slice_get, Option, Some, None, Err, Bool, true, false, if◌then◌else◌}
 use Rattle.std.proofs.Common.{refl, sym, ap, subst, inl, inr, arith, ◌∙◌}
 use Rattle.sha2.specs.Sha256.{sha256}
 use Rattle.disk.specs.Disk.{IsImage, Life}
 use Rattle.disk.specs.declared.error.Error.TheVariants.{WriteFailed}
 use Rattle.cache.specs.CacheState.{CacheState}
 use Rattle.page.specs.Page.{text}
+use Rattle.page.specs.Sums.{add_sum}
 use Rattle.paged.specs.Reads.{size_of}
-use Rattle.journal.specs.Frame.{records}
+use Rattle.journal.specs.declared.frame.Found.{Found}
+use Rattle.journal.specs.Frame.{frames, record_len, records, whole_frames}
 use Rattle.writer_state.specs.WriterState.{WriterState}
 use Rattle.segments.specs.declared.call.FolderCall.{FolderCall}
 use Rattle.segments.specs.declared.call.FolderCall.TheVariants as calls
@@ -19,7 +21,7 @@ use Rattle.segments.specs.Digests.{EachIsByte, HasTwin, IsOf, IsTwin}
 use Rattle.segments.specs.FolderEvents.{FolderEvent, closing_event, keeping_event, opening_with, plain_event}
 use Rattle.segments.specs.Manifest.{ListingState, closing_in, entry_bytes, free_after, listed_in, padded, padding}
 use Rattle.segments.specs.Owned.{OwnedState, without_journal}
-use Rattle.segments.specs.Log.{AppendRefused, HasFollowed, HasTwinIn, IsClosedIn, IsNotClosed, IsRotated, IsSameButCurrent, ListsTheSame, LogAppendGoes, LogState, ReadFails, RotateGoes, asked_turning, entered_bytes}
+use Rattle.segments.specs.Log.{AppendRefused, HasFollowed, HasTwinAt, HasTwinIn, HasTwinOf, HoldsClosed, IsClosedIn, IsNotClosed, IsReadOfClosed, IsRotated, IsSameButCurrent, ListsTheSame, LogAppendGoes, LogState, ReadFails, RotateGoes, TellHeld, asked_turning, entered_bytes}
 use Rattle.segments.specs.Crash.{AppendSurvives, HasLetGo, ListsFrom, RemovesUnlisted, RotationSurvives, WasRemoved}
 
 -- ---- bytes and twins
@@ -79,12 +81,69 @@ is_closed = (empty, refl)
 pub the_open_is_not : IsClosedIn one_closed 1 → ⊥
 the_open_is_not is = absurd (cc is.1)
 
-pub a_twin_of_segment_0 : (held : ℕ → List ℕ) (other : List ℕ) → IsTwin (held 0) other → HasTwinIn held one_closed
-a_twin_of_segment_0 held other is = (0, is_closed, (other, is))
+-- of an empty file there is no twin
+few_have_no_twin : (bytes : List ℕ) → length bytes ≡ 0 → HasTwin bytes → ⊥
+few_have_no_twin [] few has = none_has_no_twin has
+few_have_no_twin (b ∷ bytes) few has = absurd (omega (arith, few))
 
--- segments that held nothing have none
-pub no_twin_of_nothing : HasTwinIn (λ n. []) one_closed → ⊥
-no_twin_of_nothing has = none_has_no_twin has.2
+pub none_of_an_empty_file : (sum : List ℕ → ℕ) (P : ℕ) (content : List ℕ) → HasTwinOf sum P empty content → ⊥
+none_of_an_empty_file sum P content has = few_have_no_twin has.holds.bytes (sym has.holds.of.len) has.twin
+
+pub a_twin_at_segment_0 : (sum : List ℕ → ℕ) (P : ℕ) (held : ℕ → List ℕ) (kept : Closed) → HasTwinOf sum P kept (held 0) → HasTwinAt sum P held (record { first = 0; closed = kept ∷ [] }) 0
+a_twin_at_segment_0 sum P held kept has = (kept, refl, has)
+
+-- of the open segment nothing was kept
+pub no_twin_at_the_open_one : (sum : List ℕ → ℕ) (P : ℕ) (held : ℕ → List ℕ) → HasTwinAt sum P held one_closed 1 → ⊥
+no_twin_at_the_open_one sum P held has = absurd (cc has.1)
+
+pub a_twin_of_segment_0 : (sum : List ℕ → ℕ) (P : ℕ) (held : ℕ → List ℕ) (kept : Closed) → HasTwinOf sum P kept (held 0) → HasTwinIn sum P held (record { first = 0; closed = kept ∷ [] })
+a_twin_of_segment_0 sum P held kept has = (0, a_twin_at_segment_0 sum P held kept has)
+
+no_other : (b : Bool) (k : ℕ) (kept : Closed) → (if b then None else slice_get (empty ∷ []) k) ≡ Some kept → empty ≡ kept
+no_other true k kept is = absurd (cc is)
+no_other false zero kept is = ap (λ o. or_empty o) is where
+  or_empty : Option Closed → Closed
+  or_empty None = empty
+  or_empty (Some c) = c
+no_other false (suc k) kept is = absurd (cc is)
+
+-- the only closed segment was empty
+pub no_twin_of_nothing : (sum : List ℕ → ℕ) (P : ℕ) (held : ℕ → List ℕ) → HasTwinIn sum P held one_closed → ⊥
+no_twin_of_nothing sum P held has =
+    let same = no_other (nat_lt has.0 0) (has.0 - 0) has.1.0 has.1.1 in
+    none_of_an_empty_file sum P (held has.0) (subst (λ kept. HasTwinOf sum P kept (held has.0)) (sym same) has.1.2)
+
+not_listed : (b : Bool) (k : ℕ) (kept : Closed) → (if b then None else slice_get [] k) ≡ Some kept → ⊥
+not_listed true k kept is = absurd (cc is)
+not_listed false k kept is = absurd (cc is)
+
+-- no segment is closed
+pub no_twin_where_none_is_closed : (sum : List ℕ → ℕ) (P : ℕ) (held : ℕ → List ℕ) → HasTwinIn sum P held (record { first = 3; closed = [] }) → ⊥
+no_twin_where_none_is_closed sum P held has = not_listed (nat_lt has.0 3) (has.0 - 3) has.1.0 has.1.1
+
+-- ---- an empty file
+
+it_holds_nothing : HoldsClosed add_sum 18 empty []
+unfolding record_len frames whole_frames
+it_holds_nothing = record { bytes = []; of = of_no_bytes; holds = refl }
+
+none_are_held : (bytes content : List ℕ) → length bytes ≡ 0 → content ≡ whole_frames (text add_sum 18 bytes) → content ≡ []
+unfolding record_len frames whole_frames
+none_are_held [] content few holds = holds
+none_are_held (b ∷ bytes) content few holds = absurd (omega (arith, few))
+
+-- so the segment held no byte
+pub it_holds_one_byte : (b : ℕ) → TellHeld add_sum 18 (λ n. b ∷ []) 0 (empty ∷ []) → ⊥
+it_holds_one_byte b is =
+    let none = none_are_held is.0.bytes (b ∷ []) (sym is.0.of.len) is.0.holds in
+    absurd (omega (arith, ap length none))
+
+-- no frame is found in it
+pub nothing_is_found : (own : List ℕ → ℕ) (f : Found) → IsReadOfClosed add_sum own 18 empty 0 (Some f) → ⊥
+nothing_is_found own f is = elim (is.reads [] it_holds_nothing) [
+  | inl found ↦ absurd (omega (arith, found.within))
+  | inr twin ↦ none_of_an_empty_file add_sum 18 [] twin
+]
 
 -- ---- room behind an entry
 

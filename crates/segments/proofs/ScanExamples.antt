@@ -4,7 +4,7 @@
 use Rattle.std.specs.Prelude.{◌≡◌, ℕ, [], ◌∷◌, length}
 use Rattle.std.proofs.Common.{refl, ap, arith}
 use Rattle.page.specs.Sums.{add_sum}
-use Rattle.journal.specs.Frame.{frames, is_record, record_len, record_of, records, whole_frames}
+use Rattle.journal.specs.Frame.{frames, is_record, record_len, record_of, records}
 use Rattle.segments.specs.declared.closed.Closed.{Closed}
 use Rattle.segments.specs.Manifest.{ListingState}
 use Rattle.segments.specs.Scan.{ComesFirst, IsEnd, held_content, place_at, records_after, records_at, records_from}
@@ -16,46 +16,45 @@ module _ (one two : Closed) where
   abbrev listing : ListingState
   listing = record { first = 0; closed = one ∷ two ∷ [] }
 
-  pub what_the_second_held : held_content add_sum 18 held listing c_frame 1 ≡ d_frame
-  unfolding record_len frames whole_frames
+  pub what_the_second_held : held_content held listing c_frame 1 ≡ d_frame
   what_the_second_held = refl
 
-  pub what_the_open_one_has : held_content add_sum 18 held listing c_frame 2 ≡ c_frame
+  pub what_the_open_one_has : held_content held listing c_frame 2 ≡ c_frame
   what_the_open_one_has = refl
 
-  pub after_the_first : records_after add_sum add_sum 18 held listing c_frame 0 ≡ d ∷ c ∷ []
+  pub after_the_first : records_after add_sum held listing c_frame 0 ≡ d ∷ c ∷ []
   unfolding record_len is_record record_of frames records
   after_the_first = refl
 
-  pub after_the_open_one : records_after add_sum add_sum 18 held listing c_frame 2 ≡ []
+  pub after_the_open_one : records_after add_sum held listing c_frame 2 ≡ []
   after_the_open_one = refl
 
-  pub at_the_second : records_at add_sum add_sum 18 held listing c_frame (place_at 1 0) ≡ d ∷ c ∷ []
-  unfolding record_len is_record record_of frames records whole_frames
+  pub at_the_second : records_at add_sum held listing c_frame (place_at 1 0) ≡ d ∷ c ∷ []
+  unfolding record_len is_record record_of frames records
   at_the_second = refl
 
   -- behind the one frame of segment 1
-  pub behind_the_second : records_at add_sum add_sum 18 held listing c_frame (place_at 1 8) ≡ c ∷ []
-  unfolding record_len is_record record_of frames records whole_frames
+  pub behind_the_second : records_at add_sum held listing c_frame (place_at 1 8) ≡ c ∷ []
+  unfolding record_len is_record record_of frames records
   behind_the_second = refl
 
-  pub from_the_second : records_from add_sum add_sum held (both one two) (place_at 1 0) ≡ d ∷ c ∷ []
-  unfolding record_len is_record record_of frames records whole_frames
+  pub from_the_second : records_from add_sum held (both one two) (place_at 1 0) ≡ d ∷ c ∷ []
+  unfolding record_len is_record record_of frames records
   from_the_second = refl
 
-  pub the_first_place : ComesFirst add_sum add_sum (both one two) (place_at 0 0)
-  the_first_place = comes_first add_sum add_sum (both one two)
+  pub the_first_place : ComesFirst add_sum (both one two) (place_at 0 0)
+  the_first_place = comes_first add_sum (both one two)
 
   -- a record stands before this place
-  pub a_later_place : ComesFirst add_sum add_sum (both one two) (place_at 1 0) → ⊥
-  unfolding record_len is_record record_of frames records whole_frames
+  pub a_later_place : ComesFirst add_sum (both one two) (place_at 1 0) → ⊥
+  unfolding record_len is_record record_of frames records
   a_later_place first = let same : ◌≡◌ {A = ℕ} 2 3 = ap length (first held) in omega (arith, same)
 
-  pub the_end : IsEnd add_sum add_sum (both one two) (place_at 2 8)
+  pub the_end : IsEnd add_sum (both one two) (place_at 2 8)
   unfolding record_len is_record record_of frames records
   the_end held = refl
 
   -- a closed segment is done there, and the open one follows
-  pub not_the_end : IsEnd add_sum add_sum (both one two) (place_at 1 8) → ⊥
-  unfolding record_len is_record record_of frames records whole_frames
+  pub not_the_end : IsEnd add_sum (both one two) (place_at 1 8) → ⊥
+  unfolding record_len is_record record_of frames records
   not_the_end is = let same : ◌≡◌ {A = ℕ} 1 0 = ap length (is held) in omega (arith, same)

@@ -4,23 +4,20 @@ use Rattle.std.specs.Result.{IsErrAnd}
 use Rattle.std.proofs.Common.{ap, sym, ◌∙◌, refl, subst, inl, inr, append_assoc, append-nil, arith}
 use Rattle.std.proofs.lemmas.List.{drop_all}
 use Rattle.std.proofs.lemmas.Bool.{cases_lt, lt-ltb, le-ltb, ltb-false}
-use Rattle.page.specs.Page.{text}
 use Rattle.disk.specs.Disk.{Life}
 use Rattle.writer_state.specs.WriterState.{WriterState}
 use Rattle.writer_state.specs.Sound.{content}
 use Rattle.journal.specs.declared.frame.Found.{Found}
-use Rattle.journal.specs.Frame.{listed, records, whole_frames}
-use Rattle.journal.specs.Journal.{IsFound}
-use Rattle.journal.proofs.Frames.{records-none, records-whole}
+use Rattle.journal.specs.Frame.{listed, records}
+use Rattle.journal.proofs.Frames.{records-none}
 use Rattle.segments.specs.declared.closed.Closed.{Closed}
 use Rattle.segments.specs.declared.error.Error.{Error}
 use Rattle.segments.specs.declared.place.Place.{Place}
-use Rattle.segments.specs.Digests.{IsOf}
 use Rattle.segments.specs.Manifest.{ListingState, closed_at, open_in}
 use Rattle.segments.specs.Owned.{HasJournal, content_now, content_of, records_of}
-use Rattle.segments.specs.Log.{HasTwinIn, IsContentOf, LeavesReading, LogReadGoes, LogReadRefused, LogState, TellHeld, closed_records}
+use Rattle.segments.specs.Log.{EndsBehind, HasTwinIn, HoldsClosed, IsCurrentContent, IsReadOf, IsReadOfOpen, LeavesReading, LogReadGoes, LogReadRefused, LogState, TellHeld, closed_records}
+use Rattle.segments.proofs.Readings.{read_forward}
 use Rattle.segments.specs.Scan.{ComesFirst, IsBehind, IsEnd, NextGoes, StandBetween, StandBy, held_content, records_after, records_at}
-use Rattle.segments.proofs.Records.{judged}
 
 -- ---- what is listed
 
@@ -45,26 +42,31 @@ within l segment kept is =
     let few = get_within l.closed (segment - l.first) kept parts.1 in
     record { after = after; there = parts.1; before = omega (arith, after, few) }
 
-tells_at : (held : ℕ → List ℕ) (first : ℕ) (cs : List Closed) (k : ℕ) (kept : Closed) → TellHeld held first cs → slice_get cs k ≡ Some kept → IsOf (held (first + k)) kept
-tells_at held first [] k kept tells is = absurd (subst (λ (o : Option Closed). IfSome o (λ c. ⊥)) is tt)
-tells_at held first (c ∷ cs) zero kept tells is =
+tells_at : (sum : List ℕ → ℕ) (P : ℕ) (held : ℕ → List ℕ) (first : ℕ) (cs : List Closed) (k : ℕ) (kept : Closed) → TellHeld sum P held first cs → slice_get cs k ≡ Some kept
+    → HoldsClosed sum P kept (held (first + k))
+tells_at sum P held first [] k kept tells is = absurd (subst (λ (o : Option Closed). IfSome o (λ c. ⊥)) is tt)
+tells_at sum P held first (c ∷ cs) zero kept tells is =
     let same : c ≡ kept = some_is c kept is in
-    subst (λ n. IsOf (held n) kept) (omega arith) (subst (λ c. IsOf (held first) c) same tells.0) where
+    subst (λ n. HoldsClosed sum P kept (held n)) (omega arith) (subst (λ c. HoldsClosed sum P c (held first)) same tells.0) where
       some_or : Option Closed → Closed → Closed
       some_or None d = d
       some_or (Some c) d = c
 
       some_is : (c kept : Closed) → Some c ≡ Some kept → c ≡ kept
       some_is c kept is = ap (λ o. some_or o c) is
-tells_at held first (c ∷ cs) (suc k) kept tells is =
-    subst (λ n. IsOf (held n) kept) (omega arith) (tells_at held (suc first) cs k kept tells.1 is)
+tells_at sum P held first (c ∷ cs) (suc k) kept tells is =
+    subst (λ n. HoldsClosed sum P kept (held n)) (omega arith) (tells_at sum P held (suc first) cs k kept tells.1 is)
 
--- a segment that has content is no later than the open one
-is_inside : (sum : List ℕ → ℕ) (s : LogState) (segment : ℕ) (C : List ℕ) → IsContentOf sum s segment C → segment ≤ open_in s.listing
-is_inside sum s segment C (inl is) = omega (arith, is.0)
-is_inside sum s segment C (inr is) = let here = within s.listing segment is.0 is.1 in omega (arith, here.before)
+-- ---- a read
 
--- ---- the content of a segment
+-- a segment that was read is no later than the open one
+is_inside : (sum own : List ℕ → ℕ) (s t : LogState) (at : Place) (found : Option Found) → LogReadGoes sum own s t at (Ok found) → at.segment ≤ open_in s.listing
+is_inside sum own s t at found (inl is) = omega (arith, is.0)
+is_inside sum own s t at found (inr is) = let here = within s.listing at.segment is.0 is.1 in omega (arith, here.before)
+
+is_forward : (sum own : List ℕ → ℕ) (s t : LogState) (at : Place) (found : Option Found) → LogReadGoes sum own s t at (Ok found) → EndsBehind at.offset found
+is_forward sum own s t at found (inl is) = read_forward own is.1.0 at.offset found is.1.2
+is_forward sum own s t at found (inr is) = is.2.forward
 
 current_is : (j : Option WriterState) (life : Life) (C : List ℕ) → HasJournal j (λ w. C ≡ content w life.present.readable) → content_of j life ≡ C
 current_is None life C is = absurd is
@@ -76,39 +78,40 @@ pick_true b x y is = ap (λ b. if b then x else y) is
 pick_false : {X : Type 0} (b : Bool) (x y : X) → b ≡ false → (if b then x else y) ≡ y
 pick_false b x y is = ap (λ b. if b then x else y) is
 
--- the content of a segment is what it is by what the closed ones held
-pub is_held : (sum : List ℕ → ℕ) (held : ℕ → List ℕ) (s : LogState) (segment : ℕ) (C : List ℕ) → TellHeld held s.listing.first s.listing.closed → IsContentOf sum s segment C
-    → (held_content sum s.page_size held s.listing (content_now s.current) segment ≡ C) ⊎ HasTwinIn held s.listing
-is_held sum held s segment C tells (inl is) =
-    inl (pick_false (nat_lt segment (open_in s.listing)) (whole_frames (text sum s.page_size (held segment))) (content_now s.current) (le-ltb segment (open_in s.listing) (omega (arith, is.0)))
-    ∙ current_is s.current.journal s.current.life C is.1)
-is_held sum held s segment C tells (inr is) =
-    let here = within s.listing segment is.0 is.1 in
-    let told = subst (λ n. IsOf (held n) is.0) (omega (arith, here.after)) (tells_at held s.listing.first s.listing.closed (segment - s.listing.first) is.0 tells here.there) in
-    elim (judged (held segment) is.2.bytes is.0 told is.2.of) [
-      | inl same ↦ inl (
-          pick_true (nat_lt segment (open_in s.listing)) (whole_frames (text sum s.page_size (held segment))) (content_now s.current) (lt-ltb segment (open_in s.listing) here.before)
-          ∙ ap (λ bytes. whole_frames (text sum s.page_size bytes)) (sym same) ∙ sym is.2.holds)
-      | inr twin ↦ inr (segment, (is.0, is.1), twin)
+open_content : (held : ℕ → List ℕ) (s : LogState) (segment : ℕ) (C : List ℕ) → segment ≡ open_in s.listing → IsCurrentContent s C → held_content held s.listing (content_now s.current) segment ≡ C
+open_content held s segment C last is =
+    pick_false (nat_lt segment (open_in s.listing)) (held segment) (content_now s.current) (le-ltb segment (open_in s.listing) (omega (arith, last)))
+    ∙ current_is s.current.journal s.current.life C is
+
+-- a read is of what the segment has, by what the closed ones held
+read_is : (sum own : List ℕ → ℕ) (held : ℕ → List ℕ) (s t : LogState) (at : Place) (found : Option Found) → TellHeld sum s.page_size held s.listing.first s.listing.closed
+    → LogReadGoes sum own s t at (Ok found)
+    → IsReadOf own (held_content held s.listing (content_now s.current) at.segment) at.offset found ⊎ HasTwinIn sum s.page_size held s.listing
+read_is sum own held s t at found tells (inl is) =
+    inl (subst (λ content. IsReadOf own content at.offset found) (sym (open_content held s at.segment is.1.0 is.0 is.1.1)) is.1.2)
+read_is sum own held s t at found tells (inr is) =
+    let l = s.listing in
+    let here = within l at.segment is.0 is.1 in
+    let told : HoldsClosed sum s.page_size is.0 (held at.segment) =
+    subst (λ n. HoldsClosed sum s.page_size is.0 (held n)) (omega (arith, here.after)) (tells_at sum s.page_size held l.first l.closed (at.segment - l.first) is.0 tells here.there) in
+    elim (is.2.reads (held at.segment) told) [
+      | inl read ↦ inl (subst (λ content. IsReadOf own content at.offset found)
+          (sym (pick_true (nat_lt at.segment (open_in l)) (held at.segment) (content_now s.current) (lt-ltb at.segment (open_in l) here.before))) read)
+      | inr twin ↦ inr (at.segment, (is.0, is.1, twin))
     ]
 
 -- ---- one frame further
 
-frame_more : (own : List ℕ → ℕ) (held C : List ℕ) (offset end : ℕ) (bytes : Option (List ℕ)) (after : List (List ℕ)) → held ≡ C → IsFound own C offset bytes end
-    → records own (drop offset held) ++ after ≡ listed bytes ++ (records own (drop end held) ++ after)
-frame_more own held C offset end bytes after same found =
-    ap (λ l. records own (drop offset l) ++ after) same
-    ∙ ap (λ rs. rs ++ after) found.rest
-    ∙ append_assoc (listed bytes) (records own (drop end C)) after
-    ∙ ap (λ l. listed bytes ++ (records own (drop end l) ++ after)) (sym same)
-
 -- a frame that was found
-pub found_between : (sum own : List ℕ → ℕ) (s : LogState) (at : Place) (end : ℕ) (bytes : Option (List ℕ)) (C : List ℕ) → IsContentOf sum s at.segment C → IsFound own C at.offset bytes end
-    → StandBetween sum own s (listed bytes) at (record { segment = at.segment; offset = end })
-found_between sum own s at end bytes C is found held tells =
-    elim (is_held sum held s at.segment C tells is) [
-      | inl same ↦ inl (frame_more own (held_content sum s.page_size held s.listing (content_now s.current) at.segment) C at.offset end bytes
-          (records_after sum own s.page_size held s.listing (content_now s.current) at.segment) same found)
+found_between : (sum own : List ℕ → ℕ) (s t : LogState) (at : Place) (f : Found) → LogReadGoes sum own s t at (Ok (Some f))
+    → StandBetween sum own s (listed f.bytes) at (record { segment = at.segment; offset = f.end })
+found_between sum own s t at f is held tells =
+    let now = content_now s.current in
+    let after = records_after own held s.listing now at.segment in
+    elim (read_is sum own held s t at (Some f) tells is) [
+      | inl found ↦ inl (
+          ap (λ rs. rs ++ after) found.rest
+          ∙ append_assoc (listed f.bytes) (records own (drop f.end (held_content held s.listing now at.segment))) after)
       | inr twin ↦ inr twin
     ]
 
@@ -120,67 +123,61 @@ split_at (c ∷ cs) zero short = (c, refl)
 split_at (c ∷ cs) (suc k) short = split_at cs k (omega (arith, short))
 
 -- the records of the segments from one on are those from its first place on
-next_first : (sum own : List ℕ → ℕ) (P : ℕ) (held : ℕ → List ℕ) (l : ListingState) (content : List ℕ) (n : ℕ) → l.first ≤ n → n ≤ open_in l
-    → closed_records sum own P held n (drop (n - l.first) l.closed) ++ records own content ≡ records_at sum own P held l content (record { segment = n; offset = 0 })
-next_first sum own P held l content n after before = elim (cases_lt n (open_in l)) [
+next_first : (own : List ℕ → ℕ) (held : ℕ → List ℕ) (l : ListingState) (content : List ℕ) (n : ℕ) → l.first ≤ n → n ≤ open_in l
+    → closed_records own held n (drop (n - l.first) l.closed) ++ records own content ≡ records_at own held l content (record { segment = n; offset = 0 })
+next_first own held l content n after before = elim (cases_lt n (open_in l)) [
   | inl short ↦
       let k = n - l.first in
       let parts = split_at l.closed k (omega (arith, after, short)) in
-      let here = whole_frames (text sum P (held n)) in
-      let rest = closed_records sum own P held (suc n) (drop (suc k) l.closed) in
+      let rest = closed_records own held (suc n) (drop (suc k) l.closed) in
       let more : suc n - l.first ≡ suc k = omega (arith, after) in
       let is = lt-ltb n (open_in l) short in
-      ap (λ cs. closed_records sum own P held n cs ++ records own content) parts.1
-      ∙ append_assoc (records own (text sum P (held n))) rest (records own content)
-      ∙ ap (λ rs. rs ++ (rest ++ records own content)) (sym (records-whole own (text sum P (held n))))
-      ∙ ap (λ j. records own here ++ (closed_records sum own P held (suc n) (drop j l.closed) ++ records own content)) (sym more)
-      ∙ ap (λ bytes. records own bytes ++ (closed_records sum own P held (suc n) (drop (suc n - l.first) l.closed) ++ records own content))
-      (sym (pick_true (nat_lt n (open_in l)) here content is))
-      ∙ ap (λ rs. records own (held_content sum P held l content n) ++ rs)
-      (sym (pick_true (nat_lt n (open_in l)) (closed_records sum own P held (suc n) (drop (suc n - l.first) l.closed) ++ records own content) [] is))
+      ap (λ cs. closed_records own held n cs ++ records own content) parts.1
+      ∙ append_assoc (records own (held n)) rest (records own content)
+      ∙ ap (λ j. records own (held n) ++ (closed_records own held (suc n) (drop j l.closed) ++ records own content)) (sym more)
+      ∙ ap (λ bytes. records own bytes ++ (closed_records own held (suc n) (drop (suc n - l.first) l.closed) ++ records own content))
+      (sym (pick_true (nat_lt n (open_in l)) (held n) content is))
+      ∙ ap (λ rs. records own (held_content held l content n) ++ rs)
+      (sym (pick_true (nat_lt n (open_in l)) (closed_records own held (suc n) (drop (suc n - l.first) l.closed) ++ records own content) [] is))
   | inr long ↦
       let is = le-ltb n (open_in l) long in
-      ap (λ cs. closed_records sum own P held n cs ++ records own content) (drop_all (n - l.first) l.closed (omega (arith, after, long)))
+      ap (λ cs. closed_records own held n cs ++ records own content) (drop_all (n - l.first) l.closed (omega (arith, after, long)))
       ∙ sym (append-nil (records own content))
-      ∙ ap (λ bytes. records own bytes ++ []) (sym (pick_false (nat_lt n (open_in l)) (whole_frames (text sum P (held n))) content is))
-      ∙ ap (λ rs. records own (held_content sum P held l content n) ++ rs)
-      (sym (pick_false (nat_lt n (open_in l)) (closed_records sum own P held (suc n) (drop (suc n - l.first) l.closed) ++ records own content) [] is))
+      ∙ ap (λ bytes. records own bytes ++ []) (sym (pick_false (nat_lt n (open_in l)) (held n) content is))
+      ∙ ap (λ rs. records own (held_content held l content n) ++ rs)
+      (sym (pick_false (nat_lt n (open_in l)) (closed_records own held (suc n) (drop (suc n - l.first) l.closed) ++ records own content) [] is))
 ]
 
-none_there : (own : List ℕ → ℕ) (held C : List ℕ) (offset : ℕ) → held ≡ C → length C ≤ offset → records own (drop offset held) ≡ []
-none_there own held C offset same le =
-    ap (λ l. records own (drop offset l)) same ∙ ap (λ l. records own l) (drop_all offset C le) ∙ records-none own
+none_there : (own : List ℕ → ℕ) (content : List ℕ) (offset : ℕ) → length content ≤ offset → records own (drop offset content) ≡ []
+none_there own content offset le = ap (λ l. records own l) (drop_all offset content le) ∙ records-none own
 
 -- the next segment follows a closed one
-pub closed_between : (sum own : List ℕ → ℕ) (s : LogState) (at : Place) (kept : Closed) (C : List ℕ) → closed_at s.listing at.segment ≡ Some kept → IsContentOf sum s at.segment C
-    → length C ≤ at.offset → StandBetween sum own s [] at (record { segment = at.segment + 1; offset = 0 })
-closed_between sum own s at kept C listed is le held tells =
+closed_between : (sum own : List ℕ → ℕ) (s t : LogState) (at : Place) (kept : Closed) → closed_at s.listing at.segment ≡ Some kept → LogReadGoes sum own s t at (Ok None)
+    → StandBetween sum own s [] at (record { segment = at.segment + 1; offset = 0 })
+closed_between sum own s t at kept listed is held tells =
     let l = s.listing in
-    let P = s.page_size in
     let now = content_now s.current in
     let here = within l at.segment kept listed in
     let n = at.segment + 1 in
     let more : suc at.segment ≡ n = omega arith in
-    elim (is_held sum held s at.segment C tells is) [
-      | inl same ↦ inl (
-          ap (λ rs. rs ++ records_after sum own P held l now at.segment) (none_there own (held_content sum P held l now at.segment) C at.offset same le)
-          ∙ pick_true (nat_lt at.segment (open_in l)) (closed_records sum own P held (suc at.segment) (drop (suc at.segment - l.first) l.closed) ++ records own now) [] (lt-ltb at.segment (open_in l) here.before)
-          ∙ ap (λ m. closed_records sum own P held m (drop (m - l.first) l.closed) ++ records own now) more
-          ∙ next_first sum own P held l now n (omega (arith, here.after)) (omega (arith, here.before)))
+    elim (read_is sum own held s t at None tells is) [
+      | inl few ↦ inl (
+          ap (λ rs. rs ++ records_after own held l now at.segment) (none_there own (held_content held l now at.segment) at.offset few)
+          ∙ pick_true (nat_lt at.segment (open_in l)) (closed_records own held (suc at.segment) (drop (suc at.segment - l.first) l.closed) ++ records own now) [] (lt-ltb at.segment (open_in l) here.before)
+          ∙ ap (λ m. closed_records own held m (drop (m - l.first) l.closed) ++ records own now) more
+          ∙ next_first own held l now n (omega (arith, here.after)) (omega (arith, here.before)))
       | inr twin ↦ inr twin
     ]
 
 -- nothing follows the open one
-pub open_end : (sum own : List ℕ → ℕ) (s : LogState) (at : Place) (C : List ℕ) → at.segment ≡ open_in s.listing → HasJournal s.current.journal (λ w. C ≡ content w s.current.life.present.readable)
-    → length C ≤ at.offset → IsEnd sum own s at
-open_end sum own s at C last is le held =
-    let is_not = le-ltb at.segment (open_in s.listing) (omega (arith, last)) in
-    let P = s.page_size in
+open_end : (own : List ℕ → ℕ) (s : LogState) (at : Place) → at.segment ≡ open_in s.listing → IsReadOfOpen own s at.offset None → IsEnd own s at
+open_end own s at last is held =
     let l = s.listing in
     let now = content_now s.current in
-    let same = pick_false (nat_lt at.segment (open_in l)) (whole_frames (text sum P (held at.segment))) now is_not ∙ current_is s.current.journal s.current.life C is in
-    ap (λ rs. rs ++ records_after sum own P held l now at.segment) (none_there own (held_content sum P held l now at.segment) C at.offset same le)
-    ∙ pick_false (nat_lt at.segment (open_in l)) (closed_records sum own P held (suc at.segment) (drop (suc at.segment - l.first) l.closed) ++ records own now) [] is_not
+    let few : length (held_content held l now at.segment) ≤ at.offset =
+    subst (λ (content : List ℕ). length content ≤ at.offset) (sym (open_content held s at.segment is.0 last is.1)) is.2 in
+    ap (λ rs. rs ++ records_after own held l now at.segment) (none_there own (held_content held l now at.segment) at.offset few)
+    ∙ pick_false (nat_lt at.segment (open_in l)) (closed_records own held (suc at.segment) (drop (suc at.segment - l.first) l.closed) ++ records own now) [] (le-ltb at.segment (open_in l) (omega (arith, last)))
 
 -- ---- the first place
 
@@ -188,13 +185,13 @@ now_is : (own : List ℕ → ℕ) (j : Option WriterState) (life : Life) → rec
 now_is own None life = records-none own
 now_is own (Some w) life = refl
 
-pub comes_first : (sum own : List ℕ → ℕ) (s : LogState) → ComesFirst sum own s (record { segment = s.listing.first; offset = 0 })
-comes_first sum own s held =
+pub comes_first : (own : List ℕ → ℕ) (s : LogState) → ComesFirst own s (record { segment = s.listing.first; offset = 0 })
+comes_first own s held =
     let l = s.listing in
     let none : l.first - l.first ≡ 0 = omega arith in
-    sym (next_first sum own s.page_size held l (content_now s.current) l.first (omega arith) (omega arith))
-    ∙ ap (λ k. closed_records sum own s.page_size held l.first (drop k l.closed) ++ records own (content_now s.current)) none
-    ∙ ap (λ rs. closed_records sum own s.page_size held l.first l.closed ++ rs) (now_is own s.current.journal s.current.life)
+    sym (next_first own held l (content_now s.current) l.first (omega arith) (omega arith))
+    ∙ ap (λ k. closed_records own held l.first (drop k l.closed) ++ records own (content_now s.current)) none
+    ∙ ap (λ rs. closed_records own held l.first l.closed ++ rs) (now_is own s.current.journal s.current.life)
 
 -- ---- one step
 
@@ -203,23 +200,22 @@ pub step_found : (sum own : List ℕ → ℕ) (s t : LogState) (at : Place) (f :
     → StandBetween sum own s (listed f.bytes) at (record { segment = at.segment; offset = f.end })
     × IsBehind s at (record { segment = at.segment; offset = f.end })
 step_found sum own s t at f fits is =
-    let found = is.2 in
-    let inside = is_inside sum s at.segment is.0 is.1 in (
-      found_between sum own s at f.end f.bytes is.0 is.1 found,
+    let inside = is_inside sum own s t at (Some f) is in
+    let forward : at.offset < f.end = is_forward sum own s t at (Some f) is in (
+      found_between sum own s t at f is,
       record {
         segment = omega arith;
-        nearer = omega (arith, inside, fits, found.after, found.within);
+        nearer = omega (arith, inside, fits, forward);
       },
     )
 
 -- no frame was found in a closed segment: the next one follows
-passed_by : (sum own : List ℕ → ℕ) (s : LogState) (at : Place) (C : List ℕ) → at.offset < 18446744073709551616 → at.segment ≢ open_in s.listing → IsContentOf sum s at.segment C → length C ≤ at.offset
+passed_by : (sum own : List ℕ → ℕ) (s : LogState) (at : Place) (kept : Closed) → at.offset < 18446744073709551616 → closed_at s.listing at.segment ≡ Some kept → LogReadGoes sum own s s at (Ok None)
     → StandBetween sum own s [] at (record { segment = at.segment + 1; offset = 0 })
     × IsBehind s at (record { segment = at.segment + 1; offset = 0 }) × (at.segment < open_in s.listing)
-passed_by sum own s at C fits other (inl last) le = absurd (other last.0)
-passed_by sum own s at C fits other (inr closed) le =
-    let here = within s.listing at.segment closed.0 closed.1 in (
-      closed_between sum own s at closed.0 C closed.1 (inr closed) le,
+passed_by sum own s at kept fits listed is =
+    let here = within s.listing at.segment kept listed in (
+      closed_between sum own s s at kept listed is,
       record { segment = omega arith; nearer = omega (arith, fits, here.before) },
       here.before,
     )
@@ -227,17 +223,15 @@ passed_by sum own s at C fits other (inr closed) le =
 pub step_passed : (sum own : List ℕ → ℕ) (s : LogState) (at : Place) → at.offset < 18446744073709551616 → at.segment ≢ open_in s.listing → LogReadGoes sum own s s at (Ok None)
     → StandBetween sum own s [] at (record { segment = at.segment + 1; offset = 0 })
     × IsBehind s at (record { segment = at.segment + 1; offset = 0 }) × (at.segment < open_in s.listing)
-step_passed sum own s at fits other is = passed_by sum own s at is.0 fits other is.1 is.2
+step_passed sum own s at fits other (inl last) = absurd (other last.0)
+step_passed sum own s at fits other (inr closed) = passed_by sum own s at closed.0 fits closed.1 (inr closed)
 
 -- no frame was found in the open one: it is the end
-stops_by : (sum own : List ℕ → ℕ) (s : LogState) (at : Place) (C : List ℕ) → at.segment ≡ open_in s.listing → IsContentOf sum s at.segment C → length C ≤ at.offset → IsEnd sum own s at
-stops_by sum own s at C last (inl here) le = open_end sum own s at C last here.1 le
-stops_by sum own s at C last (inr closed) le =
+pub step_stops : (sum own : List ℕ → ℕ) (s : LogState) (at : Place) → at.segment ≡ open_in s.listing → LogReadGoes sum own s s at (Ok None) → IsEnd own s at
+step_stops sum own s at last (inl here) = open_end own s at last here.1
+step_stops sum own s at last (inr closed) =
     let here = within s.listing at.segment closed.0 closed.1 in
     absurd (omega (arith, here.before, last))
-
-pub step_stops : (sum own : List ℕ → ℕ) (s : LogState) (at : Place) → at.segment ≡ open_in s.listing → LogReadGoes sum own s s at (Ok None) → IsEnd sum own s at
-step_stops sum own s at last is = stops_by sum own s at is.0 last is.1 is.2
 
 -- ---- one step after another
 
@@ -258,11 +252,10 @@ between_back sum own s m these p q leaves is =
     (subst (λ l. StandBy sum own m.page_size l (content_now s.current) these p q) leaves.listing
     (subst (λ held. StandBy sum own m.page_size m.listing held these p q) leaves.holds is))
 
-pub end_back : (sum own : List ℕ → ℕ) (s m : LogState) (p : Place) → LeavesReading sum own s m → IsEnd sum own m p → IsEnd sum own s p
+pub end_back : (sum own : List ℕ → ℕ) (s m : LogState) (p : Place) → LeavesReading sum own s m → IsEnd own m p → IsEnd own s p
 end_back sum own s m p leaves is held =
-    subst (λ P. records_at sum own P held s.listing (content_now s.current) p ≡ []) leaves.page_size
-    (subst (λ l. records_at sum own m.page_size held l (content_now s.current) p ≡ []) leaves.listing
-    (subst (λ bytes. records_at sum own m.page_size held m.listing bytes p ≡ []) leaves.holds (is held)))
+    subst (λ l. records_at own held l (content_now s.current) p ≡ []) leaves.listing
+    (subst (λ bytes. records_at own held m.listing bytes p ≡ []) leaves.holds (is held))
 
 pub behind_back : (sum own : List ℕ → ℕ) (s m : LogState) (p q : Place) → LeavesReading sum own s m → IsBehind m p q → IsBehind s p q
 behind_back sum own s m p q leaves is = record {

@@ -55,7 +55,7 @@ listed_of sum own s m pages owned lists bytes image =
 pub left_of : (sum own : List ℕ → ℕ) (held file : ℕ → List ℕ) (s : LogState) (m : WriterState) → s.manifest.page_size ≡ s.page_size → IsOwnedJournal sum own s.manifest m
     → Lists sum own s.page_size s.listing m s.manifest.life → (bytes : List ℕ) → IsImage s.manifest.life.present bytes
     → records_left sum own s.page_size held file bytes
-    ≡ Some (closed_records sum own s.page_size held s.listing.first s.listing.closed ++ records own (text sum s.page_size (file (open_in s.listing))))
+    ≡ Some (closed_records own held s.listing.first s.listing.closed ++ records own (text sum s.page_size (file (open_in s.listing))))
 left_of sum own held file s m pages owned lists bytes image =
     ap (λ o. records_by sum own s.page_size held file o) (listed_of sum own s m pages owned lists bytes image)
 
@@ -79,7 +79,7 @@ call_keeps : (sum own : List ℕ → ℕ) (more : List (List ℕ)) (s : LogState
     → KeepsRecords sum own s.page_size (records_now own s.current ++ more) old new → (held : ℕ → List ℕ) → KeepsLog sum own held s more old new
 call_keeps sum own more s m old new pages owned lists keeps held =
     let P = s.page_size in
-    let before = closed_records sum own P held s.listing.first s.listing.closed in
+    let before = closed_records own held s.listing.first s.listing.closed in
     let d = s.manifest.life.present in
     record {
       kept = λ told n commits. through_then (Commits sum own P told n) (λ e. LogKept sum own P held (length before + n) (before ++ records own told) d (λ j. e)) old new
@@ -88,9 +88,9 @@ call_keeps sum own more s m old new pages owned lists keeps held =
           subst (λ o. BeginWith (length before + n) (before ++ records own told) o) (sym (left_of sum own held file s m pages owned lists manifest image))
           (begin_more before n (records own (text sum P (file (open_in s.listing)))) (records own told) back.0 back.1))
           (keeps.kept told n commits);
-      only = through_then (OnlyRecords sum own P (records_now own s.current ++ more)) (λ e. LogOnly sum own P held (log_records sum own held s ++ more) d (λ j. e)) old new
+      only = through_then (OnlyRecords sum own P (records_now own s.current ++ more)) (λ e. LogOnly sum own P held (log_records own held s ++ more) d (λ j. e)) old new
           (λ e o manifest image free file images frees.
-          subst (λ o. AreFirstOf (log_records sum own held s ++ more) o) (sym (left_of sum own held file s m pages owned lists manifest image))
+          subst (λ o. AreFirstOf (log_records own held s ++ more) o) (sym (left_of sum own held file s m pages owned lists manifest image))
           (subst (λ all. IsPrefix (before ++ records own (text sum P (file (open_in s.listing)))) all) (sym (append_assoc before (records_now own s.current) more))
           (first_more before (records own (text sum P (file (open_in s.listing)))) (records_now own s.current ++ more)
           (o.only (file (open_in s.listing)) (images (open_in s.listing)) (frees (open_in s.listing))))))

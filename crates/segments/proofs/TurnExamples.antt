@@ -17,11 +17,11 @@ use Rattle.segments.specs.Digests.{IsOf}
 use Rattle.segments.specs.FolderEvents.{keeping_event, plain_event}
 use Rattle.segments.specs.Manifest.{ListingState, free_after, open_in}
 use Rattle.segments.specs.Owned.{HasJournal, IsShut, OwnedAppendGoes, OwnedState, owned_size, records_now, without_journal}
-use Rattle.segments.specs.Log.{AppendHereGoes, AreOfOlder, AsksOfOlder, HasMore, IsAppendedTo, IsNotFollowed, IsNotListed, IsRefusedAfter, IsRotated, IsSameButCurrent, ListsTheSame, LogReadGoes, LogReadRefused, LogState, NextRefused, WasClosed, asked_turning, entered_bytes, log_records}
+use Rattle.segments.specs.Log.{AppendHereGoes, AreOfOlder, AsksOfOlder, HasMore, HoldsClosed, IsAppendedTo, IsNotFollowed, IsNotListed, IsRefusedAfter, IsRotated, IsSameButCurrent, ListsTheSame, LogReadGoes, LogReadRefused, LogState, NextRefused, WasClosed, asked_turning, entered_bytes, log_records}
 use Rattle.segments.specs.Crash.{CurrentSurvives, IsRotationKept, KeepsLog, LogTurned, RotationSurvives, TurnKept, TurnedSurvives, records_left}
 use Rattle.segments.specs.Scan.{IsNextAt, IsRefusedFrom, NextGoes, StandBetween, StandBy, records_at}
 use Rattle.segments.proofs.Joining.{leaves_start}
-use Rattle.segments.proofs.RotationExamples.{first_kind, log, lost, nothing_after_it, none_has_no_twin, number, owned, shut}
+use Rattle.segments.proofs.RotationExamples.{empty, first_kind, log, lost, no_twin_where_none_is_closed, none_of_an_empty_file, nothing_after_it, number, owned, shut}
 
 -- ---- a segment that was closed
 
@@ -130,7 +130,7 @@ not_in_segment_5 sum own cache life w t is = elim (is.before) [
 -- ---- the records
 
 pub none_more : (sum own : List ℕ → ℕ) (s : LogState) → HasMore sum own [] s s
-none_more sum own s held tells = inl (sym (append-nil (log_records sum own held s)))
+none_more sum own s held tells = inl (sym (append-nil (log_records own held s)))
 
 longer : (rs : List (List ℕ)) (x : List ℕ) → rs ≡ rs ++ x ∷ [] → ⊥
 longer rs x is = absurd (omega (arith, ap length is, length-append rs (x ∷ [])))
@@ -138,8 +138,8 @@ longer rs x is = absurd (omega (arith, ap length is, length-append rs (x ∷ [])
 -- a record may not be said to be there that isn't
 pub not_one_more : (sum own : List ℕ → ℕ) (cache : CacheState) (life : Life) (w : WriterState) (x : List ℕ) → HasMore sum own (x ∷ []) (log cache life w) (log cache life w) → ⊥
 not_one_more sum own cache life w x has = elim (has (λ n. []) tt) [
-  | inl same ↦ longer (log_records sum own (λ n. []) (log cache life w)) x same
-  | inr twin ↦ none_has_no_twin twin
+  | inl same ↦ longer (log_records own (λ n. []) (log cache life w)) x same
+  | inr twin ↦ absurd (cc twin.1)
 ]
 
 pub nothing_between : (sum own : List ℕ → ℕ) (s : LogState) (p : Place) → StandBetween sum own s [] p p
@@ -154,14 +154,14 @@ nothing_by sum own P l content p held tells = inl refl
 -- between a place and itself stands no record
 pub no_record_by : (sum own : List ℕ → ℕ) (content x : List ℕ) (p : Place) → StandBy sum own 40 (record { first = 3; closed = [] }) content (x ∷ []) p p → ⊥
 no_record_by sum own content x p is = elim (is (λ n. []) tt) [
-  | inl same ↦ shorter x (records_at sum own 40 (λ n. []) (record { first = 3; closed = [] }) content p) same
-  | inr twin ↦ none_has_no_twin twin.2
+  | inl same ↦ shorter x (records_at own (λ n. []) (record { first = 3; closed = [] }) content p) same
+  | inr twin ↦ no_twin_where_none_is_closed sum 40 (λ n. []) twin
 ]
 
 pub no_record_between : (sum own : List ℕ → ℕ) (cache : CacheState) (life : Life) (w : WriterState) (x : List ℕ) (p : Place) → StandBetween sum own (log cache life w) (x ∷ []) p p → ⊥
 no_record_between sum own cache life w x p is = elim (is (λ n. []) tt) [
   | inl same ↦ shorter x _ same
-  | inr twin ↦ none_has_no_twin twin.2
+  | inr twin ↦ no_twin_where_none_is_closed sum 40 (λ n. []) twin
 ]
 
 pub next_at : (sum own : List ℕ → ℕ) (s : LogState) (from behind : Place) (x : List ℕ) → StandBetween sum own s (x ∷ []) from behind → IsNextAt sum own s from from behind x
@@ -189,7 +189,7 @@ a_refused_read sum own cache life w = no_segment_7 own cache life w
 -- of a segment that isn't there nothing can be said
 pub no_end_of_segment_7 : (sum own : List ℕ → ℕ) (cache : CacheState) (life : Life) (w : WriterState)
     → LogReadGoes sum own (log cache life w) (log cache life w) (record { segment = 7; offset = 0 }) (Ok None) → ⊥
-no_end_of_segment_7 sum own cache life w is = elim (is.1) [ inl here ↦ absurd (omega (arith, here.0)) | inr closed ↦ absurd (cc closed.1) ]
+no_end_of_segment_7 sum own cache life w is = elim is [ inl here ↦ absurd (omega (arith, here.0)) | inr closed ↦ absurd (cc closed.1) ]
 
 pub refused_from : (sum own : List ℕ → ℕ) (cache : CacheState) (life : Life) (w : WriterState)
     → IsRefusedFrom sum own (log cache life w) (log cache life w) (record { segment = 7; offset = 0 }) (errors.NoSegment 7)
@@ -238,21 +238,21 @@ no_opening is = elim (subst (λ es. AreOfOlder 0 1 es) (sym is.all) is.below) [ 
 
 -- ---- a crash in a rotation
 
-pub turned_if : (sum own : List ℕ → ℕ) (P : ℕ) (held : ℕ → List ℕ) (all : List (List ℕ)) (k : ℕ) (d e m : Disk)
-    → ((manifest : List ℕ) (file : ℕ → List ℕ) → records_left sum own P held file manifest ≡ Some all) → LogTurned sum own P held all k d e m
-turned_if sum own P held all k d e m all_back manifest image free file at_k at_next free_next = inl (all_back manifest file)
+pub turned_if : (sum own : List ℕ → ℕ) (P : ℕ) (held : ℕ → List ℕ) (all : List (List ℕ)) (k : ℕ) (kept : Closed) (d e m : Disk)
+    → ((manifest : List ℕ) (file : ℕ → List ℕ) → records_left sum own P held file manifest ≡ Some all) → LogTurned sum own P held all k kept d e m
+turned_if sum own P held all k kept d e m all_back manifest image free file at_k at_next free_next = inl (all_back manifest file)
 
 -- a manifest that can't be read brings nothing back
 pub not_turned : (sum own : List ℕ → ℕ) (all : List (List ℕ)) (k : ℕ) (d e m : Disk) (manifest : List ℕ) (file : ℕ → List ℕ)
     → IsImage m manifest → IsChanceFree sum 40 m manifest → IsImage d (file k) → IsImage e (file (k + 1)) → IsChanceFree sum 40 e (file (k + 1))
-    → records_left sum own 40 (λ n. []) file manifest ≡ None → LogTurned sum own 40 (λ n. []) all k d e m → ⊥
+    → records_left sum own 40 (λ n. []) file manifest ≡ None → LogTurned sum own 40 (λ n. []) all k empty d e m → ⊥
 not_turned sum own all k d e m manifest file image free at_k at_next free_next none is = elim (is manifest image free file at_k at_next free_next) [
   | inl some ↦ absurd (cc (sym none ∙ some))
-  | inr twin ↦ none_has_no_twin twin
+  | inr twin ↦ none_of_an_empty_file sum 40 [] twin
 ]
 
 pub turn_kept : (sum own : List ℕ → ℕ) (held : ℕ → List ℕ) (cache : CacheState) (life last : Life) (w : WriterState) (kept : Closed) → KeepsLog sum own held (log cache life w) [] life last → IsOf last.present.readable kept
-    → (IsOf (held 3) kept → Through (LogTurned sum own 40 held (log_records sum own held (log cache life w)) 3 last.present life.present) life life)
+    → (HoldsClosed sum 40 kept (held 3) → Through (LogTurned sum own 40 held (log_records own held (log cache life w)) 3 kept last.present life.present) life life)
     → TurnKept sum own held (log cache life w) (record (log cache life w) { asked = asked_turning (log cache life w) last })
 turn_kept sum own held cache life last w kept closing of turning =
     record { last = last; kept = kept; gone = nothing_after_it cache life last w; closing = closing; of = of; turning = turning }

@@ -12,20 +12,21 @@ use Rattle.segments.specs.declared.closed.Closed.{Closed}
 use Rattle.segments.specs.declared.call.FolderCall.TheVariants as calls
 use Rattle.segments.specs.declared.error.Error.{Error}
 use Rattle.segments.specs.declared.place.Place.{Place}
-use Rattle.segments.specs.Digests.{HasTwin, IsOf}
+use Rattle.segments.specs.Digests.{IsOf}
 use Rattle.segments.specs.FolderEvents.{FolderEvent, opening_with}
 use Rattle.segments.specs.Manifest.{ListingState, listed_in, open_in}
 use Rattle.segments.specs.Owned.{HasJournal, content_now, owned_size, records_now}
-use Rattle.segments.specs.Log.{AppendHereGoes, IsKept, IsRotated, IsSameButCurrent, LogState}
+use Rattle.segments.specs.Log.{AppendHereGoes, HasTwinOf, HoldsClosed, IsKept, IsRotated}
+use Rattle.segments.specs.Log.{IsSameButCurrent, LogState}
 use Rattle.segments.specs.Log.{asked_turning, closed_records, events_for, listing_from}
 use Rattle.segments.specs.Log.{log_records}
 
 -- the records of a log whose manifest lists this, and whose files hold these bytes; each closed
--- segment held what `held` gives for its number
+-- segment held the content that `held` gives for its number
 abbrev pub records_by : (sum own : List ℕ → ℕ) → ℕ → (held file : ℕ → List ℕ) → Option ListingState
     → Option (List (List ℕ))
 records_by sum own P held file None = None
-records_by sum own P held file (Some l) = Some (closed_records sum own P held l.first l.closed
+records_by sum own P held file (Some l) = Some (closed_records own held l.first l.closed
     ++ records own (text sum P (file (open_in l))))
 
 -- the records of a log whose manifest holds these bytes, and whose files hold those; none where the
@@ -70,10 +71,10 @@ LogOnly sum own P held all m d =
 pub record KeepsLog (sum own : List ℕ → ℕ) (held : ℕ → List ℕ) (s : LogState)
     (more : List (List ℕ)) (old new : Life) : Type 0 where
   pub kept : (content : List ℕ) (n : ℕ) → Commits sum own s.page_size content n old.present
-      → let before = closed_records sum own s.page_size held s.listing.first s.listing.closed in
+      → let before = closed_records own held s.listing.first s.listing.closed in
       Through (λ d. LogKept sum own s.page_size held (length before + n)
       (before ++ records own content) s.manifest.life.present (λ j. d)) old new
-  pub only : Through (λ d. LogOnly sum own s.page_size held (log_records sum own held s ++ more)
+  pub only : Through (λ d. LogOnly sum own s.page_size held (log_records own held s ++ more)
       s.manifest.life.present (λ j. d)) old new
 
 -- a call of the open segment, whatever it answers
@@ -81,16 +82,16 @@ abbrev pub CurrentSurvives : (sum own : List ℕ → ℕ) → List (List ℕ) �
 CurrentSurvives sum own more s t = IfSome s.manifest.journal (λ m. IfSome s.current.journal (λ w.
     (held : ℕ → List ℕ) → KeepsLog sum own held s more s.current.life t.current.life))
 
--- as the manifest gets the entry that segment k is closed and the next one is open: whatever a
--- crash leaves of the manifest's disk and of the disks of these two segments, chance aside, all of
--- these records come back, or what segment k held has a twin
+-- as the manifest gets the entry that segment k is closed, of which this was kept, and the next one
+-- is open: whatever a crash leaves of the manifest's disk and of the disks of these two segments,
+-- chance aside, all of these records come back, or what segment k held has a twin
 abbrev pub LogTurned : (sum own : List ℕ → ℕ) → ℕ → (held : ℕ → List ℕ) → List (List ℕ)
-    → (k : ℕ) → (d e : Disk) → Disk → Type 0
-LogTurned sum own P held all k d e m =
+    → (k : ℕ) → Closed → (d e : Disk) → Disk → Type 0
+LogTurned sum own P held all k kept d e m =
     (manifest : List ℕ) → IsImage m manifest → IsChanceFree sum P m manifest
     → (file : ℕ → List ℕ) → IsImage d (file k) → IsImage e (file (k + 1))
     → IsChanceFree sum P e (file (k + 1))
-    → (records_left sum own P held file manifest ≡ Some all) ⊎ HasTwin (held k)
+    → (records_left sum own P held file manifest ≡ Some all) ⊎ HasTwinOf sum P kept (held k)
 
 -- the folder took the blob of the closed segment back, at the end of this life, before the manifest
 -- got an entry; after that it was asked for this
@@ -107,9 +108,9 @@ pub record TurnKept (sum own : List ℕ → ℕ) (held : ℕ → List ℕ) (s t 
   pub gone : HasLetGo s last t
   pub closing : KeepsLog sum own held s [] s.current.life last
   pub of : IsOf last.present.readable kept
-  pub turning : IsOf (held (open_in s.listing)) kept
-      → Through (LogTurned sum own s.page_size held (log_records sum own held s)
-      (open_in s.listing) last.present t.current.life.present) s.manifest.life t.manifest.life
+  pub turning : HoldsClosed sum s.page_size kept (held (open_in s.listing))
+      → Through (LogTurned sum own s.page_size held (log_records own held s)
+      (open_in s.listing) kept last.present t.current.life.present) s.manifest.life t.manifest.life
 
 -- a rotation, at each moment: it ended before the manifest got the entry, or it is as `TurnKept`
 -- has it
@@ -203,7 +204,7 @@ pub record HasOpenedFiles (sum own : List ℕ → ℕ) (before calls : List Fold
       ≡ Some s.listing
   -- so it has the records that are left of a log whose files hold these bytes
   pub left : (held file : ℕ → List ℕ) → file (open_in s.listing) ≡ bytes
-      → records_left sum own s.page_size held file manifest ≡ Some (log_records sum own held s)
+      → records_left sum own s.page_size held file manifest ≡ Some (log_records own held s)
   pub there : HasJournal s.current.journal (λ w. Unit {0})
   pub records : records_now own s.current ≡ records own (text sum s.page_size bytes)
   pub committed : CommitsAll sum own s.page_size (content_now s.current) s.current.life.present

@@ -59,6 +59,11 @@ pub record HoldsClosed (sum : List ℕ → ℕ) (P : ℕ) (kept : Closed) (held 
   pub of : IsOf bytes kept
   pub holds : held ≡ whole_frames (text sum P bytes)
 
+-- bytes of which this was kept, and whose whole frames are this content, have a twin
+pub record HasTwinOf (sum : List ℕ → ℕ) (P : ℕ) (kept : Closed) (content : List ℕ) : Type 0 where
+  pub holds : HoldsClosed sum P kept content
+  pub twin : HasTwin holds.bytes
+
 -- a closed segment in memory: there is a journal, and its content is that of the segment
 pub record IsLoaded (sum own : List ℕ → ℕ) (P : ℕ) (l : LoadedState) : Type 0 where
   pub page_size : l.owned.page_size ≡ P
@@ -391,39 +396,46 @@ LogAppendGoes sum own bytes s t (Err e) =
 
 -- ---- the records, by what closed segments held
 
--- each closed segment held bytes of the length and the digest that were kept of it
-abbrev pub TellHeld : (held : ℕ → List ℕ) → (first : ℕ) → List Closed → Type 0
-TellHeld held first [] = Unit {0}
-TellHeld held first (c ∷ cs) = IsOf (held first) c × TellHeld held (suc first) cs
+-- each closed segment held a content of which this was kept
+abbrev pub TellHeld : (sum : List ℕ → ℕ) → ℕ → (held : ℕ → List ℕ) → (first : ℕ) → List Closed
+    → Type 0
+TellHeld sum P held first [] = Unit {0}
+TellHeld sum P held first (c ∷ cs) =
+    HoldsClosed sum P c (held first) × TellHeld sum P held (suc first) cs
 
--- the records of closed segments that held these bytes, joined
-abbrev pub closed_records : (sum own : List ℕ → ℕ) → ℕ → (held : ℕ → List ℕ) → (first : ℕ)
-    → List Closed → List (List ℕ)
-closed_records sum own P held first [] = []
-closed_records sum own P held first (c ∷ cs) =
-    records own (text sum P (held first)) ++ closed_records sum own P held (suc first) cs
+-- the records of closed segments that held these, joined
+abbrev pub closed_records : (own : List ℕ → ℕ) → (held : ℕ → List ℕ) → (first : ℕ) → List Closed
+    → List (List ℕ)
+closed_records own held first [] = []
+closed_records own held first (c ∷ cs) =
+    records own (held first) ++ closed_records own held (suc first) cs
 
 -- all records of a log: those of the closed segments, and then those of the open one
-abbrev pub log_records : (sum own : List ℕ → ℕ) → (held : ℕ → List ℕ) → LogState → List (List ℕ)
-log_records sum own held s =
-    closed_records sum own s.page_size held s.listing.first s.listing.closed
-    ++ records_now own s.current
+abbrev pub log_records : (own : List ℕ → ℕ) → (held : ℕ → List ℕ) → LogState → List (List ℕ)
+log_records own held s =
+    closed_records own held s.listing.first s.listing.closed ++ records_now own s.current
 
 -- a segment is closed: something is kept of it
 abbrev pub IsClosedIn : ListingState → ℕ → Type 0
 IsClosedIn l segment = (kept : Closed) × (closed_at l segment ≡ Some kept)
 
--- of what a closed segment held a twin was found
-abbrev pub HasTwinIn : (held : ℕ → List ℕ) → ListingState → Type 0
-HasTwinIn held l = (segment : ℕ) × IsClosedIn l segment × HasTwin (held segment)
+-- this segment is closed, and of what it held a twin was found
+abbrev pub HasTwinAt : (sum : List ℕ → ℕ) → ℕ → (held : ℕ → List ℕ) → ListingState → ℕ → Type 0
+HasTwinAt sum P held l segment = (kept : Closed) × (closed_at l segment ≡ Some kept)
+    × HasTwinOf sum P kept (held segment)
 
--- whatever the closed segments held, so long as it has the lengths and digests that were kept: the
--- log has the records that it had, and then these; or what the segment held that was the open one
--- has a twin
+-- of what a closed segment held a twin was found
+abbrev pub HasTwinIn : (sum : List ℕ → ℕ) → ℕ → (held : ℕ → List ℕ) → ListingState → Type 0
+HasTwinIn sum P held l = (segment : ℕ) × HasTwinAt sum P held l segment
+
+-- whatever the closed segments held, so long as it fits what was kept of them: the log has the
+-- records that it had, and then these; or what the segment held that was the open one, and is
+-- closed now, has a twin
 abbrev pub HasMore : (sum own : List ℕ → ℕ) → List (List ℕ) → LogState → LogState → Type 0
-HasMore sum own more s t = (held : ℕ → List ℕ) → TellHeld held t.listing.first t.listing.closed
-    → (log_records sum own held t ≡ log_records sum own held s ++ more)
-    ⊎ HasTwin (held (open_in s.listing))
+HasMore sum own more s t = (held : ℕ → List ℕ)
+    → TellHeld sum t.page_size held t.listing.first t.listing.closed
+    → (log_records own held t ≡ log_records own held s ++ more)
+    ⊎ HasTwinAt sum t.page_size held t.listing (open_in s.listing)
 
 -- ---- reading
 
@@ -437,13 +449,23 @@ abbrev pub IsCurrentContent : LogState → List ℕ → Type 0
 IsCurrentContent s held = HasJournal s.current.journal (λ w.
     held ≡ content w s.current.life.present.readable)
 
--- the content of a segment: that of the open one; or, for a closed one, the whole frames of bytes
--- of the length and the digest that were kept
-abbrev pub IsContentOf : (sum : List ℕ → ℕ) → LogState → ℕ → List ℕ → Type 0
-IsContentOf sum s segment held =
-    ((segment ≡ open_in s.listing) × IsCurrentContent s held)
-    ⊎ ((kept : Closed) × (closed_at s.listing segment ≡ Some kept)
-    × HoldsClosed sum s.page_size kept held)
+-- a read of the frame at an offset of the open segment
+abbrev pub IsReadOfOpen : (own : List ℕ → ℕ) → LogState → ℕ → Option Found → Type 0
+IsReadOfOpen own s offset found =
+    (content : List ℕ) × IsCurrentContent s content × IsReadOf own content offset found
+
+-- a frame that is found ends behind its offset
+abbrev pub EndsBehind : ℕ → Option Found → Type 0
+EndsBehind offset None = Unit {0}
+EndsBehind offset (Some f) = offset < f.end
+
+-- a read of the frame at an offset of a closed segment of which this was kept: whatever content the
+-- segment held, the read is of that, or the content has a twin
+pub record IsReadOfClosed (sum own : List ℕ → ℕ) (P : ℕ) (kept : Closed) (offset : ℕ)
+    (found : Option Found) : Type 0 where
+  pub forward : EndsBehind offset found
+  pub reads : (content : List ℕ) → HoldsClosed sum P kept content
+      → IsReadOf own content offset found ⊎ HasTwinOf sum P kept content
 
 -- a segment is closed
 abbrev pub IsListed : LogState → ℕ → Type 0
@@ -469,11 +491,13 @@ LogReadRefused own s t p errors.Closed =
 LogReadRefused own s t p (errors.Layer e) = ReadFails own s t p e
 LogReadRefused own s t p e = ⊥
 
--- a read at a place, by its answer
+-- a read at a place, by its answer: of the open segment, or of a closed one
 abbrev pub LogReadGoes : (sum own : List ℕ → ℕ) → LogState → LogState → Place
     → Result (Option Found) Error → Type 0
 LogReadGoes sum own s t p (Ok found) =
-    (held : List ℕ) × IsContentOf sum s p.segment held × IsReadOf own held p.offset found
+    ((p.segment ≡ open_in s.listing) × IsReadOfOpen own s p.offset found)
+    ⊎ ((kept : Closed) × (closed_at s.listing p.segment ≡ Some kept)
+    × IsReadOfClosed sum own s.page_size kept p.offset found)
 LogReadGoes sum own s t p (Err e) = LogReadRefused own s t p e
 
 -- what a read leaves: all of the log, except the closed segment in memory; the open segment was
@@ -492,8 +516,7 @@ pub record LeavesReading (sum own : List ℕ → ℕ) (s t : LogState) : Type 0 
 -- a closed segment was read at an offset
 abbrev pub HeldReadGoes : (sum own : List ℕ → ℕ) → ℕ → Closed → ℕ
     → Result (Option Found) Error → Type 0
-HeldReadGoes sum own P kept offset (Ok found) =
-    (held : List ℕ) × HoldsClosed sum P kept held × IsReadOf own held offset found
+HeldReadGoes sum own P kept offset (Ok found) = IsReadOfClosed sum own P kept offset found
 HeldReadGoes sum own P kept offset (Err (errors.Layer e)) = Unit {0}
 HeldReadGoes sum own P kept offset (Err _) = ⊥
 

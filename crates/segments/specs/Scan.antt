@@ -2,8 +2,7 @@
 use Rattle.std.specs.Prelude.{◌≡◌, ◌⊎◌, ◌≤◌, ◌<◌, ◌+◌, ◌-◌, ◌*◌, ◌++◌, ℕ, suc, List, [], ◌∷◌}
 use Rattle.std.specs.Prelude.{drop, nat_lt}
 use Rattle.std.specs.Prelude.{Option, Some, None, Result, Ok, Err, if◌then◌else◌}
-use Rattle.page.specs.Page.{text}
-use Rattle.journal.specs.Frame.{records, whole_frames}
+use Rattle.journal.specs.Frame.{records}
 use Rattle.segments.specs.declared.error.Error.{Error}
 use Rattle.segments.specs.declared.place.Place.{Place}
 use Rattle.segments.specs.declared.scanning.Step.{Step}
@@ -17,48 +16,43 @@ use Rattle.segments.specs.Log.{closed_records, log_records}
 abbrev pub place_at : (segment offset : ℕ) → Place
 place_at segment offset = record { segment = segment; offset = offset }
 
--- the content of a segment, by what the closed ones held and by the content of the open one; a
--- closed one's is the whole frames of what it held
-abbrev pub held_content : (sum : List ℕ → ℕ) → ℕ → (held : ℕ → List ℕ) → ListingState
-    → (content : List ℕ) → ℕ → List ℕ
-held_content sum P held l content segment =
-    if nat_lt segment (open_in l) then whole_frames (text sum P (held segment)) else content
+-- the content of a segment, by what the closed ones held and by the content of the open one
+abbrev pub held_content : (held : ℕ → List ℕ) → ListingState → (content : List ℕ) → ℕ → List ℕ
+held_content held l content segment =
+    if nat_lt segment (open_in l) then held segment else content
 
 -- the records after a segment: those of the closed ones that follow, and those of the open one
-abbrev pub records_after : (sum own : List ℕ → ℕ) → ℕ → (held : ℕ → List ℕ) → ListingState
+abbrev pub records_after : (own : List ℕ → ℕ) → (held : ℕ → List ℕ) → ListingState
     → (content : List ℕ) → ℕ → List (List ℕ)
-records_after sum own P held l content segment =
-    if nat_lt segment (open_in l) then closed_records sum own P held (suc segment)
-    (drop (suc segment - l.first) l.closed) ++ records own content
+records_after own held l content segment =
+    if nat_lt segment (open_in l) then
+    closed_records own held (suc segment) (drop (suc segment - l.first) l.closed)
+    ++ records own content
     else []
 
 -- the records from a place on
-abbrev pub records_at : (sum own : List ℕ → ℕ) → ℕ → (held : ℕ → List ℕ) → ListingState
+abbrev pub records_at : (own : List ℕ → ℕ) → (held : ℕ → List ℕ) → ListingState
     → (content : List ℕ) → Place → List (List ℕ)
-records_at sum own P held l content p =
-    records own (drop p.offset (held_content sum P held l content p.segment))
-    ++ records_after sum own P held l content p.segment
+records_at own held l content p = records own (drop p.offset (held_content held l content p.segment))
+    ++ records_after own held l content p.segment
 
 -- the records of a log from a place on
-abbrev pub records_from : (sum own : List ℕ → ℕ) → (held : ℕ → List ℕ) → LogState → Place
+abbrev pub records_from : (own : List ℕ → ℕ) → (held : ℕ → List ℕ) → LogState → Place
     → List (List ℕ)
-records_from sum own held s p =
-    records_at sum own s.page_size held s.listing (content_now s.current) p
+records_from own held s p = records_at own held s.listing (content_now s.current) p
 
 -- from this place on there are all records of the log
-abbrev pub ComesFirst : (sum own : List ℕ → ℕ) → LogState → Place → Type 0
-ComesFirst sum own s p =
-    (held : ℕ → List ℕ) → records_from sum own held s p ≡ log_records sum own held s
+abbrev pub ComesFirst : (own : List ℕ → ℕ) → LogState → Place → Type 0
+ComesFirst own s p = (held : ℕ → List ℕ) → records_from own held s p ≡ log_records own held s
 
--- whatever the closed segments held, so long as it has the lengths and digests that were kept:
--- there are just these records from the one place to the other, or what a closed segment held has a
--- twin
+-- whatever the closed segments held, so long as it fits what was kept of them: there are just these
+-- records from the one place to the other, or what a closed segment held has a twin
 abbrev pub StandBy : (sum own : List ℕ → ℕ) → ℕ → ListingState → (content : List ℕ)
     → List (List ℕ) → (from to : Place) → Type 0
 StandBy sum own P l content these from to =
-    (held : ℕ → List ℕ) → TellHeld held l.first l.closed
-    → (records_at sum own P held l content from
-    ≡ these ++ records_at sum own P held l content to) ⊎ HasTwinIn held l
+    (held : ℕ → List ℕ) → TellHeld sum P held l.first l.closed
+    → (records_at own held l content from
+    ≡ these ++ records_at own held l content to) ⊎ HasTwinIn sum P held l
 
 -- in a log there are just these records from the one place to the other, as `StandBy` has it
 abbrev pub StandBetween : (sum own : List ℕ → ℕ) → LogState → List (List ℕ) → (from to : Place)
@@ -67,8 +61,8 @@ StandBetween sum own s these from to =
     StandBy sum own s.page_size s.listing (content_now s.current) these from to
 
 -- there is no record from this place on
-abbrev pub IsEnd : (sum own : List ℕ → ℕ) → LogState → Place → Type 0
-IsEnd sum own s p = (held : ℕ → List ℕ) → records_from sum own held s p ≡ []
+abbrev pub IsEnd : (own : List ℕ → ℕ) → LogState → Place → Type 0
+IsEnd own s p = (held : ℕ → List ℕ) → records_from own held s p ≡ []
 
 -- a record was found: none stands before it, and it alone before the place behind it
 abbrev pub IsNextAt : (sum own : List ℕ → ℕ) → LogState → (from at behind : Place) → List ℕ
@@ -91,7 +85,7 @@ abbrev pub StepGoes : (sum own : List ℕ → ℕ) → LogState → LogState →
     → Type 0
 StepGoes sum own s t at (Ok (Record bytes behind)) = StandBetween sum own s (bytes ∷ []) at behind
 StepGoes sum own s t at (Ok (Passed to)) = StandBetween sum own s [] at to × IsBehind s at to
-StepGoes sum own s t at (Ok End) = IsEnd sum own s at
+StepGoes sum own s t at (Ok End) = IsEnd own s at
 StepGoes sum own s t at (Err e) = LogReadRefused own s t at e
 
 -- a segment from a place on can't be read, and no record stands before it. Up to there, segments
@@ -108,6 +102,6 @@ pub record IsRefusedFrom (sum own : List ℕ → ℕ) (s t : LogState) (p : Plac
 -- a read of the next record, by its answer; one that is refused leaves the place where it was
 abbrev pub NextGoes : (sum own : List ℕ → ℕ) → LogState → LogState → (old new : Place)
     → Result (Option (Place × List ℕ)) Error → Type 0
-NextGoes sum own s t old new (Ok None) = StandBetween sum own s [] old new × IsEnd sum own s new
+NextGoes sum own s t old new (Ok None) = StandBetween sum own s [] old new × IsEnd own s new
 NextGoes sum own s t old new (Ok (Some r)) = IsNextAt sum own s old r.0 new r.1
 NextGoes sum own s t old new (Err e) = (new ≡ old) × IsRefusedFrom sum own s t old e

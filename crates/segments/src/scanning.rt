@@ -26,7 +26,7 @@ impl<F: Folder<B> + Drop, B: Blob + Drop, H: Sum, R: Sum> SegmentedLog<F, B, H, 
     /// The place of the first record, from which [`next`](SegmentedLog::next) goes over all.
     #[tactic(auto, using(crate::proofs::Stepping::comes_first))]
     pub fn start(&self) -> Place
-        ensures { ComesFirst H.sum_of R.sum_of self.now result }
+        ensures { ComesFirst R.sum_of self.now result }
     {
         Place {
             segment: self.listing.first(),

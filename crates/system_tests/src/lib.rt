@@ -1,9 +1,11 @@
 //! Tests of what only a system has: a file, its lock and its folder, and an input or an output that
-//! fails; and of the checksum as it was built. The crate has no code of its own.
+//! fails; and of the checksum and the digests as they were built. The crate has no code of its own.
 #![tactic(auto)]
 
 #[cfg(test)]
 mod checksum;
+#[cfg(test)]
+mod digests;
 #[cfg(test)]
 mod files;
 #[cfg(test)]
