@@ -9,11 +9,14 @@ use Rattle.std.proofs.lemmas.Nat.{div-add-mod'}
 use Rattle.page_digests.specs.declared.error.Error.{Error}
 use Rattle.page_digests.specs.declared.error.Error.TheVariants.{Damaged, OutOfMemory, System}
 use Rattle.page_digests.specs.declared.seal.Seal.{Seal}
-use Rattle.page_digests.specs.Contents.{AppendsRange, AsksForPage, AsksForRange, IsAppending, IsInCached, IsPage, IsPaged, IsSameContent, LoadGoes, PagedState, PageFails, PieceGoes}
-use Rattle.page_digests.specs.Contents.{RangeFails, RangeGoes, ReadGoes, SoundGoes}
+use Rattle.page_digests.specs.Contents.{AppendsRange, IsInCached, IsSameContent, PagedState, PageFails}
+use Rattle.page_digests.specs.Steps.{AsksForPage, AsksForRange, IsAppending, IsPage, IsPaged, LoadGoes, PieceGoes}
+use Rattle.page_digests.specs.Contents.{RangeFails, ReadGoes, SoundGoes}
+use Rattle.page_digests.specs.Steps.{RangeGoes}
 use Rattle.page_digests.specs.Lists.{DigestGoes, IsSameList, ListState}
 use Rattle.page_digests.specs.Pages.{list_len, page_at, page_count, page_len, range_at, top_len, top_of}
-use Rattle.page_digests.specs.Reads.{ComparesGoes, DigestFails, IsReadOn, IsTouched, PageIsRefused, PageIsWrong, ReadsDigestOn, page_offset, pages_touched}
+use Rattle.page_digests.specs.Reads.{DigestFails, IsReadOn, IsTouched, PageIsRefused, PageIsWrong, ReadsDigestOn, page_offset, pages_touched}
+use Rattle.page_digests.specs.Buffers.{ComparesGoes}
 use Rattle.page_digests.specs.Seals.{IsVerified}
 use Rattle.page_digests.specs.Sources.{ReadsLast, SourceRead, gave, refused}
 use Rattle.page_digests.proofs.Costs.{last-in, touched_more}
@@ -298,8 +301,8 @@ range_begins d offset len s before = record {
   within = omega arith;
   same = same_itself s;
   asks = record {
-    calls = record { calls = omega arith; held = λ more. absurd (omega arith) };
-    list_calls = record { calls = omega arith; held = λ more. absurd (omega arith) };
+    calls = record { calls = omega arith; last = λ more. absurd (omega arith) };
+    list_calls = record { calls = omega arith; last = λ more. absurd (omega arith) };
     last = λ some. absurd (omega arith);
   };
   cached = λ is. (refl, λ some. absurd (omega arith));

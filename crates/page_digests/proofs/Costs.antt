@@ -70,7 +70,7 @@ read_count P a (suc m) base count next before positive is one none =
             | inl later ↦ omega (arith, later, is.calls, low)
             | inr same ↦
                 let equal : (a + suc m - 1) / P ≡ (a + suc m) / P = ap (λ (k : ℕ). k / P) e ∙ omega (arith, same, high) in
-                let few : next ≤ count = none (is.held more ∙ ap Some equal) in
+                let few : next ≤ count = none (is.last more ∙ ap Some equal) in
                 omega (arith, few, is.calls, low, high)
           ]
     ]
@@ -89,7 +89,7 @@ pub read_on : (P a m n base count next : ℕ) (before after : Option ℕ) → 0 
     → next ≤ count + 1 → (before ≡ Some ((a + m) / P) → next ≤ count) → IsReadOn P a (m + n) base next after
 read_on P a m n base count next before after positive is some fits held one none = record {
   calls = rw (touched_piece P a m n positive some fits) (read_count P a m base count next before positive is one none);
-  held = λ more.
+  last = λ more.
       let e : a + (m + n) - 1 ≡ a + m + n - 1 = omega arith in
       held ∙ ap Some (sym (ap (λ (k : ℕ). k / P) e ∙ last-in P (a + m) n positive some fits));
 }

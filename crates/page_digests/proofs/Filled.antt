@@ -2,7 +2,7 @@
 use Rattle.std.proofs.Common.{◌≡◌, ◌∙◌, ℕ, List, ◌++◌, length, take, sym, subst}
 use Rattle.std.specs.Prelude.{Result}
 use Rattle.std.proofs.lemmas.List.{take_at}
-use Rattle.page_digests.specs.Reads.{FillsGoes}
+use Rattle.page_digests.specs.Buffers.{FillsGoes}
 use Rattle.page_digests.specs.Sources.{SourceRead}
 use Rattle.page_digests.specs.declared.error.Error.{Error}
 

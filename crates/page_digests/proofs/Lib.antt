@@ -10,3 +10,9 @@ pub mod ContentReads
 pub mod Rebuilt
 pub mod Costs
 pub mod RangeCosts
+pub mod PageExamples
+pub mod SealExamples
+pub mod GrowingExamples
+pub mod ReadExamples
+pub mod ContentExamples
+pub mod RebuildExamples

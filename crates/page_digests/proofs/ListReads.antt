@@ -4,7 +4,7 @@ use Rattle.std.proofs.Common.{take, drop, ap, refl, sym, subst, inl, inr, arith,
 use Rattle.std.specs.Prelude.{Option, Some, None, IfSome, Ok, Err, slice_range}
 use Rattle.std.proofs.lemmas.List.{length-drop, length-take-le, take_all}
 use Rattle.std.proofs.lemmas.Nat.{div-add-mod'}
-use Rattle.std.proofs.Math.Nat.{mod-lt, mul-le-mul_left}
+use Rattle.std.proofs.Math.Nat.{mod-lt}
 use Rattle.std.proofs.lemmas.Slice.{overwrites, take-put_mid}
 use borrow.Rule.Slice.PartMut.{put_mid}
 use Rattle.page_digests.specs.declared.error.Error.{Error}
@@ -12,7 +12,8 @@ use Rattle.page_digests.specs.declared.error.Error.TheVariants.{Damaged, OutOfMe
 use Rattle.page_digests.specs.declared.seal.Seal.{Seal}
 use Rattle.page_digests.specs.Lists.{CopiesPiece, CopyAnswers, CopyGoes, DigestGoes, IsCopying, IsList, IsListPage, IsSameList, ListLoadGoes, ListState}
 use Rattle.page_digests.specs.Pages.{digest_at, list_len, list_of, page_at, page_len, range_at}
-use Rattle.page_digests.specs.Reads.{ComparesGoes, DigestFails, IsReadOn, IsTouched, ListPageIsRefused, ListPageIsWrong, pages_touched}
+use Rattle.page_digests.specs.Reads.{DigestFails, IsReadOn, IsTouched, ListPageIsRefused, ListPageIsWrong, pages_touched}
+use Rattle.page_digests.specs.Buffers.{ComparesGoes}
 use Rattle.page_digests.specs.Seals.{IsVerified}
 use Rattle.page_digests.specs.Sources.{ReadsLast, SourceRead, refused}
 use Rattle.page_digests.proofs.Costs.{read_on, touched_more}
@@ -189,13 +190,6 @@ copy_done d sized s t v at done n z k digest piece size same is goes some fits r
 pub digest_within : (P len i : ℕ) → 0 < P → i * P < len → i * 32 + 32 ≤ list_len P len
 digest_within P len i positive within =
     let below = page_below P len i positive within in omega (arith, below)
-
--- no more pages than bytes
-pub page_few : (P len i : ℕ) → 0 < P → i * P < len → i < len
-page_few P len i positive within =
-    let one : 1 ≤ P = omega arith in
-    let all : i * 1 ≤ i * P = mul-le-mul_left i one in
-    omega arith
 
 pub copy_begins : (d : List ℕ → List ℕ) (i : ℕ) (s : ListState) (digest : List ℕ) → length digest ≡ 32 → IsCopying d i s s 0 digest
 copy_begins d i s digest len = record {

@@ -4,7 +4,8 @@ use Rattle.std.specs.Prelude.{Option, Some, Result, Ok, Err, OnOk}
 use Rattle.std.proofs.lemmas.Bool.{cases_lt}
 use Rattle.std.proofs.lemmas.Option.{same_Some}
 use Rattle.page_digests.specs.declared.error.Error.{Error}
-use Rattle.page_digests.specs.Contents.{AsksForPage, PagedState}
+use Rattle.page_digests.specs.Contents.{PagedState}
+use Rattle.page_digests.specs.Steps.{AsksForPage}
 use Rattle.page_digests.specs.Reads.{IsReadOn, ReadsDigestOn, pages_touched}
 use Rattle.page_digests.proofs.Costs.{div-le-div, div-suc, read_on, touched_piece}
 
@@ -80,7 +81,7 @@ list_step P f k q base t u result size next first is (inl (held, same)) =
     let none : length t.list_reads ≤ base + pages_touched P (f * 32) 0 = subst (λ (n : ℕ). length t.list_reads ≤ base + pages_touched P (f * 32) (n * 32)) zero_k is.calls in
     let as_many : length u.list_reads ≡ length t.list_reads = ap (λ (v : PagedState). length v.list_reads) same in
     let calls : length u.list_reads ≤ base + pages_touched P (f * 32) ((k + 1) * 32) = omega (arith, none) in
-    (calls, on_any result _ (record { calls = calls; held = λ more. absurd (omega (arith, more, none)) }))
+    (calls, on_any result _ (record { calls = calls; last = λ more. absurd (omega (arith, more, none)) }))
 list_step P f k q base t u result size next first is (inr (fresh, calls, on)) =
     let place : f * 32 + k * 32 ≡ q * 32 = omega arith in
     let all : k * 32 + 32 ≡ (k + 1) * 32 = omega arith in

@@ -8,7 +8,8 @@ use Rattle.page_digests.specs.declared.error.Error.{Error}
 use Rattle.page_digests.specs.declared.error.Error.TheVariants.{Damaged, OutOfMemory, System}
 use Rattle.page_digests.specs.declared.seal.Seal.{Seal}
 use Rattle.page_digests.specs.Pages.{digests, list_of, page_at, page_count, page_len, root_of}
-use Rattle.page_digests.specs.Reads.{FillsGoes, page_offset}
+use Rattle.page_digests.specs.Reads.{page_offset}
+use Rattle.page_digests.specs.Buffers.{FillsGoes}
 use Rattle.page_digests.specs.Rebuilds.{GivesPages, ListReadGoes, page_reads}
 use Rattle.page_digests.specs.Seals.{IsVerified}
 use Rattle.page_digests.specs.Sources.{SourceRead, gave, refused}

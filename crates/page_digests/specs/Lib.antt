@@ -4,6 +4,8 @@ pub mod Growing
 pub mod Sources
 pub mod Past
 pub mod Reads
-pub mod Lists
 pub mod Contents
 pub mod Rebuilds
+pub mod Buffers
+pub mod Lists
+pub mod Steps

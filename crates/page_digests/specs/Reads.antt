@@ -1,6 +1,6 @@
--- Reads of parts of a content and of its levels, each compared with its digest.
-use Rattle.std.specs.Prelude.{◌≡◌, ◌↔◌, ◌<◌, ◌≤◌, ◌+◌, ◌-◌, ◌*◌, ◌/◌, ◌++◌, ◌∷◌, [], ℕ, zero, suc}
-use Rattle.std.specs.Prelude.{List, length, Bool, true, Option, Some, Result, Ok, Err, OnOk}
+-- Reads of the parts of a content and of its levels, each compared with its digest.
+use Rattle.std.specs.Prelude.{◌≡◌, ◌<◌, ◌≤◌, ◌+◌, ◌-◌, ◌*◌, ◌/◌, ℕ, zero, suc, List}
+use Rattle.std.specs.Prelude.{length, Option, Some, Result, OnOk}
 use Rattle.page_digests.specs.Pages.{list_len, list_of, page_at, page_len, top_len, top_of}
 use Rattle.page_digests.specs.Seals.{IsVerified, IsWrong}
 use Rattle.page_digests.specs.Sources.{ReadsLast, SourceRead, gave, refused}
@@ -18,18 +18,18 @@ IsTouched P offset len i = (i * P < offset + len) × (offset < i * P + P)
 
 -- ---- how much is read
 
--- how many pages of P bytes so many bytes from an offset on have bytes of
+-- how many pages of P bytes so many bytes from an offset on touch
 abbrev pub pages_touched : (P offset len : ℕ) → ℕ
 pages_touched P offset zero = 0
 pages_touched P offset (suc n) = (offset + n) / P - offset / P + 1
 
--- so many bytes from `from` on were read in order, page by page, and each page once at most: of
--- `count` reads `base` were made before. If there was one since, the last page is held
+-- so many bytes from `from` on were read in order, page by page, and each page once at most: there
+-- were `base` reads before, and are `count` now. If there was one since, the last page is held
 pub record IsReadOn (P from len base count : ℕ) (cached : Option ℕ) : Type 0 where
   pub calls : count ≤ base + pages_touched P from len
-  pub held : base < count → cached ≡ Some ((from + len - 1) / P)
+  pub last : base < count → cached ≡ Some ((from + len - 1) / P)
 
--- the digest of page i is read on from the list, whatever was read of it before
+-- wherever the list was read in order up to the digest of page i, it is read on over that digest
 abbrev pub ReadsDigestOn : {T E : Type 0} → (P i : ℕ) → (old new : List SourceRead)
     → (before after : Option ℕ) → Result T E → Type 0
 ReadsDigestOn P i old new before after result =
@@ -37,57 +37,33 @@ ReadsDigestOn P i old new before after result =
     → (length new ≤ base + pages_touched P from (len + 32))
     × OnOk result (IsReadOn P from (len + 32) base (length new) after)
 
--- ---- one read
+-- ---- what the last read gave
 
--- a read into a buffer, by its answer
-abbrev pub FillsGoes : (offset len : ℕ) → (old new : List SourceRead) → (bytes : List ℕ)
-    → Result (Unit {0}) Error → Type 0
-FillsGoes offset len old new bytes (Ok _) =
-    (new ≡ old ++ gave offset bytes ∷ []) × (length bytes ≡ len)
-FillsGoes offset len old new bytes (Err Damaged) = ⊥
-FillsGoes offset len old new bytes (Err (System e)) = new ≡ old ++ refused offset len ∷ []
-FillsGoes offset len old new bytes (Err OutOfMemory) = new ≡ old
-
--- a read into a buffer that is compared with a digest, by its answer
-abbrev pub ComparesGoes : (List ℕ → List ℕ) → (offset len : ℕ) → (digest : List ℕ)
-    → (old new : List SourceRead) → (bytes : List ℕ) → Result Bool Error → Type 0
-ComparesGoes d offset len digest old new bytes (Ok is_same) =
-    (new ≡ old ++ gave offset bytes ∷ []) × (length bytes ≡ len)
-    × ((is_same ≡ true) ↔ (d bytes ≡ digest))
-ComparesGoes d offset len digest old new bytes (Err Damaged) = ⊥
-ComparesGoes d offset len digest old new bytes (Err (System e)) =
-    new ≡ old ++ refused offset len ∷ []
-ComparesGoes d offset len digest old new bytes (Err OutOfMemory) = new ≡ old
-
--- the last read gave bytes that are this part of whatever content this was kept of
+-- bytes that are the part `of` every content that has this seal, unless a second preimage is at
+-- hand
 abbrev pub ReadsVerified : (List ℕ → List ℕ) → (P : ℕ) → Seal → (of : List ℕ → List ℕ)
     → (offset : ℕ) → (old new : List SourceRead) → Type 0
 ReadsVerified d P seal of offset old new =
     (bytes : List ℕ) × ReadsLast old new (gave offset bytes) × IsVerified d P seal of bytes
 
--- the last read gave as many bytes as this part has, and they aren't it
+-- as many bytes as that part has, and they aren't it
 abbrev pub ReadsWrong : (List ℕ → List ℕ) → (P : ℕ) → Seal → (of : List ℕ → List ℕ)
     → (offset len : ℕ) → (old new : List SourceRead) → Type 0
 ReadsWrong d P seal of offset len old new =
     (bytes : List ℕ) × ReadsLast old new (gave offset bytes) × (length bytes ≡ len)
     × IsWrong d P seal of bytes
 
--- ---- the parts: the top stands behind the list in the list's file
+-- ---- the parts, each in its place
 
-abbrev pub TopIsWrong : (List ℕ → List ℕ) → (P : ℕ) → Seal → (old new : List SourceRead) → Type 0
+-- the top, which stands behind the list in the list's file
+abbrev pub TopIsWrong : (List ℕ → List ℕ) → (P : ℕ) → Seal → (old new : List SourceRead)
+    → Type 0
 TopIsWrong d P seal old new =
     ReadsWrong d P seal (top_of d P) (list_len P seal.len) (top_len P seal.len) old new
 
 abbrev pub TopIsRefused : (P : ℕ) → Seal → (old new : List SourceRead) → Type 0
 TopIsRefused P seal old new =
     ReadsLast old new (refused (list_len P seal.len) (top_len P seal.len))
-
--- the top can't be had, since it is wrong or was refused; or memory was
-abbrev pub TopFails : (List ℕ → List ℕ) → (P : ℕ) → Seal → (old new : List SourceRead) → Error
-    → Type 0
-TopFails d P seal old new Damaged = TopIsWrong d P seal old new
-TopFails d P seal old new (System e) = TopIsRefused P seal old new
-TopFails d P seal old new OutOfMemory = new ≡ old
 
 -- page j of the list
 abbrev pub ListPageIsWrong : (List ℕ → List ℕ) → (P : ℕ) → Seal → (j : ℕ)
@@ -96,7 +72,8 @@ ListPageIsWrong d P seal j old new =
     ReadsWrong d P seal (λ content. page_at P j (list_of d P content)) (j * P)
     (page_len P (list_len P seal.len) j) old new
 
-abbrev pub ListPageIsRefused : (P : ℕ) → Seal → (j : ℕ) → (old new : List SourceRead) → Type 0
+abbrev pub ListPageIsRefused : (P : ℕ) → Seal → (j : ℕ) → (old new : List SourceRead)
+    → Type 0
 ListPageIsRefused P seal j old new =
     ReadsLast old new (refused (j * P) (page_len P (list_len P seal.len) j))
 
@@ -110,8 +87,17 @@ abbrev pub PageIsRefused : (P : ℕ) → Seal → (i : ℕ) → (old new : List 
 PageIsRefused P seal i old new =
     ReadsLast old new (refused (page_offset P i) (page_len P seal.len i))
 
--- the digest of page i can't be had, since a page of the list that has bytes of it is wrong or was
--- refused; or memory was
+-- ---- errors
+
+-- the top can't be used: it is wrong, or its read was refused, or memory was
+abbrev pub TopFails : (List ℕ → List ℕ) → (P : ℕ) → Seal → (old new : List SourceRead)
+    → Error → Type 0
+TopFails d P seal old new Damaged = TopIsWrong d P seal old new
+TopFails d P seal old new (System e) = TopIsRefused P seal old new
+TopFails d P seal old new OutOfMemory = new ≡ old
+
+-- the digest of page i can't be used: a page of the list that has bytes of it is wrong, or its read
+-- was refused, or memory was
 abbrev pub DigestFails : (List ℕ → List ℕ) → (P : ℕ) → Seal → (i : ℕ)
     → (old new : List SourceRead) → Error → Type 0
 DigestFails d P seal i old new Damaged =

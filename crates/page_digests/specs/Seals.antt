@@ -1,11 +1,12 @@
--- What is kept of a content, and what it proves of bytes that were read.
+-- The seal of a content, and what it proves of bytes that were read.
 use Rattle.std.specs.Prelude.{◌≡◌, ◌≢◌, ◌⊎◌, ◌<◌, ◌*◌, ℕ, List, length}
 use Rattle.page_digests.specs.Pages.{list_of, page_at, root_of, top_of}
 use Rattle.page_digests.specs.declared.levels.Levels.{Levels}
 use Rattle.page_digests.specs.declared.seal.Seal.{Seal}
 
--- this was kept of this content: its length, and its root
-pub record IsSealOf (d : List ℕ → List ℕ) (P : ℕ) (content : List ℕ) (seal : Seal) : Type 0 where
+-- a content has this seal: its length, and its root
+pub record IsSealOf (d : List ℕ → List ℕ) (P : ℕ) (content : List ℕ) (seal : Seal)
+    : Type 0 where
   pub len : seal.len ≡ length content
   pub root : seal.root ≡ root_of d P content
 
@@ -39,21 +40,22 @@ pub record AreLevelsOf (d : List ℕ → List ℕ) (P : ℕ) (content : List ℕ
   pub top : l.top.items ≡ top_of d P content
   pub root : l.root ≡ root_of d P content
 
--- the levels over a list: it, the list of it, and the digest of that one
+-- the levels over a list that is given: it, its own list, and the digest of that one
 pub record AreLevelsOver (d : List ℕ → List ℕ) (P : ℕ) (given : List ℕ) (l : Levels)
     : Type 0 where
   pub list : l.list.items ≡ given
   pub top : l.top.items ≡ list_of d P given
   pub root : l.root ≡ d l.top.items
 
--- these bytes are the part `of` whatever content this was kept of; or a second preimage is at hand
+-- these bytes are the part `of` every content that has this seal, unless a second preimage is at
+-- hand
 abbrev pub IsVerified : (List ℕ → List ℕ) → (P : ℕ) → Seal → (of : List ℕ → List ℕ) → List ℕ
     → Type 0
 IsVerified d P seal of bytes = (content : List ℕ) → IsSealOf d P content seal
     → (bytes ≡ of content) ⊎ HasTwin d P content
 
--- these bytes have another digest than the part `of` whatever content this was kept of; or a second
--- preimage is at hand
+-- these bytes have another digest than the part `of` every content that has this seal, unless a
+-- second preimage is at hand
 abbrev pub IsWrong : (List ℕ → List ℕ) → (P : ℕ) → Seal → (of : List ℕ → List ℕ) → List ℕ
     → Type 0
 IsWrong d P seal of bytes = (content : List ℕ) → IsSealOf d P content seal

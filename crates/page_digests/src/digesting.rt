@@ -23,7 +23,7 @@ impl<D: Digest> Model for Digesting<D> {
 }
 
 impl<D: Digest> Digesting<D> {
-    /// Of no page yet.
+    /// No page is digested yet.
     pub fn new(alloc: Global) -> Self
         ensures { (P : ℕ) (content : List ℕ) → IsDigested D.digest_of P content result }
     {
@@ -41,8 +41,8 @@ impl<D: Digest> Digesting<D> {
         self.pages
     }
 
-    /// Takes the content's next page, which it has whole. The only error is that memory was
-    /// refused.
+    /// Takes the content's next page, a whole one. The only error is that memory was refused; then
+    /// nothing was taken.
     #[tactic(auto, using(crate::proofs::Growth::page_taken))]
     pub fn take_page(&mut self, page: &[u8]) -> Result<(), AllocError>
         requires { self.old.pages < 2 ^ 63 }
@@ -53,8 +53,8 @@ impl<D: Digest> Digesting<D> {
         Ok(())
     }
 
-    /// The content's list, by its last bytes, which are less than a page and may be none. The only
-    /// error is that memory was refused.
+    /// The content's list. `rest` is what the content has behind the pages that were taken: less
+    /// than a page, perhaps nothing. The only error is that memory was refused.
     pub fn finish(self, rest: &[u8]) -> Result<Vec<u8>, AllocError>
         ensures { IfOk result (λ list. Finishes D.digest_of rest.now self list.items) }
     {

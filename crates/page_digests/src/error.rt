@@ -8,10 +8,10 @@ use std::io;
 /// Why a content, or a part of it, isn't read.
 #[derive(Debug, Drop, thiserror::Error)]
 pub enum Error {
-    /// What was read hasn't the digest that it had as the content was closed: the top, a page of
-    /// the list, or a page of the content. Where it is the top or a page of the list, the levels
-    /// may be built again: see [`rebuild_levels`](crate::rebuild_levels).
-    #[error("what was read isn't what was kept: its digest is another one")]
+    /// What was read doesn't have its digest: the top, a page of the list, or a page of the
+    /// content. If it is the top or a page of the list, [`rebuild_levels`](crate::rebuild_levels)
+    /// helps.
+    #[error("what was read isn't as it was when the content was closed: its digest is another one")]
     Damaged,
     /// The system refused a read, or the file ends before the bytes that were to be read.
     #[error("{0}")]

@@ -9,8 +9,8 @@ use digest::Digest;
 use std::alloc::{AllocError, Global};
 use std::num::NonZeroU16;
 
-/// The levels of a content. The file of its list holds the list and then the top; the root is kept
-/// with the content's length, as a [`Seal`](crate::Seal).
+/// The levels of a content. The list's file holds the list and then the top. The root is kept with
+/// the content's length, as its [`Seal`](crate::Seal).
 #[derive(Drop)]
 pub struct Levels {
     /// The digests of the content's pages, joined.
@@ -37,8 +37,8 @@ pub fn levels_of<D: Digest>(
     levels_of_list::<D>(alloc, list, page_size)
 }
 
-/// The levels of a content whose list is at hand, as of a [`Digesting`](crate::Digesting) that was
-/// finished. The only error is that memory was refused.
+/// The levels of a content by its list, as [`Digesting::finish`](crate::Digesting::finish) gives
+/// it. The only error is that memory was refused.
 pub fn levels_of_list<D: Digest>(
     alloc: Global,
     list: Vec<u8>,

@@ -12,8 +12,8 @@ use digest::Digest;
 use std::alloc::Global;
 use std::marker::{Model, PhantomData};
 
-/// The list of a content in its file: what was kept of the content, the top, and the page of the
-/// list that was read last.
+/// The list of a content in its file: the content's seal, the top, and the page of the list that
+/// was read last, which is held.
 #[derive(Drop)]
 pub struct PagedList<F: Source, D: Digest> {
     file: F,
@@ -50,7 +50,7 @@ impl<F: Source, D: Digest> Model for PagedList<F, D> {
 }
 
 impl<F: Source + Drop, D: Digest> PagedList<F, D> {
-    /// A list of which `top` has the root that was kept.
+    /// A list whose top has the root of the seal. This reads nothing.
     pub fn new(alloc: Global, file: F, seal: Seal, page_size: usize, top: Vec<u8>) -> Self
         requires { IsList D.digest_of (record {
           seal = seal;
@@ -108,8 +108,8 @@ impl<F: Source + Drop, D: Digest> PagedList<F, D> {
         Ok(())
     }
 
-    // Copies bytes of the list from byte `at` on over the digest's from byte `done` on, as far as
-    // the digest and the list's page go. Answers how many.
+    // Copies bytes of the list from byte `at` on over the digest's from byte `done` on, up to the
+    // end of the digest or of the list's page. Answers how many.
     fn copy_piece(&mut self, digest: &mut [u8], at: usize, done: usize) -> Result<usize, Error>
         requires some { done < 32 }
         requires whole { length digest.old ≡ 32 }

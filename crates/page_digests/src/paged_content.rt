@@ -1,7 +1,8 @@
 // A content in a file of which nothing is believed.
 ghost use Rattle.std.specs.Prelude.{◌≡◌, ◌↔◌, ◌<◌, ◌≤◌, ◌+◌, ◌*◌, IfErr, IfOk, true};
 ghost use Rattle.std.specs.Int.NonZero.{non_zero_u16_get};
-ghost use Rattle.page_digests.specs.Contents.{IsOpened, LoadGoes, PieceGoes, RangeGoes};
+ghost use Rattle.page_digests.specs.Contents.{IsOpened};
+ghost use Rattle.page_digests.specs.Steps.{LoadGoes, PieceGoes, RangeGoes};
 ghost use Rattle.page_digests.specs.Contents.{ReadGoes, ReadIntoGoes, SoundGoes};
 ghost use Rattle.page_digests.specs.Reads.{TopFails};
 ghost use Rattle.page_digests.specs.Pages.{page_count};
@@ -18,7 +19,7 @@ use std::alloc::Global;
 use std::marker::Model;
 use std::num::NonZeroU16;
 
-/// A content in a file, and its list in another: of both each page is compared with its digest
+/// A content in a file, and its list in another. Each page of both is compared with its digest
 /// before it is used. The page of the content and the page of the list that were read last are
 /// held, so that the next read in them asks for nothing.
 #[derive(Drop)]
@@ -32,7 +33,8 @@ pub struct PagedContent<F: Source, D: Digest> {
 }
 
 impl<F: Source, D: Digest> Model for PagedContent<F, D> {
-    ghost use Rattle.page_digests.specs.Contents.{IsPaged, PagedState};
+    ghost use Rattle.page_digests.specs.Contents.{PagedState};
+    ghost use Rattle.page_digests.specs.Steps.{IsPaged};
 
     ghost Value = { PagedState };
 
@@ -49,9 +51,10 @@ impl<F: Source, D: Digest> Model for PagedContent<F, D> {
 }
 
 impl<F: Source + Drop, D: Digest> PagedContent<F, D> {
-    /// Opens a content of which `seal` was kept, by pages of `page_size` bytes. In `file` each of
-    /// its pages is followed by 12 bytes of other things; in `list_file` its list is followed by
-    /// the top. The top is read and compared with the root: `Damaged` if it has another digest.
+    /// Opens the content that has this seal, by pages of `page_size` bytes. In `file` 12 bytes of
+    /// other things stand behind each page of the content; `list_file` holds the list and then the
+    /// top. This reads the top: `Damaged` if the root isn't its digest. After an error both files
+    /// are given back.
     pub fn open(
         alloc: Global,
         file: F,
@@ -107,9 +110,8 @@ impl<F: Source + Drop, D: Digest> PagedContent<F, D> {
         self.seal.len.div_ceil(self.page_size as u64)
     }
 
-    /// Whether the file holds page `number` as it was. The file is read for it anew, also where the
-    /// page was read last. `Damaged` if a page of the list isn't as it was, by which that would be
-    /// known.
+    /// Whether the file holds page `number` as it was. This reads the page anew, also if it was
+    /// read last. `Damaged` if a page of the list isn't as it was, which has the page's digest.
     #[tactic(auto, using(crate::proofs::Paging::page_within))]
     pub fn page_is_sound(&mut self, number: u64) -> Result<bool, Error>
         requires { number < page_count self.old.page_size self.old.seal.len }
@@ -151,7 +153,7 @@ impl<F: Source + Drop, D: Digest> PagedContent<F, D> {
         }
     }
 
-    // Appends bytes of the content from byte `at` on, at most so many, as far as their page goes.
+    // Appends bytes of the content from byte `at` on, at most `most`, up to the end of their page.
     // Answers how many.
     #[tactic(auto, using(crate::proofs::Paging::page_of_byte))]
     fn append_piece(&mut self, bytes: &mut Vec<u8>, at: usize, most: usize) -> Result<usize, Error>
@@ -173,7 +175,7 @@ impl<F: Source + Drop, D: Digest> PagedContent<F, D> {
         ensures { RangeGoes D.digest_of offset len self.old self.new bytes.old.items bytes.new.items
             result }
     {
-        // The proof takes the bounds of the sums from the invariant, which a use of a field opens.
+        // The use of a field opens the invariant, from which the proof takes that no sum overflows.
         let _ = &self.seal;
         let mut done = 0;
         while done < len {
@@ -183,8 +185,8 @@ impl<F: Source + Drop, D: Digest> PagedContent<F, D> {
     }
 
     /// Appends the `len` bytes of the content from byte `offset` on to a buffer. After an error the
-    /// buffer is as it was. `Damaged` if a page of the content or of the list that is needed isn't
-    /// as it was; the other pages can be read still.
+    /// buffer is as it was. `Damaged` if a page that the range touches isn't as it was, or a page
+    /// of the list with its digest. The other pages can still be read.
     pub fn read_into(&mut self, bytes: &mut Vec<u8>, offset: u64, len: usize) -> Result<(), Error>
         requires { offset + len ≤ self.old.seal.len }
         ensures { ReadIntoGoes D.digest_of offset len self.old self.new bytes.old.items
@@ -198,8 +200,9 @@ impl<F: Source + Drop, D: Digest> PagedContent<F, D> {
         result
     }
 
-    /// The `len` bytes of the content from byte `offset` on. `Damaged` if a page of the content or
-    /// of the list that is needed isn't as it was; the other pages can be read still.
+    /// The `len` bytes of the content from byte `offset` on. `Damaged` if a page that the range
+    /// touches isn't as it was, or a page of the list with its digest. The other pages can still be
+    /// read.
     pub fn read(&mut self, alloc: Global, offset: u64, len: usize) -> Result<Vec<u8>, Error>
         requires { offset + len ≤ self.old.seal.len }
         ensures { ReadGoes D.digest_of offset len self.old self.new result }

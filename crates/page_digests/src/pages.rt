@@ -5,7 +5,7 @@ ghost use Rattle.page_digests.specs.Pages.{digest_at, list_len, list_of, page_at
 use digest::Digest;
 use std::alloc::{AllocError, Global};
 
-/// Contents have less than so many bytes.
+/// A content has less than so many bytes: 1 PiB.
 pub const LEN_LIMIT: u64 = 1 << 50;
 
 /// How many bytes of other things stand behind each page in a content's file.

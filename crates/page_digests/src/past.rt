@@ -6,8 +6,8 @@ use std::marker::Model;
 use std::snapshot::Snapshot;
 
 /// The reads of a source so far, and what each gave. It is for whoever writes a
-/// [`Source`](crate::Source): hold one as a `Snapshot`, which takes no memory, and let each read put
-/// one event more after it.
+/// [`Source`](crate::Source): hold one as a `Snapshot`, which takes no memory, and let each read
+/// put one event more after it.
 #[cycle(past)]
 #[derive(Drop)]
 pub struct SourcePast {

@@ -1,6 +1,6 @@
 // Reads into a buffer, of which some are compared with a digest.
 ghost use Rattle.std.specs.Prelude.{length};
-ghost use Rattle.page_digests.specs.Reads.{ComparesGoes, FillsGoes};
+ghost use Rattle.page_digests.specs.Buffers.{ComparesGoes, FillsGoes};
 
 use crate::error::Error;
 use crate::source::Source;

@@ -15,9 +15,9 @@ use digest::Digest;
 use std::alloc::Global;
 use std::num::NonZeroU16;
 
-/// Builds the levels of a content again, from the pages in its file, of which each is read once, in
-/// order. `Damaged` if the file doesn't hold the content of which `seal` was kept: then nobody
-/// knows which page isn't as it was.
+/// Builds the levels of the content that has this seal, from the pages in its file. Each page is
+/// read once, in order. `Damaged` if the file holds another content: nobody knows then which page
+/// isn't as it was.
 pub fn rebuild_levels<F: Source, D: Digest>(
     alloc: Global,
     file: &mut F,
@@ -40,7 +40,7 @@ pub fn rebuild_levels<F: Source, D: Digest>(
     }
 }
 
-// The list of a content of `len` bytes, of which each page is read.
+// The list of a content of `len` bytes, each page of which is read.
 fn read_list<F: Source, D: Digest>(
     alloc: Global,
     file: &mut F,

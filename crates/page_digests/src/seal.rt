@@ -1,6 +1,6 @@
-// What is kept of a content.
+// The seal of a content.
 
-/// What is kept of a content that is closed: 40 bytes, by which all of it is known.
+/// What is kept of a closed content: 40 bytes, by which all of it is known.
 #[derive(Clone, Copy)]
 pub struct Seal {
     /// How many bytes the content has.

@@ -1,8 +1,8 @@
 // A content that isn't opened.
 use crate::error::Error;
 
-/// Why a content isn't opened, and its files, so that its levels can be built again from the
-/// content's: see [`rebuild_levels`](crate::rebuild_levels).
+/// Why a content isn't opened, and its files: [`rebuild_levels`](crate::rebuild_levels) builds the
+/// levels again from the content's.
 #[derive(Drop)]
 pub struct Unopened<F> {
     /// Why the top isn't known.

@@ -1,5 +1,5 @@
 use Rattle.std.proofs.Common.{◌-◌}
-use Rattle.page_digests.specs.Contents.{IsAppending}
+use Rattle.page_digests.specs.Steps.{IsAppending}
 use Rattle.page_digests.proofs.paged_content.PagedContent.append_range.Given as goal
 
 abbrev pub decreases-loop-done : goal.decreases-loop-done
