@@ -17,7 +17,7 @@ ROOT = os.path.join(os.path.dirname(os.path.abspath(__file__)), "..")
 PAGE = "docs/INDEX.md"
 
 # The crates that a program imports, the lowest first.
-CRATES = ["disk", "page", "crc32c", "digest", "cache", "file", "paged", "items", "journal", "store", "segments", "session", "scripts"]
+CRATES = ["disk", "page", "crc32c", "digest", "page_digests", "cache", "file", "paged", "items", "journal", "store", "segments", "session", "scripts"]
 
 HEAD = """# The public items
 

@@ -9,12 +9,12 @@ use Rattle.std.proofs.lemmas.List.{same_from_push}
 use Rattle.std.proofs.lemmas.Option.{same_Some}
 use Rattle.page_digests.specs.declared.error.Error.{Error}
 use Rattle.page_digests.specs.declared.error.Error.TheVariants.{Damaged, System}
-use Rattle.page_digests.specs.Contents.{AppendsRange, HoldsLast, IsInCached, IsOpened, IsSameContent, PagedState, PageFails, RangeAsks, RangeFails}
-use Rattle.page_digests.specs.Contents.{ReadAnswers, ReadGoes, ReadIntoAnswers, ReadIntoGoes, SoundAnswers, SoundGoes}
-use Rattle.page_digests.specs.Pages.{list_of, page_at, range_at, top_of}
+use Rattle.page_digests.specs.Contents.{AppendsRange, HoldsLast, IsInCached, IsOpenedContent, IsSameContent, PagedState, PageFails, RangeAsks, RangeFails}
+use Rattle.page_digests.specs.Contents.{ReadAnswers, PagedReadGoes, ReadIntoAnswers, PagedReadIntoGoes, SoundAnswers, SoundGoes}
+use Rattle.page_digests.specs.Pages.{list_of, content_page, range_at, top_of}
 use Rattle.page_digests.specs.Reads.{DigestFails, IsReadOn, ReadsDigestOn}
-use Rattle.page_digests.specs.Seals.{HasTwin, IsVerified, IsWrong}
-use Rattle.page_digests.specs.Sources.{ReadsLast, SourceRead, gave, refused}
+use Rattle.page_digests.specs.Seals.{HasSecondPreimage, IsVerified, IsWrong}
+use Rattle.page_digests.specs.Sources.{EndsWithRead, SourceRead, gave, refused}
 use Rattle.page_digests.proofs.PageExamples.{first}
 use Rattle.page_digests.proofs.RangeCosts.{on_any}
 use Rattle.page_digests.proofs.ReadExamples.{its_own_is_right, its_page_is_read, page_0_is_not_wrong, page_0_is_wrong, xyz_is_read, zeros, zeros_are_wrong}
@@ -56,7 +56,7 @@ list_damaged = record opened { list_reads = gave 32 its_digest ∷ gave 0 zeros 
 abbrev pub page_refused : PagedState
 page_refused = record read { cached = None; reads = refused 0 3 ∷ [] }
 
-pub it_is_opened : IsOpened first 32 its_seal [] [] opened
+pub it_is_opened : IsOpenedContent first 32 its_seal [] [] opened
 it_is_opened = record {
   seal = refl;
   page_size = refl;
@@ -66,24 +66,24 @@ it_is_opened = record {
   top = (its_digest, refl, λ content is. inl (ap (top_of first 32) (sym (it_is_abc content is))));
 }
 
-pub without_the_top : IsOpened first 32 its_seal [] [] (record opened { list_reads = [] }) → ⊥
+pub without_the_top : IsOpenedContent first 32 its_seal [] [] (record opened { list_reads = [] }) → ⊥
 without_the_top is = by_case is.top
   where
     by_case : ((top : List ℕ) × ([] ≡ [] ++ gave 32 top ∷ []) × IsVerified first 32 its_seal (top_of first 32) top) → ⊥
     by_case (top, same, verified) = omega (arith, ap length same)
 
 -- by a top that wasn't compared
-pub by_zeros : IsOpened first 32 its_seal [] [] (record opened { list_reads = gave 32 zeros ∷ [] }) → ⊥
+pub by_zeros : IsOpenedContent first 32 its_seal [] [] (record opened { list_reads = gave 32 zeros ∷ [] }) → ⊥
 by_zeros is = by_case is.top
   where
-    differs : (zeros ≡ its_digest) ⊎ HasTwin first 32 abc → ⊥
+    differs : (zeros ≡ its_digest) ⊎ HasSecondPreimage first 32 abc → ⊥
     differs (inl same) = omega (arith, ap (λ (l : List ℕ). get_or l 0 0) same)
     differs (inr twin) = it_has_no_twin twin
 
     by_case : ((top : List ℕ) × (gave 32 zeros ∷ [] ≡ [] ++ gave 32 top ∷ []) × IsVerified first 32 its_seal (top_of first 32) top) → ⊥
     by_case (top, same, verified) =
         let given : zeros ≡ top = same_Some zeros top (ap (λ (r : SourceRead). r.given) (same_from_push [] [] (gave 32 zeros) (gave 32 top) same).1) in
-        differs (subst (λ (t : List ℕ). (t ≡ its_digest) ⊎ HasTwin first 32 abc) (sym given) (verified abc it_is_its_seal))
+        differs (subst (λ (t : List ℕ). (t ≡ its_digest) ⊎ HasSecondPreimage first 32 abc) (sym given) (verified abc it_is_its_seal))
 
 -- ---- a page
 
@@ -102,7 +102,7 @@ less_is_read is = by_case is.reads
     by_case : ((more : List SourceRead) × ([] ≡ gave 0 abc ∷ more)) → ⊥
     by_case (more, same) = omega (arith, ap length same)
 
-last_is : (old front : List SourceRead) (x y : SourceRead) → ReadsLast old (front ++ x ∷ []) y → x ≡ y
+last_is : (old front : List SourceRead) (x y : SourceRead) → EndsWithRead old (front ++ x ∷ []) y → x ≡ y
 last_is old front x y (more, same) = (same_from_push front (old ++ more) x y same).1
 
 -- its list's page was given as it was
@@ -110,13 +110,13 @@ pub its_list_was_right : DigestFails first 32 its_seal 0 opened.list_reads read.
 its_list_was_right (j, touched, (bytes, last, len, wrong)) =
     let at : j ≡ 0 = omega (arith, touched.0) in
     let given : its_digest ≡ bytes = same_Some its_digest bytes (ap (λ (r : SourceRead). r.given) (last_is opened.list_reads opened.list_reads (gave 0 its_digest) (gave (j * 32) bytes) last)) in
-    its_own_is_right (λ content. page_at 32 0 (list_of first 32 content)) refl
-    (subst (λ (k : ℕ). IsWrong first 32 its_seal (λ content. page_at 32 k (list_of first 32 content)) its_digest) at
-    (subst (IsWrong first 32 its_seal (λ content. page_at 32 j (list_of first 32 content))) (sym given) wrong))
+    its_own_is_right (λ content. content_page 32 0 (list_of first 32 content)) refl
+    (subst (λ (k : ℕ). IsWrong first 32 its_seal (λ content. content_page 32 k (list_of first 32 content)) its_digest) at
+    (subst (IsWrong first 32 its_seal (λ content. content_page 32 j (list_of first 32 content))) (sym given) wrong))
 
 pub its_list_is_wrong : DigestFails first 32 its_seal 0 opened.list_reads list_damaged.list_reads Damaged
 its_list_is_wrong =
-    (0, (lit< tt, lit< tt), (zeros, ([], refl), refl, zeros_are_wrong (λ content. page_at 32 0 (list_of first 32 content)) refl))
+    (0, (lit< tt, lit< tt), (zeros, ([], refl), refl, zeros_are_wrong (λ content. content_page 32 0 (list_of first 32 content)) refl))
 
 pub its_page_is_wrong : PageFails first 0 opened damaged Damaged
 its_page_is_wrong = inl page_0_is_wrong
@@ -143,12 +143,15 @@ on_over_its_digest result zero zero base begin is =
 on_over_its_digest result zero (suc len) base begin is = absurd (omega (arith, begin))
 on_over_its_digest result (suc from) len base begin is = absurd (omega (arith, begin))
 
+pub its_page_is_as_it_was : SoundAnswers first 0 opened read (Ok true)
+its_page_is_as_it_was = (refl, its_page_is_read)
+
 pub it_is_sound : SoundGoes first 0 opened read (Ok true)
 it_is_sound = record {
   same = more_is_read;
   calls = lit≤ tt;
   list_calls = on_over_its_digest (Ok true);
-  answers = (refl, its_page_is_read);
+  answers = its_page_is_as_it_was;
 }
 
 pub it_is_not_sound : SoundGoes first 0 opened damaged (Ok false)
@@ -228,11 +231,11 @@ no_page_was_refused e (i, touched, fails) =
 other_bytes : (bytes : List ℕ) → (bytes ≡ codes "bc" → ⊥) → IsVerified first 32 its_seal (range_at 1 2) bytes → ⊥
 other_bytes bytes differ verified = by_case (verified abc it_is_its_seal)
   where
-    by_case : (bytes ≡ codes "bc") ⊎ HasTwin first 32 abc → ⊥
+    by_case : (bytes ≡ codes "bc") ⊎ HasSecondPreimage first 32 abc → ⊥
     by_case (inl same) = differ same
     by_case (inr twin) = it_has_no_twin twin
 
-pub two_bytes_of_it : (bytes : Vec ℕ Global) → bytes.items ≡ codes "bc" → ReadGoes first 1 2 opened read (Ok bytes)
+pub two_bytes_of_it : (bytes : Vec ℕ Global) → bytes.items ≡ codes "bc" → PagedReadGoes first 1 2 opened read (Ok bytes)
 two_bytes_of_it bytes is = record {
   same = more_is_read;
   asks = one_page_is_asked_for;
@@ -246,7 +249,7 @@ two_others bytes is (holds, verified) =
 pub a_byte_is_missing : (bytes : Vec ℕ Global) → bytes.items ≡ codes "b" → ReadAnswers first 1 2 opened read (Ok bytes) → ⊥
 a_byte_is_missing bytes is (holds, verified) = other_bytes bytes.items (λ same. omega (arith, ap length (sym is ∙ same))) verified
 
-pub two_bytes_by_two_reads : (bytes : Vec ℕ Global) → ReadGoes first 1 2 opened read_again (Ok bytes) → ⊥
+pub two_bytes_by_two_reads : (bytes : Vec ℕ Global) → PagedReadGoes first 1 2 opened read_again (Ok bytes) → ⊥
 two_bytes_by_two_reads bytes is = it_has_one_page is.asks
 
 pub its_error : ReadAnswers first 1 2 opened damaged (Err Damaged)
@@ -265,10 +268,10 @@ pub two_others_are_appended : AppendsRange first 32 its_seal 1 2 (codes "xy") (c
 two_others_are_appended (range, same, verified) =
     other_bytes range (λ its. omega (arith, ap (λ (l : List ℕ). get_or l 2 0) (same ∙ ap (λ (l : List ℕ). codes "xy" ++ l) its))) verified
 
-pub two_bytes_more : ReadIntoGoes first 1 2 opened read (codes "xy") (codes "xybc") (Ok tt)
+pub two_bytes_more : PagedReadIntoGoes first 1 2 opened read (codes "xy") (codes "xybc") (Ok tt)
 two_bytes_more = record { same = more_is_read; asks = one_page_is_asked_for; answers = (its_page_is_held, they_are_appended) }
 
-pub two_bytes_more_by_two_reads : ReadIntoGoes first 1 2 opened read_again (codes "xy") (codes "xybc") (Ok tt) → ⊥
+pub two_bytes_more_by_two_reads : PagedReadIntoGoes first 1 2 opened read_again (codes "xy") (codes "xybc") (Ok tt) → ⊥
 two_bytes_more_by_two_reads is = it_has_one_page is.asks
 
 pub nothing_more : ReadIntoAnswers first 1 2 opened damaged (codes "xy") (codes "xy") (Err Damaged)

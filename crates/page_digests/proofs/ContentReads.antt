@@ -10,15 +10,15 @@ use Rattle.page_digests.specs.declared.error.Error.{Error}
 use Rattle.page_digests.specs.declared.error.Error.TheVariants.{Damaged, OutOfMemory, System}
 use Rattle.page_digests.specs.declared.seal.Seal.{Seal}
 use Rattle.page_digests.specs.Contents.{AppendsRange, IsInCached, IsSameContent, PagedState, PageFails}
-use Rattle.page_digests.specs.Steps.{AsksForPage, AsksForRange, IsAppending, IsPage, IsPaged, LoadGoes, PieceGoes}
-use Rattle.page_digests.specs.Contents.{RangeFails, ReadGoes, SoundGoes}
-use Rattle.page_digests.specs.Steps.{RangeGoes}
+use Rattle.page_digests.specs.Steps.{AsksForPage, AsksForRange, IsAppending, IsContentPage, IsPaged, LoadGoes, PieceGoes}
+use Rattle.page_digests.specs.Contents.{RangeFails, PagedReadGoes, SoundGoes}
+use Rattle.page_digests.specs.Steps.{RangeAppendGoes}
 use Rattle.page_digests.specs.Lists.{DigestGoes, IsSameList, ListState}
-use Rattle.page_digests.specs.Pages.{list_len, page_at, page_count, page_len, range_at, top_len, top_of}
+use Rattle.page_digests.specs.Pages.{list_len, content_page, pages_of_len, page_len, range_at, top_len, top_of}
 use Rattle.page_digests.specs.Reads.{DigestFails, IsReadOn, IsTouched, PageIsRefused, PageIsWrong, ReadsDigestOn, page_offset, pages_touched}
 use Rattle.page_digests.specs.Buffers.{ComparesGoes}
 use Rattle.page_digests.specs.Seals.{IsVerified}
-use Rattle.page_digests.specs.Sources.{ReadsLast, SourceRead, gave, refused}
+use Rattle.page_digests.specs.Sources.{EndsWithRead, SourceRead, gave, refused}
 use Rattle.page_digests.proofs.Costs.{last-in, touched_more}
 use Rattle.page_digests.proofs.ListReads.{one_more, one_read, read_after}
 use Rattle.page_digests.proofs.Paging.{page_within}
@@ -51,10 +51,10 @@ seen seal P cached list reads = record {
 
 -- the digest of a page
 digest_had : (d : List ℕ → List ℕ) (l m : ListState) (seal : Seal) (P i : ℕ) (cached : Option ℕ) (page digest : List ℕ) → IsPaged d l seal P cached page → DigestGoes d i l m (Ok digest)
-    → IsVerified d P seal (λ content. d (page_at P i content)) digest
+    → IsVerified d P seal (λ content. d (content_page P i content)) digest
 digest_had d l m seal P i cached page digest is goes =
-    subst (λ (k : ℕ). IsVerified d k seal (λ content. d (page_at k i content)) digest) is.list_page_size
-    (subst (λ (kept : Seal). IsVerified d l.page_size kept (λ content. d (page_at l.page_size i content)) digest) is.list_seal goes.answers)
+    subst (λ (k : ℕ). IsVerified d k seal (λ content. d (content_page k i content)) digest) is.list_page_size
+    (subst (λ (kept : Seal). IsVerified d l.page_size kept (λ content. d (content_page l.page_size i content)) digest) is.list_seal goes.answers)
 
 -- or it can't be had
 pub digest_lost : (d : List ℕ → List ℕ) (l m : ListState) (seal : Seal) (P i : ℕ) (cached : Option ℕ) (page : List ℕ) (e : Error) → IsPaged d l seal P cached page → DigestGoes d i l m (Err e)
@@ -101,8 +101,8 @@ sound_lost d l m seal P i cached page reads s e same is goes =
 
 -- it is as it was
 pub sound_page : (d : List ℕ → List ℕ) (l m : ListState) (seal : Seal) (P i n : ℕ) (cached : Option ℕ) (page digest bytes : List ℕ) (old new : List SourceRead) (s : PagedState) → seen seal P cached l old ≡ s
-    → IsPaged d l seal P cached page → DigestGoes d i l m (Ok digest) → i < page_count s.page_size s.seal.len → n ≡ page_len P seal.len i
-    → ComparesGoes d (page_offset P i) n digest old new bytes (Ok true) → IsPage d P seal i bytes
+    → IsPaged d l seal P cached page → DigestGoes d i l m (Ok digest) → i < pages_of_len s.page_size s.seal.len → n ≡ page_len P seal.len i
+    → ComparesGoes d (page_offset P i) n digest old new bytes (Ok true) → IsContentPage d P seal i bytes
 sound_page d l m seal P i n cached page digest bytes old new s same is goes below count (read, long, compared) = record {
   within = within;
   len = long ∙ count;
@@ -110,9 +110,9 @@ sound_page d l m seal P i n cached page digest bytes old new s same is goes belo
 }
   where
     within : i * P < seal.len
-    within = page_within P seal.len i is.positive (subst (λ (u : PagedState). i < page_count u.page_size u.seal.len) (sym same) below)
+    within = page_within P seal.len i is.positive (subst (λ (u : PagedState). i < pages_of_len u.page_size u.seal.len) (sym same) below)
 
-pub sound_paged : (d : List ℕ → List ℕ) (l m : ListState) (seal : Seal) (P i : ℕ) (cached : Option ℕ) (page bytes : List ℕ) → IsPaged d l seal P cached page → IsSameList l m → IsPage d P seal i bytes
+pub sound_paged : (d : List ℕ → List ℕ) (l m : ListState) (seal : Seal) (P i : ℕ) (cached : Option ℕ) (page bytes : List ℕ) → IsPaged d l seal P cached page → IsSameList l m → IsContentPage d P seal i bytes
     → IsPaged d m seal P (Some i) bytes
 sound_paged d l m seal P i cached page bytes is same its = record {
   positive = is.positive;
@@ -124,7 +124,7 @@ sound_paged d l m seal P i cached page bytes is same its = record {
 }
 
 pub sound_yes : (d : List ℕ → List ℕ) (l m : ListState) (seal : Seal) (P i : ℕ) (cached : Option ℕ) (page digest bytes : List ℕ) (old new : List SourceRead) (s : PagedState) → seen seal P cached l old ≡ s
-    → IsPaged d l seal P cached page → DigestGoes d i l m (Ok digest) → IsPage d P seal i bytes → new ≡ old ++ gave (page_offset P i) bytes ∷ [] → SoundGoes d i s (seen seal P (Some i) m new) (Ok true)
+    → IsPaged d l seal P cached page → DigestGoes d i l m (Ok digest) → IsContentPage d P seal i bytes → new ≡ old ++ gave (page_offset P i) bytes ∷ [] → SoundGoes d i s (seen seal P (Some i) m new) (Ok true)
 sound_yes d l m seal P i cached page digest bytes old new s same is goes its read =
     subst (λ (u : PagedState). SoundGoes d i u (seen seal P (Some i) m new) (Ok true)) same (record {
       same = same_content l m seal P cached (Some i) old new _ goes.same read;
@@ -146,7 +146,7 @@ sound_no d l m seal P i n cached page digest bytes old new s same is goes count 
         bytes,
         one_read old new _ read,
         long ∙ count,
-        part_wrong d P seal (page_at P i) digest bytes (digest_had d l m seal P i cached page digest is goes) (λ e. true≢false (sym (compared.1 e))),
+        part_wrong d P seal (content_page P i) digest bytes (digest_had d l m seal P i cached page digest is goes) (λ e. true≢false (sym (compared.1 e))),
       );
     })
 
@@ -163,7 +163,7 @@ sound_refused d l m seal P i n cached page digest bytes old new s e same is goes
       same = same_content l m seal P cached None old new _ goes.same read;
       calls = one_more old new _ read;
       list_calls = digest_on {T = Bool} d l m seal P i cached page digest (Err (System x)) is goes;
-      answers = inl (subst (λ (k : ℕ). ReadsLast old new (refused (page_offset P i) k)) count (one_read old new _ read));
+      answers = inl (subst (λ (k : ℕ). EndsWithRead old new (refused (page_offset P i) k)) count (one_read old new _ read));
     }
     by_error OutOfMemory none = record {
       same = same_content l m seal P cached None old new [] goes.same (none ∙ sym (append-nil old));
@@ -195,8 +195,8 @@ page_lost d i s t OutOfMemory fresh goes = record { same = goes.same; asks = inr
 -- ---- ranges
 
 -- the page that was read last is the content's
-cached_page : (d : List ℕ → List ℕ) (l : ListState) (seal : Seal) (P i : ℕ) (cached : Option ℕ) (page : List ℕ) → IsPaged d l seal P cached page → cached ≡ Some i → IsPage d P seal i page
-cached_page d l seal P i cached page is there = subst (λ (o : Option ℕ). IfSome o (λ k. IsPage d P seal k page)) there is.page
+cached_page : (d : List ℕ → List ℕ) (l : ListState) (seal : Seal) (P i : ℕ) (cached : Option ℕ) (page : List ℕ) → IsPaged d l seal P cached page → cached ≡ Some i → IsContentPage d P seal i page
+cached_page d l seal P i cached page is there = subst (λ (o : Option ℕ). IfSome o (λ k. IsContentPage d P seal k page)) there is.page
 
 -- a piece of it is appended
 pub piece_appended : (d : List ℕ → List ℕ) (l : ListState) (seal : Seal) (P : ℕ) (cached : Option ℕ) (page : List ℕ) (reads : List SourceRead) (s t : PagedState) (at most n z : ℕ) (before after : List ℕ)
@@ -221,12 +221,12 @@ piece_appended d l seal P cached page reads s t at most n z before after same is
     there : cached ≡ Some (at / z)
     there = ap (λ (v : PagedState). v.cached) same ∙ goes.answers
 
-    verified : IsVerified d s.page_size s.seal (page_at s.page_size (at / z)) page
+    verified : IsVerified d s.page_size s.seal (content_page s.page_size (at / z)) page
     verified =
         let here = (cached_page d l seal P (at / z) cached page is there).verified in
         let P_is : P ≡ s.page_size = ap (λ (v : PagedState). v.page_size) same ∙ goes.same.page_size in
         let seal_is : seal ≡ s.seal = ap (λ (v : PagedState). v.seal) same ∙ goes.same.seal in
-        subst (λ (k : ℕ). IsVerified d k s.seal (page_at k (at / z)) page) P_is (subst (λ (kept : Seal). IsVerified d P kept (page_at P (at / z)) page) seal_is here)
+        subst (λ (k : ℕ). IsVerified d k s.seal (content_page k (at / z)) page) P_is (subst (λ (kept : Seal). IsVerified d P kept (content_page P (at / z)) page) seal_is here)
 
     piece : IsVerified d s.page_size s.seal (range_at at n) (slice_range page (at % z) (at % z + n))
     piece =
@@ -409,7 +409,7 @@ range_goes_on d offset len s t u done n before mid after positive more is goes =
 
 -- all of them are appended
 pub range_done : (d : List ℕ → List ℕ) (offset len : ℕ) (s t : PagedState) (done : ℕ) (before after : List ℕ) → len ≤ done → IsAppending d offset len s t done before after
-    → RangeGoes d offset len s t before after (Ok tt)
+    → RangeAppendGoes d offset len s t before after (Ok tt)
 range_done d offset len s t done before after all is = record {
   same = is.same;
   asks = record { calls = asks.calls.calls; list_calls = asks.list_calls.calls; cached = λ here. (is.cached here).0 };
@@ -434,7 +434,7 @@ range_touches P offset len done positive below =
 
 -- a page can't be had
 pub range_failed : (d : List ℕ → List ℕ) (offset len : ℕ) (s t u : PagedState) (done : ℕ) (before mid after : List ℕ) (e : Error) → 0 < s.page_size → done < len
-    → IsAppending d offset len s t done before mid → PieceGoes d (offset + done) (len - done) t u mid after (Err e) → RangeGoes d offset len s u before after (Err e)
+    → IsAppending d offset len s t done before mid → PieceGoes d (offset + done) (len - done) t u mid after (Err e) → RangeAppendGoes d offset len s u before after (Err e)
 range_failed d offset len s t u done before mid after e positive below is goes = record {
   same = content_after s t u is.same goes.same;
   asks = record {
@@ -478,8 +478,8 @@ range_failed d offset len s t u done before mid after e positive below is goes =
     by_error OutOfMemory none = tt
 
 -- a range that is appended to no bytes
-pub range_read : (d : List ℕ → List ℕ) (offset len : ℕ) (s t : PagedState) (before : List ℕ) (bytes : Vec ℕ Global) → before ≡ [] → RangeGoes d offset len s t before bytes.items (Ok tt)
-    → ReadGoes d offset len s t (Ok bytes)
+pub range_read : (d : List ℕ → List ℕ) (offset len : ℕ) (s t : PagedState) (before : List ℕ) (bytes : Vec ℕ Global) → before ≡ [] → RangeAppendGoes d offset len s t before bytes.items (Ok tt)
+    → PagedReadGoes d offset len s t (Ok bytes)
 range_read d offset len s t before bytes empty goes = record {
   same = goes.same;
   asks = goes.asks;

@@ -1,8 +1,8 @@
 -- "abcdef" comes by pages of four bytes: a whole page, and a rest of two bytes.
 use Rattle.std.proofs.Common.{◌≡◌, ◌<◌, [], ℕ, zero, suc, List, length, get_or, refl, ap, arith, lit<, lit≤}
 use Rattle.std.specs.Prelude.{codes, Ok, Err}
-use Rattle.page_digests.specs.Growing.{CatchesUp, DigestingState, DigestsPage, DigestsPayloads, Finishes, HoldsPayloads, IsDigested, TakesPage, payload_at}
-use Rattle.page_digests.specs.Pages.{list_of, page_at}
+use Rattle.page_digests.specs.Growing.{CatchesUp, DigestingState, DigestsPage, DigestsPayloads, FinishesList, HoldsPayloads, IsDigested, TakesPage, payload_at}
+use Rattle.page_digests.specs.Pages.{list_of, content_page}
 use Rattle.page_digests.proofs.Growth.{digested_still, finished, page_taken}
 use Rattle.page_digests.proofs.PageExamples.{first}
 use Rattle.page_digests.proofs.Payloads.{payloads_begin, payloads_go_on}
@@ -45,11 +45,11 @@ it_is_not_taken = refl
 pub counted_all_the_same : TakesPage {E = ℕ} first (codes "abcd") none_yet counted (Err 0) → ⊥
 counted_all_the_same same = omega (arith, ap (λ (s : DigestingState). s.pages) same)
 
-pub its_end : Finishes first (codes "ef") after_a_page (list_of first 4 (codes "abcdef"))
+pub its_end : FinishesList first (codes "ef") after_a_page (list_of first 4 (codes "abcdef"))
 its_end = finished first (codes "ef") after_a_page (list_of first 4 (codes "abcdef")) refl
 
 -- the last bytes have a digest too
-pub without_its_end : Finishes first (codes "ef") after_a_page (first (codes "abcd")) → ⊥
+pub without_its_end : FinishesList first (codes "ef") after_a_page (first (codes "abcd")) → ⊥
 without_its_end is =
     let list : first (codes "abcd") ≡ list_of first 4 (codes "abcdef") = is 4 (codes "abcdef") a_page_is_digested refl (lit< tt) in omega (arith, ap length list)
 
@@ -68,7 +68,7 @@ not_behind_the_first is = omega (arith, ap (λ (l : List ℕ). get_or l 0 0) is)
 pub its_first_payload : HoldsPayloads 4 1 physical (codes "abcdef")
 its_first_payload = record { long = lit≤ tt; pages = pages }
   where
-    pages : (n : ℕ) → n < 1 → page_at 4 n (codes "abcdef") ≡ payload_at 4 n physical
+    pages : (n : ℕ) → n < 1 → content_page 4 n (codes "abcdef") ≡ payload_at 4 n physical
     pages zero below = refl
     pages (suc n) below = absurd (omega (arith, below))
 

@@ -5,11 +5,11 @@ use Rattle.std.specs.Int.{div_ceil}
 use Rattle.std.proofs.lemmas.Grind.{div_ceil_times}
 use Rattle.std.proofs.lemmas.List.{drop-append-le, length-drop, take-append-le, take_all}
 use Rattle.std.proofs.Math.Nat.{lt_of_mul-lt-mul_right, suc-mul}
-use Rattle.page_digests.specs.Growing.{DigestingState, DigestsPage, Finishes, IsDigested, with_rest}
-use Rattle.page_digests.specs.Pages.{digests, list_of, page_at}
+use Rattle.page_digests.specs.Growing.{DigestingState, DigestsPage, FinishesList, IsDigested, with_rest}
+use Rattle.page_digests.specs.Pages.{digests, list_of, content_page}
 
 -- a whole page stays as it is as the content grows
-pub page-grown : (P : ℕ) (content more : List ℕ) (i : ℕ) → suc i * P ≤ length content → page_at P i (content ++ more) ≡ page_at P i content
+pub page-grown : (P : ℕ) (content more : List ℕ) (i : ℕ) → suc i * P ≤ length content → content_page P i (content ++ more) ≡ content_page P i content
 page-grown P content more i within =
     let step : suc i * P ≡ i * P + P = suc-mul i P in
     let starts : i * P ≤ length content = omega arith in
@@ -22,7 +22,7 @@ digests-grown d P content more zero within = refl
 digests-grown d P content more (suc n) within =
     let step : suc n * P ≡ n * P + P = suc-mul n P in
     let less : n * P ≤ length content = omega arith in
-    ap (λ (l : List ℕ). l ++ d (page_at P n (content ++ more))) (digests-grown d P content more n less)
+    ap (λ (l : List ℕ). l ++ d (content_page P n (content ++ more))) (digests-grown d P content more n less)
     ∙ ap (λ (p : List ℕ). digests d P content n ++ d p) (page-grown P content more n within)
 
 -- what is digested stays digested as the content grows
@@ -89,7 +89,7 @@ whole_list d P content n (b ∷ bs) within is short =
     ∙ ap (digests d P content) (sym (count_part P (length content) n positive more less))
 
 -- the end of a content
-pub finished : (d : List ℕ → List ℕ) (rest : List ℕ) (s : DigestingState) (list : List ℕ) → list ≡ with_rest d s.list rest → Finishes d rest s list
+pub finished : (d : List ℕ → List ℕ) (rest : List ℕ) (s : DigestingState) (list : List ℕ) → list ≡ with_rest d s.list rest → FinishesList d rest s list
 finished d rest s list lists P content is rests short =
     lists ∙ ap (λ (l : List ℕ). with_rest d l rest) is.list ∙ whole_list d P content s.pages rest is.within rests short
 

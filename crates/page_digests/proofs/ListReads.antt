@@ -11,11 +11,11 @@ use Rattle.page_digests.specs.declared.error.Error.{Error}
 use Rattle.page_digests.specs.declared.error.Error.TheVariants.{Damaged, OutOfMemory, System}
 use Rattle.page_digests.specs.declared.seal.Seal.{Seal}
 use Rattle.page_digests.specs.Lists.{CopiesPiece, CopyAnswers, CopyGoes, DigestGoes, IsCopying, IsList, IsListPage, IsSameList, ListLoadGoes, ListState}
-use Rattle.page_digests.specs.Pages.{digest_at, list_len, list_of, page_at, page_len, range_at}
+use Rattle.page_digests.specs.Pages.{digest_at, list_len, list_of, content_page, page_len, range_at}
 use Rattle.page_digests.specs.Reads.{DigestFails, IsReadOn, IsTouched, ListPageIsRefused, ListPageIsWrong, pages_touched}
 use Rattle.page_digests.specs.Buffers.{ComparesGoes}
 use Rattle.page_digests.specs.Seals.{IsVerified}
-use Rattle.page_digests.specs.Sources.{ReadsLast, SourceRead, refused}
+use Rattle.page_digests.specs.Sources.{EndsWithRead, SourceRead, refused}
 use Rattle.page_digests.proofs.Costs.{read_on, touched_more}
 use Rattle.page_digests.proofs.Paging.{page_below}
 use Rattle.page_digests.proofs.Pieces.{more_verified, none_verified}
@@ -30,7 +30,7 @@ top_holds d u s j same is within =
 
 -- a page's digest in the top
 pub its_digest : (d : List ℕ → List ℕ) → ((b : List ℕ) → length (d b) ≡ 32) → (u : ListState) (j : ℕ) → IsList d u → j * u.page_size < list_len u.page_size u.seal.len
-    → IsVerified d u.page_size u.seal (λ content. d (page_at u.page_size j (list_of d u.page_size content))) (digest_at j u.top)
+    → IsVerified d u.page_size u.seal (λ content. d (content_page u.page_size j (list_of d u.page_size content))) (digest_at j u.top)
 its_digest d sized u j is within =
     digest_in_top d sized u.page_size u.seal u.top j is.positive within (top_verified d sized u.page_size u.seal u.top is.root is.top)
 
@@ -58,11 +58,11 @@ load_read d u s j n digest page reads same fresh goes =
     }) fresh
 
 -- the one read of a call is its last
-pub one_read : (old new : List SourceRead) (last : SourceRead) → new ≡ old ++ last ∷ [] → ReadsLast old new last
+pub one_read : (old new : List SourceRead) (last : SourceRead) → new ≡ old ++ last ∷ [] → EndsWithRead old new last
 one_read old new last is = ([], is ∙ ap (λ (l : List SourceRead). l ++ last ∷ []) (sym (append-nil old)))
 
 -- and the last read of a call is that of one that began before it
-pub read_after : (old mid new more : List SourceRead) (last : SourceRead) → mid ≡ old ++ more → ReadsLast mid new last → ReadsLast old new last
+pub read_after : (old mid new more : List SourceRead) (last : SourceRead) → mid ≡ old ++ more → EndsWithRead mid new last → EndsWithRead old new last
 read_after old mid new more last since (rest, is) = (
   more ++ rest,
   is ∙ ap (λ (l : List SourceRead). l ++ rest ++ last ∷ []) since ∙ ap (λ (l : List SourceRead). l ++ last ∷ []) (append_assoc old more rest),
@@ -83,15 +83,15 @@ load_wrong d sized u s j n digest page reads same fresh is within len its (read,
         page,
         one_read u.reads reads _ read,
         long ∙ len,
-        part_wrong d u.page_size u.seal (λ content. page_at u.page_size j (list_of d u.page_size content)) digest page verified (λ e. true≢false (sym (compared.1 e))),
+        part_wrong d u.page_size u.seal (λ content. content_page u.page_size j (list_of d u.page_size content)) digest page verified (λ e. true≢false (sym (compared.1 e))),
       );
     }) fresh
   where
     here : j * u.page_size < list_len u.page_size u.seal.len
     here = subst (λ (v : ListState). j * v.page_size < list_len v.page_size v.seal.len) (sym same) within
 
-    verified : IsVerified d u.page_size u.seal (λ content. d (page_at u.page_size j (list_of d u.page_size content))) digest
-    verified = subst (IsVerified d u.page_size u.seal (λ content. d (page_at u.page_size j (list_of d u.page_size content)))) (sym its) (its_digest d sized u j is here)
+    verified : IsVerified d u.page_size u.seal (λ content. d (content_page u.page_size j (list_of d u.page_size content))) digest
+    verified = subst (IsVerified d u.page_size u.seal (λ content. d (content_page u.page_size j (list_of d u.page_size content)))) (sym its) (its_digest d sized u j is here)
 
 -- it can't be read
 pub load_failed : (d : List ℕ → List ℕ) (u s : ListState) (j n : ℕ) (digest page : List ℕ) (reads : List SourceRead) (e : Error) → u ≡ s → (s.cached ≡ Some j → ⊥)
@@ -107,7 +107,7 @@ load_failed d u s j n digest page reads e same fresh len goes =
       same = record { seal = refl; page_size = refl; top = refl; reads = (_, read) };
       calls = one_more u.reads reads _ read;
       held = λ held. absurd (fresh held);
-      answers = subst (λ (k : ℕ). ReadsLast u.reads reads (refused (j * u.page_size) k)) len (one_read u.reads reads _ read);
+      answers = subst (λ (k : ℕ). EndsWithRead u.reads reads (refused (j * u.page_size) k)) len (one_read u.reads reads _ read);
     }
     by_error OutOfMemory none fresh = record {
       same = record { seal = refl; page_size = refl; top = refl; reads = ([], none ∙ sym (append-nil u.reads)) };
@@ -123,7 +123,7 @@ its_page d v j is there = subst (λ (cached : Option ℕ). IfSome cached (λ k. 
 
 -- the page that was read last is the list's
 pub cached_verified : (d : List ℕ → List ℕ) → ((b : List ℕ) → length (d b) ≡ 32) → (v : ListState) (j : ℕ) → IsList d v → v.cached ≡ Some j
-    → IsVerified d v.page_size v.seal (λ content. page_at v.page_size j (list_of d v.page_size content)) v.page
+    → IsVerified d v.page_size v.seal (λ content. content_page v.page_size j (list_of d v.page_size content)) v.page
 cached_verified d sized v j is there =
     let page : IsListPage d v j v.page = its_page d v j is there in
     list_page_verified d sized v.page_size v.seal (digest_at j v.top) v.page j page.within page.len (its_digest d sized v j is page.within) page.digest
@@ -164,14 +164,14 @@ copy_done d sized s t v at done n z k digest piece size same is goes some fits r
     all_of_it : length (put_mid done k digest piece) ≡ length digest
     all_of_it = grind (arith, overwrites)
 
-    page : IsVerified d s.page_size s.seal (λ content. page_at s.page_size (at / z) (list_of d s.page_size content)) v.page
+    page : IsVerified d s.page_size s.seal (λ content. content_page s.page_size (at / z) (list_of d s.page_size content)) v.page
     page =
         let there : v.cached ≡ Some (at / z) = ap (λ (w : ListState). w.cached) same ∙ goes.answers in
         let here = cached_verified d sized v (at / z) is there in
         let size_v : v.page_size ≡ s.page_size = ap (λ (w : ListState). w.page_size) same ∙ goes.same.page_size in
         let seal_v : v.seal ≡ s.seal = ap (λ (w : ListState). w.seal) same ∙ goes.same.seal in
-        subst (λ (P : ℕ). IsVerified d P s.seal (λ content. page_at P (at / z) (list_of d P content)) v.page) size_v
-        (subst (λ (seal : Seal). IsVerified d v.page_size seal (λ content. page_at v.page_size (at / z) (list_of d v.page_size content)) v.page) seal_v here)
+        subst (λ (P : ℕ). IsVerified d P s.seal (λ content. content_page P (at / z) (list_of d P content)) v.page) size_v
+        (subst (λ (seal : Seal). IsVerified d v.page_size seal (λ content. content_page v.page_size (at / z) (list_of d v.page_size content)) v.page) seal_v here)
 
     copies : CopiesPiece d s.page_size s.seal at done n digest (put_mid done k digest piece)
     copies start begin before =
@@ -292,7 +292,7 @@ digest_copied d sized i s t done digest positive within all is =
     whole_on from count base begin first =
         subst (λ (k : ℕ). IsReadOn s.page_size from (count + k) base (length t.reads) t.cached) whole (is.reads_on from count base begin first)
 
-    its : IsVerified d s.page_size s.seal (λ content. d (page_at s.page_size i content)) digest
+    its : IsVerified d s.page_size s.seal (λ content. d (content_page s.page_size i content)) digest
     its content of = elim (is.verified content of) [
       | inr twin ↦ inr twin
       | inl same ↦

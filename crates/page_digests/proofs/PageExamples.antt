@@ -4,7 +4,7 @@ use Rattle.std.proofs.Common.{◌≡◌, ◌++◌, [], ℕ, List, length, take, 
 use Rattle.std.proofs.Common.{length-append}
 use Rattle.std.specs.Prelude.{codes}
 use Rattle.std.proofs.lemmas.List.{length-take-le}
-use Rattle.page_digests.specs.Pages.{digests, list_len, list_of, page_at, page_count, page_len, range_at, root_of, top_len, top_of}
+use Rattle.page_digests.specs.Pages.{digests, list_len, list_of, content_page, pages_of_len, page_len, range_at, root_of, top_len, top_of}
 
 abbrev pub first : List ℕ → List ℕ
 first bytes = take 32 (bytes ++ replicate 32 0)
@@ -21,23 +21,23 @@ sized_flat bytes = refl
 
 -- ---- pages of four bytes
 
-pub its_second_page : page_at 4 1 (codes "abcdefghij") ≡ codes "efgh"
+pub its_second_page : content_page 4 1 (codes "abcdefghij") ≡ codes "efgh"
 its_second_page = refl
 
 -- the last one is shorter
-pub its_last_page : page_at 4 2 (codes "abcdefghij") ≡ codes "ij"
+pub its_last_page : content_page 4 2 (codes "abcdefghij") ≡ codes "ij"
 its_last_page = refl
 
-pub no_page_after_it : page_at 4 3 (codes "abcdefghij") ≡ []
+pub no_page_after_it : content_page 4 3 (codes "abcdefghij") ≡ []
 no_page_after_it = refl
 
 pub over_two_pages : range_at 3 4 (codes "abcdefghij") ≡ codes "defg"
 over_two_pages = refl
 
-pub three_pages : page_count 4 10 ≡ 3
+pub three_pages : pages_of_len 4 10 ≡ 3
 three_pages = refl
 
-pub not_two : page_count 4 10 ≡ 2 → ⊥
+pub not_two : pages_of_len 4 10 ≡ 2 → ⊥
 not_two is = omega (arith, is)
 
 pub a_whole_page : page_len 4 10 1 ≡ 4
@@ -49,7 +49,7 @@ two_bytes_are_left = refl
 pub not_a_whole_one : page_len 4 10 2 ≡ 4 → ⊥
 not_a_whole_one is = omega (arith, is)
 
-pub not_its_first_page : page_at 4 1 (codes "abcdefghij") ≡ codes "abcd" → ⊥
+pub not_its_first_page : content_page 4 1 (codes "abcdefghij") ≡ codes "abcd" → ⊥
 not_its_first_page is = omega (arith, ap (λ (l : List ℕ). get_or l 0 0) is)
 
 pub not_up_to_a_page_s_end : range_at 3 4 (codes "abcdefghij") ≡ codes "d" → ⊥

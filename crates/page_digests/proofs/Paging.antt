@@ -6,7 +6,7 @@ use Rattle.std.proofs.lemmas.Bool.{cases_lt}
 use Rattle.std.proofs.lemmas.Grind.{div_ceil_times}
 use Rattle.std.proofs.lemmas.List.{drop-append-le, drop_at, length-drop, length-take, take-append-le, take_all}
 use Rattle.std.proofs.Math.Nat.{div-mul-le_self, lt_of_mul-lt-mul_right, mul-le-mul_left, mul-le-mul_right, suc-mul}
-use Rattle.page_digests.specs.Pages.{digest_at, digests, page_at, page_len}
+use Rattle.page_digests.specs.Pages.{digest_at, digests, content_page, page_len}
 
 -- page i, one of as many as there are, begins within the bytes
 pub page_within : (P len i : ℕ) → 0 < P → i < div_ceil len P → i * P < len
@@ -40,7 +40,7 @@ list_len_most len P positive =
     let few : div_ceil len P < suc len = lt_of_mul-lt-mul_right P less in
     omega arith
 
-pub length-page_at : (P i : ℕ) (bytes : List ℕ) → length (page_at P i bytes) ≡ page_len P (length bytes) i
+pub length-page_at : (P i : ℕ) (bytes : List ℕ) → length (content_page P i bytes) ≡ page_len P (length bytes) i
 length-page_at P i bytes = length-take P (drop (i * P) bytes) ∙ ap (λ (n : ℕ). min P n) (length-drop (i * P) bytes)
 
 pub length-digests : (d : List ℕ → List ℕ) → ((b : List ℕ) → length (d b) ≡ 32) → (P : ℕ) (bytes : List ℕ) (n : ℕ)
@@ -48,8 +48,8 @@ pub length-digests : (d : List ℕ → List ℕ) → ((b : List ℕ) → length 
 length-digests d sized P bytes zero = refl
 length-digests d sized P bytes (suc n) =
     let front : length (digests d P bytes n) ≡ n * 32 = length-digests d sized P bytes n in
-    let last : length (d (page_at P n bytes)) ≡ 32 = sized (page_at P n bytes) in
-    length-append (digests d P bytes n) (d (page_at P n bytes)) ∙ omega arith
+    let last : length (d (content_page P n bytes)) ≡ 32 = sized (content_page P n bytes) in
+    length-append (digests d P bytes n) (d (content_page P n bytes)) ∙ omega arith
 
 front_digest : (X Y : List ℕ) (i : ℕ) → i * 32 + 32 ≤ length X → digest_at i (X ++ Y) ≡ digest_at i X
 front_digest X Y i fits =
@@ -65,16 +65,16 @@ last_digest X Y i front len =
 
 -- digest i of a list is that of page i
 pub digest_at-digests : (d : List ℕ → List ℕ) → ((b : List ℕ) → length (d b) ≡ 32) → (P : ℕ) (bytes : List ℕ) (n i : ℕ) → i < n
-    → digest_at i (digests d P bytes n) ≡ d (page_at P i bytes)
+    → digest_at i (digests d P bytes n) ≡ d (content_page P i bytes)
 digest_at-digests d sized P bytes zero i below = absurd (omega arith)
 digest_at-digests d sized P bytes (suc n) i below =
     let front : length (digests d P bytes n) ≡ n * 32 = length-digests d sized P bytes n in
     elim (cases_lt i n) [
       | inl less ↦
           let fits : i * 32 + 32 ≤ length (digests d P bytes n) = omega arith in
-          front_digest (digests d P bytes n) (d (page_at P n bytes)) i fits ∙ digest_at-digests d sized P bytes n i less
+          front_digest (digests d P bytes n) (d (content_page P n bytes)) i fits ∙ digest_at-digests d sized P bytes n i less
       | inr more ↦
           let same : n ≡ i = omega arith in
-          subst (λ (k : ℕ). digest_at k (digests d P bytes n ++ d (page_at P n bytes)) ≡ d (page_at P k bytes)) same
-          (last_digest (digests d P bytes n) (d (page_at P n bytes)) n front (sized (page_at P n bytes)))
+          subst (λ (k : ℕ). digest_at k (digests d P bytes n ++ d (content_page P n bytes)) ≡ d (content_page P k bytes)) same
+          (last_digest (digests d P bytes n) (d (content_page P n bytes)) n front (sized (content_page P n bytes)))
     ]

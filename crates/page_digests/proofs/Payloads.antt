@@ -2,7 +2,7 @@
 use Rattle.std.proofs.Common.{◌≡◌, ◌<◌, ◌≤◌, ◌*◌, ◌+◌, ◌∙◌, ℕ, suc, List, length, ap, sym, subst, arith}
 use Rattle.std.proofs.Math.Nat.{mul-le-mul_right, suc-mul}
 use Rattle.page_digests.specs.Growing.{DigestingState, DigestsPage, DigestsPayloads, payload_at}
-use Rattle.page_digests.specs.Pages.{page_at}
+use Rattle.page_digests.specs.Pages.{content_page}
 
 -- a page below others is in the blob
 pub payload_there : (P full n len : ℕ) → full * (P + 12) ≤ len → n < full → n * (P + 12) + P + 12 ≤ len
@@ -30,7 +30,7 @@ payloads_go_on d P full n physical page s t u below count its before more takes 
   further = omega (arith, before.further);
   not_past = omega (arith, before.further);
   digests = λ content holds is.
-      let here : page ≡ page_at P t.pages content = its ∙ sym (holds.pages n below) ∙ ap (λ (k : ℕ). page_at P k content) (sym count) in
+      let here : page ≡ content_page P t.pages content = its ∙ sym (holds.pages n below) ∙ ap (λ (k : ℕ). content_page P k content) (sym count) in
       let long : t.pages * P + P ≤ length content = subst (λ (k : ℕ). k * P + P ≤ length content) (sym count) (content_long P full n (length content) holds.long below) in
       takes P content (before.digests content holds is) here long;
 }

@@ -4,7 +4,7 @@ use Rattle.std.proofs.Common.{inl, inr, arith}
 use Rattle.std.proofs.lemmas.List.{drop-drop, drop-take, take-take}
 use Rattle.std.proofs.Math.Seq.{take-add}
 use Rattle.page_digests.specs.declared.seal.Seal.{Seal}
-use Rattle.page_digests.specs.Pages.{page_at, range_at}
+use Rattle.page_digests.specs.Pages.{content_page, range_at}
 use Rattle.page_digests.specs.Seals.{IsVerified}
 
 as_range : (bytes : List ℕ) (offset len : ℕ) → take len (drop offset bytes) ≡ range_at offset len bytes
@@ -12,7 +12,7 @@ as_range bytes offset len =
     let e : len ≡ offset + len - offset = omega arith in ap (λ (k : ℕ). take k (drop offset bytes)) e
 
 -- a piece of a page is one of all the bytes
-piece-page_at : (P : ℕ) (bytes : List ℕ) (i skip n : ℕ) → skip + n ≤ P → take n (drop skip (page_at P i bytes)) ≡ take n (drop (i * P + skip) bytes)
+piece-page_at : (P : ℕ) (bytes : List ℕ) (i skip n : ℕ) → skip + n ≤ P → take n (drop skip (content_page P i bytes)) ≡ take n (drop (i * P + skip) bytes)
 piece-page_at P bytes i skip n fits =
     let m : ℕ = P - skip in
     let whole : P ≡ skip + m = omega arith in
@@ -28,7 +28,7 @@ range_more bytes offset done n =
     sym (take-add done n (drop offset bytes) ∙ ap (λ (l : List ℕ). take done (drop offset bytes) ++ take n l) (drop-drop done offset bytes))
 
 joined : (P : ℕ) (bytes : List ℕ) (offset done n i skip : ℕ) (out page : List ℕ) → skip + n ≤ P → i * P + skip ≡ offset + done
-    → out ≡ range_at offset done bytes → page ≡ page_at P i bytes → out ++ take n (drop skip page) ≡ range_at offset (done + n) bytes
+    → out ≡ range_at offset done bytes → page ≡ content_page P i bytes → out ++ take n (drop skip page) ≡ range_at offset (done + n) bytes
 joined P bytes offset done n i skip out page fits at outs is =
     let begin : out ≡ take done (drop offset bytes) = outs ∙ sym (as_range bytes offset done) in
     let piece : take n (drop skip page) ≡ take n (drop (offset + done) bytes) =
@@ -42,7 +42,7 @@ none_verified d P seal of offset content is = inl (as_range (of content) offset 
 
 -- a piece more, of a page that is verified
 pub more_verified : (d : List ℕ → List ℕ) (P : ℕ) (seal : Seal) (of : List ℕ → List ℕ) (offset done n i skip : ℕ) (out page : List ℕ) → skip + n ≤ P → i * P + skip ≡ offset + done
-    → IsVerified d P seal (λ content. range_at offset done (of content)) out → IsVerified d P seal (λ content. page_at P i (of content)) page
+    → IsVerified d P seal (λ content. range_at offset done (of content)) out → IsVerified d P seal (λ content. content_page P i (of content)) page
     → IsVerified d P seal (λ content. range_at offset (done + n) (of content)) (out ++ take n (drop skip page))
 more_verified d P seal of offset done n i skip out page fits at outs pages content is =
     elim (outs content is) [
@@ -72,7 +72,7 @@ ranges_joined d P seal offset done n front back fronts backs content is =
 
 -- a piece of a page that is verified
 pub piece_verified : (d : List ℕ → List ℕ) (P : ℕ) (seal : Seal) (at n i skip : ℕ) (page : List ℕ) → skip + n ≤ P → i * P + skip ≡ at
-    → IsVerified d P seal (page_at P i) page → IsVerified d P seal (range_at at n) (take n (drop skip page))
+    → IsVerified d P seal (content_page P i) page → IsVerified d P seal (range_at at n) (take n (drop skip page))
 piece_verified d P seal at n i skip page fits place pages =
     let here : i * P + skip ≡ at + 0 = omega arith in
     let all : 0 + n ≡ n = omega arith in

@@ -8,14 +8,14 @@ use Rattle.std.specs.declared.snapshot.Snapshot.{Snapshot}
 use Rattle.std.proofs.lemmas.List.{length_push, same_from_push}
 use Rattle.std.proofs.lemmas.Option.{same_Some}
 use Rattle.page_digests.specs.declared.error.Error.TheVariants.{Damaged, OutOfMemory, System}
-use Rattle.page_digests.specs.Pages.{list_of, page_at, top_of}
+use Rattle.page_digests.specs.Pages.{list_of, content_page, top_of}
 use Rattle.page_digests.specs.declared.past.Bytes.TheVariants as bytes
 use Rattle.page_digests.specs.declared.past.LastRead.TheVariants as reads
 use Rattle.page_digests.specs.Past.{listed_bytes, read_event, reads_of}
 use Rattle.page_digests.specs.Reads.{DigestFails, IsReadOn, IsTouched, ListPageIsRefused, ListPageIsWrong, PageIsRefused, PageIsWrong, ReadsDigestOn, ReadsVerified, ReadsWrong}
 use Rattle.page_digests.specs.Reads.{TopFails, TopIsRefused, TopIsWrong, page_offset, pages_touched}
-use Rattle.page_digests.specs.Seals.{HasTwin, IsVerified, IsWrong}
-use Rattle.page_digests.specs.Sources.{ReadsLast, SourceRead, gave, read_outcome, refused}
+use Rattle.page_digests.specs.Seals.{HasSecondPreimage, IsVerified, IsWrong}
+use Rattle.page_digests.specs.Sources.{EndsWithRead, SourceRead, gave, read_outcome, refused}
 use Rattle.page_digests.proofs.PageExamples.{first}
 use Rattle.page_digests.proofs.SealExamples.{abc, abc_is_not_wrong, it_has_no_twin, it_is_abc, it_is_its_seal, its_digest, its_page_is_verified, its_seal, xyz, xyz_is_not_verified, xyz_is_wrong}
 
@@ -57,14 +57,14 @@ its_bytes before one = cc one
 pub no_byte_yet : listed_bytes bytes.Nothing ≡ []
 no_byte_yet = refl
 
-pub the_second_was_last : ReadsLast [] (gave 0 abc ∷ refused 9 1 ∷ []) (refused 9 1)
+pub the_second_was_last : EndsWithRead [] (gave 0 abc ∷ refused 9 1 ∷ []) (refused 9 1)
 the_second_was_last = (gave 0 abc ∷ [], refl)
 
 -- what was read last
 last_is : (front more : List SourceRead) (x y : SourceRead) → front ++ x ∷ [] ≡ more ++ y ∷ [] → x ≡ y
 last_is front more x y same = (same_from_push front more x y same).1
 
-pub the_first_was_not : ReadsLast [] (gave 0 abc ∷ refused 9 1 ∷ []) (gave 0 abc) → ⊥
+pub the_first_was_not : EndsWithRead [] (gave 0 abc ∷ refused 9 1 ∷ []) (gave 0 abc) → ⊥
 the_first_was_not (more, same) = cc (ap (λ (r : SourceRead). r.given) (last_is (gave 0 abc ∷ []) ([] ++ more) (refused 9 1) (gave 0 abc) same))
 
 -- ---- places
@@ -131,23 +131,23 @@ gave_abc = gave 0 abc ∷ []
 abbrev gave_xyz : List SourceRead
 gave_xyz = gave 0 xyz ∷ []
 
-pub given_bytes : (offset : ℕ) (bytes other : List ℕ) (at : ℕ) → ReadsLast [] (gave offset bytes ∷ []) (gave at other) → bytes ≡ other
+pub given_bytes : (offset : ℕ) (bytes other : List ℕ) (at : ℕ) → EndsWithRead [] (gave offset bytes ∷ []) (gave at other) → bytes ≡ other
 given_bytes offset bytes other at (more, same) =
     same_Some bytes other (ap (λ (r : SourceRead). r.given) (last_is [] ([] ++ more) (gave offset bytes) (gave at other) same))
 
-pub its_page_is_read : ReadsVerified first 32 its_seal (page_at 32 0) 0 [] gave_abc
+pub its_page_is_read : ReadsVerified first 32 its_seal (content_page 32 0) 0 [] gave_abc
 its_page_is_read = (abc, ([], refl), its_page_is_verified)
 
-pub xyz_is_read : ReadsVerified first 32 its_seal (page_at 32 0) 0 [] gave_xyz → ⊥
+pub xyz_is_read : ReadsVerified first 32 its_seal (content_page 32 0) 0 [] gave_xyz → ⊥
 xyz_is_read (bytes, last, verified) =
-    xyz_is_not_verified (subst (IsVerified first 32 its_seal (page_at 32 0)) (sym (given_bytes 0 xyz bytes 0 last)) verified)
+    xyz_is_not_verified (subst (IsVerified first 32 its_seal (content_page 32 0)) (sym (given_bytes 0 xyz bytes 0 last)) verified)
 
-pub another_page_is_read : ReadsWrong first 32 its_seal (page_at 32 0) 0 3 [] gave_xyz
+pub another_page_is_read : ReadsWrong first 32 its_seal (content_page 32 0) 0 3 [] gave_xyz
 another_page_is_read = (xyz, ([], refl), refl, xyz_is_wrong)
 
-pub its_own_is_not_wrong : ReadsWrong first 32 its_seal (page_at 32 0) 0 3 [] gave_abc → ⊥
+pub its_own_is_not_wrong : ReadsWrong first 32 its_seal (content_page 32 0) 0 3 [] gave_abc → ⊥
 its_own_is_not_wrong (bytes, last, len, wrong) =
-    abc_is_not_wrong (subst (IsWrong first 32 its_seal (page_at 32 0)) (sym (given_bytes 0 abc bytes 0 last)) wrong)
+    abc_is_not_wrong (subst (IsWrong first 32 its_seal (content_page 32 0)) (sym (given_bytes 0 abc bytes 0 last)) wrong)
 
 pub page_0_is_wrong : PageIsWrong first 32 its_seal 0 [] gave_xyz
 page_0_is_wrong = another_page_is_read
@@ -179,7 +179,7 @@ zeros_are_wrong of its content is =
 pub its_own_is_right : (of : List ℕ → List ℕ) → of abc ≡ its_digest → IsWrong first 32 its_seal of its_digest → ⊥
 its_own_is_right of its wrong = by_case (wrong abc it_is_its_seal)
   where
-    by_case : (first its_digest ≢ first (of abc)) ⊎ HasTwin first 32 abc → ⊥
+    by_case : (first its_digest ≢ first (of abc)) ⊎ HasSecondPreimage first 32 abc → ⊥
     by_case (inl differ) = differ (ap first (sym its))
     by_case (inr twin) = it_has_no_twin twin
 
@@ -198,12 +198,12 @@ pub the_top_at_the_front : TopIsRefused 32 its_seal [] (refused 0 32 ∷ []) →
 the_top_at_the_front (more, same) = omega (arith, ap (λ (r : SourceRead). r.offset) (last_is [] ([] ++ more) (refused 0 32) (refused 32 32) same))
 
 pub the_list_is_wrong : ListPageIsWrong first 32 its_seal 0 [] (gave 0 zeros ∷ [])
-the_list_is_wrong = (zeros, ([], refl), refl, zeros_are_wrong (λ content. page_at 32 0 (list_of first 32 content)) refl)
+the_list_is_wrong = (zeros, ([], refl), refl, zeros_are_wrong (λ content. content_page 32 0 (list_of first 32 content)) refl)
 
 pub the_list_is_right : ListPageIsWrong first 32 its_seal 0 [] (gave 0 its_digest ∷ []) → ⊥
 the_list_is_right (bytes, last, len, wrong) =
-    its_own_is_right (λ content. page_at 32 0 (list_of first 32 content)) refl
-    (subst (IsWrong first 32 its_seal (λ content. page_at 32 0 (list_of first 32 content))) (sym (given_bytes 0 its_digest bytes 0 last)) wrong)
+    its_own_is_right (λ content. content_page 32 0 (list_of first 32 content)) refl
+    (subst (IsWrong first 32 its_seal (λ content. content_page 32 0 (list_of first 32 content))) (sym (given_bytes 0 its_digest bytes 0 last)) wrong)
 
 pub the_list_is_refused : ListPageIsRefused 32 its_seal 0 [] (refused 0 32 ∷ [])
 the_list_is_refused = ([], refl)

@@ -7,8 +7,8 @@ use Rattle.std.proofs.lemmas.List.{same_from_push, take_all}
 use Rattle.std.proofs.lemmas.Option.{same_Some}
 use Rattle.page_digests.specs.declared.error.Error.TheVariants.{Damaged, System}
 use Rattle.page_digests.specs.declared.levels.Levels.{Levels}
-use Rattle.page_digests.specs.Pages.{page_at, root_of}
-use Rattle.page_digests.specs.Rebuilds.{Gives, RebuildGoes, page_reads}
+use Rattle.page_digests.specs.Pages.{content_page, root_of}
+use Rattle.page_digests.specs.Rebuilds.{GivesAll, RebuildGoes, page_reads}
 use Rattle.page_digests.specs.Seals.{AreLevelsOf}
 use Rattle.page_digests.specs.Sources.{SourceRead, gave, refused}
 use Rattle.page_digests.proofs.PageExamples.{first}
@@ -22,20 +22,20 @@ pub by_its_logical_places : page_reads 4 (codes "abcdef") 2 ≡ gave 0 (codes "a
 by_its_logical_places same =
     omega (arith, ap (λ (r : SourceRead). r.offset) (same_from_push (gave 0 (codes "abcd") ∷ []) (gave 0 (codes "abcd") ∷ []) (gave 16 (codes "ef")) (gave 4 (codes "ef")) same).1)
 
-pub its_file_gives_it : Gives 32 3 [] (gave 0 abc ∷ []) abc
+pub its_file_gives_it : GivesAll 32 3 [] (gave 0 abc ∷ []) abc
 its_file_gives_it = record { len = refl; reads = refl }
 
 -- what is given by a file that holds one page
-given : (x bytes : List ℕ) → Gives 32 3 [] (gave 0 x ∷ []) bytes → bytes ≡ x
+given : (x bytes : List ℕ) → GivesAll 32 3 [] (gave 0 x ∷ []) bytes → bytes ≡ x
 given x bytes gives =
     let fits : length bytes ≤ 32 = omega (arith, gives.len) in
-    sym (take_all 32 bytes fits) ∙ sym (same_Some x (page_at 32 0 bytes) (ap (λ (r : SourceRead). r.given) (same_from_push [] [] (gave 0 x) (gave 0 (page_at 32 0 bytes)) gives.reads).1))
+    sym (take_all 32 bytes fits) ∙ sym (same_Some x (content_page 32 0 bytes) (ap (λ (r : SourceRead). r.given) (same_from_push [] [] (gave 0 x) (gave 0 (content_page 32 0 bytes)) gives.reads).1))
 
-pub it_gives_another : Gives 32 3 [] (gave 0 abc ∷ []) xyz → ⊥
+pub it_gives_another : GivesAll 32 3 [] (gave 0 abc ∷ []) xyz → ⊥
 it_gives_another gives = omega (arith, ap (λ (l : List ℕ). get_or l 0 0) (given abc xyz gives))
 
 -- a page that wasn't read is not given
-pub unread : (bytes : List ℕ) → Gives 32 3 [] [] bytes → ⊥
+pub unread : (bytes : List ℕ) → GivesAll 32 3 [] [] bytes → ⊥
 unread bytes gives = omega (arith, ap length gives.reads)
 
 pub they_are_built : (l : Levels) → l.list.items ≡ its_digest → l.top.items ≡ its_digest → l.root ≡ its_digest → RebuildGoes first 32 its_seal [] (gave 0 abc ∷ []) (Ok l)

@@ -7,7 +7,7 @@ use Rattle.std.proofs.Math.Nat.{suc-mul}
 use Rattle.page_digests.specs.declared.error.Error.{Error}
 use Rattle.page_digests.specs.declared.error.Error.TheVariants.{Damaged, OutOfMemory, System}
 use Rattle.page_digests.specs.declared.seal.Seal.{Seal}
-use Rattle.page_digests.specs.Pages.{digests, list_of, page_at, page_count, page_len, root_of}
+use Rattle.page_digests.specs.Pages.{digests, list_of, content_page, pages_of_len, page_len, root_of}
 use Rattle.page_digests.specs.Reads.{page_offset}
 use Rattle.page_digests.specs.Buffers.{FillsGoes}
 use Rattle.page_digests.specs.Rebuilds.{GivesPages, ListReadGoes, page_reads}
@@ -22,15 +22,15 @@ page_reads-grown P bytes more zero within = refl
 page_reads-grown P bytes more (suc n) within =
     let step : suc n * P ≡ n * P + P = suc-mul n P in
     let less : n * P ≤ length bytes = omega arith in
-    ap (λ (l : List SourceRead). l ++ gave (page_offset P n) (page_at P n (bytes ++ more)) ∷ []) (page_reads-grown P bytes more n less)
+    ap (λ (l : List SourceRead). l ++ gave (page_offset P n) (content_page P n (bytes ++ more)) ∷ []) (page_reads-grown P bytes more n less)
     ∙ ap (λ (p : List ℕ). page_reads P bytes n ++ gave (page_offset P n) p ∷ []) (page-grown P bytes more n within)
 
 -- the last page of some bytes, after whole ones
-last_page : (P : ℕ) (bytes page : List ℕ) (i : ℕ) → length bytes ≡ i * P → length page ≤ P → page_at P i (bytes ++ page) ≡ page
+last_page : (P : ℕ) (bytes page : List ℕ) (i : ℕ) → length bytes ≡ i * P → length page ≤ P → content_page P i (bytes ++ page) ≡ page
 last_page P bytes page i len fits = ap (take P) (drop_at bytes page (i * P) len) ∙ take_all P page fits
 
 -- a page more is read
-pub pages_grow : (d : List ℕ → List ℕ) (P len : ℕ) (old mid new : List SourceRead) (i : ℕ) (bytes page list more : List ℕ) → 0 < P → i < page_count P len → GivesPages P len old mid i bytes
+pub pages_grow : (d : List ℕ → List ℕ) (P len : ℕ) (old mid new : List SourceRead) (i : ℕ) (bytes page list more : List ℕ) → 0 < P → i < pages_of_len P len → GivesPages P len old mid i bytes
     → list ≡ digests d P bytes i → new ≡ mid ++ gave (page_offset P i) page ∷ [] → length page ≡ page_len P len i → more ≡ list ++ d page
     → (all : List ℕ) × GivesPages P len old new (i + 1) all × (more ≡ digests d P all (i + 1))
 pages_grow d P len old mid new i bytes page list more positive below gives lists read long mores =
@@ -45,7 +45,7 @@ pages_grow d P len old mid new i bytes page list more positive below gives lists
     starts : i * P ≤ length bytes
     starts = omega (arith, whole)
 
-    here : page_at P i (bytes ++ page) ≡ page
+    here : content_page P i (bytes ++ page) ≡ page
     here = last_page P bytes page i whole (omega (arith, long))
 
     next : i + 1 ≡ suc i
@@ -73,7 +73,7 @@ pages_grow d P len old mid new i bytes page list more positive below gives lists
         ∙ ap (digests d P (bytes ++ page)) (sym next)
 
 -- a page can't be read
-pub pages_end : (d : List ℕ → List ℕ) (P len n : ℕ) (old mid new : List SourceRead) (i : ℕ) (bytes page : List ℕ) (e : Error) → 0 < P → i < page_count P len → GivesPages P len old mid i bytes
+pub pages_end : (d : List ℕ → List ℕ) (P len n : ℕ) (old mid new : List SourceRead) (i : ℕ) (bytes page : List ℕ) (e : Error) → 0 < P → i < pages_of_len P len → GivesPages P len old mid i bytes
     → n ≡ page_len P len i → FillsGoes (page_offset P i) n mid new page (Err e) → ListReadGoes d P len old new (Err e)
 pages_end d P len n old mid new i bytes page Damaged positive below gives count none = none
 pages_end d P len n old mid new i bytes page (System x) positive below gives count read = (

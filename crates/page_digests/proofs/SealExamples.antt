@@ -6,8 +6,8 @@ use Rattle.std.specs.Prelude.{codes}
 use Rattle.std.proofs.lemmas.List.{take-take, take_at}
 use Rattle.page_digests.specs.declared.levels.Levels.{Levels}
 use Rattle.page_digests.specs.declared.seal.Seal.{Seal}
-use Rattle.page_digests.specs.Pages.{list_of, page_at, range_at, top_of}
-use Rattle.page_digests.specs.Seals.{AreLevelsOf, AreLevelsOver, HasPageTwin, HasTwin, IsSealOf, IsTwin, IsVerified, IsWrong, TellsApart}
+use Rattle.page_digests.specs.Pages.{list_of, content_page, range_at, top_of}
+use Rattle.page_digests.specs.Seals.{AreLevelsOf, AreLevelsOver, HasPagePreimage, HasSecondPreimage, IsSealOf, IsSecondPreimage, IsVerified, IsWrong, TellsApart}
 use Rattle.page_digests.proofs.PageExamples.{first, flat, sized_first}
 use Rattle.page_digests.proofs.Paging.{length-page_at}
 use Rattle.page_digests.proofs.Twins.{told_apart}
@@ -37,35 +37,35 @@ not_that_of_more is = omega (arith, is.len)
 
 -- ---- second preimages
 
-pub a_twin : IsTwin flat xyz abc
+pub a_twin : IsSecondPreimage flat xyz abc
 a_twin = record { differ = λ same. omega (arith, ap (λ (l : List ℕ). get_or l 0 0) same); len = refl; digest = refl }
 
-pub no_twin_of_itself : IsTwin flat abc abc → ⊥
+pub no_twin_of_itself : IsSecondPreimage flat abc abc → ⊥
 no_twin_of_itself is = is.differ refl
 
 -- a string of another length is none
-pub no_longer_twin : IsTwin flat (codes "abcd") abc → ⊥
+pub no_longer_twin : IsSecondPreimage flat (codes "abcd") abc → ⊥
 no_longer_twin is = omega (arith, is.len)
 
-pub a_page_twin : HasPageTwin flat 32 abc
+pub a_page_twin : HasPagePreimage flat 32 abc
 a_page_twin = (0, xyz, lit< tt, a_twin)
 
-pub it_has_a_twin : HasTwin flat 32 abc
+pub it_has_a_twin : HasSecondPreimage flat 32 abc
 it_has_a_twin = inr (inr a_page_twin)
 
 -- the first 32 bytes tell short strings of one length apart
 front : (n : ℕ) (bytes : List ℕ) → length bytes ≡ n → n ≤ 32 → take n (first bytes) ≡ bytes
 front n bytes len fits = take-take n 32 (bytes ++ replicate 32 0) fits ∙ take_at bytes (replicate 32 0) n len
 
-pub no_short_twin : (other bytes : List ℕ) → length bytes ≤ 32 → IsTwin first other bytes → ⊥
+pub no_short_twin : (other bytes : List ℕ) → length bytes ≤ 32 → IsSecondPreimage first other bytes → ⊥
 no_short_twin other bytes fits is =
     is.differ (sym (front (length bytes) other is.len fits) ∙ ap (take (length bytes)) is.digest ∙ front (length bytes) bytes refl fits)
 
-pub no_page_twin : (bytes : List ℕ) → HasPageTwin first 32 bytes → ⊥
+pub no_page_twin : (bytes : List ℕ) → HasPagePreimage first 32 bytes → ⊥
 no_page_twin bytes (i, other, within, is) =
-    let len = length-page_at 32 i bytes in no_short_twin other (page_at 32 i bytes) (omega (arith, len)) is
+    let len = length-page_at 32 i bytes in no_short_twin other (content_page 32 i bytes) (omega (arith, len)) is
 
-pub it_has_no_twin : HasTwin first 32 abc → ⊥
+pub it_has_no_twin : HasSecondPreimage first 32 abc → ⊥
 it_has_no_twin (inl (other, is)) = no_short_twin other (top_of first 32 abc) (lit≤ tt) is
 it_has_no_twin (inr (inl is)) = no_page_twin (list_of first 32 abc) is
 it_has_no_twin (inr (inr is)) = no_page_twin abc is
@@ -79,7 +79,7 @@ its_root_tells = told_apart first sized_first 32 abc its_digest (lit< tt) refl
 pub another_root : TellsApart first 32 abc (first xyz) → ⊥
 another_root tells = by_case (tells xyz refl refl)
   where
-    by_case : (xyz ≡ abc) ⊎ HasTwin first 32 abc → ⊥
+    by_case : (xyz ≡ abc) ⊎ HasSecondPreimage first 32 abc → ⊥
     by_case (inl same) = omega (arith, ap (λ (l : List ℕ). get_or l 0 0) same)
     by_case (inr twin) = it_has_no_twin twin
 
@@ -102,30 +102,30 @@ another_root_over_it l top root is = omega (arith, ap (λ (l : List ℕ). get_or
 pub it_is_abc : (content : List ℕ) → IsSealOf first 32 content its_seal → content ≡ abc
 it_is_abc content is = by_case (its_root_tells content (sym is.len) (sym is.root))
   where
-    by_case : (content ≡ abc) ⊎ HasTwin first 32 abc → content ≡ abc
+    by_case : (content ≡ abc) ⊎ HasSecondPreimage first 32 abc → content ≡ abc
     by_case (inl same) = same
     by_case (inr twin) = absurd (it_has_no_twin twin)
 
-pub its_page_is_verified : IsVerified first 32 its_seal (page_at 32 0) abc
-its_page_is_verified content is = inl (ap (page_at 32 0) (sym (it_is_abc content is)))
+pub its_page_is_verified : IsVerified first 32 its_seal (content_page 32 0) abc
+its_page_is_verified content is = inl (ap (content_page 32 0) (sym (it_is_abc content is)))
 
 pub a_range_is_verified : IsVerified first 32 its_seal (range_at 1 2) (codes "bc")
 a_range_is_verified content is = inl (ap (range_at 1 2) (sym (it_is_abc content is)))
 
-pub xyz_is_not_verified : IsVerified first 32 its_seal (page_at 32 0) xyz → ⊥
+pub xyz_is_not_verified : IsVerified first 32 its_seal (content_page 32 0) xyz → ⊥
 xyz_is_not_verified verified = by_case (verified abc it_is_its_seal)
   where
-    by_case : (xyz ≡ abc) ⊎ HasTwin first 32 abc → ⊥
+    by_case : (xyz ≡ abc) ⊎ HasSecondPreimage first 32 abc → ⊥
     by_case (inl same) = omega (arith, ap (λ (l : List ℕ). get_or l 0 0) same)
     by_case (inr twin) = it_has_no_twin twin
 
-pub xyz_is_wrong : IsWrong first 32 its_seal (page_at 32 0) xyz
+pub xyz_is_wrong : IsWrong first 32 its_seal (content_page 32 0) xyz
 xyz_is_wrong content is =
-    inl (λ same. omega (arith, ap (λ (l : List ℕ). get_or l 0 0) (same ∙ ap (λ (c : List ℕ). first (page_at 32 0 c)) (it_is_abc content is))))
+    inl (λ same. omega (arith, ap (λ (l : List ℕ). get_or l 0 0) (same ∙ ap (λ (c : List ℕ). first (content_page 32 0 c)) (it_is_abc content is))))
 
-pub abc_is_not_wrong : IsWrong first 32 its_seal (page_at 32 0) abc → ⊥
+pub abc_is_not_wrong : IsWrong first 32 its_seal (content_page 32 0) abc → ⊥
 abc_is_not_wrong wrong = by_case (wrong abc it_is_its_seal)
   where
-    by_case : (first abc ≢ first abc) ⊎ HasTwin first 32 abc → ⊥
+    by_case : (first abc ≢ first abc) ⊎ HasSecondPreimage first 32 abc → ⊥
     by_case (inl differ) = differ refl
     by_case (inr twin) = it_has_no_twin twin

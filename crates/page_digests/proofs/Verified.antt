@@ -1,8 +1,8 @@
 -- Bytes whose digest is known.
 use Rattle.std.proofs.Common.{◌≡◌, ◌≢◌, ◌<◌, ◌*◌, ◌∙◌, ℕ, List, length, ap, sym, subst, inl, inr}
 use Rattle.page_digests.specs.declared.seal.Seal.{Seal}
-use Rattle.page_digests.specs.Pages.{digest_at, list_len, list_of, page_at, page_count, page_len, top_len, top_of}
-use Rattle.page_digests.specs.Seals.{HasTwin, IsSealOf, IsTwin, IsVerified, IsWrong}
+use Rattle.page_digests.specs.Pages.{digest_at, list_len, list_of, content_page, pages_of_len, page_len, top_len, top_of}
+use Rattle.page_digests.specs.Seals.{HasSecondPreimage, IsSealOf, IsSecondPreimage, IsVerified, IsWrong}
 use Rattle.page_digests.proofs.Paging.{digest_at-digests, length-page_at, page_below}
 use Rattle.page_digests.proofs.Twins.{judged, length-list_of, length-top_of}
 
@@ -17,13 +17,13 @@ top_verified d sized P seal top root len content of =
 
 -- digest i of the list of some bytes is that of their page i
 pub digest_listed : (d : List ℕ → List ℕ) → ((b : List ℕ) → length (d b) ≡ 32) → (P i : ℕ) (bytes : List ℕ) → 0 < P → i * P < length bytes
-    → digest_at i (list_of d P bytes) ≡ d (page_at P i bytes)
+    → digest_at i (list_of d P bytes) ≡ d (content_page P i bytes)
 digest_listed d sized P i bytes positive within =
-    digest_at-digests d sized P bytes (page_count P (length bytes)) i (page_below P (length bytes) i positive within)
+    digest_at-digests d sized P bytes (pages_of_len P (length bytes)) i (page_below P (length bytes) i positive within)
 
 -- the top has the digest of each page of the list
 pub digest_in_top : (d : List ℕ → List ℕ) → ((b : List ℕ) → length (d b) ≡ 32) → (P : ℕ) (seal : Seal) (top : List ℕ) (j : ℕ) → 0 < P → j * P < list_len P seal.len
-    → IsVerified d P seal (top_of d P) top → IsVerified d P seal (λ content. d (page_at P j (list_of d P content))) (digest_at j top)
+    → IsVerified d P seal (top_of d P) top → IsVerified d P seal (λ content. d (content_page P j (list_of d P content))) (digest_at j top)
 digest_in_top d sized P seal top j positive within verified content of =
     elim (verified content of) [
       | inr twin ↦ inr twin
@@ -35,7 +35,7 @@ digest_in_top d sized P seal top j positive within verified content of =
 -- bytes of a part's length that have its digest are the part
 pub part_verified : (d : List ℕ → List ℕ) (P : ℕ) (seal : Seal) (of : List ℕ → List ℕ) (digest bytes : List ℕ)
     → ((content : List ℕ) → IsSealOf d P content seal → length bytes ≡ length (of content))
-    → ((content : List ℕ) → IsSealOf d P content seal → (other : List ℕ) → IsTwin d other (of content) → HasTwin d P content)
+    → ((content : List ℕ) → IsSealOf d P content seal → (other : List ℕ) → IsSecondPreimage d other (of content) → HasSecondPreimage d P content)
     → IsVerified d P seal (λ content. d (of content)) digest → d bytes ≡ digest → IsVerified d P seal of bytes
 part_verified d P seal of digest bytes len twin verified same content is =
     elim (verified content is) [
@@ -58,10 +58,10 @@ part_wrong d P seal of digest bytes verified differ content is =
 
 -- a page of the list
 pub list_page_verified : (d : List ℕ → List ℕ) → ((b : List ℕ) → length (d b) ≡ 32) → (P : ℕ) (seal : Seal) (digest bytes : List ℕ) (j : ℕ) → j * P < list_len P seal.len
-    → length bytes ≡ page_len P (list_len P seal.len) j → IsVerified d P seal (λ content. d (page_at P j (list_of d P content))) digest → d bytes ≡ digest
-    → IsVerified d P seal (λ content. page_at P j (list_of d P content)) bytes
+    → length bytes ≡ page_len P (list_len P seal.len) j → IsVerified d P seal (λ content. d (content_page P j (list_of d P content))) digest → d bytes ≡ digest
+    → IsVerified d P seal (λ content. content_page P j (list_of d P content)) bytes
 list_page_verified d sized P seal digest bytes j within len verified same =
-    part_verified d P seal (λ content. page_at P j (list_of d P content)) digest bytes
+    part_verified d P seal (λ content. content_page P j (list_of d P content)) digest bytes
     (λ content is. len ∙ ap (λ (n : ℕ). page_len P n j) (its content is) ∙ sym (length-page_at P j (list_of d P content)))
     (λ content is other twin. inr (inl (j, other, subst (λ (n : ℕ). j * P < n) (its content is) within, twin)))
     verified same
@@ -71,10 +71,10 @@ list_page_verified d sized P seal digest bytes j within len verified same =
 
 -- a page of the content
 pub page_verified : (d : List ℕ → List ℕ) (P : ℕ) (seal : Seal) (digest bytes : List ℕ) (i : ℕ) → i * P < seal.len
-    → length bytes ≡ page_len P seal.len i → IsVerified d P seal (λ content. d (page_at P i content)) digest → d bytes ≡ digest
-    → IsVerified d P seal (page_at P i) bytes
+    → length bytes ≡ page_len P seal.len i → IsVerified d P seal (λ content. d (content_page P i content)) digest → d bytes ≡ digest
+    → IsVerified d P seal (content_page P i) bytes
 page_verified d P seal digest bytes i within len verified same =
-    part_verified d P seal (page_at P i) digest bytes
+    part_verified d P seal (content_page P i) digest bytes
     (λ content is. len ∙ ap (λ (n : ℕ). page_len P n i) is.len ∙ sym (length-page_at P i content))
     (λ content is other twin. inr (inr (i, other, subst (λ (n : ℕ). i * P < n) is.len within, twin)))
     verified same

@@ -2,7 +2,7 @@
 use Rattle.std.specs.Prelude.{◌≡◌, ◌⊎◌, ◌<◌, ◌≤◌, ◌+◌, ◌-◌, ◌*◌, ◌/◌, ◌++◌, ◌∷◌, [], ℕ, List}
 use Rattle.std.specs.Prelude.{length, Option, Some, None, Vec, Result, Ok, Err, Bool, true, false}
 use Rattle.std.specs.declared.alloc.Global.{Global}
-use Rattle.page_digests.specs.Pages.{list_len, page_at, range_at, top_of}
+use Rattle.page_digests.specs.Pages.{list_len, content_page, range_at, top_of}
 use Rattle.page_digests.specs.Reads.{DigestFails, IsTouched, PageIsRefused, PageIsWrong}
 use Rattle.page_digests.specs.Reads.{ReadsDigestOn, ReadsVerified, page_offset, pages_touched}
 use Rattle.page_digests.specs.Seals.{IsVerified}
@@ -24,7 +24,7 @@ pub record PagedState : Type 0 where
 -- ---- opening
 
 -- a content is opened: the top was read from behind the list, and nothing else
-pub record IsOpened (d : List ℕ → List ℕ) (P : ℕ) (kept : Seal)
+pub record IsOpenedContent (d : List ℕ → List ℕ) (P : ℕ) (kept : Seal)
     (before list_before : List SourceRead) (c : PagedState) : Type 0 where
   pub seal : c.seal ≡ kept
   pub page_size : c.page_size ≡ P
@@ -58,7 +58,7 @@ PageFails d i old new OutOfMemory = Unit {0}
 abbrev pub SoundAnswers : (List ℕ → List ℕ) → (i : ℕ) → (old new : PagedState)
     → Result Bool Error → Type 0
 SoundAnswers d i old new (Ok true) = (new.cached ≡ Some i)
-    × ReadsVerified d old.page_size old.seal (page_at old.page_size i)
+    × ReadsVerified d old.page_size old.seal (content_page old.page_size i)
     (page_offset old.page_size i) old.reads new.reads
 SoundAnswers d i old new (Ok false) =
     PageIsWrong d old.page_size old.seal i old.reads new.reads
@@ -116,7 +116,7 @@ ReadAnswers d offset len old new (Ok bytes) = HoldsLast offset len new
     × IsVerified d old.page_size old.seal (range_at offset len) bytes.items
 ReadAnswers d offset len old new (Err e) = RangeFails d offset len old new e
 
-pub record ReadGoes (d : List ℕ → List ℕ) (offset len : ℕ) (old new : PagedState)
+pub record PagedReadGoes (d : List ℕ → List ℕ) (offset len : ℕ) (old new : PagedState)
     (result : Result (Vec ℕ Global) Error) : Type 0 where
   pub same : IsSameContent old new
   pub asks : RangeAsks offset len old new
@@ -137,7 +137,7 @@ ReadIntoAnswers d offset len old new before after (Ok _) = HoldsLast offset len 
 ReadIntoAnswers d offset len old new before after (Err e) =
     (after ≡ before) × RangeFails d offset len old new e
 
-pub record ReadIntoGoes (d : List ℕ → List ℕ) (offset len : ℕ) (old new : PagedState)
+pub record PagedReadIntoGoes (d : List ℕ → List ℕ) (offset len : ℕ) (old new : PagedState)
     (before after : List ℕ) (result : Result (Unit {0}) Error) : Type 0 where
   pub same : IsSameContent old new
   pub asks : RangeAsks offset len old new

@@ -1,7 +1,7 @@
 -- The list of a content that comes page by page.
 use Rattle.std.specs.Prelude.{◌≡◌, ◌≤◌, ◌<◌, ◌*◌, ◌+◌, ◌++◌, ℕ, List, [], ◌∷◌, length, take}
 use Rattle.std.specs.Prelude.{drop, max, Result, Ok, Err}
-use Rattle.page_digests.specs.Pages.{digests, list_of, page_at}
+use Rattle.page_digests.specs.Pages.{digests, list_of, content_page}
 
 -- how far a content is digested: how many of its pages, and their digests, joined
 pub record DigestingState : Type 0 where
@@ -18,7 +18,7 @@ pub record IsDigested (d : List ℕ → List ℕ) (P : ℕ) (content : List ℕ)
 -- to that page then
 abbrev pub DigestsPage : (List ℕ → List ℕ) → List ℕ → DigestingState → DigestingState → Type 0
 DigestsPage d page s t = (P : ℕ) (content : List ℕ) → IsDigested d P content s
-    → page ≡ page_at P s.pages content → s.pages * P + P ≤ length content
+    → page ≡ content_page P s.pages content → s.pages * P + P ≤ length content
     → IsDigested d P content t
 
 -- a page is taken, by the answer; after an error nothing was taken
@@ -29,9 +29,9 @@ TakesPage d page s t (Err _) = t ≡ s
 
 -- whatever content is digested so far but for this rest, which is shorter than a page: this is its
 -- list
-abbrev pub Finishes : (List ℕ → List ℕ) → (rest : List ℕ) → DigestingState → (list : List ℕ)
+abbrev pub FinishesList : (List ℕ → List ℕ) → (rest : List ℕ) → DigestingState → (list : List ℕ)
     → Type 0
-Finishes d rest s list = (P : ℕ) (content : List ℕ) → IsDigested d P content s
+FinishesList d rest s list = (P : ℕ) (content : List ℕ) → IsDigested d P content s
     → rest ≡ drop (s.pages * P) content → length rest < P → list ≡ list_of d P content
 
 -- a list with the digest of the last bytes, if there are any
@@ -46,7 +46,7 @@ payload_at P n physical = take P (drop (n * (P + 12)) physical)
 -- the first pages of a content are these payloads
 pub record HoldsPayloads (P full : ℕ) (physical content : List ℕ) : Type 0 where
   pub long : full * P ≤ length content
-  pub pages : (n : ℕ) → n < full → page_at P n content ≡ payload_at P n physical
+  pub pages : (n : ℕ) → n < full → content_page P n content ≡ payload_at P n physical
 
 -- whatever content begins with these payloads and is digested so far: it is still, and perhaps
 -- further, but not past them

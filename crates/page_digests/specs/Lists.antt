@@ -1,7 +1,8 @@
 -- The list of a content in its file, of which the top is known.
 use Rattle.std.specs.Prelude.{◌≡◌, ◌<◌, ◌≤◌, ◌+◌, ◌*◌, ◌/◌, ◌%◌, ◌^◌, ◌++◌, ℕ, List, length, take}
 use Rattle.std.specs.Prelude.{Option, Some, IfSome, Result, Ok, Err}
-use Rattle.page_digests.specs.Pages.{digest_at, list_len, list_of, page_at, page_len, range_at, top_len}
+use Rattle.page_digests.specs.Pages.{content_page, digest_at, list_len, list_of, page_len, range_at}
+use Rattle.page_digests.specs.Pages.{top_len}
 use Rattle.page_digests.specs.Reads.{DigestFails, IsReadOn, ListPageIsRefused, ListPageIsWrong}
 use Rattle.page_digests.specs.Reads.{ReadsDigestOn}
 use Rattle.page_digests.specs.Seals.{IsVerified}
@@ -104,7 +105,7 @@ pub record IsCopying (d : List ℕ → List ℕ) (i : ℕ) (old new : ListState)
 abbrev pub DigestAnswers : (List ℕ → List ℕ) → (i : ℕ) → (old new : ListState)
     → Result (List ℕ) Error → Type 0
 DigestAnswers d i old new (Ok digest) =
-    IsVerified d old.page_size old.seal (λ content. d (page_at old.page_size i content)) digest
+    IsVerified d old.page_size old.seal (λ content. d (content_page old.page_size i content)) digest
 DigestAnswers d i old new (Err e) =
     DigestFails d old.page_size old.seal i old.reads new.reads e
 

@@ -5,16 +5,16 @@ use Rattle.std.specs.Prelude.{slice_range}
 use Rattle.std.specs.Int.{div_ceil}
 
 -- page i of some bytes, by pages of P bytes: the last one may be shorter
-abbrev pub page_at : (P i : ℕ) → List ℕ → List ℕ
-page_at P i bytes = take P (drop (i * P) bytes)
+abbrev pub content_page : (P i : ℕ) → List ℕ → List ℕ
+content_page P i bytes = take P (drop (i * P) bytes)
 
 -- so many of some bytes, from an offset on
 abbrev pub range_at : (offset len : ℕ) → List ℕ → List ℕ
 range_at offset len bytes = slice_range bytes offset (offset + len)
 
 -- how many pages so many bytes have
-abbrev pub page_count : (P len : ℕ) → ℕ
-page_count P len = div_ceil len P
+abbrev pub pages_of_len : (P len : ℕ) → ℕ
+pages_of_len P len = div_ceil len P
 
 -- how many bytes page i of so many bytes has
 abbrev pub page_len : (P len i : ℕ) → ℕ
@@ -23,15 +23,15 @@ page_len P len i = min P (len - i * P)
 -- the digests of the first n pages of some bytes, joined
 abbrev pub digests : (List ℕ → List ℕ) → (P : ℕ) → List ℕ → (n : ℕ) → List ℕ
 digests d P bytes zero = []
-digests d P bytes (suc n) = digests d P bytes n ++ d (page_at P n bytes)
+digests d P bytes (suc n) = digests d P bytes n ++ d (content_page P n bytes)
 
 -- the list of some bytes: the digests of all their pages, joined
 abbrev pub list_of : (List ℕ → List ℕ) → (P : ℕ) → List ℕ → List ℕ
-list_of d P bytes = digests d P bytes (page_count P (length bytes))
+list_of d P bytes = digests d P bytes (pages_of_len P (length bytes))
 
 -- how many bytes the list of so many bytes has
 abbrev pub list_len : (P len : ℕ) → ℕ
-list_len P len = page_count P len * 32
+list_len P len = pages_of_len P len * 32
 
 -- digest i of a list
 abbrev pub digest_at : (i : ℕ) → List ℕ → List ℕ

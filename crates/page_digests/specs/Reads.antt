@@ -1,9 +1,9 @@
 -- Reads of the parts of a content and of its levels, each compared with its digest.
 use Rattle.std.specs.Prelude.{◌≡◌, ◌<◌, ◌≤◌, ◌+◌, ◌-◌, ◌*◌, ◌/◌, ℕ, zero, suc, List}
 use Rattle.std.specs.Prelude.{length, Option, Some, Result, OnOk}
-use Rattle.page_digests.specs.Pages.{list_len, list_of, page_at, page_len, top_len, top_of}
+use Rattle.page_digests.specs.Pages.{list_len, list_of, content_page, page_len, top_len, top_of}
 use Rattle.page_digests.specs.Seals.{IsVerified, IsWrong}
-use Rattle.page_digests.specs.Sources.{ReadsLast, SourceRead, gave, refused}
+use Rattle.page_digests.specs.Sources.{EndsWithRead, SourceRead, gave, refused}
 use Rattle.page_digests.specs.declared.error.Error.{Error}
 use Rattle.page_digests.specs.declared.error.Error.TheVariants.{Damaged, OutOfMemory, System}
 use Rattle.page_digests.specs.declared.seal.Seal.{Seal}
@@ -44,13 +44,13 @@ ReadsDigestOn P i old new before after result =
 abbrev pub ReadsVerified : (List ℕ → List ℕ) → (P : ℕ) → Seal → (of : List ℕ → List ℕ)
     → (offset : ℕ) → (old new : List SourceRead) → Type 0
 ReadsVerified d P seal of offset old new =
-    (bytes : List ℕ) × ReadsLast old new (gave offset bytes) × IsVerified d P seal of bytes
+    (bytes : List ℕ) × EndsWithRead old new (gave offset bytes) × IsVerified d P seal of bytes
 
 -- as many bytes as that part has, and they aren't it
 abbrev pub ReadsWrong : (List ℕ → List ℕ) → (P : ℕ) → Seal → (of : List ℕ → List ℕ)
     → (offset len : ℕ) → (old new : List SourceRead) → Type 0
 ReadsWrong d P seal of offset len old new =
-    (bytes : List ℕ) × ReadsLast old new (gave offset bytes) × (length bytes ≡ len)
+    (bytes : List ℕ) × EndsWithRead old new (gave offset bytes) × (length bytes ≡ len)
     × IsWrong d P seal of bytes
 
 -- ---- the parts, each in its place
@@ -63,29 +63,29 @@ TopIsWrong d P seal old new =
 
 abbrev pub TopIsRefused : (P : ℕ) → Seal → (old new : List SourceRead) → Type 0
 TopIsRefused P seal old new =
-    ReadsLast old new (refused (list_len P seal.len) (top_len P seal.len))
+    EndsWithRead old new (refused (list_len P seal.len) (top_len P seal.len))
 
 -- page j of the list
 abbrev pub ListPageIsWrong : (List ℕ → List ℕ) → (P : ℕ) → Seal → (j : ℕ)
     → (old new : List SourceRead) → Type 0
 ListPageIsWrong d P seal j old new =
-    ReadsWrong d P seal (λ content. page_at P j (list_of d P content)) (j * P)
+    ReadsWrong d P seal (λ content. content_page P j (list_of d P content)) (j * P)
     (page_len P (list_len P seal.len) j) old new
 
 abbrev pub ListPageIsRefused : (P : ℕ) → Seal → (j : ℕ) → (old new : List SourceRead)
     → Type 0
 ListPageIsRefused P seal j old new =
-    ReadsLast old new (refused (j * P) (page_len P (list_len P seal.len) j))
+    EndsWithRead old new (refused (j * P) (page_len P (list_len P seal.len) j))
 
 -- page i of the content
 abbrev pub PageIsWrong : (List ℕ → List ℕ) → (P : ℕ) → Seal → (i : ℕ)
     → (old new : List SourceRead) → Type 0
 PageIsWrong d P seal i old new =
-    ReadsWrong d P seal (page_at P i) (page_offset P i) (page_len P seal.len i) old new
+    ReadsWrong d P seal (content_page P i) (page_offset P i) (page_len P seal.len i) old new
 
 abbrev pub PageIsRefused : (P : ℕ) → Seal → (i : ℕ) → (old new : List SourceRead) → Type 0
 PageIsRefused P seal i old new =
-    ReadsLast old new (refused (page_offset P i) (page_len P seal.len i))
+    EndsWithRead old new (refused (page_offset P i) (page_len P seal.len i))
 
 -- ---- errors
 

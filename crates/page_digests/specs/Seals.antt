@@ -1,6 +1,6 @@
 -- The seal of a content, and what it proves of bytes that were read.
 use Rattle.std.specs.Prelude.{◌≡◌, ◌≢◌, ◌⊎◌, ◌<◌, ◌*◌, ℕ, List, length}
-use Rattle.page_digests.specs.Pages.{list_of, page_at, root_of, top_of}
+use Rattle.page_digests.specs.Pages.{list_of, content_page, root_of, top_of}
 use Rattle.page_digests.specs.declared.levels.Levels.{Levels}
 use Rattle.page_digests.specs.declared.seal.Seal.{Seal}
 
@@ -11,27 +11,28 @@ pub record IsSealOf (d : List ℕ → List ℕ) (P : ℕ) (content : List ℕ) (
   pub root : seal.root ≡ root_of d P content
 
 -- another string is a second preimage of this one: it has the same length and the same digest
-pub record IsTwin (d : List ℕ → List ℕ) (other bytes : List ℕ) : Type 0 where
+pub record IsSecondPreimage (d : List ℕ → List ℕ) (other bytes : List ℕ) : Type 0 where
   pub differ : other ≢ bytes
   pub len : length other ≡ length bytes
   pub digest : d other ≡ d bytes
 
 -- a second preimage of a page of these bytes is at hand
-abbrev pub HasPageTwin : (List ℕ → List ℕ) → (P : ℕ) → List ℕ → Type 0
-HasPageTwin d P bytes =
-    (i : ℕ) × (other : List ℕ) × (i * P < length bytes) × IsTwin d other (page_at P i bytes)
+abbrev pub HasPagePreimage : (List ℕ → List ℕ) → (P : ℕ) → List ℕ → Type 0
+HasPagePreimage d P bytes =
+    (i : ℕ) × (other : List ℕ) × (i * P < length bytes)
+    × IsSecondPreimage d other (content_page P i bytes)
 
 -- a second preimage is at hand: of the content's top, of a page of its list, or of a page of it
-abbrev pub HasTwin : (List ℕ → List ℕ) → (P : ℕ) → List ℕ → Type 0
-HasTwin d P content =
-    ((other : List ℕ) × IsTwin d other (top_of d P content))
-    ⊎ HasPageTwin d P (list_of d P content)
-    ⊎ HasPageTwin d P content
+abbrev pub HasSecondPreimage : (List ℕ → List ℕ) → (P : ℕ) → List ℕ → Type 0
+HasSecondPreimage d P content =
+    ((other : List ℕ) × IsSecondPreimage d other (top_of d P content))
+    ⊎ HasPagePreimage d P (list_of d P content)
+    ⊎ HasPagePreimage d P content
 
 -- no other content of this length has this root, unless a second preimage is at hand
 abbrev pub TellsApart : (List ℕ → List ℕ) → (P : ℕ) → List ℕ → (root : List ℕ) → Type 0
 TellsApart d P content root = (other : List ℕ) → length other ≡ length content
-    → root_of d P other ≡ root → (other ≡ content) ⊎ HasTwin d P content
+    → root_of d P other ≡ root → (other ≡ content) ⊎ HasSecondPreimage d P content
 
 -- the levels of a content
 pub record AreLevelsOf (d : List ℕ → List ℕ) (P : ℕ) (content : List ℕ) (l : Levels)
@@ -52,11 +53,11 @@ pub record AreLevelsOver (d : List ℕ → List ℕ) (P : ℕ) (given : List ℕ
 abbrev pub IsVerified : (List ℕ → List ℕ) → (P : ℕ) → Seal → (of : List ℕ → List ℕ) → List ℕ
     → Type 0
 IsVerified d P seal of bytes = (content : List ℕ) → IsSealOf d P content seal
-    → (bytes ≡ of content) ⊎ HasTwin d P content
+    → (bytes ≡ of content) ⊎ HasSecondPreimage d P content
 
 -- these bytes have another digest than the part `of` every content that has this seal, unless a
 -- second preimage is at hand
 abbrev pub IsWrong : (List ℕ → List ℕ) → (P : ℕ) → Seal → (of : List ℕ → List ℕ) → List ℕ
     → Type 0
 IsWrong d P seal of bytes = (content : List ℕ) → IsSealOf d P content seal
-    → (d bytes ≢ d (of content)) ⊎ HasTwin d P content
+    → (d bytes ≢ d (of content)) ⊎ HasSecondPreimage d P content

@@ -22,5 +22,5 @@ read_outcome offset bytes (Ok _) = gave offset bytes
 read_outcome offset bytes (Err _) = refused offset (length bytes)
 
 -- there were reads since, and this one was the last
-abbrev pub ReadsLast : (old new : List SourceRead) → SourceRead → Type 0
-ReadsLast old new last = (more : List SourceRead) × (new ≡ old ++ more ++ last ∷ [])
+abbrev pub EndsWithRead : (old new : List SourceRead) → SourceRead → Type 0
+EndsWithRead old new last = (more : List SourceRead) × (new ≡ old ++ more ++ last ∷ [])

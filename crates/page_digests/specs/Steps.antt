@@ -4,7 +4,7 @@ use Rattle.std.specs.Prelude.{List, length, Option, Some, IfSome, Result, Ok, Er
 use Rattle.page_digests.specs.Contents.{AppendsRange, HoldsLast, IsInCached, IsSameContent}
 use Rattle.page_digests.specs.Contents.{PagedState, PageFails, RangeAsks, RangeFails}
 use Rattle.page_digests.specs.Lists.{ListState}
-use Rattle.page_digests.specs.Pages.{page_at, page_len}
+use Rattle.page_digests.specs.Pages.{content_page, page_len}
 use Rattle.page_digests.specs.Reads.{IsReadOn, ReadsDigestOn, pages_touched}
 use Rattle.page_digests.specs.Seals.{IsVerified}
 use Rattle.page_digests.specs.declared.error.Error.{Error}
@@ -12,11 +12,11 @@ use Rattle.page_digests.specs.declared.seal.Seal.{Seal}
 
 -- these bytes are page i of every content that has this seal, unless a second preimage is at hand,
 -- and have that page's length
-pub record IsPage (d : List ℕ → List ℕ) (P : ℕ) (seal : Seal) (i : ℕ) (bytes : List ℕ)
+pub record IsContentPage (d : List ℕ → List ℕ) (P : ℕ) (seal : Seal) (i : ℕ) (bytes : List ℕ)
     : Type 0 where
   pub within : i * P < seal.len
   pub len : length bytes ≡ page_len P seal.len i
-  pub verified : IsVerified d P seal (page_at P i) bytes
+  pub verified : IsVerified d P seal (content_page P i) bytes
 
 -- the list has the content's seal, and the bytes that are held are the page of that number
 pub record IsPaged (d : List ℕ → List ℕ) (list : ListState) (seal : Seal) (P : ℕ)
@@ -26,7 +26,7 @@ pub record IsPaged (d : List ℕ → List ℕ) (list : ListState) (seal : Seal) 
   pub fits : seal.len < 2 ^ 50
   pub list_seal : list.seal ≡ seal
   pub list_page_size : list.page_size ≡ P
-  pub page : IfSome cached (λ i. IsPage d P seal i bytes)
+  pub page : IfSome cached (λ i. IsContentPage d P seal i bytes)
 
 -- ---- a page
 
@@ -96,7 +96,7 @@ RangeAnswers d offset len old new before after (Ok _) = HoldsLast offset len new
 RangeAnswers d offset len old new before after (Err e) =
     ((more : List ℕ) × (after ≡ before ++ more)) × RangeFails d offset len old new e
 
-pub record RangeGoes (d : List ℕ → List ℕ) (offset len : ℕ) (old new : PagedState)
+pub record RangeAppendGoes (d : List ℕ → List ℕ) (offset len : ℕ) (old new : PagedState)
     (before after : List ℕ) (result : Result (Unit {0}) Error) : Type 0 where
   pub same : IsSameContent old new
   pub asks : RangeAsks offset len old new

@@ -1,6 +1,6 @@
 // The list of a content that comes page by page.
 ghost use Rattle.std.specs.Prelude.{◌≡◌, ◌<◌, ◌+◌, ◌^◌, ℕ, List, IfOk, OnOk};
-ghost use Rattle.page_digests.specs.Growing.{Finishes, IsDigested, TakesPage, with_rest};
+ghost use Rattle.page_digests.specs.Growing.{FinishesList, IsDigested, TakesPage, with_rest};
 
 use digest::Digest;
 use std::alloc::{AllocError, Global};
@@ -56,7 +56,7 @@ impl<D: Digest> Digesting<D> {
     /// The content's list. `rest` is what the content has behind the pages that were taken: less
     /// than a page, perhaps nothing. The only error is that memory was refused.
     pub fn finish(self, rest: &[u8]) -> Result<Vec<u8>, AllocError>
-        ensures { IfOk result (λ list. Finishes D.digest_of rest.now self list.items) }
+        ensures { IfOk result (λ list. FinishesList D.digest_of rest.now self list.items) }
     {
         let mut list = self.list;
         put_rest::<D>(&mut list, rest)?;

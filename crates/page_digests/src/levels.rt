@@ -30,7 +30,7 @@ pub fn levels_of<D: Digest>(
 ) -> Result<Levels, AllocError>
     ensures levels { let P = non_zero_u16_get page_size in
         IfOk result (λ l. AreLevelsOf D.digest_of P content.now l) }
-    ensures tells { let P = non_zero_u16_get page_size in
+    ensures apart { let P = non_zero_u16_get page_size in
         IfOk result (λ l. TellsApart D.digest_of P content.now l.root) }
 {
     let list = list_of::<D>(alloc, content, usize::from(page_size.get()))?;
@@ -44,9 +44,9 @@ pub fn levels_of_list<D: Digest>(
     list: Vec<u8>,
     page_size: NonZeroU16,
 ) -> Result<Levels, AllocError>
-    ensures levels { let P = non_zero_u16_get page_size in
+    ensures over { let P = non_zero_u16_get page_size in
         IfOk result (λ l. AreLevelsOver D.digest_of P list.items l) }
-    ensures tells { let P = non_zero_u16_get page_size in
+    ensures apart { let P = non_zero_u16_get page_size in
         IfOk result (λ l. (content : List ℕ) → list.items ≡ list_of D.digest_of P content
         → TellsApart D.digest_of P content l.root) }
 {

@@ -15,8 +15,6 @@ mod reading;
 mod rebuilding;
 mod seal;
 mod source;
-#[cfg(test)]
-mod tests;
 mod unopened;
 
 pub use catching::catch_up;

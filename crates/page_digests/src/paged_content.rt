@@ -1,11 +1,11 @@
 // A content in a file of which nothing is believed.
 ghost use Rattle.std.specs.Prelude.{◌≡◌, ◌↔◌, ◌<◌, ◌≤◌, ◌+◌, ◌*◌, IfErr, IfOk, true};
 ghost use Rattle.std.specs.Int.NonZero.{non_zero_u16_get};
-ghost use Rattle.page_digests.specs.Contents.{IsOpened};
-ghost use Rattle.page_digests.specs.Steps.{LoadGoes, PieceGoes, RangeGoes};
-ghost use Rattle.page_digests.specs.Contents.{ReadGoes, ReadIntoGoes, SoundGoes};
+ghost use Rattle.page_digests.specs.Contents.{IsOpenedContent};
+ghost use Rattle.page_digests.specs.Steps.{LoadGoes, PieceGoes, RangeAppendGoes};
+ghost use Rattle.page_digests.specs.Contents.{PagedReadGoes, PagedReadIntoGoes, SoundGoes};
 ghost use Rattle.page_digests.specs.Reads.{TopFails};
-ghost use Rattle.page_digests.specs.Pages.{page_count};
+ghost use Rattle.page_digests.specs.Pages.{pages_of_len};
 
 use crate::error::Error;
 use crate::list::PagedList;
@@ -63,8 +63,8 @@ impl<F: Source + Drop, D: Digest> PagedContent<F, D> {
         page_size: NonZeroU16,
     ) -> Result<Self, Unopened<F>>
         requires { seal.len < LEN_LIMIT }
-        ensures opens { let P = non_zero_u16_get page_size in
-            IfOk result (λ c. IsOpened D.digest_of P seal (F.reads file) (F.reads list_file) c) }
+        ensures content { let P = non_zero_u16_get page_size in let d = D.digest_of in
+            IfOk result (λ c. IsOpenedContent d P seal (F.reads file) (F.reads list_file) c) }
         ensures fails { let P = non_zero_u16_get page_size in
             IfErr result (λ u. (F.reads u.file ≡ F.reads file)
             × TopFails D.digest_of P seal (F.reads list_file) (F.reads u.list_file) u.error) }
@@ -105,7 +105,7 @@ impl<F: Source + Drop, D: Digest> PagedContent<F, D> {
 
     /// How many pages the content has.
     pub fn page_count(&self) -> u64
-        ensures { result ≡ page_count self.now.page_size self.now.seal.len }
+        ensures { result ≡ pages_of_len self.now.page_size self.now.seal.len }
     {
         self.seal.len.div_ceil(self.page_size as u64)
     }
@@ -114,7 +114,7 @@ impl<F: Source + Drop, D: Digest> PagedContent<F, D> {
     /// read last. `Damaged` if a page of the list isn't as it was, which has the page's digest.
     #[tactic(auto, using(crate::proofs::Paging::page_within))]
     pub fn page_is_sound(&mut self, number: u64) -> Result<bool, Error>
-        requires { number < page_count self.old.page_size self.old.seal.len }
+        requires { number < pages_of_len self.old.page_size self.old.seal.len }
         ensures { SoundGoes D.digest_of number self.old self.new result }
     {
         self.cached = None;
@@ -139,7 +139,7 @@ impl<F: Source + Drop, D: Digest> PagedContent<F, D> {
 
     // Reads page `number`, unless it was read last.
     fn load(&mut self, number: usize) -> Result<(), Error>
-        requires { number < page_count self.old.page_size self.old.seal.len }
+        requires { number < pages_of_len self.old.page_size self.old.seal.len }
         ensures { LoadGoes D.digest_of number self.old self.new result }
     {
         if self.holds(number) {
@@ -172,8 +172,8 @@ impl<F: Source + Drop, D: Digest> PagedContent<F, D> {
     // Appends a range of the content. After an error part of it may be appended.
     fn append_range(&mut self, bytes: &mut Vec<u8>, offset: usize, len: usize) -> Result<(), Error>
         requires { offset + len ≤ self.old.seal.len }
-        ensures { RangeGoes D.digest_of offset len self.old self.new bytes.old.items bytes.new.items
-            result }
+        ensures { RangeAppendGoes D.digest_of offset len self.old self.new bytes.old.items
+            bytes.new.items result }
     {
         // The use of a field opens the invariant, from which the proof takes that no sum overflows.
         let _ = &self.seal;
@@ -189,7 +189,7 @@ impl<F: Source + Drop, D: Digest> PagedContent<F, D> {
     /// of the list with its digest. The other pages can still be read.
     pub fn read_into(&mut self, bytes: &mut Vec<u8>, offset: u64, len: usize) -> Result<(), Error>
         requires { offset + len ≤ self.old.seal.len }
-        ensures { ReadIntoGoes D.digest_of offset len self.old self.new bytes.old.items
+        ensures { PagedReadIntoGoes D.digest_of offset len self.old self.new bytes.old.items
             bytes.new.items result }
     {
         let before = bytes.len();
@@ -205,7 +205,7 @@ impl<F: Source + Drop, D: Digest> PagedContent<F, D> {
     /// read.
     pub fn read(&mut self, alloc: Global, offset: u64, len: usize) -> Result<Vec<u8>, Error>
         requires { offset + len ≤ self.old.seal.len }
-        ensures { ReadGoes D.digest_of offset len self.old self.new result }
+        ensures { PagedReadGoes D.digest_of offset len self.old self.new result }
     {
         let mut bytes = Vec::with_capacity(alloc, len)?;
         self.append_range(&mut bytes, offset as usize, len)?;

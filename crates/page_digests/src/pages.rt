@@ -1,6 +1,6 @@
 // The pages of some bytes, and their digests.
 ghost use Rattle.std.specs.Prelude.{◌≡◌, ◌≤◌, ◌+◌, ◌*◌, ◌^◌, ◌<◌, length, IfOk};
-ghost use Rattle.page_digests.specs.Pages.{digest_at, list_len, list_of, page_at, page_len};
+ghost use Rattle.page_digests.specs.Pages.{digest_at, list_len, list_of, content_page, page_len};
 
 use digest::Digest;
 use std::alloc::{AllocError, Global};
@@ -31,7 +31,7 @@ pub fn list_of<D: Digest>(
 // Page `i` of some bytes.
 fn page_of(bytes: &[u8], page_size: usize, i: usize) -> &[u8]
     requires { i * page_size ≤ length bytes.now }
-    ensures { result.now ≡ page_at page_size i bytes.now }
+    ensures { result.now ≡ content_page page_size i bytes.now }
 {
     let rest = &bytes[i * page_size..];
     let len = page_size.min(rest.len());

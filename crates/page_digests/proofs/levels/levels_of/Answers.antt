@@ -10,7 +10,7 @@ is_list : (g : Given.Over) (c : After-levels_of_list g) → c.in_ok-list.list.it
 is_list g c = c.in_ok-list.ensures ∙ ap (λ P. list_of g.D.Digest.digest_of P c.args.content.now) (c.from.ensures ∙ c.get.ensures.value)
 
 pub returns-clause-levels : goal.returns-clause-levels
-returns-clause-levels g c = levels_whole g.D.Digest.digest_of _ c.args.content.now _ _ (is_list g c) c.levels_of_list.ensures.levels
+returns-clause-levels g c = levels_whole g.D.Digest.digest_of _ c.args.content.now _ _ (is_list g c) c.levels_of_list.ensures.over
 
-pub returns-clause-tells : goal.returns-clause-tells
-returns-clause-tells g c = levels_tell g.D.Digest.digest_of _ c.args.content.now _ _ (is_list g c) c.levels_of_list.ensures.tells
+pub returns-clause-apart : goal.returns-clause-apart
+returns-clause-apart g c = levels_tell g.D.Digest.digest_of _ c.args.content.now _ _ (is_list g c) c.levels_of_list.ensures.apart

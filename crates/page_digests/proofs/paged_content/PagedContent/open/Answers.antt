@@ -5,8 +5,8 @@ use Rattle.page_digests.specs.Pages.{list_len, top_len}
 use Rattle.page_digests.proofs.ContentReads.{top_read}
 use Rattle.page_digests.proofs.paged_content.PagedContent.open.Goals as goal
 
-pub returns-in-Ok-true-clause-opens : goal.returns-in-Ok-true-clause-opens
-returns-in-Ok-true-clause-opens g c =
+pub returns-in-Ok-true-clause-content : goal.returns-in-Ok-true-clause-content
+returns-in-Ok-true-clause-content g c =
     let P = c.from-page_size.result in
     let size : P ≡ non_zero_u16_get c.args.page_size = c.from-page_size.ensures ∙ c.get.ensures.value in
     let whole : c.list_len-whole.result ≡ list_len (non_zero_u16_get c.args.page_size) c.args.seal.len = c.list_len-whole.ensures.len ∙ ap (λ k. list_len k c.args.seal.len) size in

@@ -1,9 +1,9 @@
 // Contents in files that are whole, damaged, cut, of another content, or refused.
-use crate::{
+use digest::PolyDigest;
+use page_digests::{
     Digesting, Error, Levels, PagedContent, Seal, Source, SourcePast, catch_up, levels_of,
     levels_of_list, rebuild_levels,
 };
-use digest::PolyDigest;
 use std::io;
 use std::io::ErrorKind;
 use std::num::NonZeroU16;
@@ -137,7 +137,7 @@ fn open(
     file: Vec<u8>,
     list_file: Vec<u8>,
 ) -> Result<Content, &'static str> {
-    if seal.len >= crate::LEN_LIMIT {
+    if seal.len >= page_digests::LEN_LIMIT {
         return Err("too long");
     }
     let (file, list_file) = (Memory::new(file), Memory::new(list_file));
@@ -403,7 +403,7 @@ fn read_refused(
     let refusing = if in_list { &mut list_file } else { &mut file };
     refusing.refuse = from;
     refusing.until = until;
-    if written.seal.len >= crate::LEN_LIMIT {
+    if written.seal.len >= page_digests::LEN_LIMIT {
         return Ok(("long", "long"));
     }
     match Content::open(rt.alloc(), file, list_file, written.seal, written.page_size) {
@@ -457,7 +457,7 @@ fn levels_agree(rt: &HostRuntime, len: usize, early: usize) -> Result<bool, Fail
     let levels = levels_of_list::<PolyDigest>(alloc, list, written.page_size)?;
     let mut file = Memory::new(written.file);
     written.file = Vec::new(alloc);
-    if written.seal.len >= crate::LEN_LIMIT {
+    if written.seal.len >= page_digests::LEN_LIMIT {
         return Ok(false);
     }
     let built = rebuild_levels::<Memory, PolyDigest>(
@@ -508,7 +508,7 @@ fn rebuilt(rt: &HostRuntime, done: Damage) -> Result<&'static str, Fail> {
     let mut written = write_content(rt, 40, 239, 7)?;
     apply(rt, &mut written, done)?;
     let mut file = Memory::new(written.file);
-    if written.seal.len >= crate::LEN_LIMIT {
+    if written.seal.len >= page_digests::LEN_LIMIT {
         return Ok("long");
     }
     match rebuild_levels::<Memory, PolyDigest>(
