@@ -18,8 +18,8 @@ use std::io::{BufReader, BufWriter, Write};
 use std::num::NonZeroU16;
 
 // The most bytes of memory that a server may ask for at once, with the settings and the bytes of
-// these cases.
-const MOST_AT_ONCE: u32 = 1 << 20;
+// these cases: its cache has room for 1,024 pages.
+const MOST_AT_ONCE: u32 = 1 << 23;
 
 // What a step asks of a server.
 #[derive(Clone, Copy)]
