@@ -33,7 +33,8 @@ records_after own held l content segment =
 -- the records from a place on
 abbrev pub records_at : (own : List ℕ → ℕ) → (held : ℕ → List ℕ) → ListingState
     → (content : List ℕ) → Place → List (List ℕ)
-records_at own held l content p = records own (drop p.offset (held_content held l content p.segment))
+records_at own held l content p =
+    records own (drop p.offset (held_content held l content p.segment))
     ++ records_after own held l content p.segment
 
 -- the records of a log from a place on

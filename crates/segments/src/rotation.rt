@@ -28,9 +28,8 @@ impl<F: Folder<B> + Drop, B: Blob + Drop, H: Sum, R: Sum> SegmentedLog<F, B, H, 
     ///
     /// `Closed` where a call before failed, `Layer` where the device or memory failed, `System`
     /// where the folder refused the next file, `Unsynced` where a sync of it or of its name failed,
-    /// `Unlisted` where the next
-    /// file has bytes, which stay, and `NumbersExhausted` where no number is left. After an error
-    /// the log is closed.
+    /// `Unlisted` where the next file has bytes, which stay, and `NumbersExhausted` where no number
+    /// is left. After an error the log is closed.
     pub fn rotate(&mut self) -> Result<(), Error>
         requires log { IsLog H.sum_of R.sum_of self.old }
         ensures goes { RotateGoes H.sum_of R.sum_of self.old self.new result }
