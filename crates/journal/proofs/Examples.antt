@@ -5,10 +5,10 @@ use Rattle.std.proofs.lemmas.List.{append_cancel_left}
 use Rattle.disk.specs.Disk.{Entry, Life, ReadAt}
 use Rattle.disk.specs.declared.error.Error.TheVariants.{OutOfMemory}
 use Rattle.page.specs.Sums.{add_sum, const_sum}
-use Rattle.paged_read.specs.Failures.{AreAnswered, NoneFailed}
+use Rattle.paged_read.specs.Failures.{AreAnswered, NoneFailed, none_failed_start}
 use Rattle.paged_read.specs.Tail.{Tail}
 use Rattle.journal.specs.declared.frame.Found.{Found}
-use Rattle.journal.specs.Journal.{ReadRecordGoes}
+use Rattle.journal.specs.Journal.{FillsFromContent, ReadContentGoes, ReadRecordGoes}
 use Rattle.journal.specs.Costs.{after_frames, frame_calls, frame_range, frames_calls, pages_met}
 use Rattle.journal.specs.Frame.{frame, record_len, frame_len, is_record, record_of, frames, records, whole_frames, AreWholeFrames, IsPrefix}
 
@@ -123,6 +123,29 @@ no_want_of_memory own life refused = it_failed life refused
 -- a failed read gives no record
 pub no_record_after : (own : List ℕ → ℕ) (life : Life) (found : Found) → ReadRecordGoes own ab_frame 0 life (after_failed_read life) (Ok (Some found)) → ⊥
 no_record_after own life found goes = it_failed life goes.1
+
+-- a buffer of two bytes gets those of the content from 2 on, which are "ab"
+pub two_are_filled : (life : Life) → FillsFromContent ab_frame 2 (5 ∷ 5 ∷ []) (97 ∷ 98 ∷ []) life life (Ok tt)
+two_are_filled life = (refl, none_failed_start life.present)
+
+pub they_go_so : (life : Life) → ReadContentGoes ab_frame 2 (5 ∷ 5 ∷ []) (97 ∷ 98 ∷ []) life life (Ok tt)
+they_go_so life = record { answers = two_are_filled life; size = refl }
+
+-- not one byte further on
+pub none_further_on : (life : Life) → FillsFromContent ab_frame 1 (5 ∷ 5 ∷ []) (97 ∷ 98 ∷ []) life life (Ok tt) → ⊥
+none_further_on life fills = absurd (cc (fills.0))
+
+-- not without a read
+pub not_as_it_was : (life : Life) → FillsFromContent ab_frame 2 (5 ∷ 5 ∷ []) (5 ∷ 5 ∷ []) life life (Ok tt) → ⊥
+not_as_it_was life fills = absurd (cc (fills.0))
+
+-- a failed read fills none
+pub none_after_it_failed : (life : Life) → FillsFromContent ab_frame 2 (5 ∷ 5 ∷ []) (97 ∷ 98 ∷ []) life (after_failed_read life) (Ok tt) → ⊥
+none_after_it_failed life fills = it_failed life fills.1
+
+-- no buffer gets longer, though the bytes are the content's
+pub no_longer : (life : Life) → ReadContentGoes ab_frame 2 (5 ∷ []) (97 ∷ 98 ∷ []) life life (Ok tt) → ⊥
+no_longer life goes = absurd (cc (goes.size))
 
 -- two frames, of 9 bytes and of 8, in pages of 4: the first 16 bytes are in full pages, and one is after them
 abbrev pub two : List ℕ

@@ -23,7 +23,7 @@ use Rattle.paged_read.proofs.FullReads.{full_of_tail, no_fault}
 use Rattle.paged_read.proofs.Outliving.{look_leaves_writers}
 use Rattle.paged_read.specs.Failures.{NoneFailed}
 use Rattle.paged_read.specs.Ranges.{Reads}
-use Rattle.paged_read.specs.Reads.{ReadLeaves}
+use Rattle.paged_read.specs.Reads.{ReadIntoGoes, ReadLeaves}
 use Rattle.paged_read.specs.Snapshots.{LeavesAllTails, LeavesOthers, LeavesReads, LeavesTails, SnapshotReads}
 use Rattle.paged_read.specs.Tail.{Tail, HasFullPages, logical_bytes, tail_size}
 use Rattle.paged.specs.Caches.{tail_of}
@@ -38,7 +38,7 @@ use Rattle.std.specs.declared.alloc.Global.{Global}
 use Rattle.journal.specs.Calls.{CrashRecoversJournal, JournalCallLeaves, JournalCrashGoes, JournalCrashLeaves, RecordReadLeaves, ReaderLeaves, JournalRecoverGoes, JournalRecoveryLeaves}
 use Rattle.journal.specs.declared.frame.Found.{Found}
 use Rattle.journal.specs.Frame.{AreWholeFrames, IsPrefix, listed, records, whole_frames}
-use Rattle.journal.specs.Journal.{BringsRecordsBack, Commits, JournalHasRecovered, RecoversJournal, IsBetweenCalls, IsFound, IsJournal, StartsStay, OnlyReads, RecordReadRefused, records_in}
+use Rattle.journal.specs.Journal.{BringsRecordsBack, Commits, JournalHasRecovered, RecoversJournal, IsBetweenCalls, IsFound, IsJournal, StartsStay, OnlyReads, ReadContentGoes, RecordReadRefused, records_in}
 use Rattle.journal.specs.Reader.{ReaderState, AllReadersStay, EachReaderStays, FindsNext, IsNewToReaders, IsNext, IsOpenSnapshot, HasReader, IsReader, JournalsStay, LeavesTheirRecords, OnlyLooks, ViewLeaves, OtherReadersStay, ReadersStay, read_over}
 use Rattle.journal.proofs.Frames.{records-none}
 use Rattle.journal.proofs.Starts.{starts_looked}
@@ -238,6 +238,15 @@ view_refused sum t cache offset len bytes old new WriteFailed refused opened wit
 view_refused sum t cache offset len bytes old new ResizeFailed refused opened within fits = refused
 view_refused sum t cache offset len bytes old new SyncFailed refused opened within fits = refused
 view_refused sum t cache offset len bytes old new IdsExhausted refused opened within fits = refused
+
+-- a read into a buffer fills it from the content
+pub content_filled : (sum : List ℕ → ℕ) (t : Tail) (cache : CacheState) (offset : ℕ) (before after : List ℕ) (old new : Life) (result : Result (Unit {0}) Error) → ReadIntoGoes sum t cache offset before after old new result
+    → IsOpenSnapshot sum t cache old → offset + length before ≤ tail_size t → offset + length before < 2 ^ 64 → ReadContentGoes (logical_bytes t old.present.readable) offset before after old new result
+content_filled sum t cache offset before after old new (Ok u) goes opened within fits = record { answers = (goes.answers.1, goes.answers.3); size = goes.size }
+content_filled sum t cache offset before after old new (Err e) goes opened within fits = record {
+  answers = view_refused sum t cache offset (length before) (λ (u : Unit {0}). after) old new e goes.answers opened within fits;
+  size = goes.size;
+}
 
 -- ---- reads of a snapshot
 

@@ -256,6 +256,20 @@ ReadsContent content offset len old new (Ok bytes) =
     (bytes ≡ take len (drop offset content)) × NoneFailed old.present new.present
 ReadsContent content offset len old new (Err e) = RecordReadRefused old new e
 
+-- a read of bytes within a content into a buffer, by the answer: at Ok the buffer holds them, and
+-- after an error anything
+abbrev pub FillsFromContent : List ℕ → (offset : ℕ) → (before after : List ℕ) → Life → Life
+    → Result (Unit {0}) Error → Type 0
+FillsFromContent content offset before after old new (Ok _) =
+    ReadsContent content offset (length before) old new (Ok after)
+FillsFromContent content offset before after old new (Err e) = RecordReadRefused old new e
+
+-- such a read, whatever it answers: the buffer keeps its length
+pub record ReadContentGoes (content : List ℕ) (offset : ℕ) (before after : List ℕ)
+    (old new : Life) (result : Result (Unit {0}) Error) : Type 0 where
+  pub answers : FillsFromContent content offset before after old new result
+  pub size : length after ≡ length before
+
 -- a read of how long the frame at an offset is, from which on `rest` bytes are left, so that the
 -- frame may be cut short
 abbrev pub MeasuresFrame : List ℕ → (offset rest : ℕ) → Life → Life → Result ℕ Error → Type 0

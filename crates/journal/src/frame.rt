@@ -89,7 +89,8 @@ fn byte_at(bytes: &[u8], offset: usize) -> u8
     }
 }
 
-/// How many bytes a record has, by the length in its frame, which is at the front of these bytes.
+/// How many bytes a record has, by the length in its frame, which is at the front of these bytes. A
+/// byte that they lack counts as 0. The frame has [`IN_FRONT`] and [`AFTER`] bytes more.
 #[tactic(auto, unfolding(crate::specs::Frame::record_len))]
 pub fn record_len_of(bytes: &[u8]) -> usize
     ensures len { result ≡ record_len bytes.now }
@@ -126,8 +127,8 @@ pub fn record_before<R: Sum>(bytes: IoBuf, after: &[u8]) -> Option<IoBuf>
     }
 }
 
-/// The record of the frame at the front of some bytes, if it is one. The only error is
-/// `OutOfMemory`.
+/// The bytes of the record whose frame is at the front of some bytes; `None` if that frame is no
+/// record, or is cut short. They share what was given. The only error is `OutOfMemory`.
 pub fn record_at<R: Sum>(framed: &IoBuf) -> Result<Option<IoBuf>, Error>
     ensures found { IfOk result (λ found. found ≡ record_of R.sum_of framed.now) }
     ensures err { IsOkUnless result Error.OutOfMemory }

@@ -19,13 +19,14 @@ ghost use Rattle.paged.specs.Truncate.{KeepsFloorsWithin};
 ghost use Rattle.journal.specs.Frame.{frame, whole_frames};
 ghost use Rattle.paged.specs.Caches.{KeepsReads};
 ghost use Rattle.paged_read.specs.Snapshots.{LeavesOthers};
-ghost use Rattle.journal.specs.Journal.{AppendRecordGoes, CommitGoes, ReadRecordGoes, Trims};
+ghost use Rattle.journal.specs.Journal.{AppendRecordGoes, CommitGoes, ReadContentGoes};
+ghost use Rattle.journal.specs.Journal.{ReadRecordGoes, Trims};
 ghost use Rattle.journal.specs.Journal.{IsBetweenCalls, IsJournal, OnlyReads, records_in};
 ghost use Rattle.journal.specs.Journal.{StartsStay, StartCommitGoes, WaitForCommitGoes};
 ghost use Rattle.journal.specs.Reader.{IsReader, ReaderGoes};
 ghost use Rattle.journal.specs.Calls.{JournalCallLeaves, JournalRecoverGoes, JournalRecoveryLeaves};
 ghost use Rattle.journal.specs.Calls.{RecordReadLeaves};
-ghost use Rattle.journal.specs.Costs.{FrameCosts, ReaderCosts};
+ghost use Rattle.journal.specs.Costs.{FrameCosts, RangeCosts, ReaderCosts};
 ghost use Rattle.paged_read.specs.Searches.{ReadsWithin, scan_bytes};
 
 use crate::frame::{Found, Framed, frame_of};
@@ -440,5 +441,40 @@ impl<B: Blob, H: Sum, R: Sum> Journal<B, H, R> {
             FrameCosts (tail_of self.now) held offset cache.old cache.new old new }
     {
         self.find(blob, cache, offset)
+    }
+
+    /// Fills `bytes` with the bytes of the content from logical byte `offset` on. The content is
+    /// the journal's frames, one after another. Where the cache holds all pages that are needed the
+    /// call asks no device; else it makes one device call for each page of the range at most.
+    ///
+    /// `ReadFailed` where a read of the device failed, `OutOfMemory` where memory was refused and
+    /// no read failed. An error leaves all as it was, except for pages that the cache may hold now,
+    /// and for `bytes`, which may hold anything.
+    pub fn read_content(
+        &self,
+        blob: &mut B,
+        cache: &mut CacheRef,
+        bytes: &mut [u8],
+        offset: u64,
+    ) -> Result<(), Error>
+        requires journal { IsJournal H.sum_of self.now cache.old (B.life blob.old) }
+        requires within { offset + length bytes.old ≤ size_of self.now }
+        ensures goes { let old = B.life blob.old in let new = B.life blob.new in
+            let held = content self.now old.present.readable in
+            ReadContentGoes held offset bytes.old bytes.new old new result }
+        ensures ready { IsJournal H.sum_of self.now cache.new (B.life blob.new) }
+        ensures leaves { let old = B.life blob.old in let new = B.life blob.new in
+            RecordReadLeaves H.sum_of R.sum_of self.now cache.old cache.new old new }
+
+        // Each commit that was started before is a started commit still.
+        ensures starts { let old = B.life blob.old in let new = B.life blob.new in
+            StartsStay H.sum_of R.sum_of self.now self.now old new }
+        ensures costs { let t = tail_of self.now in
+            let old = B.life blob.old in let new = B.life blob.new in
+            RangeCosts t (offset, length bytes.old) cache.old cache.new old new }
+    {
+        // The size is a `u64`: the proof takes from this that the end of the range is one.
+        let _ = self.size();
+        self.writer.view().read_into(blob, cache, bytes, offset)
     }
 }

@@ -10,6 +10,6 @@ mod reader;
 mod walk;
 
 pub use crashes::crash_and_recover;
-pub use frame::{Found, MOST_BYTES, frame_of};
+pub use frame::{AFTER, Found, IN_FRONT, MOST_BYTES, frame_of, record_at, record_len_of};
 pub use journal::Journal;
 pub use reader::Reader;

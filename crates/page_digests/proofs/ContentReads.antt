@@ -259,7 +259,7 @@ joined_reads old mid new (one, first) (other, second) = (one ++ other, second �
 same_itself : (s : PagedState) → IsSameContent s s
 same_itself s = record { seal = refl; page_size = refl; reads = ([], sym (append-nil s.reads)); list_reads = ([], sym (append-nil s.list_reads)) }
 
-content_after : (s t u : PagedState) → IsSameContent s t → IsSameContent t u → IsSameContent s u
+pub content_after : (s t u : PagedState) → IsSameContent s t → IsSameContent t u → IsSameContent s u
 content_after s t u one other = record {
   seal = other.seal ∙ one.seal;
   page_size = other.page_size ∙ one.page_size;
@@ -288,7 +288,7 @@ digest_fails_before d P Q seal kept i old mid new e size same (more, since) fail
     by_error OutOfMemory none = tt
 
 -- what failed since a call began failed in it
-fails_before : (d : List ℕ → List ℕ) (i : ℕ) (s t u : PagedState) (e : Error) → IsSameContent s t → PageFails d i t u e → PageFails d i s u e
+pub fails_before : (d : List ℕ → List ℕ) (i : ℕ) (s t u : PagedState) (e : Error) → IsSameContent s t → PageFails d i t u e → PageFails d i s u e
 fails_before d i s t u Damaged same (inl wrong) = inl (wrong_before d s.page_size t.page_size s.seal t.seal i s.reads t.reads u.reads same.page_size same.seal same.reads wrong)
 fails_before d i s t u Damaged same (inr fails) = inr (digest_fails_before d s.page_size t.page_size s.seal t.seal i s.list_reads t.list_reads u.list_reads Damaged same.page_size same.seal same.list_reads fails)
 fails_before d i s t u (System x) same (inl last) = inl (refused_before s.page_size t.page_size s.seal t.seal i s.reads t.reads u.reads same.page_size same.seal same.reads last)

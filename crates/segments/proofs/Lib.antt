@@ -25,6 +25,7 @@ pub mod Refusing
 pub mod DropSurvival
 pub mod Appends
 pub mod Padding
+pub mod PagedFrames
 pub mod Removing
 pub mod RotationExamples
 pub mod TurnExamples
@@ -36,3 +37,4 @@ pub mod CrashExamples
 pub mod ScanExamples
 pub mod InnerExamples
 pub mod OpeningExamples
+pub mod PagedFrameExamples

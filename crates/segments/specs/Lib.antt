@@ -8,3 +8,4 @@ pub mod Log
 pub mod Copies
 pub mod Crash
 pub mod Scan
+pub mod PagedFrames

@@ -20,6 +20,7 @@ mod log;
 mod names;
 mod opening;
 mod owned;
+mod paged_frames;
 mod past;
 mod place;
 mod reading;
