@@ -105,6 +105,7 @@ close_goes sum own s m (Err (errors.Damaged n)) image owned leaves is = is
 close_goes sum own s m (Err (errors.Unlisted n)) image owned leaves is = is
 close_goes sum own s m (Err (errors.Missing n)) image owned leaves is = is
 close_goes sum own s m (Err (errors.Short n)) image owned leaves is = is
+close_goes sum own s m (Err (errors.AnotherDigest n)) image owned leaves is = is
 close_goes sum own s m (Err (errors.Outdated n)) image owned leaves is = is
 close_goes sum own s m (Err errors.Manifest) image owned leaves is = is
 close_goes sum own s m (Err (errors.NoSegment n)) image owned leaves is = is

@@ -42,6 +42,7 @@ no_journal sum own bytes s t (errors.Damaged n) is = absurd is
 no_journal sum own bytes s t (errors.Unlisted n) is = absurd is
 no_journal sum own bytes s t (errors.Missing n) is = absurd is
 no_journal sum own bytes s t (errors.Short n) is = absurd is
+no_journal sum own bytes s t (errors.AnotherDigest n) is = absurd is
 no_journal sum own bytes s t (errors.Outdated n) is = absurd is
 no_journal sum own bytes s t errors.Manifest is = absurd is
 no_journal sum own bytes s t (errors.NoSegment n) is = absurd is
@@ -61,7 +62,7 @@ enter_ready sum own entry bytes s m manifest known u log owned pages told with i
       (lists_by sum own s.manifest.page_size entry bytes s.listing m s.manifest.journal manifest.journal s.manifest.life manifest.life told
       (subst (λ P. listed_with P entry s.listing ≡ Some m) (sym log.manifest_pages) with)
       (subst (λ P. IfSome s.manifest.journal (λ w. Lists sum own P s.listing w s.manifest.life)) (sym log.manifest_pages) log.lists) is);
-  loaded = log.loaded;
+  reading = log.reading;
 }
 
 -- the log stands without it, and its manifest has no journal
@@ -74,7 +75,7 @@ enter_failed sum own bytes s manifest e log owned pages is = record {
   manifest_pages = pages ∙ log.manifest_pages;
   current_pages = log.current_pages;
   lists = lists_if sum own s.page_size s.listing manifest.journal manifest.life (no_journal sum own bytes s.manifest manifest e is);
-  loaded = log.loaded;
+  reading = log.reading;
 }
 
 keeps_none : (sum own : List ℕ → ℕ) (P : ℕ) (s : OwnedState) (more : List (List ℕ)) (j : Option WriterState) → IfSome j (λ w. IsOwnedJournal sum own s w) → s.page_size ≡ P

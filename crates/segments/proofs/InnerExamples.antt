@@ -13,7 +13,7 @@ use Rattle.segments.specs.declared.closed.Closed.{Closed}
 use Rattle.segments.specs.declared.entry.Entry.TheVariants.{Starts}
 use Rattle.segments.specs.declared.error.Error.TheVariants as errors
 use Rattle.segments.specs.declared.scanning.Step.TheVariants.{End}
-use Rattle.segments.specs.Digests.{IsOf, SameKept}
+use Rattle.segments.specs.Kept.{IsOf, SameKept}
 use Rattle.segments.specs.FolderEvents.{FolderEvent}
 use Rattle.segments.specs.Manifest.{ListingState, entry_bytes, entry_in, none_closed}
 use Rattle.segments.specs.Owned.{IsOwned, OwnedState, without_journal}
@@ -118,8 +118,8 @@ pub one_more_was_kept : (len : ℕ) (digest : List ℕ) → WasClosed add_sum ad
 unfolding record_len is_record record_of frames records
 one_more_was_kept len digest is = let same : ◌≡◌ {A = ℕ} 2 1 = is.counts in omega (arith, same)
 
-pub it_is_closed_already : (sum own : List ℕ → ℕ) → CloseCurrentGoes sum own closed closed (Err errors.Closed)
-it_is_closed_already sum own = (refl, refl)
+pub it_is_closed_already : (sum own : List ℕ → ℕ) → (d : List ℕ → List ℕ) → CloseCurrentGoes sum own d closed closed (Err errors.Closed)
+it_is_closed_already sum own d = (refl, refl)
 
 pub it_counts_one_more : (len : ℕ) (digest : List ℕ) → CloseCurrentGoes add_sum add_sum small closed (Ok (kept_of 2 len digest)) → ⊥
 it_counts_one_more len digest is = one_more_was_kept len digest is

@@ -21,6 +21,8 @@ pub mod Joining
 pub mod Keeping
 pub mod CopiesTold
 pub mod Loading
+pub mod PagedReading
+pub mod Sealing
 pub mod Refusing
 pub mod DropSurvival
 pub mod Appends

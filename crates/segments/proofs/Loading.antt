@@ -11,9 +11,11 @@ use Rattle.segments.specs.declared.closed.Closed.{Closed}
 use Rattle.segments.specs.declared.error.Error.{Error}
 use Rattle.segments.specs.declared.error.Error.TheVariants as errors
 use Rattle.segments.specs.declared.place.Place.{Place}
-use Rattle.segments.specs.Digests.{IsOf, SameKept}
+use Rattle.segments.specs.Kept.{IsOf, SameKept}
 use Rattle.segments.specs.Owned.{HasJournal, IsOwned, OwnedReadGoes, OwnedReadLeaves, OwnedState, content_of}
-use Rattle.segments.specs.Log.{HasLoaded, HasOpened, HeldReadGoes, HoldsClosed, IsLoaded, IsReadOf, IsReadOfClosed, LoadedState, LogReadGoes, LogReadRefused, LogState, TakeLoadedGoes}
+use Rattle.segments.specs.Log.{HasLoaded, HasOpened, HeldReadGoes, IsLoaded, IsReadOfClosed, LoadedState, LogReadGoes, LogReadRefused, LogState, TakeLoadedGoes}
+use Rattle.segments.specs.FrameReads.{IsReadOf}
+use Rattle.segments.specs.Kept.{HoldsClosed}
 use Rattle.segments.specs.Manifest.{open_in}
 use Rattle.segments.proofs.Joining.{content_by}
 use Rattle.segments.proofs.Readings.{read_forward, reads_by}
@@ -77,6 +79,7 @@ held_read sum own P l t offset (Err (errors.Damaged n)) loaded is = absurd is
 held_read sum own P l t offset (Err (errors.Unlisted n)) loaded is = absurd is
 held_read sum own P l t offset (Err (errors.Missing n)) loaded is = absurd is
 held_read sum own P l t offset (Err (errors.Short n)) loaded is = absurd is
+held_read sum own P l t offset (Err (errors.AnotherDigest n)) loaded is = absurd is
 held_read sum own P l t offset (Err (errors.Outdated n)) loaded is = absurd is
 held_read sum own P l t offset (Err errors.Manifest) loaded is = absurd is
 held_read sum own P l t offset (Err (errors.NoSegment n)) loaded is = absurd is
@@ -115,6 +118,7 @@ reads_closed sum own s t p l (Err (errors.Damaged n)) has is = absurd is
 reads_closed sum own s t p l (Err (errors.Unlisted n)) has is = absurd is
 reads_closed sum own s t p l (Err (errors.Missing n)) has is = absurd is
 reads_closed sum own s t p l (Err (errors.Short n)) has is = absurd is
+reads_closed sum own s t p l (Err (errors.AnotherDigest n)) has is = absurd is
 reads_closed sum own s t p l (Err (errors.Outdated n)) has is = absurd is
 reads_closed sum own s t p l (Err errors.Manifest) has is = absurd is
 reads_closed sum own s t p l (Err (errors.NoSegment n)) has is = absurd is
@@ -131,6 +135,7 @@ load_refused sum own s t p errors.Closed other is = absurd is
 load_refused sum own s t p (errors.Unlisted n) other is = absurd is
 load_refused sum own s t p (errors.Missing n) other is = absurd is
 load_refused sum own s t p (errors.Short n) other is = absurd is
+load_refused sum own s t p (errors.AnotherDigest n) other is = absurd is
 load_refused sum own s t p (errors.Outdated n) other is = absurd is
 load_refused sum own s t p errors.Manifest other is = absurd is
 load_refused sum own s t p errors.NumbersExhausted other is = absurd is

@@ -14,11 +14,13 @@ use Rattle.segments.specs.declared.call.FolderCall.TheVariants as calls
 use Rattle.segments.specs.declared.closed.Closed.{Closed}
 use Rattle.segments.specs.declared.error.Error.TheVariants as errors
 use Rattle.std.specs.declared.io.Error as io_error
-use Rattle.segments.specs.Digests.{IsOf, IsTwin}
+use Rattle.segments.specs.Kept.{IsOf, IsTwin}
 use Rattle.segments.specs.FolderEvents.{FolderEvent, plain_event}
 use Rattle.segments.specs.Manifest.{ListingState, none_closed}
 use Rattle.segments.specs.Owned.{IsOwned, OwnedAppendGoes, OwnedState, without_journal}
-use Rattle.segments.specs.Log.{AppendHereGoes, AreDone, AsksNoSync, AsksWell, CurrentKeeps, EndsBehind, EndsRemoval, EndsSynced, EndsUnsynced, HasKept, HasTwinOf, HoldsClosed, IsBeyond, IsClosedLog, IsClosedOff, IsCurrentContent, IsDropped, IsKept, IsListed, IsLoaded, IsLog, IsReadOf, IsReadOfClosed, IsReadOfOpen, IsRefusedDrop, IsSameButAsked, IsSameButCurrent, IsSameButManifest, IsStartedFrom, IsUnsyncedDrop, LeavesReading, Lists, LoadedState, LogAppendGoes, LogReadGoes, LogState, NoneSyncs, StartsAt, TellHeld, closed_records, listing_from, log_records}
+use Rattle.segments.specs.Log.{AppendHereGoes, AreDone, AsksNoSync, AsksWell, CurrentKeeps, EndsRemoval, EndsSynced, EndsUnsynced, HasKept, IsBeyond, IsClosedLog, IsClosedOff, IsCurrentContent, IsDropped, IsKept, IsListed, IsLoaded, IsLog, IsReadOfClosed, IsReadOfOpen, IsRefusedDrop, IsSameButAsked, IsSameButCurrent, IsSameButManifest, IsStartedFrom, IsUnsyncedDrop, LeavesReading, Lists, LoadedState, LogAppendGoes, LogReadGoes, LogState, NoneSyncs, StartsAt, TellHeld, closed_records, listing_from, log_records}
+use Rattle.segments.specs.FrameReads.{EndsBehind, IsReadOf}
+use Rattle.segments.specs.Kept.{HasTwinOf, HoldsClosed}
 use Rattle.segments.proofs.BytesExamples.{c, c_frame, c_page, changed_life, d, d_frame, d_page, life_of, none_committed, rests, with_c, with_none, writer}
 use Rattle.segments.proofs.OwnedExamples.{another_record, nothing_was_done}
 use Rattle.segments.proofs.Readings.{read_forward}
@@ -48,9 +50,9 @@ unfolding record_len frames whole_frames
 it_holds_d kept is = record { bytes = d_page; of = is; holds = refl }
 
 -- a content doesn't end within a frame
-pub a_cut_content : (sum : List ℕ → ℕ) (P : ℕ) (kept : Closed) → HoldsClosed sum P kept (c_frame ++ 0 ∷ []) → ⊥
+pub a_cut_content : (sum : List ℕ → ℕ) (d : List ℕ → List ℕ) (P : ℕ) (kept : Closed) → HoldsClosed sum d P kept (c_frame ++ 0 ∷ []) → ⊥
 unfolding record_len frames whole_frames
-a_cut_content sum P kept is =
+a_cut_content sum d P kept is =
     let whole : whole_frames (c_frame ++ 0 ∷ []) ≡ c_frame ++ 0 ∷ [] =
     ap whole_frames is.holds ∙ whole_is_whole (text sum P is.bytes) ∙ sym is.holds in
     let same : ◌≡◌ {A = ℕ} 8 9 = ap length whole in omega (arith, same)
@@ -60,8 +62,8 @@ unfolding record_len frames whole_frames
 it_has_a_twin kept other is twin = record { holds = record { bytes = c_page; of = is; holds = refl }; twin = (other, twin) }
 
 -- what isn't a segment's content has no twin either
-pub a_cut_content_has_none : (sum : List ℕ → ℕ) (P : ℕ) (kept : Closed) → HasTwinOf sum P kept (c_frame ++ 0 ∷ []) → ⊥
-a_cut_content_has_none sum P kept has = a_cut_content sum P kept has.holds
+pub a_cut_content_has_none : (sum : List ℕ → ℕ) (d : List ℕ → List ℕ) (P : ℕ) (kept : Closed) → HasTwinOf sum d P kept (c_frame ++ 0 ∷ []) → ⊥
+a_cut_content_has_none sum d P kept has = a_cut_content sum d P kept has.holds
 
 abbrev pub in_memory : Closed → LoadedState
 in_memory kept = record { kept = kept; owned = with_c }
@@ -184,8 +186,8 @@ pub none_is_read_of_closed : (own : List ℕ → ℕ) (kept : Closed) → IsOf c
 none_is_read_of_closed own kept is = of_c own kept 8 None is (none_is_read own)
 
 -- so a read goes forward
-pub it_stays_where_it_was : (sum own : List ℕ → ℕ) (kept : Closed) → IsReadOfClosed sum own 18 kept 8 (Some c_found) → ⊥
-it_stays_where_it_was sum own kept is = it_ends_where_it_begins is.forward
+pub it_stays_where_it_was : (sum own : List ℕ → ℕ) (d : List ℕ → List ℕ) (kept : Closed) → IsReadOfClosed sum own d 18 kept 8 (Some c_found) → ⊥
+it_stays_where_it_was sum own d kept is = it_ends_where_it_begins is.forward
 
 -- ---- two closed segments
 
@@ -260,7 +262,7 @@ module _ (one two : Closed) where
   the_open_one_is_read t = inl (refl, (c_frame, refl, a_record_is_read))
 
   -- a frame stands there
-  pub the_open_one_is_passed_over : (sum own : List ℕ → ℕ) (t : LogState) → LogReadGoes sum own both t (record { segment = 2; offset = 0 }) (Ok None) → ⊥
+  pub the_open_one_is_passed_over : (sum own : List ℕ → ℕ) (t : LogState) → LogReadGoes sum own d both t (record { segment = 2; offset = 0 }) (Ok None) → ⊥
   the_open_one_is_passed_over sum own t (inl is) = omega (arith, ap length is.1.1, is.1.2)
   the_open_one_is_passed_over sum own t (inr is) = let none : None ≡ Some is.0 = is.1 in absurd (cc none)
 
@@ -272,8 +274,8 @@ module _ (one two : Closed) where
   in_the_open_one sum own t is = (refl, is)
 
 -- a closed segment didn't hold a part of a frame
-pub a_cut_one_is_held : (sum : List ℕ → ℕ) (P : ℕ) (kept : Closed) → TellHeld sum P (λ n. c_frame ++ 0 ∷ []) 0 (kept ∷ []) → ⊥
-a_cut_one_is_held sum P kept is = a_cut_content sum P kept is.0
+pub a_cut_one_is_held : (sum : List ℕ → ℕ) (d : List ℕ → List ℕ) (P : ℕ) (kept : Closed) → TellHeld sum d P (λ n. c_frame ++ 0 ∷ []) 0 (kept ∷ []) → ⊥
+a_cut_one_is_held sum d P kept is = a_cut_content sum d P kept is.0
 
 -- ---- the open segment is read
 
@@ -311,8 +313,8 @@ it_was_closed_by_a_read sum own is = absurd (cc (is.journal))
 -- ---- appending, and the last call
 
 -- after an error the log has no open segment
-pub it_stays_open : (sum own : List ℕ → ℕ) → LogAppendGoes sum own c small small (Err (errors.Layer WriteFailed)) → ⊥
-it_stays_open sum own is = absurd (cc (is.0))
+pub it_stays_open : (sum own : List ℕ → ℕ) → (d : List ℕ → List ℕ) → LogAppendGoes sum own d c small small (Err (errors.Layer WriteFailed)) → ⊥
+it_stays_open sum own d is = absurd (cc (is.0))
 
 -- there was nothing to drop, and the names are durable
 pub nothing_was_dropped : IsDropped 0 small (record small { asked = plain_event calls.Syncs false ∷ [] })

@@ -15,10 +15,11 @@ use Rattle.journal.proofs.Frames.{records-whole}
 use Rattle.segments.specs.declared.closed.Closed.{Closed}
 use Rattle.segments.specs.declared.error.Error.{Error}
 use Rattle.segments.specs.declared.place.Place.{Place}
-use Rattle.segments.specs.Digests.{EachIsByte, HasTwin, IsOf}
+use Rattle.segments.specs.Kept.{EachIsByte, HasTwin, IsOf}
 use Rattle.segments.specs.Manifest.{ListingState, closed_at, open_in}
 use Rattle.segments.specs.Owned.{KeepsJournal, OwnedAppendGoes, OwnedState, owned_size, records_now, records_of}
-use Rattle.segments.specs.Log.{AppendHereGoes, HasMore, HasTwinAt, HasTwinOf, HoldsClosed, IsAppendedTo, IsRotated, IsSameButCurrent, LogAppendGoes, LogState, TellHeld, closed_records, log_records}
+use Rattle.segments.specs.Log.{AppendHereGoes, HasMore, HasTwinAt, IsAppendedTo, IsRotated, IsSameButCurrent, LogAppendGoes, LogState, TellHeld, closed_records, log_records}
+use Rattle.segments.specs.Kept.{HasTwinOf, HoldsClosed}
 
 judge : (content other : List ℕ) → EachIsByte other → length other ≡ length content → sha256 other ≡ sha256 content → (b : Bool) → bytes_eq other content ≡ b → (other ≡ content) ⊎ HasTwin content
 judge content other small long same true e = inl ((bytes_eq-Decides other content).0 e)
@@ -31,25 +32,25 @@ judged content other kept first second =
     judge content other second.small (sym second.len ∙ first.len) (sym second.digest ∙ first.digest) (bytes_eq other content) refl
 
 -- contents of which the same was kept are the same, or the first has a twin
-pub same_content : (sum : List ℕ → ℕ) (P : ℕ) (kept : Closed) (content other : List ℕ) → HoldsClosed sum P kept content → HoldsClosed sum P kept other
-    → (other ≡ content) ⊎ HasTwinOf sum P kept content
-same_content sum P kept content other first second = elim (judged first.bytes second.bytes kept first.of second.of) [
+pub same_content : (sum : List ℕ → ℕ) (d : List ℕ → List ℕ) (P : ℕ) (kept : Closed) (content other : List ℕ) → HoldsClosed sum d P kept content → HoldsClosed sum d P kept other
+    → (other ≡ content) ⊎ HasTwinOf sum d P kept content
+same_content sum d P kept content other first second = elim (judged first.bytes second.bytes kept first.of second.of) [
   | inl same ↦ inl (second.holds ∙ ap (λ bytes. whole_frames (text sum P bytes)) same ∙ sym first.holds)
   | inr twin ↦ inr (record { holds = first; twin = twin })
 ]
 
 -- a content of which the same was kept as of some bytes has the records of these bytes, or it has a twin
-pub same_records : (sum own : List ℕ → ℕ) (P : ℕ) (kept : Closed) (content bytes : List ℕ) → HoldsClosed sum P kept content → IsOf bytes kept
-    → (records own content ≡ records own (text sum P bytes)) ⊎ HasTwinOf sum P kept content
-same_records sum own P kept content bytes holds of = elim (same_content sum P kept content (whole_frames (text sum P bytes)) holds (record { bytes = bytes; of = of; holds = refl })) [
+pub same_records : (sum own : List ℕ → ℕ) (d : List ℕ → List ℕ) (P : ℕ) (kept : Closed) (content bytes : List ℕ) → HoldsClosed sum d P kept content → IsOf bytes kept
+    → (records own content ≡ records own (text sum P bytes)) ⊎ HasTwinOf sum d P kept content
+same_records sum own d P kept content bytes holds of = elim (same_content sum d P kept content (whole_frames (text sum P bytes)) holds (record { bytes = bytes; of = of; holds = refl })) [
   | inl same ↦ inl (ap (λ l. records own l) (sym same) ∙ records-whole own (text sum P bytes))
   | inr twin ↦ inr twin
 ]
 
 -- the last of the closed segments
-tells_last : (sum : List ℕ → ℕ) (P : ℕ) (held : ℕ → List ℕ) (first : ℕ) (cs : List Closed) (c : Closed) → TellHeld sum P held first (cs ++ c ∷ []) → HoldsClosed sum P c (held (first + length cs))
-tells_last sum P held first [] c tells = subst (λ n. HoldsClosed sum P c (held n)) (omega arith) tells.0
-tells_last sum P held first (d ∷ ds) c tells = subst (λ n. HoldsClosed sum P c (held n)) (omega arith) (tells_last sum P held (suc first) ds c tells.1)
+tells_last : (sum : List ℕ → ℕ) (d : List ℕ → List ℕ) (P : ℕ) (held : ℕ → List ℕ) (first : ℕ) (cs : List Closed) (c : Closed) → TellHeld sum d P held first (cs ++ c ∷ []) → HoldsClosed sum d P c (held (first + length cs))
+tells_last sum d P held first [] c tells = subst (λ n. HoldsClosed sum d P c (held n)) (omega arith) tells.0
+tells_last sum d P held first (d ∷ ds) c tells = subst (λ n. HoldsClosed sum d P c (held n)) (omega arith) (tells_last sum d P held (suc first) ds c tells.1)
 
 last_is : (cs : List Closed) (c : Closed) (k : ℕ) → k ≡ length cs → slice_get (cs ++ c ∷ []) k ≡ Some c
 last_is [] c zero is = refl
@@ -71,13 +72,13 @@ closed_more own held first (d ∷ ds) c =
     ∙ sym (append_assoc (records own (held first)) (closed_records own held (suc first) ds) (records own (held (first + length (d ∷ ds)))))
 
 -- a rotation leaves the records as they were
-pub rotated_same : (sum own : List ℕ → ℕ) (s t : LogState) → IsRotated sum own s t → HasMore sum own [] s t
-rotated_same sum own s t is held tells =
+pub rotated_same : (sum own : List ℕ → ℕ) (d : List ℕ → List ℕ) (s t : LogState) → IsRotated sum own d s t → HasMore sum own d [] s t
+rotated_same sum own d s t is held tells =
     let l = s.listing in
-    let paged = subst (λ P. TellHeld sum P held t.listing.first t.listing.closed) is.page_size tells in
-    let told = subst (λ (l : ListingState). TellHeld sum s.page_size held l.first l.closed) is.listing paged in
-    let here : HoldsClosed sum s.page_size is.kept (held (open_in l)) = tells_last sum s.page_size held l.first l.closed is.kept told in
-    elim (same_records sum own s.page_size is.kept (held (open_in l)) is.last.present.readable here is.closed.of) [
+    let paged = subst (λ P. TellHeld sum d P held t.listing.first t.listing.closed) is.page_size tells in
+    let told = subst (λ (l : ListingState). TellHeld sum d s.page_size held l.first l.closed) is.listing paged in
+    let here : HoldsClosed sum d s.page_size is.kept (held (open_in l)) = tells_last sum d s.page_size held l.first l.closed is.kept told in
+    elim (same_records sum own d s.page_size is.kept (held (open_in l)) is.last.present.readable here is.closed.of) [
       | inl same ↦ inl (
           ap (λ (l : ListingState). closed_records own held l.first l.closed ++ records_now own t.current) is.listing
           ∙ ap (λ rs. closed_records own held l.first (l.closed ++ is.kept ∷ []) ++ rs) is.none
@@ -88,7 +89,7 @@ rotated_same sum own s t is held tells =
       | inr twin ↦ inr (
         is.kept,
         ap (λ (l : ListingState). closed_at l (open_in s.listing)) is.listing ∙ last_listed l is.kept,
-        subst (λ P. HasTwinOf sum P is.kept (held (open_in l))) (sym is.page_size) twin,
+        subst (λ P. HasTwinOf sum d P is.kept (held (open_in l))) (sym is.page_size) twin,
       )
     ]
 
@@ -110,29 +111,29 @@ here_more sum own bytes held m t offset is rest =
     ∙ ap (λ rs. closed_records own held m.listing.first m.listing.closed ++ rs) (added sum own bytes m.current t.current offset is)
     ∙ sym (append_assoc (closed_records own held m.listing.first m.listing.closed) (records_now own m.current) (bytes ∷ []))
 
-appended_more : (sum own : List ℕ → ℕ) (bytes : List ℕ) (s t : LogState) (p : Place) → IsAppendedTo sum own bytes s t p → HasMore sum own (bytes ∷ []) s t
-appended_more sum own bytes s t p is held tells =
+appended_more : (sum own : List ℕ → ℕ) (d : List ℕ → List ℕ) (bytes : List ℕ) (s t : LogState) (p : Place) → IsAppendedTo sum own d bytes s t p → HasMore sum own d (bytes ∷ []) s t
+appended_more sum own d bytes s t p is held tells =
     let now = here_more sum own bytes held is.mid t p.offset is.here.1 is.rest in
-    let paged = subst (λ P. TellHeld sum P held t.listing.first t.listing.closed) is.rest.page_size tells in
-    let mid_tells = subst (λ (l : ListingState). TellHeld sum is.mid.page_size held l.first l.closed) is.rest.listing paged in
+    let paged = subst (λ P. TellHeld sum d P held t.listing.first t.listing.closed) is.rest.page_size tells in
+    let mid_tells = subst (λ (l : ListingState). TellHeld sum d is.mid.page_size held l.first l.closed) is.rest.listing paged in
     elim (is.before) [
       | inl same ↦ inl (now ∙ ap (λ (m : LogState). log_records own held m ++ bytes ∷ []) same.0)
-      | inr turned ↦ elim (rotated_same sum own s is.mid turned.0 held mid_tells) [
+      | inr turned ↦ elim (rotated_same sum own d s is.mid turned.0 held mid_tells) [
         | inl same ↦ inl (now ∙ ap (λ rs. rs ++ bytes ∷ []) (same ∙ append-nil (log_records own held s)))
         | inr twin ↦ inr (
-            subst (λ P. HasTwinAt sum P held t.listing (open_in s.listing)) (sym is.rest.page_size)
-            (subst (λ l. HasTwinAt sum is.mid.page_size held l (open_in s.listing)) (sym is.rest.listing) twin))
+            subst (λ P. HasTwinAt sum d P held t.listing (open_in s.listing)) (sym is.rest.page_size)
+            (subst (λ l. HasTwinAt sum d is.mid.page_size held l (open_in s.listing)) (sym is.rest.listing) twin))
       ]
     ]
 
 -- an append adds its record, and nothing else
-pub log_adds : (sum own : List ℕ → ℕ) (bytes : List ℕ) (s t : LogState) (result : Result Place Error) → LogAppendGoes sum own bytes s t result
-    → IfOk result (λ p. HasMore sum own (bytes ∷ []) s t)
-log_adds sum own bytes s t (Ok p) is = appended_more sum own bytes s t p is
-log_adds sum own bytes s t (Err e) is = tt
+pub log_adds : (sum own : List ℕ → ℕ) (d : List ℕ → List ℕ) (bytes : List ℕ) (s t : LogState) (result : Result Place Error) → LogAppendGoes sum own d bytes s t result
+    → IfOk result (λ p. HasMore sum own d (bytes ∷ []) s t)
+log_adds sum own d bytes s t (Ok p) is = appended_more sum own d bytes s t p is
+log_adds sum own d bytes s t (Err e) is = tt
 
-pub log_adds_after : (sum own : List ℕ → ℕ) (bytes : List ℕ) (s m t : LogState) (result : Result Place Error) → IsRotated sum own s m → s.most ≤ owned_size s.current.journal
-    → AppendHereGoes sum own bytes m t result → IsSameButCurrent m t → IfOk result (λ p. HasMore sum own (bytes ∷ []) s t)
-log_adds_after sum own bytes s m t (Ok p) turned long is rest =
-    appended_more sum own bytes s t p (record { mid = m; before = inr (turned, long); here = is; rest = rest })
-log_adds_after sum own bytes s m t (Err e) turned long is rest = tt
+pub log_adds_after : (sum own : List ℕ → ℕ) (d : List ℕ → List ℕ) (bytes : List ℕ) (s m t : LogState) (result : Result Place Error) → IsRotated sum own d s m → s.most ≤ owned_size s.current.journal
+    → AppendHereGoes sum own bytes m t result → IsSameButCurrent m t → IfOk result (λ p. HasMore sum own d (bytes ∷ []) s t)
+log_adds_after sum own d bytes s m t (Ok p) turned long is rest =
+    appended_more sum own d bytes s t p (record { mid = m; before = inr (turned, long); here = is; rest = rest })
+log_adds_after sum own d bytes s m t (Err e) turned long is rest = tt

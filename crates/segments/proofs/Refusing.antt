@@ -12,13 +12,13 @@ use Rattle.segments.specs.FolderEvents.{FolderEvent, plain_event}
 use Rattle.segments.specs.Manifest.{ListingState, listed_with, open_in}
 use Rattle.segments.specs.Owned.{IsShut, OwnedCloseGoes, OwnedState, records_now}
 use Rattle.segments.specs.Log.{AsksUnsynced, EnterRefused, IsNotEntered, IsSameButAsked, IsSameButCurrent, IsSameButManifest, LogState, NextRefused, RotateGoes, WasClosed, events_for}
-use Rattle.segments.proofs.Rotating.{Turning, asked_is, same_listing, same_loaded, same_known, same_manifest, same_most, same_pages}
+use Rattle.segments.proofs.Rotating.{Turning, asked_is, same_listing, same_reading, same_known, same_manifest, same_most, same_pages}
 
 -- the open segment couldn't be closed
-pub close_refused : (sum own : List ℕ → ℕ) (s t : LogState) (e : Error) (result : Result (Unit {0}) Error) → IsErrAnd result (λ x. x ≡ e)
-    → OwnedCloseGoes sum own s.current t.current (Err e) → IsSameButCurrent s t → t.current.journal ≡ None → RotateGoes sum own s t result
-close_refused sum own s t e (Ok u) is goes rest none = absurd is
-close_refused sum own s t e (Err x) is goes rest none =
+pub close_refused : (sum own : List ℕ → ℕ) (d : List ℕ → List ℕ) (s t : LogState) (e : Error) (result : Result (Unit {0}) Error) → IsErrAnd result (λ x. x ≡ e)
+    → OwnedCloseGoes sum own s.current t.current (Err e) → IsSameButCurrent s t → t.current.journal ≡ None → RotateGoes sum own d s t result
+close_refused sum own d s t e (Ok u) is goes rest none = absurd is
+close_refused sum own d s t e (Err x) is goes rest none =
     (none, inl (record { rest = rest; refused = subst (λ y. OwnedCloseGoes sum own s.current t.current (Err y)) (sym is) goes }))
 
 -- what is asked of one log is asked of another one that asked the same, and lists the same
@@ -41,10 +41,10 @@ next_cause s m t (errors.NoSegment k) asked lists is = is
 next_cause s m t errors.Closed asked lists is = is
 
 -- the next segment couldn't be opened
-pub next_refused : (sum own : List ℕ → ℕ) (s m t : LogState) (kept : Closed) (e : Error) (result : Result (Unit {0}) Error) → IsErrAnd result (λ x. x ≡ e)
-    → WasClosed sum own s m.current.life kept → IsSameButCurrent s m → m.current.journal ≡ None → IsSameButAsked m t → NextRefused m t e → RotateGoes sum own s t result
-next_refused sum own s m t kept e (Ok u) is closed first none asks goes = absurd is
-next_refused sum own s m t kept e (Err x) is closed first none asks goes =
+pub next_refused : (sum own : List ℕ → ℕ) (d : List ℕ → List ℕ) (s m t : LogState) (kept : Closed) (e : Error) (result : Result (Unit {0}) Error) → IsErrAnd result (λ x. x ≡ e)
+    → WasClosed sum own d s m.current.life kept → IsSameButCurrent s m → m.current.journal ≡ None → IsSameButAsked m t → NextRefused m t e → RotateGoes sum own d s t result
+next_refused sum own d s m t kept e (Ok u) is closed first none asks goes = absurd is
+next_refused sum own d s m t kept e (Err x) is closed first none asks goes =
     let current = ap (λ (l : LogState). l.current) asks in (
       ap (λ (o : OwnedState). o.journal) current ∙ none,
       inr (inl (record {
@@ -52,7 +52,7 @@ next_refused sum own s m t kept e (Err x) is closed first none asks goes =
         manifest = ap (λ (l : LogState). l.manifest) asks ∙ first.manifest;
         rest = record {
           listing = ap (λ (l : LogState). l.listing) asks ∙ first.listing;
-          loaded = ap (λ (l : LogState). l.loaded) asks ∙ first.loaded;
+          reading = ap (λ (l : LogState). l.reading) asks ∙ first.reading;
           page_size = ap (λ (l : LogState). l.page_size) asks ∙ first.page_size;
           most = ap (λ (l : LogState). l.most) asks ∙ first.most;
           known = ap (λ (l : LogState). l.known) asks ∙ first.known;
@@ -83,9 +83,9 @@ left_of f e manifest same (inl is) = inl (ap (λ (l : LogState). l.manifest) is 
 left_of f e manifest same (inr is) = inr is
 
 -- the manifest couldn't get the entry
-pub enter_refused : (sum own : List ℕ → ℕ) (s m n f e : LogState) (next current : OwnedState) (kept : Closed) (x : Error) → Turning sum own s m n f next kept
-    → IsSameButManifest f e → IsNotEntered (Closes kept) f e x → current.journal ≡ None → RotateGoes sum own s (record e { current = current }) (Err x)
-enter_refused sum own s m n f e next current kept x turning last not none =
+pub enter_refused : (sum own : List ℕ → ℕ) (d : List ℕ → List ℕ) (s m n f e : LogState) (next current : OwnedState) (kept : Closed) (x : Error) → Turning sum own d s m n f next kept
+    → IsSameButManifest f e → IsNotEntered (Closes kept) f e x → current.journal ≡ None → RotateGoes sum own d s (record e { current = current }) (Err x)
+enter_refused sum own d s m n f e next current kept x turning last not none =
     let lists = same_listing sum own s m n f next kept turning in
     let pages = same_pages sum own s m n f next kept turning in
     let manifest = same_manifest sum own s m n f next kept turning in (
@@ -98,7 +98,7 @@ enter_refused sum own s m n f e next current kept x turning last not none =
         asked = not.asked ∙ asked_is sum own s m n f next kept turning;
         rest = record {
           listing = not.listing ∙ lists;
-          loaded = last.loaded ∙ same_loaded sum own s m n f next kept turning;
+          reading = last.reading ∙ same_reading sum own s m n f next kept turning;
           page_size = last.page_size ∙ pages;
           most = last.most ∙ same_most sum own s m n f next kept turning;
           known = not.known ∙ same_known sum own s m n f next kept turning;

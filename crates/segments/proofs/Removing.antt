@@ -91,6 +91,7 @@ drop_removes sum own segment s t (Err (errors.Damaged n)) is log = absurd is
 drop_removes sum own segment s t (Err (errors.Unlisted n)) is log = absurd is
 drop_removes sum own segment s t (Err (errors.Missing n)) is log = absurd is
 drop_removes sum own segment s t (Err (errors.Short n)) is log = absurd is
+drop_removes sum own segment s t (Err (errors.AnotherDigest n)) is log = absurd is
 drop_removes sum own segment s t (Err (errors.Outdated n)) is log = absurd is
 drop_removes sum own segment s t (Err errors.Manifest) is log = absurd is
 drop_removes sum own segment s t (Err errors.NumbersExhausted) is log = absurd is

@@ -71,29 +71,29 @@ pub listed : (P : ℕ) (kept : Closed) (l m : ListingState) → listed_with P (C
 listed P kept l m is = only_some (open_in l == 18446744073709551615) (record { first = l.first; closed = l.closed ++ kept ∷ [] }) m is
 
 -- the steps of a rotation up to the entry: the open segment was closed, the next one was opened, and took its place
-pub record Turning (sum own : List ℕ → ℕ) (s m n f : LogState) (next : OwnedState) (kept : Closed) : Type 0 where
-  pub closed : WasClosed sum own s m.current.life kept
+pub record Turning (sum own : List ℕ → ℕ) (d : List ℕ → List ℕ) (s m n f : LogState) (next : OwnedState) (kept : Closed) : Type 0 where
+  pub closed : WasClosed sum own d s m.current.life kept
   pub keeps : CurrentKeeps sum own (records_now own s.current) s m
   pub first : IsSameButCurrent s m
   pub has : HasNext sum own m n next
   pub asks : IsSameButAsked m n
   pub follows : HasFollowed next n f
 
-pub turning_of : (sum own : List ℕ → ℕ) (s m n f : LogState) (next : OwnedState) (kept : Closed) → WasClosed sum own s m.current.life kept → CurrentKeeps sum own (records_now own s.current) s m
-    → IsSameButCurrent s m → HasNext sum own m n next → IsSameButAsked m n → HasFollowed next n f → Turning sum own s m n f next kept
-turning_of sum own s m n f next kept closed keeps first has asks follows = record { closed = closed; keeps = keeps; first = first; has = has; asks = asks; follows = follows }
+pub turning_of : (sum own : List ℕ → ℕ) (d : List ℕ → List ℕ) (s m n f : LogState) (next : OwnedState) (kept : Closed) → WasClosed sum own d s m.current.life kept → CurrentKeeps sum own (records_now own s.current) s m
+    → IsSameButCurrent s m → HasNext sum own m n next → IsSameButAsked m n → HasFollowed next n f → Turning sum own d s m n f next kept
+turning_of sum own d s m n f next kept closed keeps first has asks follows = record { closed = closed; keeps = keeps; first = first; has = has; asks = asks; follows = follows }
 
 -- ---- what a log is after these steps
 
-module _ (sum own : List ℕ → ℕ) (s m n f : LogState) (next : OwnedState) (kept : Closed) (is : Turning sum own s m n f next kept) where
+module _ (sum own : List ℕ → ℕ) (s m n f : LogState) (next : OwnedState) (kept : Closed) (is : Turning sum own d s m n f next kept) where
   pub same_manifest : f.manifest ≡ s.manifest
   same_manifest = ap (λ (l : LogState). l.manifest) is.follows.rest ∙ ap (λ (l : LogState). l.manifest) is.asks ∙ is.first.manifest
 
   pub same_listing : f.listing ≡ s.listing
   same_listing = ap (λ (l : LogState). l.listing) is.follows.rest ∙ ap (λ (l : LogState). l.listing) is.asks ∙ is.first.listing
 
-  pub same_loaded : f.loaded ≡ s.loaded
-  same_loaded = ap (λ (l : LogState). l.loaded) is.follows.rest ∙ ap (λ (l : LogState). l.loaded) is.asks ∙ is.first.loaded
+  pub same_reading : f.reading ≡ s.reading
+  same_reading = ap (λ (l : LogState). l.reading) is.follows.rest ∙ ap (λ (l : LogState). l.reading) is.asks ∙ is.first.reading
 
   pub same_pages : f.page_size ≡ s.page_size
   same_pages = ap (λ (l : LogState). l.page_size) is.follows.rest ∙ ap (λ (l : LogState). l.page_size) is.asks ∙ is.first.page_size
@@ -121,7 +121,7 @@ module _ (sum own : List ℕ → ℕ) (s m n f : LogState) (next : OwnedState) (
       ap (λ P. padded P (owned_size f.manifest.journal) (Closes kept)) same_pages
       ∙ ap (λ (o : OwnedState). padded s.page_size (owned_size o.journal) (Closes kept)) same_manifest
 
-  pub rotate_goes : (e : LogState) → IsEntered own (Closes kept) f e → IsSameButManifest f e → IsRotated sum own s e
+  pub rotate_goes : (e : LogState) → IsEntered own (Closes kept) f e → IsSameButManifest f e → IsRotated sum own d s e
   rotate_goes e entered last = record {
     last = m.current.life;
     kept = kept;
@@ -143,7 +143,7 @@ module _ (sum own : List ℕ → ℕ) (s m n f : LogState) (next : OwnedState) (
           ∙ ap (λ (events : List FolderEvent). events ++ keeping_event (open_in e.listing) e.known e.manifest.life.present.readable entered.kept.failed ∷ []) asked_is;
     };
     known = entered.known;
-    loaded = last.loaded ∙ same_loaded;
+    reading = last.reading ∙ same_reading;
     page_size = last.page_size ∙ same_pages;
     most = last.most ∙ same_most;
   }
@@ -157,5 +157,5 @@ follow_ready sum own s next asked owned pages log = record {
   manifest_pages = log.manifest_pages;
   current_pages = pages;
   lists = log.lists;
-  loaded = log.loaded;
+  reading = log.reading;
 }

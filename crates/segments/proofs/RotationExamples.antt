@@ -17,11 +17,12 @@ use Rattle.segments.specs.declared.call.FolderCall.TheVariants as calls
 use Rattle.segments.specs.declared.closed.Closed.{Closed}
 use Rattle.segments.specs.declared.entry.Entry.TheVariants.{Closes}
 use Rattle.segments.specs.declared.error.Error.TheVariants as errors
-use Rattle.segments.specs.Digests.{EachIsByte, HasTwin, IsOf, IsTwin}
+use Rattle.segments.specs.Kept.{EachIsByte, HasTwin, IsOf, IsTwin}
 use Rattle.segments.specs.FolderEvents.{FolderEvent, closing_event, keeping_event, opening_with, plain_event}
 use Rattle.segments.specs.Manifest.{ListingState, closing_in, entry_bytes, free_after, listed_in, padded, padding}
 use Rattle.segments.specs.Owned.{OwnedState, without_journal}
-use Rattle.segments.specs.Log.{AppendRefused, HasFollowed, HasTwinAt, HasTwinIn, HasTwinOf, HoldsClosed, IsClosedIn, IsNotClosed, IsReadOfClosed, IsRotated, IsSameButCurrent, ListsTheSame, LogAppendGoes, LogState, ReadFails, RotateGoes, TellHeld, asked_turning, entered_bytes}
+use Rattle.segments.specs.Log.{AppendRefused, HasFollowed, HasTwinAt, HasTwinIn, IsClosedIn, IsNotClosed, IsReadOfClosed, IsRotated, IsSameButCurrent, ListsTheSame, LogAppendGoes, LogState, ReadFails, RotateGoes, TellHeld, asked_turning, entered_bytes}
+use Rattle.segments.specs.Kept.{HasTwinOf, HoldsClosed}
 use Rattle.segments.specs.Crash.{AppendSurvives, HasLetGo, ListsFrom, RemovesUnlisted, RotationSurvives, WasRemoved}
 
 -- ---- bytes and twins
@@ -86,18 +87,18 @@ few_have_no_twin : (bytes : List ℕ) → length bytes ≡ 0 → HasTwin bytes �
 few_have_no_twin [] few has = none_has_no_twin has
 few_have_no_twin (b ∷ bytes) few has = absurd (omega (arith, few))
 
-pub none_of_an_empty_file : (sum : List ℕ → ℕ) (P : ℕ) (content : List ℕ) → HasTwinOf sum P empty content → ⊥
-none_of_an_empty_file sum P content has = few_have_no_twin has.holds.bytes (sym has.holds.of.len) has.twin
+pub none_of_an_empty_file : (sum : List ℕ → ℕ) (d : List ℕ → List ℕ) (P : ℕ) (content : List ℕ) → HasTwinOf sum d P empty content → ⊥
+none_of_an_empty_file sum d P content has = few_have_no_twin has.holds.bytes (sym has.holds.of.len) has.twin
 
-pub a_twin_at_segment_0 : (sum : List ℕ → ℕ) (P : ℕ) (held : ℕ → List ℕ) (kept : Closed) → HasTwinOf sum P kept (held 0) → HasTwinAt sum P held (record { first = 0; closed = kept ∷ [] }) 0
-a_twin_at_segment_0 sum P held kept has = (kept, refl, has)
+pub a_twin_at_segment_0 : (sum : List ℕ → ℕ) (d : List ℕ → List ℕ) (P : ℕ) (held : ℕ → List ℕ) (kept : Closed) → HasTwinOf sum d P kept (held 0) → HasTwinAt sum d P held (record { first = 0; closed = kept ∷ [] }) 0
+a_twin_at_segment_0 sum d P held kept has = (kept, refl, has)
 
 -- of the open segment nothing was kept
-pub no_twin_at_the_open_one : (sum : List ℕ → ℕ) (P : ℕ) (held : ℕ → List ℕ) → HasTwinAt sum P held one_closed 1 → ⊥
-no_twin_at_the_open_one sum P held has = absurd (cc has.1)
+pub no_twin_at_the_open_one : (sum : List ℕ → ℕ) (d : List ℕ → List ℕ) (P : ℕ) (held : ℕ → List ℕ) → HasTwinAt sum d P held one_closed 1 → ⊥
+no_twin_at_the_open_one sum d P held has = absurd (cc has.1)
 
-pub a_twin_of_segment_0 : (sum : List ℕ → ℕ) (P : ℕ) (held : ℕ → List ℕ) (kept : Closed) → HasTwinOf sum P kept (held 0) → HasTwinIn sum P held (record { first = 0; closed = kept ∷ [] })
-a_twin_of_segment_0 sum P held kept has = (0, a_twin_at_segment_0 sum P held kept has)
+pub a_twin_of_segment_0 : (sum : List ℕ → ℕ) (d : List ℕ → List ℕ) (P : ℕ) (held : ℕ → List ℕ) (kept : Closed) → HasTwinOf sum d P kept (held 0) → HasTwinIn sum d P held (record { first = 0; closed = kept ∷ [] })
+a_twin_of_segment_0 sum d P held kept has = (0, a_twin_at_segment_0 sum d P held kept has)
 
 no_other : (b : Bool) (k : ℕ) (kept : Closed) → (if b then None else slice_get (empty ∷ []) k) ≡ Some kept → empty ≡ kept
 no_other true k kept is = absurd (cc is)
@@ -108,18 +109,18 @@ no_other false zero kept is = ap (λ o. or_empty o) is where
 no_other false (suc k) kept is = absurd (cc is)
 
 -- the only closed segment was empty
-pub no_twin_of_nothing : (sum : List ℕ → ℕ) (P : ℕ) (held : ℕ → List ℕ) → HasTwinIn sum P held one_closed → ⊥
-no_twin_of_nothing sum P held has =
+pub no_twin_of_nothing : (sum : List ℕ → ℕ) (d : List ℕ → List ℕ) (P : ℕ) (held : ℕ → List ℕ) → HasTwinIn sum d P held one_closed → ⊥
+no_twin_of_nothing sum d P held has =
     let same = no_other (nat_lt has.0 0) (has.0 - 0) has.1.0 has.1.1 in
-    none_of_an_empty_file sum P (held has.0) (subst (λ kept. HasTwinOf sum P kept (held has.0)) (sym same) has.1.2)
+    none_of_an_empty_file sum d P (held has.0) (subst (λ kept. HasTwinOf sum d P kept (held has.0)) (sym same) has.1.2)
 
 not_listed : (b : Bool) (k : ℕ) (kept : Closed) → (if b then None else slice_get [] k) ≡ Some kept → ⊥
 not_listed true k kept is = absurd (cc is)
 not_listed false k kept is = absurd (cc is)
 
 -- no segment is closed
-pub no_twin_where_none_is_closed : (sum : List ℕ → ℕ) (P : ℕ) (held : ℕ → List ℕ) → HasTwinIn sum P held (record { first = 3; closed = [] }) → ⊥
-no_twin_where_none_is_closed sum P held has = not_listed (nat_lt has.0 3) (has.0 - 3) has.1.0 has.1.1
+pub no_twin_where_none_is_closed : (sum : List ℕ → ℕ) (d : List ℕ → List ℕ) (P : ℕ) (held : ℕ → List ℕ) → HasTwinIn sum d P held (record { first = 3; closed = [] }) → ⊥
+no_twin_where_none_is_closed sum d P held has = not_listed (nat_lt has.0 3) (has.0 - 3) has.1.0 has.1.1
 
 -- ---- an empty file
 
@@ -275,13 +276,13 @@ closed_before sum own cache life w = record { rest = same_but_current cache life
 pub not_closed_before : (sum own : List ℕ → ℕ) (cache : CacheState) (life : Life) (w : WriterState) → IsNotClosed sum own (log cache life w) (log cache life w) errors.Closed → ⊥
 not_closed_before sum own cache life w is = absurd (cc is.refused.0)
 
-pub a_refused_rotation : (sum own : List ℕ → ℕ) (cache : CacheState) (life : Life) (w : WriterState) → RotateGoes sum own (shut cache life w) (shut cache life w) (Err errors.Closed)
-a_refused_rotation sum own cache life w = (refl, inl (closed_before sum own cache life w))
+pub a_refused_rotation : (sum own : List ℕ → ℕ) (d : List ℕ → List ℕ) (cache : CacheState) (life : Life) (w : WriterState) → RotateGoes sum own d (shut cache life w) (shut cache life w) (Err errors.Closed)
+a_refused_rotation sum own d cache life w = (refl, inl (closed_before sum own cache life w))
 
 -- after an error no segment may be left out, whatever the error is
-pub no_segment_is_lost : (sum own : List ℕ → ℕ) (cache : CacheState) (life : Life) (w : WriterState)
-    → RotateGoes sum own (log cache life w) (lost cache life w) (Err (errors.Layer WriteFailed)) → ⊥
-no_segment_is_lost sum own cache life w is = elim (is.1) [
+pub no_segment_is_lost : (sum own : List ℕ → ℕ) (d : List ℕ → List ℕ) (cache : CacheState) (life : Life) (w : WriterState)
+    → RotateGoes sum own d (log cache life w) (lost cache life w) (Err (errors.Layer WriteFailed)) → ⊥
+no_segment_is_lost sum own d cache life w is = elim (is.1) [
   | inl none ↦ absurd (omega (arith, ap (λ (l : ListingState). l.first) none.rest.listing))
   | inr later ↦ elim later [
     | inl closed ↦ not_one_less cache life w closed.rest
@@ -290,37 +291,37 @@ no_segment_is_lost sum own cache life w is = elim (is.1) [
 ]
 
 -- a rotation that lists the segment, and never let its blob go
-pub not_rotated : (sum own : List ℕ → ℕ) (cache : CacheState) (life : Life) (w : WriterState)
-    → IsRotated sum own (log cache life w) (record (log cache life w) { listing = one_closed; asked = keeping_event 4 0 life.present.readable false ∷ [] }) → ⊥
-not_rotated sum own cache life w is = absurd (omega (arith, ap first_kind is.copied.asked))
+pub not_rotated : (sum own : List ℕ → ℕ) (d : List ℕ → List ℕ) (cache : CacheState) (life : Life) (w : WriterState)
+    → IsRotated sum own d (log cache life w) (record (log cache life w) { listing = one_closed; asked = keeping_event 4 0 life.present.readable false ∷ [] }) → ⊥
+not_rotated sum own d cache life w is = absurd (omega (arith, ap first_kind is.copied.asked))
 
 -- ---- an append
 
-pub a_refused_append : (sum own : List ℕ → ℕ) (cache : CacheState) (life : Life) (w : WriterState) → AppendRefused sum own (7 ∷ []) (shut cache life w) (shut cache life w) errors.Closed
-a_refused_append sum own cache life w = inl (omega arith, same_but_current cache life w, (refl, refl))
+pub a_refused_append : (sum own : List ℕ → ℕ) (d : List ℕ → List ℕ) (cache : CacheState) (life : Life) (w : WriterState) → AppendRefused sum own d (7 ∷ []) (shut cache life w) (shut cache life w) errors.Closed
+a_refused_append sum own d cache life w = inl (omega arith, same_but_current cache life w, (refl, refl))
 
-pub an_append_to_a_closed_log : (sum own : List ℕ → ℕ) (cache : CacheState) (life : Life) (w : WriterState)
-    → LogAppendGoes sum own (7 ∷ []) (shut cache life w) (shut cache life w) (Err errors.Closed)
-an_append_to_a_closed_log sum own cache life w = (refl, a_refused_append sum own cache life w)
+pub an_append_to_a_closed_log : (sum own : List ℕ → ℕ) (d : List ℕ → List ℕ) (cache : CacheState) (life : Life) (w : WriterState)
+    → LogAppendGoes sum own d (7 ∷ []) (shut cache life w) (shut cache life w) (Err errors.Closed)
+an_append_to_a_closed_log sum own d cache life w = (refl, a_refused_append sum own d cache life w)
 
 -- an append that fails may erase no closed segment
-pub no_append_erases : (sum own : List ℕ → ℕ) (cache : CacheState) (life : Life) (w : WriterState)
-    → AppendRefused sum own (7 ∷ []) (log cache life w) (lost cache life w) (errors.Layer WriteFailed) → ⊥
-no_append_erases sum own cache life w is = elim is [
+pub no_append_erases : (sum own : List ℕ → ℕ) (d : List ℕ → List ℕ) (cache : CacheState) (life : Life) (w : WriterState)
+    → AppendRefused sum own d (7 ∷ []) (log cache life w) (lost cache life w) (errors.Layer WriteFailed) → ⊥
+no_append_erases sum own d cache life w is = elim is [
   | inl here ↦ absurd (omega (arith, ap (λ (l : ListingState). l.first) here.1.listing))
   | inr turned ↦ elim (turned.1) [
-    | inl failed ↦ no_segment_is_lost sum own cache life w failed
+    | inl failed ↦ no_segment_is_lost sum own d cache life w failed
     | inr after ↦ nothing_kept sum own cache life w after.turned.kept (after.rest.listing ∙ after.turned.listing)
   ]
 ]
 
-pub a_closed_log_survives : (sum own : List ℕ → ℕ) (cache : CacheState) (life : Life) (w : WriterState) → AppendSurvives sum own (7 ∷ []) (shut cache life w) (shut cache life w) (Err errors.Closed)
-a_closed_log_survives sum own cache life w = inl (same_but_current cache life w, tt)
+pub a_closed_log_survives : (sum own : List ℕ → ℕ) (d : List ℕ → List ℕ) (cache : CacheState) (life : Life) (w : WriterState) → AppendSurvives sum own d (7 ∷ []) (shut cache life w) (shut cache life w) (Err errors.Closed)
+a_closed_log_survives sum own d cache life w = inl (same_but_current cache life w, tt)
 
 -- a log that lost a segment doesn't survive, if it goes on
-pub a_lost_segment_does_not_survive : (sum own : List ℕ → ℕ) (cache : CacheState) (life : Life) (w : WriterState)
-    → AppendSurvives sum own (7 ∷ []) (log cache life w) (record (log cache life w) { listing = record { first = 4; closed = [] } }) (Err errors.Closed) → ⊥
-a_lost_segment_does_not_survive sum own cache life w is = elim is [
+pub a_lost_segment_does_not_survive : (sum own : List ℕ → ℕ) (d : List ℕ → List ℕ) (cache : CacheState) (life : Life) (w : WriterState)
+    → AppendSurvives sum own d (7 ∷ []) (log cache life w) (record (log cache life w) { listing = record { first = 4; closed = [] } }) (Err errors.Closed) → ⊥
+a_lost_segment_does_not_survive sum own d cache life w is = elim is [
   | inl here ↦ absurd (omega (arith, ap (λ (l : ListingState). l.first) here.0.listing))
   | inr later ↦ elim later [
     | inl failed ↦ absurd (cc failed.0)
@@ -328,13 +329,13 @@ a_lost_segment_does_not_survive sum own cache life w is = elim is [
   ]
 ]
 
-pub a_closed_log_turns : (sum own : List ℕ → ℕ) (cache : CacheState) (life : Life) (w : WriterState) → RotationSurvives sum own (shut cache life w) (shut cache life w)
-a_closed_log_turns sum own cache life w = tt
+pub a_closed_log_turns : (sum own : List ℕ → ℕ) (d : List ℕ → List ℕ) (cache : CacheState) (life : Life) (w : WriterState) → RotationSurvives sum own d (shut cache life w) (shut cache life w)
+a_closed_log_turns sum own d cache life w = tt
 
 -- a manifest that changed though no blob went back
-pub no_entry_without_a_blob : (sum own : List ℕ → ℕ) (cache : CacheState) (life : Life) (w : WriterState)
-    → RotationSurvives sum own (log cache life w) (record (log cache life w) { manifest = without_journal (owned cache life w) }) → ⊥
-no_entry_without_a_blob sum own cache life w is = elim (is (λ n. [])) [
+pub no_entry_without_a_blob : (sum own : List ℕ → ℕ) (d : List ℕ → List ℕ) (cache : CacheState) (life : Life) (w : WriterState)
+    → RotationSurvives sum own d (log cache life w) (record (log cache life w) { manifest = without_journal (owned cache life w) }) → ⊥
+no_entry_without_a_blob sum own d cache life w is = elim (is (λ n. [])) [
   | inl same ↦ absurd (cc (ap (λ (o : OwnedState). o.journal) same.0))
   | inr turned ↦ absurd (omega (arith, ap first_kind turned.gone.asked))
 ]

@@ -36,7 +36,7 @@ returns-in-Ok-clause-goes g c =
     let next = c.in_ok-next.next in
     let kept = c.in_ok-closed.closed in
     rotate_goes sum own s m n f next kept
-    (turning_of sum own s m n f next kept c.in_ok-closed.ensures.goes c.close_current.ensures.keeps c.close_current.ensures.rest c.in_ok-next.ensures.goes c.open_next.ensures.rest c.follow_with.ensures.goes)
+    (turning_of sum own d s m n f next kept c.in_ok-closed.ensures.goes c.close_current.ensures.keeps c.close_current.ensures.rest c.in_ok-next.ensures.goes c.open_next.ensures.rest c.follow_with.ensures.goes)
     c.enter.new.self c.in-Ok.ensures.goes c.enter.ensures.rest
 
 pub returns-in-Ok-clause-turns : goal.returns-in-Ok-clause-turns
@@ -49,10 +49,10 @@ returns-in-Ok-clause-turns g c =
     let f = c.follow_with.new.self in
     let next = c.in_ok-next.next in
     let kept = c.in_ok-closed.closed in
-    let turning = turning_of sum own s m n f next kept c.in_ok-closed.ensures.goes c.close_current.ensures.keeps c.close_current.ensures.rest c.in_ok-next.ensures.goes c.open_next.ensures.rest c.follow_with.ensures.goes in
-    turn_survives sum own s m n f c.enter.new.self c.enter.new.self next kept c.requires.log turning c.enter.ensures.tries refl
+    let turning = turning_of sum own d s m n f next kept c.in_ok-closed.ensures.goes c.close_current.ensures.keeps c.close_current.ensures.rest c.in_ok-next.ensures.goes c.open_next.ensures.rest c.follow_with.ensures.goes in
+    turn_survives sum own d s m n f c.enter.new.self c.enter.new.self next kept c.requires.log turning c.enter.ensures.tries refl
     (ap (λ (o : OwnedState). o.life) (c.enter.ensures.rest.current ∙ current_is sum own s m n f next kept turning))
-    (let_go_kept sum own s m n f c.enter.new.self next kept turning c.in-Ok.ensures.goes.kept)
+    (let_go_kept sum own d s m n f c.enter.new.self next kept turning c.in-Ok.ensures.goes.kept)
 
 pub returns-in-Err-clause-turns : goal.returns-in-Err-clause-turns
 returns-in-Err-clause-turns g c =
@@ -64,9 +64,9 @@ returns-in-Err-clause-turns g c =
     let f = c.follow_with.new.self in
     let next = c.in_ok-next.next in
     let kept = c.in_ok-closed.closed in
-    let turning = turning_of sum own s m n f next kept c.in_ok-closed.ensures.goes c.close_current.ensures.keeps c.close_current.ensures.rest c.in_ok-next.ensures.goes c.open_next.ensures.rest c.follow_with.ensures.goes in
-    turn_survives sum own s m n f c.enter.new.self _ next kept c.requires.log turning c.enter.ensures.tries
+    let turning = turning_of sum own d s m n f next kept c.in_ok-closed.ensures.goes c.close_current.ensures.keeps c.close_current.ensures.rest c.in_ok-next.ensures.goes c.open_next.ensures.rest c.follow_with.ensures.goes in
+    turn_survives sum own d s m n f c.enter.new.self _ next kept c.requires.log turning c.enter.ensures.tries
     (ap (λ (l : LogState). l.manifest) c.self.view_is)
     (ap (λ (o : OwnedState). o.life) (c.forget.ensures.lets) ∙ ap (λ (l : LogState). l.current.life) c.self.view_is
     ∙ ap (λ (o : OwnedState). o.life) (c.enter.ensures.rest.current ∙ current_is sum own s m n f next kept turning))
-    (let_go sum own s m n f _ next kept turning (ap (λ (l : LogState). l.asked) c.self.view_is ∙ c.in-Err.ensures.goes.asked))
+    (let_go sum own d s m n f _ next kept turning (ap (λ (l : LogState). l.asked) c.self.view_is ∙ c.in-Err.ensures.goes.asked))

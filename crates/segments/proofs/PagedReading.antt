@@ -1,0 +1,1 @@
+-- Closed segments that are read by their pages.

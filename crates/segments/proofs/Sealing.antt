@@ -1,0 +1,1 @@
+-- The sealing of a journal.
