@@ -85,8 +85,8 @@ whole_told records kept zeros fits small size =
     let bytes = entry_bytes (Closes (closed_by records (Whole kept))) ++ replicate zeros 0 in
     let much = long kept.digest zeros size in
     let kind : entry_in bytes ≡ whole_in bytes =
-        is_second ((length bytes == 11) && false) (nat_lt 48 (length bytes) && true) _ _ _ _
-        (ap (λ b. b && false) (ne_eqb (length bytes) 11 (omega (arith, much)))) (ap (λ b. b && true) (lt-ltb 48 (length bytes) (omega (arith, much)))) in
+    is_second ((length bytes == 11) && false) (nat_lt 48 (length bytes) && true) _ _ _ _
+    (ap (λ b. b && false) (ne_eqb (length bytes) 11 (omega (arith, much)))) (ap (λ b. b && true) (lt-ltb 48 (length bytes) (omega (arith, much)))) in
     kind ∙ ap (λ b. if b then _ else None) (zeros_only kept.digest zeros size)
     ∙ made (from_be_bytes-to_be_bytes_8 records fits) (made_whole (from_be_bytes-to_be_bytes_8 kept.len small) (front kept.digest zeros size))
 
@@ -105,9 +105,9 @@ paged_told records kept zeros fits small size =
     let bytes = entry_bytes (Closes (closed_by records (Paged kept))) ++ replicate zeros 0 in
     let much = long kept.seal.root zeros size in
     let kind : entry_in bytes ≡ paged_in bytes =
-        is_third ((length bytes == 11) && false) (nat_lt 48 (length bytes) && false) (nat_lt 49 (length bytes) && true) _ _ _
-        (ap (λ b. b && false) (ne_eqb (length bytes) 11 (omega (arith, much)))) (ap (λ b. b && false) (lt-ltb 48 (length bytes) (omega (arith, much))))
-        (ap (λ b. b && true) (lt-ltb 49 (length bytes) (omega (arith, much)))) in
+    is_third ((length bytes == 11) && false) (nat_lt 48 (length bytes) && false) (nat_lt 49 (length bytes) && true) _ _ _
+    (ap (λ b. b && false) (ne_eqb (length bytes) 11 (omega (arith, much)))) (ap (λ b. b && false) (lt-ltb 48 (length bytes) (omega (arith, much))))
+    (ap (λ b. b && true) (lt-ltb 49 (length bytes) (omega (arith, much)))) in
     kind ∙ ap (λ b. if b then _ else None) (zeros_only kept.seal.root zeros size)
     ∙ made (from_be_bytes-to_be_bytes_8 records fits) (made_paged kept.number (from_be_bytes-to_be_bytes_8 kept.seal.len small) (front kept.seal.root zeros size))
 
