@@ -27,12 +27,14 @@ pub mod Refusing
 pub mod DropSurvival
 pub mod Appends
 pub mod Padding
+pub mod OfDigest
 pub mod PagedFrames
 pub mod Removing
 pub mod RotationExamples
 pub mod TurnExamples
 pub mod BytesExamples
 pub mod ManifestExamples
+pub mod KeptExamples
 pub mod OwnedExamples
 pub mod LogExamples
 pub mod CrashExamples
