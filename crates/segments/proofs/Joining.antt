@@ -30,7 +30,7 @@ call_joins sum own w all cache mid after old half new first second = record {
 }
 
 -- a read leaves the bytes
-looked_bytes : (old new : Life) → Looked old new → new.present.readable ≡ old.present.readable
+pub looked_bytes : (old new : Life) → Looked old new → new.present.readable ≡ old.present.readable
 looked_bytes old new looked = ap (λ (d : Disk). d.readable) looked.same
 
 read_joins : (sum own : List ℕ → ℕ) (w : WriterState) (cache mid after : CacheState) (old half new : Life)
@@ -47,7 +47,7 @@ reads_by : (sum own : List ℕ → ℕ) (j : Option WriterState) (cache mid afte
 reads_by sum own None cache mid after old half new first second = tt
 reads_by sum own (Some w) cache mid after old half new first second = read_joins sum own w cache mid after old half new first second
 
-owned_joins : (sum own : List ℕ → ℕ) (s m t : OwnedState) → OwnedReadLeaves sum own s m → OwnedReadLeaves sum own m t → OwnedReadLeaves sum own s t
+pub owned_joins : (sum own : List ℕ → ℕ) (s m t : OwnedState) → OwnedReadLeaves sum own s m → OwnedReadLeaves sum own m t → OwnedReadLeaves sum own s t
 owned_joins sum own s m t first second = record {
   journal = second.journal ∙ first.journal;
   page_size = second.page_size ∙ first.page_size;

@@ -88,7 +88,7 @@ impl<F: Folder<B> + Drop, B: Blob + Drop, H: Sum, R: Sum, D: Digest> SegmentedLo
     // Opens the next segment. `Unlisted` where its file has bytes, which stay as they were.
     fn open_next(&mut self) -> Result<OwnedJournal<B, H, R>, Error>
         requires log { IsLog H.sum_of R.sum_of self.old }
-        ensures goes { OpenNextGoes H.sum_of R.sum_of D.digest_of self.old self.new result }
+        ensures goes { OpenNextGoes H.sum_of R.sum_of self.old self.new result }
         ensures ready { IsLog H.sum_of R.sum_of self.new }
         ensures rest { IsSameButAsked self.old self.new }
     {
