@@ -34,6 +34,7 @@ pub mod RotationExamples
 pub mod TurnExamples
 pub mod BytesExamples
 pub mod ManifestExamples
+pub mod KeptExamples
 pub mod OwnedExamples
 pub mod SealingExamples
 pub mod LogExamples

@@ -14,7 +14,7 @@ use Rattle.page_digests.specs.Pages.{list_of, top_of}
 use Rattle.page_digests.specs.declared.levels.Levels.{Levels}
 use Rattle.segments.specs.Owned.{HasJournal, IsOwned, OwnedState, content_now, owned_size, records_now}
 use Rattle.segments.specs.Log.{CurrentKeeps, HasFollowed, HasNext, HasOpened, IsEntered, IsLog, IsRotated, IsSameButAsked, IsSameButCurrent, IsSameButManifest, IsSealed, LeavesOpened, LogState, WasClosed, WriteListGoes, asked_listing, asked_turning, entered_bytes, events_for, listing_event}
-use Rattle.segments.proofs.Padding.{room_after}
+use Rattle.segments.proofs.Padding.{paged_len, room_after}
 use Rattle.segments.proofs.Empty.{no_record}
 
 journal_is : (P : WriterState → Type 0) (j : Option WriterState) → HasJournal j P → HasJournal j (λ w. Unit {0})
@@ -157,8 +157,8 @@ module _ (sum own : List ℕ → ℕ) (d : List ℕ → List ℕ) (s m w n f : L
     listing = listing_is e entered;
     entries = entered.records ∙ ap (λ (o : OwnedState). records_now own o ++ entered_bytes (Closes kept) f ∷ []) same_manifest
         ∙ ap (λ (bytes : List ℕ). records_now own s.manifest ++ bytes ∷ []) same_bytes;
-    room = room_after s.page_size (owned_size s.manifest.journal) (owned_size e.manifest.journal) kept is.closed.of.seal is.closed.of.is
-        (ap length is.closed.of.of.root ∙ sized (top_of d s.page_size (content_now s.current)))
+    room = room_after s.page_size (owned_size s.manifest.journal) (owned_size e.manifest.journal) kept
+        (paged_len kept is.closed.of.seal is.closed.of.is (ap length is.closed.of.of.root ∙ sized (top_of d s.page_size (content_now s.current))))
         (entered.size ∙ ap (λ (o : OwnedState). owned_size o.journal + (length (entered_bytes (Closes kept) f) + 7)) same_manifest
         ∙ ap (λ (bytes : List ℕ). owned_size s.manifest.journal + (length bytes + 7)) same_bytes);
     listed = entered.there;

@@ -1,8 +1,7 @@
 -- What a rotation and an append leave, shown of small logs, and refuted of something nearly right. Segment 3 is open, no
 -- segment is closed, and a page has 40 bytes. The journals and the life of the blobs are any.
-use Rattle.std.specs.Prelude.{◌≡◌, ◌≢◌, ◌-◌, ◌++◌, ℕ, zero, suc, List, [], ◌∷◌, length, nat_lt, replicate, slice_get, Option, Some, None, Err, Bool, true, false, if◌then◌else◌}
-use Rattle.std.proofs.Common.{refl, sym, ap, subst, inl, inr, arith, ◌∙◌}
-use Rattle.sha2.specs.Sha256.{sha256}
+use Rattle.std.specs.Prelude.{◌≡◌, ◌-◌, ◌++◌, ℕ, zero, suc, List, [], ◌∷◌, length, nat_lt, replicate, slice_get, Option, Some, None, Err, Bool, true, false, if◌then◌else◌}
+use Rattle.std.proofs.Common.{refl, ap, subst, inl, inr, arith, sym, ◌∙◌}
 use Rattle.disk.specs.Disk.{IsImage, Life}
 use Rattle.disk.specs.declared.error.Error.TheVariants.{WriteFailed}
 use Rattle.cache.specs.CacheState.{CacheState}
@@ -10,73 +9,23 @@ use Rattle.page.specs.Page.{text}
 use Rattle.page.specs.Sums.{add_sum}
 use Rattle.paged.specs.Reads.{size_of}
 use Rattle.journal.specs.declared.frame.Found.{Found}
-use Rattle.journal.specs.Frame.{frames, record_len, records, whole_frames}
+use Rattle.journal.specs.Frame.{records}
 use Rattle.writer_state.specs.WriterState.{WriterState}
 use Rattle.segments.specs.declared.call.FolderCall.{FolderCall}
 use Rattle.segments.specs.declared.call.FolderCall.TheVariants as calls
 use Rattle.segments.specs.declared.closed.Closed.{Closed}
-use Rattle.segments.specs.declared.closed.FileDigest.{FileDigest}
 use Rattle.segments.specs.declared.closed.Fingerprint.TheVariants.{Whole}
 use Rattle.segments.specs.declared.entry.Entry.TheVariants.{Closes}
 use Rattle.segments.specs.declared.error.Error.TheVariants as errors
-use Rattle.segments.specs.Kept.{EachIsByte, HasTwin, IsOf, IsTwin}
 use Rattle.segments.specs.FolderEvents.{FolderEvent, closing_event, keeping_event, opening_with, plain_event}
 use Rattle.segments.specs.Manifest.{ListingState, closed_by, entry_bytes, free_after, listed_in, padded, padding, whole_in}
 use Rattle.segments.specs.Owned.{OwnedState, without_journal}
 use Rattle.segments.specs.Log.{AppendRefused, HasFollowed, HasTwinAt, HasTwinIn, IsClosedIn, IsNotClosed, IsReadOfClosed, IsRotated, IsSameButCurrent, ListsTheSame, LogAppendGoes, LogState, ReadFails, RotateGoes, TellHeld, asked_turning, entered_bytes, listing_event}
-use Rattle.segments.specs.Kept.{HasTwinOf, HoldsClosed}
+use Rattle.segments.specs.Kept.{HasTwinOf}
 use Rattle.segments.specs.Crash.{AppendSurvives, HasLetGo, ListsFrom, RemovesUnlisted, RotationSurvives, WasRemoved}
+use Rattle.segments.proofs.KeptExamples.{empty, it_holds_no_byte, it_holds_nothing, none_of_an_empty_file}
 
--- ---- bytes and twins
-
-pub two_bytes : EachIsByte (7 ∷ 255 ∷ [])
-two_bytes zero = omega arith
-two_bytes (suc zero) = omega arith
-two_bytes (suc (suc i)) = omega arith
-
--- a greater number is no byte
-pub no_byte : EachIsByte (256 ∷ []) → ⊥
-no_byte are = absurd (omega (arith, are 0))
-
-none_are_bytes : EachIsByte []
-none_are_bytes i = omega arith
-
--- what is kept of a file of no bytes
-abbrev pub no_bytes : FileDigest
-no_bytes = record { len = 0; digest = sha256 [] }
-
--- and of a segment that is known by it
-abbrev pub empty : Closed
-empty = closed_by 0 (Whole no_bytes)
-
-pub of_no_bytes : IsOf [] no_bytes
-of_no_bytes = record { small = none_are_bytes; len = refl; digest = refl }
-
--- another length was kept
-pub not_of_one_byte : IsOf (7 ∷ []) no_bytes → ⊥
-not_of_one_byte is = absurd (omega (arith, is.len))
-
--- other bytes with the digest are a twin
-pub a_twin : (content other : List ℕ) → EachIsByte other → length other ≡ length content → other ≢ content → sha256 other ≡ sha256 content → IsTwin content other
-a_twin content other small long differs same = record { small = small; len = long; differs = differs; same = same }
-
--- a content is no twin of itself
-pub no_twin_of_itself : (content : List ℕ) → IsTwin content content → ⊥
-no_twin_of_itself content is = is.differs refl
-
--- numbers that aren't bytes, though they have the digest, are none either
-pub no_twin_of_numbers : IsTwin (1 ∷ 0 ∷ 0 ∷ 0 ∷ []) (0 ∷ 256 ∷ 0 ∷ 0 ∷ []) → ⊥
-no_twin_of_numbers is = absurd (omega (arith, is.small 1))
-
-pub has_a_twin : (content other : List ℕ) → IsTwin content other → HasTwin content
-has_a_twin content other is = (other, is)
-
--- no bytes have a twin: it would have as many
-pub none_has_no_twin : HasTwin [] → ⊥
-none_has_no_twin has = none_other has.0 has.1.differs has.1.len where
-  none_other : (other : List ℕ) → other ≢ [] → length other ≡ 0 → ⊥
-  none_other [] differs few = differs refl
-  none_other (b ∷ other) differs few = absurd (omega (arith, few))
+-- ---- closed segments
 
 abbrev pub one_closed : ListingState
 one_closed = record { first = 0; closed = empty ∷ [] }
@@ -87,14 +36,6 @@ is_closed = (empty, refl)
 -- the open segment isn't closed
 pub the_open_is_not : IsClosedIn one_closed 1 → ⊥
 the_open_is_not is = absurd (cc is.1)
-
--- of an empty file there is no twin
-few_have_no_twin : (bytes : List ℕ) → length bytes ≡ 0 → HasTwin bytes → ⊥
-few_have_no_twin [] few has = none_has_no_twin has
-few_have_no_twin (b ∷ bytes) few has = absurd (omega (arith, few))
-
-pub none_of_an_empty_file : (sum : List ℕ → ℕ) (d : List ℕ → List ℕ) (P : ℕ) (content : List ℕ) → HasTwinOf sum d P empty content → ⊥
-none_of_an_empty_file sum d P content has = few_have_no_twin has.holds.bytes (sym has.holds.of.len) has.twin
 
 pub a_twin_at_segment_0 : (sum : List ℕ → ℕ) (d : List ℕ → List ℕ) (P : ℕ) (held : ℕ → List ℕ) (kept : Closed) → HasTwinOf sum d P kept (held 0) → HasTwinAt sum d P held (record { first = 0; closed = kept ∷ [] }) 0
 a_twin_at_segment_0 sum d P held kept has = (kept, refl, has)
@@ -130,20 +71,9 @@ no_twin_where_none_is_closed sum d P held has = not_listed (nat_lt has.0 3) (has
 
 -- ---- an empty file
 
-it_holds_nothing : (d : List ℕ → List ℕ) → HoldsClosed add_sum d 18 empty []
-unfolding record_len frames whole_frames
-it_holds_nothing d = record { bytes = []; of = of_no_bytes; holds = refl }
-
-none_are_held : (bytes content : List ℕ) → length bytes ≡ 0 → content ≡ whole_frames (text add_sum 18 bytes) → content ≡ []
-unfolding record_len frames whole_frames
-none_are_held [] content few holds = holds
-none_are_held (b ∷ bytes) content few holds = absurd (omega (arith, few))
-
 -- so the segment held no byte
 pub it_holds_one_byte : (d : List ℕ → List ℕ) (b : ℕ) → TellHeld add_sum d 18 (λ n. b ∷ []) 0 (empty ∷ []) → ⊥
-it_holds_one_byte d b is =
-    let none = none_are_held is.0.bytes (b ∷ []) (sym is.0.of.len) is.0.holds in
-    absurd (omega (arith, ap length none))
+it_holds_one_byte d b is = it_holds_no_byte d b is.0
 
 -- no frame is found in it
 pub nothing_is_found : (own : List ℕ → ℕ) (d : List ℕ → List ℕ) (f : Found) → IsReadOfClosed add_sum own d 18 empty 0 (Some f) → ⊥
