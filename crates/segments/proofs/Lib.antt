@@ -43,3 +43,4 @@ pub mod ScanExamples
 pub mod InnerExamples
 pub mod OpeningExamples
 pub mod PagedFrameExamples
+pub mod ReadingExamples
