@@ -22,6 +22,7 @@ pub mod Keeping
 pub mod CopiesTold
 pub mod Loading
 pub mod PagedReading
+pub mod Digested
 pub mod Sealing
 pub mod Refusing
 pub mod DropSurvival
@@ -36,6 +37,7 @@ pub mod BytesExamples
 pub mod ManifestExamples
 pub mod KeptExamples
 pub mod OwnedExamples
+pub mod SealingExamples
 pub mod LogExamples
 pub mod CrashExamples
 pub mod ScanExamples

@@ -176,8 +176,8 @@ DigestsFail s t _ = ⊥
 -- the digests of the pages of a journal's content, by the answer; then its content is of bytes
 abbrev pub ListGoes : (d : List ℕ → List ℕ) → OwnedState → OwnedState → {A : Type 0}
     → Result (Vec ℕ A) Error → Type 0
-ListGoes d s t (Ok list) =
-    (list.items ≡ list_of d s.page_size (content_now s)) × EachIsByte (content_now s)
+ListGoes d s t (Ok list) = HasJournal s.journal (λ w. Unit {0})
+    × (list.items ≡ list_of d s.page_size (content_now s)) × EachIsByte (content_now s)
 ListGoes d s t (Err e) = DigestsFail s t e
 
 -- the levels of a journal's content, by the answer
