@@ -8,6 +8,7 @@ ghost use Rattle.segments.specs.Folders.{call_for};
 use crate::files::{Files, Name};
 use disk::{IoBufs, Past, VecBlob};
 use file::{Host, Mirror, OpenError};
+use page_digests::{Levels, VecSource};
 use segments::{Asked, Folder, FolderCall, FolderPast, Known};
 use std::cell::{RefCell, RefMut};
 use std::io;
@@ -158,6 +159,8 @@ fn call_of(file: Asked) -> FolderCall
 }
 
 impl Folder<MemoryFile> for MemoryFolder {
+    type Source = VecSource;
+
     ghost asked = { λ f. f };
 
     fn open(&mut self, file: Asked) -> Result<MemoryFile, OpenError> {
@@ -170,6 +173,9 @@ impl Folder<MemoryFile> for MemoryFolder {
     }
 
     fn close(&mut self, segment: u64, blob: MemoryFile, manifest: &MemoryFile) {
+        if let Ok(mut files) = lent(&self.files) {
+            let _ = files.close(segment);
+        }
         self.past = FolderPast::closed(&self.past, segment, &blob, manifest);
     }
 
@@ -183,6 +189,23 @@ impl Folder<MemoryFile> for MemoryFolder {
 
     fn read(&mut self, file: Asked) -> io::Result<VecBlob> {
         Ok(VecBlob::from_vec(lent(&self.files)?.bytes(Name::of(file))?))
+    }
+
+    fn source(&mut self, segment: u64) -> io::Result<VecSource> {
+        Ok(VecSource::new(lent(&self.files)?.bytes(Name::Segment(segment))?))
+    }
+
+    fn list_source(&mut self, segment: u64) -> io::Result<VecSource> {
+        Ok(VecSource::new(lent(&self.files)?.bytes(Name::List(segment))?))
+    }
+
+    fn write_list(&mut self, segment: u64, levels: &Levels) -> io::Result<()> {
+        let written = match lent(&self.files) {
+            Ok(mut files) => files.write_list(segment, levels),
+            Err(error) => Err(error),
+        };
+        self.past = FolderPast::wrote(&self.past, segment, levels, written.is_err());
+        written
     }
 
     fn has(&mut self, file: Asked) -> io::Result<bool> {
