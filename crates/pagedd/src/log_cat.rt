@@ -12,8 +12,8 @@ use page::Sum;
 use segments::{Error, Place};
 use std::io::{self, BufWriter, Stdout, Write};
 
-/// Writes the bytes of each record of a log to standard output, with a line end after it. A segment
-/// that can't be read is left out, with a line on standard error.
+/// Writes the bytes of each record of a log to standard output, with a line end after it. Of a segment
+/// those behind a record that can't be read are left out, with a line on standard error.
 pub fn cat_log<H: Sum, D: Digest>(
     rt: &HostRuntime,
     request: &Request,
@@ -72,7 +72,7 @@ fn write_segments<H: Sum, D: Digest>(
     let mut are_read = true;
     for segment in log.first_segment()..=log.last_segment() {
         if let Some(error) = write_segment::<H, D>(rt, log, segment, out)? {
-            let words = "its records are left out";
+            let words = "its other records are left out";
             tell(
                 rt,
                 format_args!("{}: segment {segment}: {error}: {words}", request.file),

@@ -131,7 +131,7 @@ fn list_bytes(alloc: Global, levels: &Levels) -> Result<Vec<u8>, AllocError> {
 /// The state of the file of a closed segment's list.
 #[derive(Clone, Copy, PartialEq, Eq)]
 pub enum ListState {
-    /// It holds the list and the top.
+    /// It begins with the list and the top.
     Whole,
     /// It isn't there.
     Missing,
@@ -150,7 +150,7 @@ impl ListState {
         let path = list_in(rt.alloc(), folder, number)?;
         let wanted = list_bytes(rt.alloc(), levels)?;
         Ok(match fs::read(rt, path.as_str()) {
-            Ok(bytes) if bytes == wanted => ListState::Whole,
+            Ok(bytes) if bytes.starts_with(&wanted) => ListState::Whole,
             Err(error) if error.kind() == ErrorKind::NotFound => ListState::Missing,
             _ => ListState::Wrong,
         })
@@ -166,8 +166,8 @@ impl ListState {
     }
 }
 
-/// Writes the file of a segment's list, unless it holds the list already. In its place no other name
-/// is needed: whoever reads a list compares it, and computes it again if it isn't whole.
+/// Writes the file of a segment's list, unless it holds the list already. It is written in place, since
+/// whoever reads a list compares it with its root, and computes it again if it isn't whole.
 pub fn put_list(
     rt: &HostRuntime,
     folder: &str,

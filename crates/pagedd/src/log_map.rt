@@ -12,8 +12,7 @@ use digest::Digest;
 use page::Sum;
 
 /// What the marks mean.
-const LEGEND: &str =
-    "# whole, ~ whole with no list that is, ! damaged, ? missing, - not read, + open";
+const LEGEND: &str = "# whole, ~ whole without its list, ! damaged, ? missing, - not read, + open";
 
 /// Which segments are drawn, and how.
 #[derive(Clone, Copy)]
