@@ -95,7 +95,7 @@ pub frame_by_its_pages : closing_len by_pages ≡ 57
 frame_by_its_pages = refl
 
 pub not_as_long : closing_len by_pages ≡ 56 → ⊥
-not_as_long is = absurd (omega (arith, is))
+not_as_long is = let same : ◌≡◌ {A = ℕ} 57 56 = is in omega (arith, same)
 
 -- a manifest with 6 bytes, and pages of 40: 18 are free behind 62 bytes, and one fewer behind 63
 pub room_by_its_file : padding 40 6 56 ≡ 0

@@ -1,12 +1,41 @@
 -- By which digest the closed segments of a listing are read.
-use Rattle.std.specs.Prelude.{◌≡◌, ◌-◌, ℕ, zero, suc, List, [], ◌∷◌, drop, Result, Ok, Err, IfOk}
-use Rattle.std.proofs.Common.{ap, sym, subst, inl, inr}
+use Rattle.std.specs.Prelude.{◌≡◌, ◌<◌, ◌≤◌, ◌+◌, ◌-◌, ℕ, zero, suc, List, [], ◌∷◌, drop, get_or, length, Result, Ok, Err, IfOk}
+use Rattle.std.proofs.Common.{ap, arith, sym, subst, inl, inr}
+use Rattle.std.proofs.lemmas.List.{drop_all}
 use Rattle.segments.specs.declared.closed.Closed.{Closed}
+use Rattle.segments.specs.declared.closed.FileDigest.{FileDigest}
+use Rattle.segments.specs.declared.closed.Fingerprint.{Fingerprint}
+use Rattle.segments.specs.declared.closed.Fingerprint.TheVariants.{Whole, Paged}
+use Rattle.segments.specs.declared.closed.PagedSeal.{PagedSeal}
 use Rattle.segments.specs.declared.error.Error.{Error}
 use Rattle.segments.specs.declared.error.Error.TheVariants as errors
-use Rattle.segments.specs.Kept.{AreOfDigest}
+use Rattle.segments.specs.Kept.{AreOfDigest, IsOfDigest}
 use Rattle.segments.specs.Manifest.{ListingState}
-use Rattle.segments.specs.Log.{IsDropping, LogDropGoes, LogState, StartFromGoes, listing_from}
+use Rattle.segments.specs.Log.{HasKept, IsDropping, LogDropGoes, LogState, StartFromGoes, listing_from}
+
+-- the next one, and then the rest
+of_rest : (number index : ℕ) (cs : List Closed) (c : Closed) → index < length cs → c ≡ get_or cs index c → IsOfDigest number c.fingerprint
+    → AreOfDigest number (drop (suc index) cs) → AreOfDigest number (drop index cs)
+of_rest number index [] c below is of rest = absurd (omega (arith, below))
+of_rest number zero (x ∷ xs) c below is of rest = (subst (λ (c : Closed). IsOfDigest number c.fingerprint) is of, rest)
+of_rest number (suc n) (x ∷ xs) c below is of rest = of_rest number n xs c (omega (arith, below)) is of rest
+
+pub of_next : (number index next : ℕ) (cs : List Closed) (c : Closed) → index < length cs → c ≡ get_or cs index c → next ≡ index + 1 → IsOfDigest number c.fingerprint
+    → AreOfDigest number (drop next cs) → AreOfDigest number (drop index cs)
+of_next number index next cs c below is after of rest =
+    let same : next ≡ suc index = omega (arith, after) in
+    of_rest number index cs c below is of (subst (λ n. AreOfDigest number (drop n cs)) same rest)
+
+-- behind the last one none is left
+pub of_end : (number index : ℕ) (cs : List Closed) → length cs ≤ index → AreOfDigest number (drop index cs)
+of_end number index cs end = subst (λ cs. AreOfDigest number cs) (sym (drop_all index cs end)) tt
+
+-- what is known by its whole file, and what has this number
+pub of_whole : (number : ℕ) (f : Fingerprint) (kept : FileDigest) → f ≡ Whole kept → IsOfDigest number f
+of_whole number f kept is = subst (λ f. IsOfDigest number f) (sym is) tt
+
+pub of_paged : (number : ℕ) (f : Fingerprint) (kept : PagedSeal) → f ≡ Paged kept → kept.number ≡ number → IsOfDigest number f
+of_paged number f kept is same = subst (λ f. IsOfDigest number f) (sym is) same
 
 -- those that stay after a drop
 pub of_dropped : (number count : ℕ) (cs : List Closed) → AreOfDigest number cs → AreOfDigest number (drop count cs)
@@ -25,6 +54,10 @@ pub of_started : (number segment : ℕ) (s t : LogState) (result : Result (Unit 
     → IfOk result (λ u. AreOfDigest number t.listing.closed)
 of_started number segment s t (Ok u) is are = of_later number segment s.listing t.listing is.listing are
 of_started number segment s t (Err e) is are = tt
+
+-- after a copy was to be kept
+pub of_kept : (number : ℕ) (s t : LogState) → HasKept s t → AreOfDigest number s.listing.closed → AreOfDigest number t.listing.closed
+of_kept number s t has are = of_same number s.listing t.listing (ap (λ (l : LogState). l.listing) has.rest) are
 
 of_dropping : (number segment : ℕ) (s mid t : LogState) → IsDropping segment s mid t → AreOfDigest number s.listing.closed → AreOfDigest number t.listing.closed
 of_dropping number segment s mid t is are =

@@ -1,5 +1,5 @@
 use Rattle.segments.proofs.Beginning.{begin_kept, begin_opened}
-use Rattle.segments.proofs.OfDigest.{of_started}
+use Rattle.segments.proofs.OfDigest.{of_kept, of_started}
 use Rattle.segments.proofs.log.SegmentedLog.begin.Goals as goal
 
 pub returns-clause-opens : goal.returns-clause-opens
@@ -13,3 +13,6 @@ returns-then-not-is_new-clause-opens g c = λ before opens.
 pub returns-clause-digest : goal.returns-clause-digest
 returns-clause-digest g c = λ are.
     of_started _ c.first-first.result _ c.start_from.new.self c.start_from.result c.start_from.ensures.goes are
+
+pub returns-then-not-is_new-clause-digest : goal.returns-then-not-is_new-clause-digest
+returns-then-not-is_new-clause-digest g c = λ are. of_kept _ c.args.self.now c.keep.new.self c.keep.ensures.has are
