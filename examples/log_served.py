@@ -359,9 +359,10 @@ def digests(program, folder):
         os.remove(os.path.join(folder, "manifest.copy"))
         os.remove(listed(folder, 2))
         status, told, _ = play(program, "rebuild", *made, folder)
-        expect(status == 0 and image(folder)["manifest"] == before["manifest"]
-               and image(folder)[os.path.basename(listed(folder, 2))] == before[os.path.basename(listed(folder, 2))],
-               f"rebuild makes the same manifest and lists: {told.decode().strip()}")
+        now, text = image(folder), [reader.read(it["manifest"], 4084, reader.crc32c)[1] for it in (before, image(folder))]
+        expect(status == 0 and text[0] == text[1] and now.keys() == before.keys() - {"manifest.copy"}
+               and all(now[name] == before[name] for name in now if name != "manifest"),
+               f"rebuild makes the same manifest and list: {told.decode().strip()}")
         for words in ("copy", "salvage"):
             shutil.rmtree(out, ignore_errors=True)
             status = play(program, words, *made, folder, out)[0]
@@ -409,13 +410,14 @@ def older_log(program, folder):
            "segments that are closed from then on have lists")
     out = folder + "-out"
     shutil.rmtree(out, ignore_errors=True)
-    expect(play(program, "copy", folder, out)[0] == 0 and play(program, "check", out)[0] == 0
-           and {name: data for name, data in image(out).items() if name != "manifest.copy"}
-           == {name: data for name, data in image(folder).items() if name != "manifest.copy"}, "it is copied, with these")
+    status, now, copied = play(program, "copy", folder, out)[0], image(folder), image(out)
+    expect((status, play(program, "check", out)[0]) == (0, 0) and copied.keys() == now.keys()
+           and all(copied[name] == now[name] for name in now if name[:20].isdigit() and int(name[:20]) < more[-1][0]),
+           "it is copied, with these")
     put(segment(folder, 1), flipped(contents(segment(folder, 1)), 4090))
+    status = play(program, "check", folder)[0]
     log = Session(program, folder, SMALL)
-    expect(log.status(READ, 1, 0) == DAMAGED and play(program, "check", folder)[0] == 3,
-           "of its older segments each byte of the file counts")
+    expect((status, log.status(READ, 1, 0)) == (3, DAMAGED), "of its older segments each byte of the file counts")
     for first in (2, last + 1):
         log.drop_before(first)
     expect([place for place, _ in log.records()] == [place for place in places + more if place[0] > last]

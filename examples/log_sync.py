@@ -49,11 +49,16 @@ class Failing(Log):
 
 
 def failed_in(trace):
-    """What the sync that failed was of: a file's name, or the folder."""
+    """What the sync that failed was of: a file's name, or the folder. The folder's sync right after that of a list is
+    of the list's name."""
+    before = ""
     with open(trace, encoding="utf-8") as lines:
         for line in lines:
-            if "EIO" in line:
-                return os.path.basename(line[line.index("<") + 1:line.index(">")])
+            if "fsync(" in line:
+                what = os.path.basename(line[line.index("<") + 1:line.index(">")])
+                if "EIO" in line:
+                    return before if before.endswith(".digests") and "." not in what else what
+                before = what
     return None
 
 

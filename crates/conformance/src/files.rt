@@ -266,7 +266,7 @@ impl Files {
     }
 
     /// Takes back the blob of a segment.
-    pub fn close(&mut self, segment: u64) -> io::Result<()> {
+    pub fn take_back(&mut self, segment: u64) -> io::Result<()> {
         Ok(self.calls.push(FileCall::Close(segment))?)
     }
 

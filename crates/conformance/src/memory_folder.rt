@@ -229,7 +229,7 @@ impl Folder<MemoryFile> for MemoryFolder {
 
     fn close(&mut self, segment: u64, blob: MemoryFile, manifest: &MemoryFile) {
         if let Ok(mut files) = lent(&self.files) {
-            let _ = files.close(segment);
+            let _ = files.take_back(segment);
         }
         self.past = FolderPast::closed(&self.past, segment, &blob, manifest);
     }

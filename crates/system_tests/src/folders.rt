@@ -4,11 +4,16 @@ ghost use Rattle.std.specs.Prelude.{IfOk};
 ghost use Rattle.crc32c.specs.Crc.{crc32c};
 ghost use Rattle.segments.specs.Log.{IsLog};
 
+use cache::CacheRef;
 use crc32c::Crc32c;
 use digest::{PolyDigest, ShaDigest};
 use disk::{Blob, IoBuf, VecBlob};
 use file::FileBlob;
-use segments::{Error, FileFolder, Folder, FolderCopy, Options, Place, SegmentedLog};
+use journal::Journal;
+use segments::{
+    Closed, Entry, Error, FileDigest, FileFolder, Fingerprint, Folder, FolderCopy, Options, Place,
+    SegmentedLog, bytes_of,
+};
 use std::fs::OpenOptions;
 use std::num::{NonZeroU16, NonZeroUsize};
 use std::os::unix::fs::FileExt;
@@ -344,6 +349,48 @@ fn is_shut_to_other(rt: &HostRuntime, path: &str, words: &str) -> io::Result<boo
     }
 }
 
+// Gives the log a manifest of versions before 0.11, by which its first segment is known by its whole
+// file.
+fn make_older(rt: &HostRuntime) -> Result<(), Error> {
+    let [old, _] = SEGMENTS;
+    let closed = Closed {
+        records: 2,
+        fingerprint: Fingerprint::Whole(FileDigest::of(&fs::read(rt, old)?)),
+    };
+    let (alloc, page_size) = (rt.alloc(), options(84).page_size);
+    fs::remove_file(rt, "log-kept/manifest")?;
+    let mut blob = file::open(rt, "log-kept/manifest")?;
+    let mut cache = CacheRef::new(alloc, page_size, NonZeroUsize::MIN)?;
+    let size = blob.len();
+    let (journal, _) = Journal::<FileBlob, Crc32c, Crc32c>::recover(
+        alloc,
+        &mut blob,
+        size,
+        168,
+        &mut cache,
+        NonZeroUsize::MIN,
+    )?;
+    let starts = bytes_of(alloc, page_size, 0, &Entry::Starts(0, page_size.get()))?;
+    let (journal, _) = journal.append_record(&mut blob, &mut cache, &starts)?;
+    let closes = bytes_of(alloc, page_size, journal.size(), &Entry::Closes(closed))?;
+    let (journal, _) = journal.append_record(&mut blob, &mut cache, &closes)?;
+    let _journal = journal.commit(&mut blob, &mut cache)?;
+    Ok(())
+}
+
+// Whether all records come back by such a manifest, and the first segment is refused once its file
+// has one byte more.
+fn is_older_read(rt: &HostRuntime, path: &str) -> Result<bool, Error> {
+    let [old, _] = SEGMENTS;
+    let kept = fs::read(rt, old)?;
+    make_older(rt)?;
+    let comes_back = is_so(rt, path, What::ComesBack) && is_so(rt, path, What::IsGoneOver);
+    do_harm(rt, old, Harm::Grown)?;
+    let is_told = is_so(rt, path, What::IsOneRefused(DAMAGED));
+    fs::write(rt, old, kept.as_slice())?;
+    Ok(comes_back && is_told && is_so(rt, path, What::ComesBack))
+}
+
 // Whether a log comes back, a changed segment is refused, and a dropped one is gone, and its list.
 fn goes_through(rt: &HostRuntime, path: &str) -> io::Result<bool> {
     let [old, _] = SEGMENTS;
@@ -353,7 +400,9 @@ fn goes_through(rt: &HostRuntime, path: &str) -> io::Result<bool> {
         && is_copied(rt, path)?
         && is_shut_to_other(rt, path, OTHER)?
         && fs::read(rt, LIST)?.len() == 64;
-    let is_told = is_each_harm_told(rt, path)? && is_so(rt, path, What::IsOneDropped);
+    let is_told = is_each_harm_told(rt, path)?
+        && is_older_read(rt, path).unwrap_or(false)
+        && is_so(rt, path, What::IsOneDropped);
     Ok(is_kept && is_told && !fs::exists(rt, old)? && !fs::exists(rt, LIST)?)
 }
 
