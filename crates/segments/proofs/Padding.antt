@@ -68,6 +68,6 @@ room_after P size now kept long is big =
     let closing = closing_len kept.fingerprint in
     let zeros = padding P size closing in
     let joined : length (padded P size (Closes kept)) ≡ length (entry_bytes (Closes kept)) + zeros =
-        length-append (entry_bytes (Closes kept)) (replicate zeros 0) ∙ ap (λ n. length (entry_bytes (Closes kept)) + n) (length-replicate zeros 0) in
+    length-append (entry_bytes (Closes kept)) (replicate zeros 0) ∙ ap (λ n. length (entry_bytes (Closes kept)) + n) (length-replicate zeros 0) in
     let same : now ≡ size + (closing + zeros) = omega (arith, is, joined, long) in
     subst (λ n. 18 ≤ free_after P n) (sym same) (free_enough P size closing big)
