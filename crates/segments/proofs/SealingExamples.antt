@@ -109,7 +109,7 @@ module _ (l : Levels) where
 
   pub it_was_sealed : AreLevelsOf first 18 c_frame l → OwnedSealGoes first add_sum add_sum with_c closed (Ok l)
   unfolding record_len is_record record_of frames records
-  it_was_sealed are = (all_is_durable, they_go are)
+  it_was_sealed are = (all_is_durable, are, told_apart first sized_first 18 c_frame l.root (lit< tt) are.root)
 
   -- not with the levels of another content
   pub it_was_sealed_as_d : l.list.items ≡ list_of first 18 d_frame → OwnedSealGoes first add_sum add_sum with_c closed (Ok l) → ⊥
@@ -240,11 +240,16 @@ not_by_the_device d t is = is
 
 -- every string of its length has the digest
 pub it_has_a_twin : HasOpenTwin flat with_one
-it_has_a_twin = inr (inr (0, d_frame, lit< tt, record {
-  differ = λ same. omega (arith, ap (λ (bytes : List ℕ). get_or bytes 2 0) same);
-  len = refl;
-  digest = refl;
-}))
+it_has_a_twin = inr (inr (
+  0,
+  d_frame,
+  lit< tt,
+  record {
+    differ = λ same. omega (arith, ap (λ (bytes : List ℕ). get_or bytes 2 0) same);
+    len = refl;
+    digest = refl;
+  },
+))
 
 -- a string that is its own digest has no other
 pub it_has_none : HasOpenTwin (λ bytes. bytes) with_one → ⊥

@@ -1,3 +1,5 @@
+use Rattle.segments.proofs.InnerExamples.{it_was_opened}
+use Rattle.segments.proofs.CrashExamples.{what_is_left}
 use Rattle.segments.proofs.TurnExamples.{no_number}
 use Rattle.std.proofs.Common.{arith}
 use Rattle.segments.proofs.Surviving.{survives_same}
