@@ -1,18 +1,17 @@
 -- An entry's bytes are that entry.
-use Rattle.std.specs.Prelude.{◌≡◌, ◌<◌, ◌+◌, ◌^◌, ◌==◌, ◌&&◌, ◌++◌, ℕ, zero, suc, List, length, take, drop, Some, None, Option, Bool, true, false, if◌then◌else◌, nat_lt, replicate, Result, Ok, Err, IfOk}
+use Rattle.std.specs.Prelude.{◌≡◌, ◌<◌, ◌+◌, ◌^◌, ◌==◌, ◌&&◌, ◌++◌, ℕ, zero, suc, List, length, take, drop, Some, None, Option, Bool, true, false, if◌then◌else◌, nat_lt, replicate}
 use Rattle.std.specs.List.{list_all}
 use Rattle.std.proofs.Common.{ap, ap₂, sym, ◌∙◌, refl, arith, length-append, take_all, true≢false}
 use Rattle.std.proofs.lemmas.Bool.{lt-ltb, ne_eqb}
 use Rattle.std.proofs.lemmas.List.{take-append-le, drop-append-le, drop_all, length-replicate}
 use Rattle.std.proofs.lemmas.Nat.{from_be_bytes-to_be_bytes_2, from_be_bytes-to_be_bytes_8}
-use Rattle.segments.specs.declared.closed.Closed.{Closed}
 use Rattle.segments.specs.declared.closed.FileDigest.{FileDigest}
 use Rattle.segments.specs.declared.closed.Fingerprint.{Fingerprint}
 use Rattle.segments.specs.declared.closed.Fingerprint.TheVariants.{Whole, Paged}
 use Rattle.segments.specs.declared.closed.PagedSeal.{PagedSeal}
 use Rattle.segments.specs.declared.entry.Entry.{Entry}
 use Rattle.segments.specs.declared.entry.Entry.TheVariants.{Starts, Closes}
-use Rattle.segments.specs.Manifest.{closed_by, closing_bytes, closing_len, entry_bytes, entry_in, padded, padding, paged_in, whole_in}
+use Rattle.segments.specs.Manifest.{closed_by, entry_bytes, entry_in, paged_in, whole_in}
 
 pub starts_told : (first size : ℕ) → first < 2 ^ 64 → size < 2 ^ 16
     → entry_in (entry_bytes (Starts first size)) ≡ Some (Starts first size)
@@ -40,10 +39,10 @@ is_second false true c x y z is_not is = refl
 is_second false false c x y z is_not is = absurd (true≢false (sym is))
 
 is_third : (a b c : Bool) (x y z : Option Entry) → a ≡ false → b ≡ false → c ≡ true → (if a then x else if b then y else if c then z else None) ≡ z
-is_third true b c x y z no not is = absurd (true≢false no)
-is_third false true c x y z no not is = absurd (true≢false not)
-is_third false false true x y z no not is = refl
-is_third false false false x y z no not is = absurd (true≢false (sym is))
+is_third true b c x y z one two is = absurd (true≢false one)
+is_third false true c x y z one two is = absurd (true≢false two)
+is_third false false true x y z one two is = refl
+is_third false false false x y z one two is = absurd (true≢false (sym is))
 
 if_true : (b : Bool) (x : Option Entry) → b ≡ true → (if b then x else None) ≡ x
 if_true true x is = refl
@@ -90,7 +89,7 @@ whole_told records kept zeros fits small size =
     let bytes = entry_bytes (Closes (closed_by records (Whole kept))) ++ replicate zeros 0 in
     let much = long kept.digest zeros size in
     let kind : entry_in bytes ≡ whole_in bytes =
-    is_second ((length bytes == 11) && false) (nat_lt 48 (length bytes) && true) _ _ _ _
+    is_second ((length bytes == 11) && false) (nat_lt 48 (length bytes) && true) (nat_lt 49 (length bytes) && false) _ (whole_in bytes) (paged_in bytes)
     (ap (λ b. b && false) (ne_eqb (length bytes) 11 (omega (arith, much)))) (ap (λ b. b && true) (lt-ltb 48 (length bytes) (omega (arith, much)))) in
     kind ∙ if_true _ _ (zeros_only kept.digest zeros size)
     ∙ made (from_be_bytes-to_be_bytes_8 records fits) (made_whole (from_be_bytes-to_be_bytes_8 kept.len small) (front kept.digest zeros size))
@@ -110,7 +109,7 @@ paged_told records kept zeros fits small size =
     let bytes = entry_bytes (Closes (closed_by records (Paged kept))) ++ replicate zeros 0 in
     let much = long kept.seal.root zeros size in
     let kind : entry_in bytes ≡ paged_in bytes =
-    is_third ((length bytes == 11) && false) (nat_lt 48 (length bytes) && false) (nat_lt 49 (length bytes) && true) _ _ _
+    is_third ((length bytes == 11) && false) (nat_lt 48 (length bytes) && false) (nat_lt 49 (length bytes) && true) _ (whole_in bytes) (paged_in bytes)
     (ap (λ b. b && false) (ne_eqb (length bytes) 11 (omega (arith, much)))) (ap (λ b. b && false) (lt-ltb 48 (length bytes) (omega (arith, much))))
     (ap (λ b. b && true) (lt-ltb 49 (length bytes) (omega (arith, much)))) in
     kind ∙ if_true _ _ (zeros_only kept.seal.root zeros size)
@@ -120,17 +119,3 @@ pub closed_paged : (bytes : List ℕ) (records : ℕ) (kept : PagedSeal) (zeros 
     → bytes ≡ entry_bytes (Closes (closed_by records (Paged kept))) ++ replicate zeros 0 → records < 2 ^ 64 → kept.seal.len < 2 ^ 64 → length kept.seal.root ≡ 32
     → entry_in bytes ≡ Some (Closes (closed_by records (Paged kept)))
 closed_paged bytes records kept zeros is fits small size = ap (λ b. entry_in b) is ∙ paged_told records kept zeros fits small size
-
--- ---- what is kept of a segment, by its parts
-
--- its bytes, with zeros behind them
-pub its_bytes : (P size zeros : ℕ) (f : Fingerprint) (closed : Closed) → closed.fingerprint ≡ f → zeros ≡ padding P size (closing_len closed.fingerprint)
-    → entry_bytes (Closes (closed_by closed.records f)) ++ replicate zeros 0 ≡ padded P size (Closes closed)
-its_bytes P size zeros f closed is padding_is = ap₂ (λ f n. closing_bytes closed.records f ++ replicate n 0) (sym is) padding_is
-
-pub its_entry : (f : Fingerprint) (closed : Closed) → closed.fingerprint ≡ f → Some (Closes (closed_by closed.records f)) ≡ Some (Closes closed)
-its_entry f closed is = ap (λ f. Some (Closes (closed_by closed.records f))) (sym is)
-
-pub then_ok : {T E : Type 0} (P Q : T → Type 0) (r : Result T E) → ((t : T) → P t → Q t) → IfOk r P → IfOk r Q
-then_ok P Q (Ok t) then is = then t is
-then_ok P Q (Err e) then is = tt

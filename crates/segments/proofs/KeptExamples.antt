@@ -1,13 +1,13 @@
 -- What is kept of a closed segment: what each of these definitions holds of, and what it refuses. One segment is known by
 -- its whole file, which is empty, or has the page of "c"; another by the pages of "abc". Two of the digests can be seen
 -- through: `first` is the first 32 bytes, filled up with zeros, and `flat` is the same for all strings.
-use Rattle.std.specs.Prelude.{◌≡◌, ◌≢◌, ◌++◌, ℕ, zero, suc, List, [], ◌∷◌, length}
-use Rattle.std.proofs.Common.{refl, sym, ap, subst, arith, ◌∙◌}
+use Rattle.std.specs.Prelude.{◌≡◌, ◌≢◌, ℕ, List, [], ◌∷◌, length}
+use Rattle.std.proofs.Common.{refl, sym, ap, subst, arith}
 use Rattle.sha2.specs.Sha256.{sha256}
 use Rattle.page.specs.Page.{text}
 use Rattle.page.specs.Sums.{add_sum}
 use Rattle.journal.specs.Frame.{frames, record_len, whole_frames}
-use Rattle.page_digests.specs.Seals.{IsSealOf}
+use Rattle.page_digests.specs.Seals.{EachIsByte, IsSealOf}
 use Rattle.page_digests.specs.declared.seal.Seal.{Seal}
 use Rattle.page_digests.proofs.PageExamples.{first, flat}
 use Rattle.page_digests.proofs.SealExamples.{abc, it_has_a_twin, it_has_no_twin, it_is_its_seal, its_root_tells, its_seal, not_that_of_xyz, xyz}
@@ -16,20 +16,11 @@ use Rattle.segments.specs.declared.closed.FileDigest.{FileDigest}
 use Rattle.segments.specs.declared.closed.Fingerprint.{Fingerprint}
 use Rattle.segments.specs.declared.closed.Fingerprint.TheVariants.{Whole, Paged}
 use Rattle.segments.specs.declared.closed.PagedSeal.{PagedSeal}
-use Rattle.segments.specs.Kept.{AreOfDigest, EachIsByte, HasFileTwin, HasFingerprint, HasTwin, HasTwinBy, HasTwinOf, HoldsClosed, IsInFile, IsOf, IsOfDigest, IsSealedBy, IsTwin}
+use Rattle.segments.specs.Kept.{AreOfDigest, HasFileTwin, HasFingerprint, HasTwin, HasTwinBy, HasTwinOf, HoldsClosed, IsInFile, IsOf, IsOfDigest, IsSealedBy, IsTwin}
 use Rattle.segments.specs.Manifest.{closed_by}
 use Rattle.segments.proofs.BytesExamples.{c_frame, c_page}
 
 -- ---- bytes and twins
-
-pub two_bytes : EachIsByte (7 ∷ 255 ∷ [])
-two_bytes zero = omega arith
-two_bytes (suc zero) = omega arith
-two_bytes (suc (suc i)) = omega arith
-
--- a greater number is no byte
-pub no_byte : EachIsByte (256 ∷ []) → ⊥
-no_byte are = absurd (omega (arith, are 0))
 
 none_are_bytes : EachIsByte []
 none_are_bytes i = omega arith

@@ -1,7 +1,7 @@
 -- What the opening of files comes to, and what a folder's calls answer: what each of these
 -- definitions holds of, and what it refuses. The files have nothing in them, or "c". That a blob
 -- has a journal between two calls is a premise, and so is that "c" is committed.
-use Rattle.std.specs.Prelude.{◌≡◌, ◌++◌, ℕ, List, [], ◌∷◌, length, Bool, false, true, Some, Ok, Err}
+use Rattle.std.specs.Prelude.{◌≡◌, ◌++◌, ℕ, List, [], ◌∷◌, length, Bool, false, true, Some, None, Ok, Err}
 use Rattle.std.proofs.Common.{refl, sym, ap, inl, inr, arith, ◌∙◌, length-append}
 use Rattle.disk.specs.Disk.{Life}
 use Rattle.page.specs.Page.{text}

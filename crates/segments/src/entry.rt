@@ -141,6 +141,26 @@ fn closes_whole(
     ensures short { IfOk result (λ bytes. length bytes.items ≤ 65535) }
     ensures err { IsOkUnless result Error.OutOfMemory }
 {
+    match whole_bytes(alloc, records, kept, zeros) {
+        Ok(bytes) => Ok(bytes),
+        Err(error) => Err(error),
+    }
+}
+
+// Its bytes.
+fn whole_bytes(
+    alloc: Global,
+    records: u64,
+    kept: FileDigest,
+    zeros: usize,
+) -> Result<Vec<u8>, Error>
+    requires few { zeros ≤ 18 }
+    ensures bytes { let closed = closed_by records (Whole kept) in
+        IfOk result (λ bytes. bytes.items ≡ entry_bytes (Closes closed) ++ replicate zeros 0) }
+    ensures sized { length kept.digest ≡ 32 }
+    ensures short { IfOk result (λ bytes. length bytes.items ≤ 65535) }
+    ensures err { IsOkUnless result Error.OutOfMemory }
+{
     let digest = kept.digest;
     let mut bytes = Vec::new(alloc);
     bytes.push(1)?;
@@ -163,6 +183,21 @@ fn closes_paged(
         IfOk result (λ bytes. bytes.items ≡ entry_bytes (Closes closed) ++ replicate zeros 0) }
     ensures told { let closed = closed_by records (Paged kept) in
         IfOk result (λ bytes. entry_in bytes.items ≡ Some (Closes closed)) }
+    ensures short { IfOk result (λ bytes. length bytes.items ≤ 65535) }
+    ensures err { IsOkUnless result Error.OutOfMemory }
+{
+    match paged_bytes(alloc, records, kept, zeros) {
+        Ok(bytes) => Ok(bytes),
+        Err(error) => Err(error),
+    }
+}
+
+// Its bytes.
+fn paged_bytes(alloc: Global, records: u64, kept: PagedSeal, zeros: usize) -> Result<Vec<u8>, Error>
+    requires few { zeros ≤ 18 }
+    ensures bytes { let closed = closed_by records (Paged kept) in
+        IfOk result (λ bytes. bytes.items ≡ entry_bytes (Closes closed) ++ replicate zeros 0) }
+    ensures sized { length kept.seal.root ≡ 32 }
     ensures short { IfOk result (λ bytes. length bytes.items ≤ 65535) }
     ensures err { IsOkUnless result Error.OutOfMemory }
 {
