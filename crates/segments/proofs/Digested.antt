@@ -9,6 +9,7 @@ use Rattle.disk.specs.declared.error.Error.TheVariants as layer
 use Rattle.writer_state.specs.WriterState.{WriterState}
 use Rattle.writer_state.specs.Sound.{content}
 use Rattle.paged_read.specs.Failures.{none_failed_start}
+use Rattle.paged.specs.Reads.{size_of}
 use Rattle.journal.specs.Journal.{ReadContentGoes, RecordReadRefused}
 use Rattle.journal.proofs.Journals.{between_of}
 use Rattle.page_digests.specs.Growing.{DigestingState, DigestsPage, FinishesList, IsDigested}
@@ -191,3 +192,8 @@ levels_over d P held list l is over = record {
   top = over.top ∙ ap (list_of d P) is;
   root = over.root ∙ ap d (over.top ∙ ap (list_of d P) is);
 }
+
+-- the size of the journal that is there
+pub size_there : (view s : OwnedState) (w : WriterState) (size : ℕ) → view ≡ s → view.journal ≡ Some w → size ≡ size_of w → size ≡ owned_size s.journal
+size_there view s w size same is sized =
+    sized ∙ sym (ap (λ (j : Option WriterState). owned_size j) is) ∙ ap (λ (o : OwnedState). owned_size o.journal) same

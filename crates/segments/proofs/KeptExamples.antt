@@ -7,7 +7,7 @@ use Rattle.sha2.specs.Sha256.{sha256}
 use Rattle.page.specs.Page.{text}
 use Rattle.page.specs.Sums.{add_sum}
 use Rattle.journal.specs.Frame.{frames, record_len, whole_frames}
-use Rattle.page_digests.specs.Seals.{IsSealOf}
+use Rattle.page_digests.specs.Seals.{EachIsByte, IsSealOf}
 use Rattle.page_digests.specs.declared.seal.Seal.{Seal}
 use Rattle.page_digests.proofs.PageExamples.{first, flat}
 use Rattle.page_digests.proofs.SealExamples.{abc, it_has_a_twin, it_has_no_twin, it_is_its_seal, its_root_tells, its_seal, not_that_of_xyz, xyz}
@@ -16,7 +16,7 @@ use Rattle.segments.specs.declared.closed.FileDigest.{FileDigest}
 use Rattle.segments.specs.declared.closed.Fingerprint.{Fingerprint}
 use Rattle.segments.specs.declared.closed.Fingerprint.TheVariants.{Whole, Paged}
 use Rattle.segments.specs.declared.closed.PagedSeal.{PagedSeal}
-use Rattle.segments.specs.Kept.{AreOfDigest, EachIsByte, HasFileTwin, HasFingerprint, HasTwin, HasTwinBy, HasTwinOf, HoldsClosed, IsInFile, IsOf, IsOfDigest, IsSealedBy, IsTwin}
+use Rattle.segments.specs.Kept.{AreOfDigest, HasFileTwin, HasFingerprint, HasTwin, HasTwinBy, HasTwinOf, HoldsClosed, IsInFile, IsOf, IsOfDigest, IsSealedBy, IsTwin}
 use Rattle.segments.specs.Manifest.{closed_by}
 use Rattle.segments.proofs.BytesExamples.{c_frame, c_page}
 
