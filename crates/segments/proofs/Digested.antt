@@ -1,7 +1,7 @@
 -- The digests of the pages of a journal's content.
-use Rattle.std.specs.Prelude.{◌≡◌, ◌<◌, ◌≤◌, ◌+◌, ◌-◌, ◌*◌, ◌/◌, ◌%◌, ℕ, suc, List, length, take, drop, Some, None, Option, IfSome, Result, Ok, Err, Vec}
+use Rattle.std.specs.Prelude.{◌≡◌, ◌<◌, ◌≤◌, ◌+◌, ◌-◌, ◌*◌, ◌/◌, ◌%◌, ℕ, suc, List, [], length, take, drop, Some, None, Option, IfSome, Result, Ok, Err, Vec}
 use Rattle.std.specs.Result.{IsErrAnd}
-use Rattle.std.proofs.Common.{ap, sym, ◌∙◌, refl, subst, arith, div-add-mod', div-mul-le_self, mod-lt, mul-le-mul_right, suc-mul, take_all}
+use Rattle.std.proofs.Common.{ap, sym, ◌∙◌, refl, subst, arith, div-add-mod', div-mul-le_self, lit<, mod-lt, mul-le-mul_right, suc-mul, take-add, take_all}
 use Rattle.std.proofs.lemmas.List.{length-drop}
 use Rattle.disk.specs.Disk.{Life}
 use Rattle.disk.specs.declared.error.Error as disk
@@ -9,12 +9,14 @@ use Rattle.disk.specs.declared.error.Error.TheVariants as layer
 use Rattle.writer_state.specs.WriterState.{WriterState}
 use Rattle.writer_state.specs.Sound.{content}
 use Rattle.paged_read.specs.Failures.{none_failed_start}
+use Rattle.paged.specs.Reads.{size_of}
 use Rattle.journal.specs.Journal.{ReadContentGoes, RecordReadRefused}
 use Rattle.journal.proofs.Journals.{between_of}
 use Rattle.page_digests.specs.Growing.{DigestingState, DigestsPage, FinishesList, IsDigested}
 use Rattle.page_digests.specs.Pages.{content_page, list_of}
-use Rattle.page_digests.specs.Seals.{AreLevelsOf, AreLevelsOver}
+use Rattle.page_digests.specs.Seals.{AreLevelsOf, AreLevelsOver, EachIsByte}
 use Rattle.page_digests.specs.declared.levels.Levels.{Levels}
+use Rattle.page_digests.proofs.Bytes.{bytes_joined}
 use Rattle.segments.specs.declared.error.Error.{Error}
 use Rattle.segments.specs.declared.error.Error.TheVariants as errors
 use Rattle.segments.specs.Owned.{DigestsFail, HasJournal, IsOwned, IsOwnedJournal, LevelsGo, ListGoes, OwnedContentGoes, OwnedReadLeaves, OwnedState, content_now, content_of, owned_size}
@@ -96,6 +98,42 @@ list_done sum own d P n s a b before after x list u owned leaves read positive f
     let short : length after < P = omega (arith, (read_is (n * P) before after a b u read).1, len, less) in
     finishes P held digested rest short
 
+-- ---- its bytes
+
+-- no page was read yet
+pub no_bytes_yet : (P : ℕ) (held : List ℕ) → EachIsByte (take (0 * P) held)
+no_bytes_yet P held =
+    let none : 0 * P ≡ 0 = omega arith in
+    subst (λ (k : ℕ). EachIsByte (take k held)) (sym none) (λ i. lit< tt)
+
+-- the bytes before a page and those of the page
+pub bytes_grow : (P n : ℕ) (s a b : OwnedState) (before after : List ℕ) (u : Unit {0}) → content_now a ≡ content_now s → OwnedContentGoes (n * P) before after a b (Ok u) → length before ≡ P
+    → EachIsByte after → EachIsByte (take (n * P) (content_now s)) → EachIsByte (take ((n + 1) * P) (content_now s))
+bytes_grow P n s a b before after u kept read len small so_far =
+    let held = content_now s in
+    let page : after ≡ take P (drop (n * P) held) =
+    (read_is (n * P) before after a b u read).0 ∙ ap (λ (k : ℕ). take k (drop (n * P) (content_now a))) len ∙ ap (λ (bytes : List ℕ). take P (drop (n * P) bytes)) kept in
+    let one : n + 1 ≡ suc n = omega arith in
+    let step : (n + 1) * P ≡ n * P + P = ap (λ (k : ℕ). k * P) one ∙ suc-mul n P in
+    subst (λ (k : ℕ). EachIsByte (take k held)) (sym step)
+    (subst (λ (l : List ℕ). EachIsByte l) (sym (take-add (n * P) P held)) (bytes_joined (take (n * P) held) (take P (drop (n * P) held)) so_far (subst EachIsByte page small)))
+
+-- the bytes of all
+pub all_bytes : (sum own : List ℕ → ℕ) (P n : ℕ) (s a b : OwnedState) (before after : List ℕ) (u : Unit {0}) → IsOwned sum own s → content_now a ≡ content_now s
+    → OwnedContentGoes (n * P) before after a b (Ok u) → length before ≡ owned_size s.journal - n * P → EachIsByte after → EachIsByte (take (n * P) (content_now s)) → EachIsByte (content_now s)
+all_bytes sum own P n s a b before after u owned kept read len small so_far =
+    let held = content_now s in
+    let sized = size_now sum own s owned in
+    let k = length before in
+    let rest : after ≡ take k (drop (n * P) held) = (read_is (n * P) before after a b u read).0 ∙ ap (λ (bytes : List ℕ). take k (drop (n * P) bytes)) kept in
+    let enough : length held ≤ n * P + k = omega (arith, sized, len) in
+    subst (λ (l : List ℕ). EachIsByte l) (sym (take-add (n * P) k held) ∙ take_all (n * P + k) held enough)
+    (bytes_joined (take (n * P) held) (take k (drop (n * P) held)) so_far (subst EachIsByte rest small))
+
+-- no page is digested yet
+pub none_digested : (d : List ℕ → List ℕ) (x : DigestingState) → ((P : ℕ) (content : List ℕ) → IsDigested d P content x) → x.pages ≡ 0
+none_digested d x is = let few : x.pages * 1 ≤ 0 = (is 1 []).within in omega (arith, few)
+
 -- ---- refusals
 
 fails_by : (j : Option WriterState) (offset : ℕ) (before after : List ℕ) (old new : Life) (e : disk.Error)
@@ -130,8 +168,9 @@ pub memory_failed : (s t : OwnedState) → HasJournal s.journal (λ w. Unit {0})
 memory_failed s t there = memory_by s.journal t.life there
 
 -- there is a journal
-pub there_is : (j : Option WriterState) (w : WriterState) → j ≡ Some w → HasJournal j (λ w. Unit {0})
-there_is j w is = subst (λ (j : Option WriterState). HasJournal j (λ w. Unit {0})) (sym is) tt
+pub there_is : (view s : OwnedState) (w : WriterState) → view ≡ s → view.journal ≡ Some w → HasJournal s.journal (λ w. Unit {0})
+there_is view s w same is =
+    subst (λ (s : OwnedState). HasJournal s.journal (λ w. Unit {0})) same (subst (λ (j : Option WriterState). HasJournal j (λ w. Unit {0})) (sym is) tt)
 
 -- the list couldn't be made
 pub list_refused : {A : Type 0} (d : List ℕ → List ℕ) (s t : OwnedState) (e : Error) (result : Result (Vec ℕ A) Error) → IsErrAnd result (λ x. x ≡ e) → DigestsFail s t e → ListGoes d s t result
@@ -148,7 +187,13 @@ levels_refused d s t e (Err x) is fails = subst (λ (y : Error). DigestsFail s t
 -- the levels over the list of the content are its levels
 pub levels_over : (d : List ℕ → List ℕ) (P : ℕ) (held list : List ℕ) (l : Levels) → list ≡ list_of d P held → AreLevelsOver d P list l → AreLevelsOf d P held l
 levels_over d P held list l is over = record {
+  bytes = over.bytes;
   list = over.list ∙ is;
   top = over.top ∙ ap (list_of d P) is;
   root = over.root ∙ ap d (over.top ∙ ap (list_of d P) is);
 }
+
+-- the size of the journal that is there
+pub size_there : (view s : OwnedState) (w : WriterState) (size : ℕ) → view ≡ s → view.journal ≡ Some w → size ≡ size_of w → size ≡ owned_size s.journal
+size_there view s w size same is sized =
+    sized ∙ sym (ap (λ (j : Option WriterState). owned_size j) is) ∙ ap (λ (o : OwnedState). owned_size o.journal) same

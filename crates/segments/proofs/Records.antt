@@ -14,11 +14,11 @@ use Rattle.segments.specs.declared.place.Place.{Place}
 use Rattle.segments.specs.Kept.{HasFingerprint, HoldsClosed, IsSealedBy}
 use Rattle.segments.specs.Manifest.{ListingState, open_in}
 use Rattle.segments.specs.Owned.{HasJournal, KeepsJournal, OwnedAppendGoes, OwnedState, content_now, content_of, owned_size, records_now, records_of}
-use Rattle.segments.specs.Log.{AppendHereGoes, HasMore, HasOpenTwin, IsAppendedTo, IsRotated, IsSameButCurrent, LogAppendGoes, LogState, TellHeld, WasClosed, closed_records, log_records}
+use Rattle.segments.specs.Log.{AppendHereGoes, HasMore, IsAppendedTo, IsRotated, IsSameButCurrent, LogAppendGoes, LogState, TellHeld, WasClosed, closed_records, log_records}
 
--- a content that fits what was kept as another one was sealed is that one, or a second preimage of that one is at hand
+-- a content that fits what was kept as another one was sealed is that one, or a second preimage of it is at hand
 pub same_sealed : (sum : List ℕ → ℕ) (d : List ℕ → List ℕ) (P : ℕ) (kept : Closed) (content other : List ℕ) → IsSealedBy d P content kept → HoldsClosed sum d P kept other
-    → (other ≡ content) ⊎ HasSecondPreimage d P content
+    → (other ≡ content) ⊎ HasSecondPreimage d P other
 same_sealed sum d P kept content other sealed holds =
     let of : IsSealOf d P other sealed.seal.seal = subst (λ (f : Fingerprint). HasFingerprint sum d P f other) sealed.is holds in
     sealed.apart other (sym of.len ∙ sealed.of.len) (sym of.root)
@@ -28,9 +28,9 @@ pub of_content : (own : List ℕ → ℕ) (j : Option WriterState) (life : Life)
 of_content own None life there = absurd there
 of_content own (Some w) life there = refl
 
--- a content that fits what was kept of the open segment has its records, or a second preimage of what it holds is at hand
+-- a content that fits what was kept of the open segment has its records, or a second preimage of it is at hand
 pub same_records : (sum own : List ℕ → ℕ) (d : List ℕ → List ℕ) (s : LogState) (last : Life) (kept : Closed) (other : List ℕ) → WasClosed sum own d s last kept → HoldsClosed sum d s.page_size kept other
-    → (records own other ≡ records_now own s.current) ⊎ HasOpenTwin d s
+    → (records own other ≡ records_now own s.current) ⊎ HasSecondPreimage d s.page_size other
 same_records sum own d s last kept other closed holds = elim (same_sealed sum d s.page_size kept (content_now s.current) other closed.of holds) [
   | inl same ↦ inl (ap (λ (bytes : List ℕ). records own bytes) same ∙ of_content own s.current.journal s.current.life closed.was_open)
   | inr twin ↦ inr twin

@@ -12,7 +12,7 @@ use Rattle.journal.specs.Journal.{OnlyRecords}
 use Rattle.writer_state.specs.WriterState.{WriterState}
 use Rattle.page_digests.specs.Pages.{list_of, top_of}
 use Rattle.page_digests.specs.declared.levels.Levels.{Levels}
-use Rattle.segments.specs.Owned.{HasJournal, IsOwned, OwnedState, content_now, owned_size, records_now}
+use Rattle.segments.specs.Owned.{HasJournal, IsOwned, OwnedState, content_now, owned_size, records_now, without_journal}
 use Rattle.segments.specs.Log.{CurrentKeeps, HasFollowed, HasNext, HasOpened, IsEntered, IsLog, IsRotated, IsSameButAsked, IsSameButCurrent, IsSameButManifest, IsSealed, LeavesOpened, LogState, WasClosed, WriteListGoes, asked_listing, asked_turning, entered_bytes, events_for, listing_event}
 use Rattle.segments.proofs.Padding.{paged_len, room_after}
 use Rattle.segments.proofs.Empty.{no_record}
@@ -186,6 +186,17 @@ follow_ready sum own s next asked owned pages log = record {
   lists = log.lists;
   reading = log.reading;
 }
+
+-- the log stands without a journal of the open segment
+pub forget_ready : (sum own : List ℕ → ℕ) (s : LogState) (o : OwnedState) → IsLog sum own s → o ≡ without_journal s.current → IsLog sum own (record s { current = o })
+forget_ready sum own s o log is = subst (λ (o : OwnedState). IsLog sum own (record s { current = o })) (sym is) (record {
+  manifest = log.manifest;
+  current = (log.current.0, tt);
+  manifest_pages = log.manifest_pages;
+  current_pages = log.current_pages;
+  lists = log.lists;
+  reading = log.reading;
+})
 
 -- ---- the digest
 

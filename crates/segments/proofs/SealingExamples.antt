@@ -1,8 +1,8 @@
 -- What the sealing of a segment leaves, and the writing of its list: what each definition holds of, and what it refuses.
 -- The open segment 0 has one record, "c", and its content is the record's frame, 8 bytes; a page has 18. The digest of a
 -- string is its first 32 bytes, filled up with zeros, or the same for all strings, or the string itself.
-use Rattle.std.specs.Prelude.{◌≡◌, ◌++◌, ℕ, List, [], ◌∷◌, length, get_or, None, Ok, Err, false, true, Vec}
-use Rattle.std.proofs.Common.{refl, ap, inl, inr, arith, lit<, ◌∙◌, sym}
+use Rattle.std.specs.Prelude.{◌≡◌, ◌++◌, ℕ, zero, suc, List, [], ◌∷◌, length, get_or, None, Ok, Err, Bool, false, true, Vec}
+use Rattle.std.proofs.Common.{refl, ap, inl, inr, arith, lit<, ◌∙◌, subst, sym}
 use Rattle.disk.specs.Disk.{Life}
 use Rattle.disk.specs.declared.error.Error.TheVariants.{OutOfMemory, WriteFailed}
 use Rattle.std.specs.declared.io.Error.{Error as IoError}
@@ -10,7 +10,7 @@ use Rattle.page.specs.Sums.{add_sum}
 use Rattle.paged_read.specs.Failures.{none_failed_start}
 use Rattle.journal.specs.Frame.{frames, is_record, record_len, record_of, records}
 use Rattle.page_digests.specs.Pages.{list_of, root_of, top_of}
-use Rattle.page_digests.specs.Seals.{AreLevelsOf}
+use Rattle.page_digests.specs.Seals.{AreLevelsOf, EachIsByte, TellsApart}
 use Rattle.page_digests.specs.declared.levels.Levels.{Levels}
 use Rattle.page_digests.proofs.PageExamples.{first, flat, sized_first}
 use Rattle.page_digests.proofs.Twins.{told_apart}
@@ -51,6 +51,37 @@ abbrev first_kind : List FolderEvent → ℕ
 first_kind [] = 9
 first_kind (e ∷ es) = kind e.call
 
+-- and whether it failed
+abbrev flag : Bool → ℕ
+flag false = 0
+flag true = 1
+
+abbrev first_failed : List FolderEvent → ℕ
+first_failed [] = 9
+first_failed (e ∷ es) = flag e.failed
+
+c_is_bytes : EachIsByte c_frame
+c_is_bytes zero = lit< tt
+c_is_bytes (suc zero) = lit< tt
+c_is_bytes (suc (suc zero)) = lit< tt
+c_is_bytes (suc (suc (suc zero))) = lit< tt
+c_is_bytes (suc (suc (suc (suc zero)))) = lit< tt
+c_is_bytes (suc (suc (suc (suc (suc zero))))) = lit< tt
+c_is_bytes (suc (suc (suc (suc (suc (suc zero)))))) = lit< tt
+c_is_bytes (suc (suc (suc (suc (suc (suc (suc zero))))))) = lit< tt
+c_is_bytes (suc (suc (suc (suc (suc (suc (suc (suc i)))))))) = lit< tt
+
+d_is_bytes : EachIsByte d_frame
+d_is_bytes zero = lit< tt
+d_is_bytes (suc zero) = lit< tt
+d_is_bytes (suc (suc zero)) = lit< tt
+d_is_bytes (suc (suc (suc zero))) = lit< tt
+d_is_bytes (suc (suc (suc (suc zero)))) = lit< tt
+d_is_bytes (suc (suc (suc (suc (suc zero))))) = lit< tt
+d_is_bytes (suc (suc (suc (suc (suc (suc zero)))))) = lit< tt
+d_is_bytes (suc (suc (suc (suc (suc (suc (suc zero))))))) = lit< tt
+d_is_bytes (suc (suc (suc (suc (suc (suc (suc (suc i)))))))) = lit< tt
+
 -- ---- reads within a content
 
 pub two_bytes_were_read : OwnedContentGoes 0 (7 ∷ 7 ∷ []) (0 ∷ 1 ∷ []) with_c with_c (Ok tt)
@@ -85,7 +116,7 @@ there_is_one fails = absurd (cc fails)
 module _ {A : Type 0} (list : Vec ℕ A) where
   -- one page, whose digest is the list
   pub its_list : list.items ≡ first c_frame → ListGoes first with_c with_c (Ok list)
-  its_list is = (tt, is)
+  its_list is = (tt, is, c_is_bytes)
 
   pub no_list : list.items ≡ [] → ListGoes first with_c with_c (Ok list) → ⊥
   no_list is goes = omega (arith, ap length is, ap length goes.1)
@@ -95,11 +126,15 @@ module _ {A : Type 0} (list : Vec ℕ A) where
   a_list_of_a_closed_one goes = goes.0
 
 module _ (l : Levels) where
-  pub its_levels : l.list.items ≡ list_of first 18 c_frame → l.top.items ≡ top_of first 18 c_frame → l.root ≡ root_of first 18 c_frame → AreLevelsOf first 18 c_frame l
-  its_levels list top root = record { list = list; top = top; root = root }
+  pub its_levels : EachIsByte l.list.items → EachIsByte l.top.items → l.list.items ≡ list_of first 18 c_frame → l.top.items ≡ top_of first 18 c_frame → l.root ≡ root_of first 18 c_frame
+      → AreLevelsOf first 18 c_frame l
+  its_levels list_is_bytes top_is_bytes list top root = record { bytes = (list_is_bytes, top_is_bytes); list = list; top = top; root = root }
+
+  its_root_tells : AreLevelsOf first 18 c_frame l → TellsApart first 18 c_frame l.root
+  its_root_tells are = told_apart first sized_first 18 c_frame l.root c_is_bytes (subst EachIsByte are.list are.bytes.0) (subst EachIsByte are.top are.bytes.1) (lit< tt) are.root
 
   pub they_go : AreLevelsOf first 18 c_frame l → LevelsGo first with_c with_c (Ok l)
-  they_go are = (are, told_apart first sized_first 18 c_frame l.root (lit< tt) are.root)
+  they_go are = (are, its_root_tells are)
 
   -- the list of another content
   pub they_are_of_d : l.list.items ≡ list_of first 18 d_frame → LevelsGo first with_c with_c (Ok l) → ⊥
@@ -109,7 +144,7 @@ module _ (l : Levels) where
 
   pub it_was_sealed : AreLevelsOf first 18 c_frame l → OwnedSealGoes first add_sum add_sum with_c closed (Ok l)
   unfolding record_len is_record record_of frames records
-  it_was_sealed are = (all_is_durable, are, told_apart first sized_first 18 c_frame l.root (lit< tt) are.root)
+  it_was_sealed are = (all_is_durable, are, its_root_tells are)
 
   -- not with the levels of another content
   pub it_was_sealed_as_d : l.list.items ≡ list_of first 18 d_frame → OwnedSealGoes first add_sum add_sum with_c closed (Ok l) → ⊥
@@ -146,7 +181,7 @@ module _ (l : Levels) where
       seal = record { number = 7; seal = record { len = 8; root = l.root } };
       is = refl;
       of = record { len = refl; root = are.root };
-      apart = told_apart first sized_first 18 c_frame l.root (lit< tt) are.root;
+      apart = its_root_tells l are;
     };
     counts = refl;
   }
@@ -180,7 +215,7 @@ module _ (l : Levels) where
 
   -- and where it refused, the record says so
   pub a_refusal_is_told : WriteListGoes l with_one (record with_one { asked = writing_event 0 (l.list.items ++ l.top.items) true ∷ [] }) (Ok tt) → ⊥
-  a_refusal_is_told is = absurd (cc is)
+  a_refusal_is_told is = omega (arith, ap first_failed is)
 
 pub it_is_closed_already : (sum own : List ℕ → ℕ) (d : List ℕ → List ℕ) → CloseCurrentGoes sum own d (none_open []) (none_open []) (Err errors.Closed)
 it_is_closed_already sum own d = (refl, refl)
@@ -197,7 +232,7 @@ its_list_was_asked_for = refl
 
 -- a refused list is no list
 pub not_by_a_refusal : asked_listing flat with_one ≡ listing_event flat with_one true ∷ [] → ⊥
-not_by_a_refusal is = absurd (cc is)
+not_by_a_refusal is = omega (arith, ap first_failed is)
 
 -- the list, the next file, its name, and then the closed blob
 pub asked_in_order : (last : Life)
@@ -239,12 +274,13 @@ not_by_the_device d t is = is
 -- ---- second preimages of the open segment
 
 -- every string of its length has the digest
-pub it_has_a_twin : HasOpenTwin flat with_one
+pub it_has_a_twin : HasOpenTwin flat (λ n. c_frame) with_one
 it_has_a_twin = inr (inr (
   0,
   d_frame,
   lit< tt,
   record {
+    small = d_is_bytes;
     differ = λ same. omega (arith, ap (λ (bytes : List ℕ). get_or bytes 2 0) same);
     len = refl;
     digest = refl;
@@ -252,7 +288,7 @@ it_has_a_twin = inr (inr (
 ))
 
 -- a string that is its own digest has no other
-pub it_has_none : HasOpenTwin (λ bytes. bytes) with_one → ⊥
-it_has_none (inl (other, is)) = is.differ is.digest
-it_has_none (inr (inl (i, other, within, is))) = is.differ is.digest
-it_has_none (inr (inr (i, other, within, is))) = is.differ is.digest
+pub it_has_none : (held : ℕ → List ℕ) → HasOpenTwin (λ bytes. bytes) held with_one → ⊥
+it_has_none held (inl (other, is)) = is.differ is.digest
+it_has_none held (inr (inl (i, other, within, is))) = is.differ is.digest
+it_has_none held (inr (inr (i, other, within, is))) = is.differ is.digest

@@ -256,22 +256,22 @@ no_opening is = elim (subst (λ es. AreOfOlder 0 1 es) (sym is.all) is.below) [ 
 
 -- ---- a crash in a rotation
 
-pub turned_if : (sum own : List ℕ → ℕ) (d : List ℕ → List ℕ) (P : ℕ) (held : ℕ → List ℕ) (all : List (List ℕ)) (k : ℕ) (content : List ℕ) (last next m : Disk)
-    → ((manifest : List ℕ) (file : ℕ → List ℕ) → records_left sum own P held file manifest ≡ Some all) → LogTurned sum own d P held all k content last next m
-turned_if sum own d P held all k content last next m all_back manifest image free file at_k at_next free_next = inl (all_back manifest file)
+pub turned_if : (sum own : List ℕ → ℕ) (d : List ℕ → List ℕ) (P : ℕ) (held : ℕ → List ℕ) (all : List (List ℕ)) (k : ℕ) (last next m : Disk)
+    → ((manifest : List ℕ) (file : ℕ → List ℕ) → records_left sum own P held file manifest ≡ Some all) → LogTurned sum own d P held all k last next m
+turned_if sum own d P held all k last next m all_back manifest image free file at_k at_next free_next = inl (all_back manifest file)
 
 -- a manifest that can't be read brings nothing back
-pub not_turned : (sum own : List ℕ → ℕ) (all : List (List ℕ)) (k : ℕ) (content : List ℕ) (last next m : Disk) (manifest : List ℕ) (file : ℕ → List ℕ)
+pub not_turned : (sum own : List ℕ → ℕ) (all : List (List ℕ)) (k : ℕ) (last next m : Disk) (manifest : List ℕ) (file : ℕ → List ℕ)
     → IsImage m manifest → IsChanceFree sum 40 m manifest → IsImage last (file k) → IsImage next (file (k + 1)) → IsChanceFree sum 40 next (file (k + 1))
-    → records_left sum own 40 (λ n. []) file manifest ≡ None → LogTurned sum own itself 40 (λ n. []) all k content last next m → ⊥
-not_turned sum own all k content last next m manifest file image free at_k at_next free_next none is = elim (is manifest image free file at_k at_next free_next) [
+    → records_left sum own 40 (λ n. []) file manifest ≡ None → LogTurned sum own itself 40 (λ n. []) all k last next m → ⊥
+not_turned sum own all k last next m manifest file image free at_k at_next free_next none is = elim (is manifest image free file at_k at_next free_next) [
   | inl some ↦ absurd (cc (sym none ∙ some))
-  | inr twin ↦ none_by_itself 40 content twin
+  | inr twin ↦ none_by_itself 40 [] twin
 ]
 
 pub turn_kept : (sum own : List ℕ → ℕ) (d : List ℕ → List ℕ) (held : ℕ → List ℕ) (cache : CacheState) (life last : Life) (w : WriterState) (kept : Closed) → KeepsLog sum own held (log cache life w) [] life last
     → IsSealedBy d 40 (content_now (owned cache life w)) kept
-    → (HoldsClosed sum d 40 kept (held 3) → Through (LogTurned sum own d 40 held (log_records own held (log cache life w)) 3 (content_now (owned cache life w)) last.present life.present) life life)
+    → (HoldsClosed sum d 40 kept (held 3) → Through (LogTurned sum own d 40 held (log_records own held (log cache life w)) 3 last.present life.present) life life)
     → TurnKept sum own d held (log cache life w) (record (log cache life w) { asked = asked_turning d (log cache life w) last })
 turn_kept sum own d held cache life last w kept closing of turning =
     record { last = last; kept = kept; gone = nothing_after_it d cache life last w; closing = closing; of = of; turning = turning }

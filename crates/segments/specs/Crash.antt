@@ -83,17 +83,16 @@ abbrev pub CurrentSurvives : (sum own : List ℕ → ℕ) → List (List ℕ) �
 CurrentSurvives sum own more s t = IfSome s.manifest.journal (λ m. IfSome s.current.journal (λ w.
     (held : ℕ → List ℕ) → KeepsLog sum own held s more s.current.life t.current.life))
 
--- as the manifest gets the entry that segment k is closed, which has this content, and the next one
--- is open: whatever a crash leaves of the manifest's disk and of the disks of these two segments,
--- chance aside, all of these records come back, or a second preimage of the content is at hand
+-- as the manifest gets the entry that segment k is closed, and the next one is open: whatever a
+-- crash leaves of the manifest's disk and of the disks of these two segments, chance aside, all of
+-- these records come back, or a second preimage of what segment k held is at hand
 abbrev pub LogTurned : (sum own : List ℕ → ℕ) → (d : List ℕ → List ℕ) → ℕ
-    → (held : ℕ → List ℕ) → List (List ℕ) → (k : ℕ) → (content : List ℕ) → (last next : Disk)
-    → Disk → Type 0
-LogTurned sum own d P held all k content last next m =
+    → (held : ℕ → List ℕ) → List (List ℕ) → (k : ℕ) → (last next : Disk) → Disk → Type 0
+LogTurned sum own d P held all k last next m =
     (manifest : List ℕ) → IsImage m manifest → IsChanceFree sum P m manifest
     → (file : ℕ → List ℕ) → IsImage last (file k) → IsImage next (file (k + 1))
     → IsChanceFree sum P next (file (k + 1))
-    → (records_left sum own P held file manifest ≡ Some all) ⊎ HasSecondPreimage d P content
+    → (records_left sum own P held file manifest ≡ Some all) ⊎ HasSecondPreimage d P (held k)
 
 -- the folder took the blob of the closed segment back, at the end of this life, before the manifest
 -- got an entry; after that it was asked for this
@@ -114,7 +113,7 @@ pub record TurnKept (sum own : List ℕ → ℕ) (d : List ℕ → List ℕ) (he
   pub of : IsSealedBy d s.page_size (content_now s.current) kept
   pub turning : HoldsClosed sum d s.page_size kept (held (open_in s.listing))
       → Through (LogTurned sum own d s.page_size held (log_records own held s)
-      (open_in s.listing) (content_now s.current) last.present t.current.life.present)
+      (open_in s.listing) last.present t.current.life.present)
       s.manifest.life t.manifest.life
 
 -- a rotation, at each moment: it ended before the manifest got the entry, or it is as `TurnKept`

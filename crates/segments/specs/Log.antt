@@ -482,9 +482,9 @@ abbrev pub HasTwinIn : (sum : List ℕ → ℕ) → (d : List ℕ → List ℕ) 
     → ListingState → Type 0
 HasTwinIn sum d P held l = (segment : ℕ) × HasTwinAt sum d P held l segment
 
--- a second preimage is at hand of what the open segment holds
-abbrev pub HasOpenTwin : (d : List ℕ → List ℕ) → LogState → Type 0
-HasOpenTwin d s = HasSecondPreimage d s.page_size (content_now s.current)
+-- a second preimage is at hand of what the open segment is said to have held
+abbrev pub HasOpenTwin : (d : List ℕ → List ℕ) → (held : ℕ → List ℕ) → LogState → Type 0
+HasOpenTwin d held s = HasSecondPreimage d s.page_size (held (open_in s.listing))
 
 -- whatever the closed segments held, so long as it fits what was kept of them: the log has the
 -- records that it had, and then these; or a second preimage is at hand of what the segment held
@@ -494,7 +494,7 @@ abbrev pub HasMore : (sum own : List ℕ → ℕ) → (d : List ℕ → List ℕ
 HasMore sum own d more s t = (held : ℕ → List ℕ)
     → TellHeld sum d t.page_size held t.listing.first t.listing.closed
     → (log_records own held t ≡ log_records own held s ++ more)
-    ⊎ HasOpenTwin d s
+    ⊎ HasOpenTwin d held s
 
 -- ---- reading
 

@@ -8,6 +8,7 @@ ghost use Rattle.segments.specs.Owned.{OwnedKeeps, OwnedReadLeaves, OwnedReadGoe
 ghost use Rattle.segments.specs.Owned.{LevelsGo, ListGoes, OwnedContentGoes, OwnedRecoverGoes};
 ghost use Rattle.segments.specs.Owned.{owned_size, records_now, without_journal};
 ghost use Rattle.journal.specs.Calls.{JournalRecoveryLeaves};
+ghost use Rattle.page_digests.specs.Seals.{EachIsByte};
 
 use crate::error::Error;
 use cache::CacheRef;
@@ -314,10 +315,12 @@ impl<B: Blob + Drop, H: Sum, R: Sum> OwnedJournal<B, H, R> {
         page.resize(page_size as usize, 0)?;
         for n in 0..full {
             self.read_content(&mut page, n * page_size)?;
+            are_bytes(&page);
             digesting.take_page(&page)?;
         }
         page.truncate((size - full * page_size) as usize);
         self.read_content(&mut page, full * page_size)?;
+        are_bytes(&page);
         Ok(digesting.finish(&page)?)
     }
 
@@ -361,4 +364,11 @@ impl<B: Blob + Drop, H: Sum, R: Sum> OwnedJournal<B, H, R> {
             None => 0,
         }
     }
+}
+
+// Does nothing: its clause says what a proof takes from the type.
+fn are_bytes(bytes: &[u8])
+    ensures { EachIsByte bytes.now }
+{
+    let _ = bytes;
 }
