@@ -36,12 +36,16 @@ impl<F: Folder<B> + Drop, B: Blob + Drop, H: Sum, R: Sum, D: Digest> SegmentedLo
         }
         let mut paged = self.take_paged(place.segment, seal)?;
         match frame_at::<_, D, R>(self.alloc, &mut paged.content, place.offset) {
+            Ok(found) => {
+                self.paged = Some(paged);
+                Ok(found)
+            }
             Err(error) if is_damage(&error) && !paged.is_settled => {
                 self.read_again(place, seal, paged)
             }
-            read => {
+            Err(error) => {
                 self.paged = Some(paged);
-                read.map_err(|error| told(place.segment, error))
+                Err(told(place.segment, error))
             }
         }
     }
@@ -69,7 +73,10 @@ impl<F: Folder<B> + Drop, B: Blob + Drop, H: Sum, R: Sum, D: Digest> SegmentedLo
                 let mut rebuilt = rebuilt;
                 let read = frame_at::<_, D, R>(self.alloc, &mut rebuilt.content, place.offset);
                 self.paged = Some(rebuilt);
-                read.map_err(|error| told(number, error))
+                match read {
+                    Ok(found) => Ok(found),
+                    Err(error) => Err(told(number, error)),
+                }
             }
             Err(error) => {
                 let mut paged = paged;
