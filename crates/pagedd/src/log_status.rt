@@ -83,7 +83,11 @@ pub fn status_of(error: &Error) -> u8 {
         Error::System(_) | Error::Unsynced(_) => 40,
         Error::Unlisted(_) => 41,
         Error::NumbersExhausted => 42,
-        Error::Missing(_) | Error::Short(_) | Error::Outdated(_) | Error::Manifest => 43,
+        Error::Missing(_)
+        | Error::Short(_)
+        | Error::Outdated(_)
+        | Error::Manifest
+        | Error::AnotherDigest(_) => 43,
     }
 }
 
@@ -111,7 +115,8 @@ fn advice_after(error: &Error, is_closing: bool) -> u8 {
         | Error::Missing(_)
         | Error::Short(_)
         | Error::Outdated(_)
-        | Error::Manifest => 2,
+        | Error::Manifest
+        | Error::AnotherDigest(_) => 2,
         _ if is_closing => 2,
         Error::System(_) => 1,
         Error::Layer(disk::Error::ReadFailed | disk::Error::OutOfMemory) => 1,
