@@ -295,7 +295,7 @@ module _ (kept : FileDigest) where
   the_open_one (closed, listed, is) = absurd (cc listed)
 
   pub abc_is_read : (t : LogState) → LogReadGoes add_sum add_sum first log t (begin 0) (Ok (Some its_frame))
-  abc_is_read t = reads_paged add_sum add_sum first log t (begin 0) its_seal in_pages read (Some its_frame) it_is_kept it_is_of_its_seal (it_is_read add_sum)
+  abc_is_read t = reads_paged add_sum add_sum first log t (begin 0) its_seal opened read (Some its_frame) it_is_kept refl refl (it_is_read add_sum)
 
   pub abc_is_damaged : (t : LogState) → LogReadGoes add_sum add_sum first log t (begin 0) (Err (errors.Damaged 0))
   abc_is_damaged t = (refl, (by_pages sealed, refl, its_frame_shows_it))

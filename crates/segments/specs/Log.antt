@@ -532,8 +532,8 @@ abbrev pub IsKeptAs : ListingState → ℕ → (Fingerprint → Type 0) → Type
 IsKeptAs l segment Is =
     (kept : Closed) × (closed_at l segment ≡ Some kept) × Is kept.fingerprint
 
--- a segment of this fingerprint is damaged, as a read at an offset of it shows. Of one that is known
--- by its whole file nothing more is said
+-- a segment of this fingerprint is damaged, as a read at an offset of it shows. Of one that is
+-- known by its whole file nothing more is said
 abbrev pub IsDamagedBy : (d : List ℕ → List ℕ) → ℕ → (offset : ℕ) → Fingerprint → Type 0
 IsDamagedBy d P offset (Whole kept) = Unit {0}
 IsDamagedBy d P offset (Paged kept) = IsDamagedPaged d P kept.seal offset
