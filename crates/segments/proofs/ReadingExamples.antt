@@ -174,10 +174,10 @@ pub of_another_page_size : IsPagedOf 16 its_seal in_pages → ⊥
 of_another_page_size is = let same : ◌≡◌ {A = ℕ} 32 16 = is.page_size in omega (arith, same)
 
 pub it_is_rebuilt : RebuildsPaged first 32 its_seal (Ok (record in_pages { is_settled = true }))
-it_is_rebuilt = it_is_of_its_seal
+it_is_rebuilt = record { of = refl; page_size = refl }
 
 pub it_can_not_be : RebuildsPaged first 32 its_seal (Err causes.Damaged)
-it_can_not_be = ([], (gave 0 xyz ∷ [], xyz_has_another_root))
+it_can_not_be = ([], gave 0 xyz ∷ [], xyz_has_another_root)
 
 -- with the seal of another
 pub another_is_rebuilt : RebuildsPaged first 32 (record its_seal { len = 4 }) (Ok in_pages) → ⊥

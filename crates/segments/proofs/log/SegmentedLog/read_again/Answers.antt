@@ -41,7 +41,7 @@ returns-in-Ok-clause-goes g c =
     let P : ℕ = non_zero_u16_get c.self.inside.options.page_size in
     let size : P ≡ c.args.self.now.page_size = ap (λ (s : LogState). s.page_size) c.self.view_is in
     let of : IsPagedOf P c.args.seal _ = subst (λ (p : PagedSegmentState). IsPagedOf P c.args.seal p) (sym c.rebuilt.view_is) c.in-Ok.ensures.goes in
-    fails_paged sum own d c.args.self.now _ c.args.place c.args.seal c.rebuilt.inside.content c.frame_at-read.new.content c.in-Err-read.error c.told.result c.requires.listed of.of (of.page_size ∙ size)
+    fails_paged sum own d c.args.self.now (record c.args.self.now { current = c.self.inside.current }) c.args.place c.args.seal c.rebuilt.inside.content c.frame_at-read.new.content c.in-Err-read.error c.told.result c.requires.listed of.of (of.page_size ∙ size)
     c.in-Err-read.ensures c.told.ensures
 
 pub returns-in-Ok-clause-ready : goal.returns-in-Ok-clause-ready
@@ -67,5 +67,5 @@ returns-clause-goes g c =
     let d : List ℕ → List ℕ = g.D.Digest.digest_of in
     let P : ℕ = non_zero_u16_get c.self.inside.options.page_size in
     let size : P ≡ c.args.self.now.page_size = ap (λ (s : LogState). s.page_size) c.self.view_is in
-    fails_rebuilt sum own d c.args.self.now _ c.args.place c.args.seal c.in-Err.error c.told-in-Err.result c.requires.listed
+    fails_rebuilt sum own d c.args.self.now (record c.args.self.now { current = c.self.inside.current }) c.args.place c.args.seal c.in-Err.error c.told-in-Err.result c.requires.listed
     (subst (λ (k : ℕ). RebuildsPaged d k c.args.seal (Err c.in-Err.error)) size c.in-Err.ensures.goes) c.told-in-Err.ensures

@@ -14,5 +14,5 @@ pub returns-in-Err-2-clause-goes : goal.returns-in-Err-2-clause-goes
 returns-in-Err-2-clause-goes g c =
     let of : IsPagedOf c.args.self.now.page_size c.args.seal _ =
     subst (λ (p : PagedSegmentState). IsPagedOf c.args.self.now.page_size c.args.seal p) (sym c.paged.view_is) c.in_ok-paged.ensures.goes in
-    fails_paged g.H.Sum.sum_of g.R.Sum.sum_of g.D.Digest.digest_of c.args.self.now _ c.args.place c.args.seal c.paged.inside.content c.frame_at.new.content c.in-Err-2.error c.told.result
-    c.requires.listed of.of of.page_size c.in-Err-2.ensures c.told.ensures
+    fails_paged g.H.Sum.sum_of g.R.Sum.sum_of g.D.Digest.digest_of c.args.self.now (record c.args.self.now { current = c.self.inside.current }) c.args.place c.args.seal c.paged.inside.content c.frame_at.new.content c.in-Err.error c.told.result
+    c.requires.listed of.of of.page_size c.in-Err.ensures c.told.ensures
