@@ -16,7 +16,8 @@ use Rattle.segments.specs.declared.closed.Fingerprint.TheVariants.{Whole}
 use Rattle.segments.specs.declared.error.Error.{Error}
 use Rattle.segments.specs.declared.error.Error.TheVariants as errors
 use Rattle.segments.specs.declared.place.Place.{Place}
-use Rattle.segments.specs.Kept.{EachIsByte, HasFileTwin, HasTwin, IsInFile, IsOf}
+use Rattle.page_digests.specs.Seals.{EachIsByte}
+use Rattle.segments.specs.Kept.{HasFileTwin, HasTwin, IsInFile, IsOf}
 use Rattle.segments.specs.Manifest.{closed_by}
 use Rattle.segments.specs.Owned.{HasJournal, IsOwned, OwnedReadGoes, OwnedReadLeaves, OwnedState, content_of}
 use Rattle.segments.specs.Log.{HasLoaded, HasOpened, HeldReadGoes, IsDamagedBy, IsKeptAs, IsLoaded, IsReadOfClosed, LoadedState, LogReadGoes, LogReadRefused, LogState, TakeLoadedGoes}

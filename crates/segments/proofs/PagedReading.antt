@@ -1,5 +1,5 @@
 -- Closed segments that are read by their pages.
-use Rattle.std.specs.Prelude.{◌≡◌, ◌⊎◌, ◌≤◌, ◌^◌, ℕ, List, Some, None, Option, Result, Ok, Err}
+use Rattle.std.specs.Prelude.{◌≡◌, ◌≤◌, ◌^◌, ℕ, List, Some, Option, Ok, Err}
 use Rattle.std.proofs.Common.{refl, sym, subst, inl, inr}
 use Rattle.journal.specs.declared.frame.Found.{Found}
 use Rattle.page_digests.specs.Contents.{PagedState}
@@ -13,12 +13,11 @@ use Rattle.segments.specs.declared.closed.Fingerprint.TheVariants.{Whole, Paged}
 use Rattle.segments.specs.declared.error.Error.{Error}
 use Rattle.segments.specs.declared.error.Error.TheVariants as errors
 use Rattle.segments.specs.declared.place.Place.{Place}
-use Rattle.segments.specs.FrameReads.{IsReadOf}
 use Rattle.segments.specs.Kept.{HasFingerprint, HasTwinBy}
 use Rattle.segments.specs.Log.{IsDamagedBy, IsKeptAs, IsListed, IsReadOfClosed, IsTooLong, LogReadGoes, LogReadRefused, LogState}
 use Rattle.segments.specs.Manifest.{ListingState, closed_at}
-use Rattle.segments.specs.PagedFrames.{FrameFails, PagedFrameGoes, ReadsPagedFrame}
-use Rattle.segments.specs.PagedReads.{FileEndsEarly, HasDamagedFile, HasSeal, IsBeyondLimit, IsDamage, IsDamagedPaged, IsPagedOf, IsToldAs, OpensPaged, PagedSegmentState, RebuildsPaged}
+use Rattle.segments.specs.PagedFrames.{PagedFrameGoes, ReadsPagedFrame}
+use Rattle.segments.specs.PagedReads.{HasDamagedFile, HasSeal, IsBeyondLimit, IsDamage, IsDamagedPaged, IsToldAs, OpensPaged, RebuildsPaged}
 
 -- ---- by its seal
 
@@ -66,10 +65,10 @@ of_seal : (d : List ℕ → List ℕ) (own : List ℕ → ℕ) (P : ℕ) (seal :
 of_seal d own P seal offset found c same size reads =
     subst (λ k. ReadsPagedFrame d own k seal offset found) size (subst (λ s. ReadsPagedFrame d own c.page_size s offset found) same reads)
 
-pub reads_paged : (sum own : List ℕ → ℕ) (d : List ℕ → List ℕ) (s t : LogState) (p : Place) (seal : Seal) (paged : PagedSegmentState) (after : PagedState) (found : Option Found)
-    → IsKeptAs s.listing p.segment (HasSeal seal) → IsPagedOf s.page_size seal paged → PagedFrameGoes d own p.offset paged.content after (Ok found) → LogReadGoes sum own d s t p (Ok found)
-reads_paged sum own d s t p seal paged after found (kept, listed, is) of goes =
-    inr (kept, listed, paged_closed sum own d s.page_size seal kept p.offset found is (of_seal d own s.page_size seal p.offset found paged.content of.of of.page_size goes.answers.1))
+pub reads_paged : (sum own : List ℕ → ℕ) (d : List ℕ → List ℕ) (s t : LogState) (p : Place) (seal : Seal) (old after : PagedState) (found : Option Found)
+    → IsKeptAs s.listing p.segment (HasSeal seal) → old.seal ≡ seal → old.page_size ≡ s.page_size → PagedFrameGoes d own p.offset old after (Ok found) → LogReadGoes sum own d s t p (Ok found)
+reads_paged sum own d s t p seal old after found (kept, listed, is) of size goes =
+    inr (kept, listed, paged_closed sum own d s.page_size seal kept p.offset found is (of_seal d own s.page_size seal p.offset found old of size goes.answers.1))
 
 -- ---- it couldn't be read
 
@@ -91,15 +90,15 @@ told_so sum own d s t p seal causes.OutOfMemory e listed damaged told =
     subst (λ e. LogReadRefused own d s t p e) (sym told) (inr (listed_so s p.segment (HasSeal seal) listed))
 
 -- a frame of it can't be read
-pub fails_paged : (sum own : List ℕ → ℕ) (d : List ℕ → List ℕ) (s t : LogState) (p : Place) (seal : Seal) (paged : PagedSegmentState) (after : PagedState) (cause : pages.Error) (e : Error)
-    → IsKeptAs s.listing p.segment (HasSeal seal) → IsPagedOf s.page_size seal paged → PagedFrameGoes d own p.offset paged.content after (Err cause) → IsToldAs p.segment cause e
+pub fails_paged : (sum own : List ℕ → ℕ) (d : List ℕ → List ℕ) (s t : LogState) (p : Place) (seal : Seal) (old after : PagedState) (cause : pages.Error) (e : Error)
+    → IsKeptAs s.listing p.segment (HasSeal seal) → old.seal ≡ seal → old.page_size ≡ s.page_size → PagedFrameGoes d own p.offset old after (Err cause) → IsToldAs p.segment cause e
     → LogReadGoes sum own d s t p (Err e)
-fails_paged sum own d s t p seal paged after cause e listed of goes told =
+fails_paged sum own d s t p seal old after cause e listed of size goes told =
     told_so sum own d s t p seal cause e listed (λ damage. inl (record {
-      old = paged.content;
+      old = old;
       new = after;
-      of = of.of;
-      page_size = of.page_size;
+      of = of;
+      page_size = size;
       error = cause;
       fails = goes.answers;
       damage = damage;

@@ -1,25 +1,22 @@
 -- What a read of a closed segment finds, and why it is refused: what each of these definitions holds
 -- of, and what it refuses. A segment that is known by its whole file held "c", as `LogExamples` has
 -- it, and one that is known by its pages held "abc", as `PagedFrameExamples` has it.
-use Rattle.std.specs.Prelude.{◌≡◌, ◌⊎◌, ◌≤◌, ◌<◌, ◌++◌, ◌^◌, ℕ, List, [], ◌∷◌, length, false, true, Option, Some, None, Ok, Err}
-use Rattle.std.proofs.Common.{refl, sym, subst, ap, inl, inr, arith, ◌∙◌, lit<, lit≤}
+use Rattle.std.specs.Prelude.{◌≡◌, ◌⊎◌, ◌≤◌, ◌^◌, ℕ, List, [], ◌∷◌, length, false, true, Option, Some, None, Ok, Err}
+use Rattle.std.proofs.Common.{refl, sym, subst, ap, inl, inr, arith, ◌∙◌, lit≤}
 use Rattle.std.specs.IoError.{error_kind}
 use Rattle.std.specs.declared.io.Error.{Error as IoError}
 use Rattle.std.specs.declared.io.ErrorKind.TheVariants.{NotFound, UnexpectedEof}
-use Rattle.disk.specs.declared.error.Error.TheVariants as layer
 use Rattle.page.specs.Sums.{add_sum}
-use Rattle.journal.specs.declared.frame.Found.{Found}
-use Rattle.page_digests.specs.Contents.{PagedState}
 use Rattle.page_digests.specs.Pages.{root_of}
 use Rattle.page_digests.specs.Rebuilds.{RebuildGoes}
-use Rattle.page_digests.specs.Seals.{HasSecondPreimage, IsSealOf}
+use Rattle.page_digests.specs.Seals.{HasSecondPreimage}
 use Rattle.page_digests.specs.Sources.{SourceRead, gave}
 use Rattle.page_digests.specs.declared.error.Error as pages
 use Rattle.page_digests.specs.declared.error.Error.TheVariants as causes
 use Rattle.page_digests.specs.declared.seal.Seal.{Seal}
 use Rattle.page_digests.proofs.ContentExamples.{damaged, opened, read}
 use Rattle.page_digests.proofs.PageExamples.{first}
-use Rattle.page_digests.proofs.RebuildExamples.{abc_has_its_root, xyz_has_another_root}
+use Rattle.page_digests.proofs.RebuildExamples.{xyz_has_another_root}
 use Rattle.page_digests.proofs.SealExamples.{abc, it_has_no_twin, it_is_its_seal, its_seal, xyz}
 use Rattle.segments.specs.declared.closed.Closed.{Closed}
 use Rattle.segments.specs.declared.closed.FileDigest.{FileDigest}
@@ -28,17 +25,16 @@ use Rattle.segments.specs.declared.closed.PagedSeal.{PagedSeal}
 use Rattle.segments.specs.declared.error.Error.TheVariants as errors
 use Rattle.segments.specs.declared.place.Place.{Place}
 use Rattle.segments.specs.declared.segment_file.Kind.TheVariants.{Folder, Memory}
-use Rattle.segments.specs.FrameReads.{IsReadOf}
 use Rattle.segments.specs.Kept.{IsOf}
-use Rattle.segments.specs.Log.{HasLoaded, HeldReadGoes, IsDamagedBy, IsKeptAs, IsListed, IsLoaded, IsReadOfClosed, IsReading, IsSameButReading, IsTooLong, LoadedState, LogReadGoes, LogReadRefused, LogState, ReadFails, TakeLoadedGoes}
+use Rattle.segments.specs.Log.{HasLoaded, HeldReadGoes, IsDamagedBy, IsKeptAs, IsLoaded, IsReadOfClosed, IsReading, IsSameButReading, IsTooLong, LoadedState, LogReadGoes, LogReadRefused, LogState, TakeLoadedGoes}
 use Rattle.segments.specs.Owned.{IsOwned, OwnedState, without_journal}
 use Rattle.segments.specs.PagedReads.{FileEndsEarly, HasDamagedFile, HasDamagedFrame, HasSeal, IsBeyondLimit, IsDamage, IsDamagedPaged, IsPagedOf, IsToldAs, OpensPaged, PagedSegmentState, RebuildsPaged}
 use Rattle.segments.specs.SegmentFiles.{reads_from}
 use Rattle.segments.proofs.BytesExamples.{c_frame, c_page, with_c}
 use Rattle.segments.proofs.Loading.{file_read}
-use Rattle.segments.proofs.LogExamples.{a_record_is_read, both, by_file, by_pages, c_found, it_ends_where_it_begins, it_holds_c, none_is_read, none_read, small}
-use Rattle.segments.proofs.PagedFrameExamples.{it_is_its_frame, it_is_read, its_frame, its_page_is_another, though_all_is_right}
-use Rattle.segments.proofs.PagedReading.{fails_paged, reads_paged}
+use Rattle.segments.proofs.LogExamples.{a_record_is_read, both, by_file, by_pages, c_found, it_ends_where_it_begins, it_holds_c, none_is_read, small}
+use Rattle.segments.proofs.PagedFrameExamples.{it_is_read, its_frame, its_page_is_another}
+use Rattle.segments.proofs.PagedReading.{reads_paged}
 
 -- ---- a file of which ranges are read
 
@@ -178,10 +174,10 @@ pub of_another_page_size : IsPagedOf 16 its_seal in_pages → ⊥
 of_another_page_size is = let same : ◌≡◌ {A = ℕ} 32 16 = is.page_size in omega (arith, same)
 
 pub it_is_rebuilt : RebuildsPaged first 32 its_seal (Ok (record in_pages { is_settled = true }))
-it_is_rebuilt = it_is_of_its_seal
+it_is_rebuilt = record { of = refl; page_size = refl }
 
 pub it_can_not_be : RebuildsPaged first 32 its_seal (Err causes.Damaged)
-it_can_not_be = ([], (gave 0 xyz ∷ [], xyz_has_another_root))
+it_can_not_be = ([], gave 0 xyz ∷ [], xyz_has_another_root)
 
 -- with the seal of another
 pub another_is_rebuilt : RebuildsPaged first 32 (record its_seal { len = 4 }) (Ok in_pages) → ⊥
@@ -299,7 +295,7 @@ module _ (kept : FileDigest) where
   the_open_one (closed, listed, is) = absurd (cc listed)
 
   pub abc_is_read : (t : LogState) → LogReadGoes add_sum add_sum first log t (begin 0) (Ok (Some its_frame))
-  abc_is_read t = reads_paged add_sum add_sum first log t (begin 0) its_seal in_pages read (Some its_frame) it_is_kept it_is_of_its_seal (it_is_read add_sum)
+  abc_is_read t = reads_paged add_sum add_sum first log t (begin 0) its_seal opened read (Some its_frame) it_is_kept refl refl (it_is_read add_sum)
 
   pub abc_is_damaged : (t : LogState) → LogReadGoes add_sum add_sum first log t (begin 0) (Err (errors.Damaged 0))
   abc_is_damaged t = (refl, (by_pages sealed, refl, its_frame_shows_it))

@@ -510,8 +510,8 @@ IsReadOfOpen own s offset found =
 
 -- a read of the frame at an offset of a closed segment of which this was kept: whatever content the
 -- segment held, the read is of that, or the content has a twin
-pub record IsReadOfClosed (sum own : List ℕ → ℕ) (d : List ℕ → List ℕ) (P : ℕ) (kept : Closed) (offset : ℕ)
-    (found : Option Found) : Type 0 where
+pub record IsReadOfClosed (sum own : List ℕ → ℕ) (d : List ℕ → List ℕ) (P : ℕ) (kept : Closed)
+    (offset : ℕ) (found : Option Found) : Type 0 where
   pub forward : EndsBehind offset found
   pub reads : (content : List ℕ) → HoldsClosed sum d P kept content
       → IsReadOf own content offset found ⊎ HasTwinOf sum d P kept content
@@ -532,8 +532,8 @@ abbrev pub IsKeptAs : ListingState → ℕ → (Fingerprint → Type 0) → Type
 IsKeptAs l segment Is =
     (kept : Closed) × (closed_at l segment ≡ Some kept) × Is kept.fingerprint
 
--- a segment of this fingerprint is damaged, as a read at an offset of it shows. Of one that is known
--- by its whole file nothing more is said
+-- a segment of this fingerprint is damaged, as a read at an offset of it shows. Of one that is
+-- known by its whole file nothing more is said
 abbrev pub IsDamagedBy : (d : List ℕ → List ℕ) → ℕ → (offset : ℕ) → Fingerprint → Type 0
 IsDamagedBy d P offset (Whole kept) = Unit {0}
 IsDamagedBy d P offset (Paged kept) = IsDamagedPaged d P kept.seal offset
@@ -560,8 +560,8 @@ LogReadRefused own d s t p (errors.Layer e) = ReadFails own s t p e
 LogReadRefused own d s t p e = ⊥
 
 -- a read at a place, by its answer: of the open segment, or of a closed one
-abbrev pub LogReadGoes : (sum own : List ℕ → ℕ) → (d : List ℕ → List ℕ) → LogState → LogState → Place
-    → Result (Option Found) Error → Type 0
+abbrev pub LogReadGoes : (sum own : List ℕ → ℕ) → (d : List ℕ → List ℕ) → LogState → LogState
+    → Place → Result (Option Found) Error → Type 0
 LogReadGoes sum own d s t p (Ok found) =
     ((p.segment ≡ open_in s.listing) × IsReadOfOpen own s p.offset found)
     ⊎ ((kept : Closed) × (closed_at s.listing p.segment ≡ Some kept)

@@ -16,8 +16,8 @@ use Rattle.segments.specs.declared.error.Error.{Error}
 use Rattle.segments.specs.declared.error.Error.TheVariants as errors
 use Rattle.segments.specs.PagedFrames.{FrameFails}
 
--- a closed segment that is read by its pages: its content, and whether the levels are settled, since
--- they were built again from the segment's file, or can't be
+-- a closed segment that is read by its pages: its content, and whether the levels are settled,
+-- since they were built again from the segment's file, or can't be
 pub record PagedSegmentState : Type 0 where
   pub content : PagedState
   pub is_settled : Bool
@@ -46,8 +46,8 @@ pub record HasDamagedFrame (d : List ℕ → List ℕ) (P : ℕ) (seal : Seal) (
   pub fails : FrameFails d offset old new error
   pub damage : IsDamage error
 
--- the levels of a content that has this seal were to be built again from its file, which doesn't hold
--- that content, or ends before it does
+-- the levels of a content that has this seal were to be built again from its file, which doesn't
+-- hold that content, or ends before it does
 pub record HasDamagedFile (d : List ℕ → List ℕ) (P : ℕ) (seal : Seal) : Type 0 where
   pub old : List SourceRead
   pub new : List SourceRead

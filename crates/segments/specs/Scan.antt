@@ -48,7 +48,8 @@ ComesFirst own s p = (held : ℕ → List ℕ) → records_from own held s p ≡
 
 -- whatever the closed segments held, so long as it fits what was kept of them: there are just these
 -- records from the one place to the other, or what a closed segment held has a twin
-abbrev pub StandBy : (sum own : List ℕ → ℕ) → (d : List ℕ → List ℕ) → ℕ → ListingState → (content : List ℕ)
+abbrev pub StandBy : (sum own : List ℕ → ℕ) → (d : List ℕ → List ℕ) → ℕ → ListingState
+    → (content : List ℕ)
     → List (List ℕ) → (from to : Place) → Type 0
 StandBy sum own d P l content these from to =
     (held : ℕ → List ℕ) → TellHeld sum d P held l.first l.closed
@@ -56,7 +57,8 @@ StandBy sum own d P l content these from to =
     ≡ these ++ records_at own held l content to) ⊎ HasTwinIn sum d P held l
 
 -- in a log there are just these records from the one place to the other, as `StandBy` has it
-abbrev pub StandBetween : (sum own : List ℕ → ℕ) → (d : List ℕ → List ℕ) → LogState → List (List ℕ) → (from to : Place)
+abbrev pub StandBetween : (sum own : List ℕ → ℕ) → (d : List ℕ → List ℕ) → LogState → List (List ℕ)
+    → (from to : Place)
     → Type 0
 StandBetween sum own d s these from to =
     StandBy sum own d s.page_size s.listing (content_now s.current) these from to
@@ -66,7 +68,8 @@ abbrev pub IsEnd : (own : List ℕ → ℕ) → LogState → Place → Type 0
 IsEnd own s p = (held : ℕ → List ℕ) → records_from own held s p ≡ []
 
 -- a record was found: none stands before it, and it alone before the place behind it
-abbrev pub IsNextAt : (sum own : List ℕ → ℕ) → (d : List ℕ → List ℕ) → LogState → (from at behind : Place) → List ℕ
+abbrev pub IsNextAt : (sum own : List ℕ → ℕ) → (d : List ℕ → List ℕ) → LogState
+    → (from at behind : Place) → List ℕ
     → Type 0
 IsNextAt sum own d s from at behind bytes = StandBetween sum own d s [] from at
     × StandBetween sum own d s (bytes ∷ []) at behind
@@ -82,17 +85,19 @@ pub record IsBehind (s : LogState) (from to : Place) : Type 0 where
 
 -- one frame further, by what is found: a record, and the place behind it; or no record, and where
 -- to go on; or the end
-abbrev pub StepGoes : (sum own : List ℕ → ℕ) → (d : List ℕ → List ℕ) → LogState → LogState → Place → Result Step Error
+abbrev pub StepGoes : (sum own : List ℕ → ℕ) → (d : List ℕ → List ℕ) → LogState → LogState → Place
+    → Result Step Error
     → Type 0
-StepGoes sum own d s t at (Ok (Record bytes behind)) = StandBetween sum own d s (bytes ∷ []) at behind
+StepGoes sum own d s t at (Ok (Record bytes behind)) =
+    StandBetween sum own d s (bytes ∷ []) at behind
 StepGoes sum own d s t at (Ok (Passed to)) = StandBetween sum own d s [] at to × IsBehind s at to
 StepGoes sum own d s t at (Ok End) = IsEnd own s at
 StepGoes sum own d s t at (Err e) = LogReadRefused own d s t at e
 
 -- a segment from a place on can't be read, and no record stands before it. Up to there, segments
 -- were only read
-pub record IsRefusedFrom (sum own : List ℕ → ℕ) (d : List ℕ → List ℕ) (s t : LogState) (p : Place) (e : Error)
-    : Type 0 where
+pub record IsRefusedFrom (sum own : List ℕ → ℕ) (d : List ℕ → List ℕ) (s t : LogState) (p : Place)
+    (e : Error) : Type 0 where
   pub at : Place
   pub mid : LogState
   pub further : p.segment ≤ at.segment
@@ -101,7 +106,8 @@ pub record IsRefusedFrom (sum own : List ℕ → ℕ) (d : List ℕ → List ℕ
   pub refused : LogReadRefused own d mid t at e
 
 -- a read of the next record, by its answer; one that is refused leaves the place where it was
-abbrev pub NextGoes : (sum own : List ℕ → ℕ) → (d : List ℕ → List ℕ) → LogState → LogState → (old new : Place)
+abbrev pub NextGoes : (sum own : List ℕ → ℕ) → (d : List ℕ → List ℕ) → LogState → LogState
+    → (old new : Place)
     → Result (Option (Place × List ℕ)) Error → Type 0
 NextGoes sum own d s t old new (Ok None) = StandBetween sum own d s [] old new × IsEnd own s new
 NextGoes sum own d s t old new (Ok (Some r)) = IsNextAt sum own d s old r.0 new r.1

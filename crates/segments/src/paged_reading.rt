@@ -23,7 +23,7 @@ use std::io::ErrorKind;
 
 impl<F: Folder<B> + Drop, B: Blob + Drop, H: Sum, R: Sum, D: Digest> SegmentedLog<F, B, H, R, D> {
     // The frame at a place of a closed segment that is known by its pages.
-    #[tactic(auto, using(crate::proofs::PagedReading::reads_paged, crate::proofs::PagedReading::fails_paged))]
+    #[tactic(auto, using(crate::proofs::PagedReading::too_long, crate::proofs::PagedReading::open_refused))]
     pub(crate) fn read_paged(&mut self, place: Place, seal: Seal) -> Result<Option<Found>, Error>
         requires log { IsLog H.sum_of R.sum_of self.old }
         requires listed { IsKeptAs self.old.listing place.segment (HasSeal seal) }
@@ -36,18 +36,22 @@ impl<F: Folder<B> + Drop, B: Blob + Drop, H: Sum, R: Sum, D: Digest> SegmentedLo
         }
         let mut paged = self.take_paged(place.segment, seal)?;
         match frame_at::<_, D, R>(self.alloc, &mut paged.content, place.offset) {
+            Ok(found) => {
+                self.paged = Some(paged);
+                Ok(found)
+            }
             Err(error) if is_damage(&error) && !paged.is_settled => {
                 self.read_again(place, seal, paged)
             }
-            read => {
+            Err(error) => {
                 self.paged = Some(paged);
-                read.map_err(|error| told(place.segment, error))
+                Err(told(place.segment, error))
             }
         }
     }
 
-    // Builds the list of a segment again, in whose frame at a place damage was found, and reads that
-    // frame by it. If the list can't be built the segment is kept as it was.
+    // Builds the list of a segment again, in whose frame at a place damage was found, and reads
+    // that frame by it. If the list can't be built the segment is kept as it was.
     fn read_again(
         &mut self,
         place: Place,
@@ -69,7 +73,10 @@ impl<F: Folder<B> + Drop, B: Blob + Drop, H: Sum, R: Sum, D: Digest> SegmentedLo
                 let mut rebuilt = rebuilt;
                 let read = frame_at::<_, D, R>(self.alloc, &mut rebuilt.content, place.offset);
                 self.paged = Some(rebuilt);
-                read.map_err(|error| told(number, error))
+                match read {
+                    Ok(found) => Ok(found),
+                    Err(error) => Err(told(number, error)),
+                }
             }
             Err(error) => {
                 let mut paged = paged;

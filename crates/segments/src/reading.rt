@@ -53,9 +53,9 @@ impl<F: Folder<B> + Drop, B: Blob + Drop, H: Sum, R: Sum, D: Digest> SegmentedLo
         match self.take_loaded(place.segment, kept) {
             Ok(loaded) => {
                 let mut loaded = loaded;
-                let read = loaded.read(place.offset);
+                let found = loaded.read(place.offset);
                 self.loaded = Some(loaded);
-                read
+                found
             }
             Err(error) => Err(error),
         }
@@ -93,12 +93,12 @@ impl<F: Folder<B> + Drop, B: Blob + Drop, H: Sum, R: Sum, D: Digest> SegmentedLo
     /// The frame at a place: one that an append answered, or the place after another frame. `None`
     /// where none begins there: at the end of its segment and after it.
     ///
-    /// Of a closed segment the pages are read that the frame touches, and the pages of its list with
-    /// their digests; each is compared with its digest. If the list can't be used it is computed
-    /// again from the segment's file, in memory. `Damaged` where what was read isn't what the segment
-    /// held when it was closed: the other pages and the other segments can be read. A segment that
-    /// a version before 0.11 closed is read whole, is compared with the length and the digest that
-    /// were kept of it, and stays in memory until another such one is read.
+    /// Of a closed segment the pages are read that the frame touches, and the pages of its list
+    /// with their digests; each is compared with its digest. If the list can't be used it is
+    /// computed again from the segment's file, in memory. `Damaged` where what was read isn't what
+    /// the segment held when it was closed: the other pages and the other segments can be read. A
+    /// segment that a version before 0.11 closed is read whole, is compared with the length and the
+    /// digest that were kept of it, and stays in memory until another such one is read.
     ///
     /// `NoSegment` where the segment was dropped, or was never there. `System` where the system
     /// refuses a file. `Manifest` where the manifest lists the segment with 1 PiB or more, which no
