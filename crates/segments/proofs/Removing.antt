@@ -26,6 +26,7 @@ is_older from first (e ∷ es) segment (inl one) (inl same) =
       number_in (calls.Removes n) = n
       number_in (calls.Opens n) = 0
       number_in (calls.Closes n) = 0
+      number_in (calls.WritesList n) = 0
       number_in (calls.Keeps n len) = 0
       number_in calls.OpensManifest = 0
       number_in calls.Syncs = 0

@@ -267,8 +267,8 @@ behind_back sum own s m p q leaves is = record {
 
 -- a step was refused: the records up to there were read
 pub next_refused : (sum own : List ℕ → ℕ) (d : List ℕ → List ℕ) (s m t : LogState) (from at place : Place) (e : Error) (result : Result (Option (Place × List ℕ)) Error) → LeavesReading sum own s m
-    → from.segment ≤ at.segment → StandBetween sum own d s [] from at → place ≡ from → IsErrAnd result (λ x. x ≡ e) → LogReadRefused own m t at e
+    → from.segment ≤ at.segment → StandBetween sum own d s [] from at → place ≡ from → IsErrAnd result (λ x. x ≡ e) → LogReadRefused own d m t at e
     → NextGoes sum own d s t from place result
 next_refused sum own d s m t from at place e (Ok r) leaves further so_far same is refused = absurd is
 next_refused sum own d s m t from at place e (Err x) leaves further so_far same is refused =
-    (same, record { at = at; mid = m; further = further; none = so_far; reads = leaves; refused = subst (λ y. LogReadRefused own m t at y) (sym is) refused })
+    (same, record { at = at; mid = m; further = further; none = so_far; reads = leaves; refused = subst (λ y. LogReadRefused own d m t at y) (sym is) refused })

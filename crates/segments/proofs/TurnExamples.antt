@@ -13,21 +13,21 @@ use Rattle.segments.specs.declared.entry.Entry.TheVariants.{Closes}
 use Rattle.segments.specs.declared.error.Error.{Error}
 use Rattle.segments.specs.declared.error.Error.TheVariants as errors
 use Rattle.segments.specs.declared.place.Place.{Place}
-use Rattle.segments.specs.Kept.{IsOf}
+use Rattle.page_digests.specs.Seals.{HasSecondPreimage}
 use Rattle.segments.specs.FolderEvents.{keeping_event, plain_event}
 use Rattle.segments.specs.Manifest.{ListingState, free_after, open_in}
-use Rattle.segments.specs.Owned.{HasJournal, IsShut, OwnedAppendGoes, OwnedState, owned_size, records_now, without_journal}
-use Rattle.segments.specs.Log.{AppendHereGoes, AreOfOlder, AsksOfOlder, HasMore, IsAppendedTo, IsNotFollowed, IsNotListed, IsRefusedAfter, IsRotated, IsSameButCurrent, ListsTheSame, LogReadGoes, LogReadRefused, LogState, NextRefused, WasClosed, asked_turning, entered_bytes, log_records}
-use Rattle.segments.specs.Kept.{HoldsClosed}
+use Rattle.segments.specs.Owned.{HasJournal, IsShut, OwnedAppendGoes, OwnedState, content_now, owned_size, records_now, without_journal}
+use Rattle.segments.specs.Log.{AppendHereGoes, AreOfOlder, AsksOfOlder, HasMore, IsAppendedTo, IsNotFollowed, IsNotListed, IsRefusedAfter, IsRotated, IsSameButCurrent, ListsTheSame, LogReadGoes, LogReadRefused, LogState, NextRefused, WasClosed, asked_listing, asked_turning, entered_bytes, log_records}
+use Rattle.segments.specs.Kept.{HoldsClosed, IsSealedBy}
 use Rattle.segments.specs.Crash.{CurrentSurvives, IsRotationKept, KeepsLog, LogTurned, RotationSurvives, TurnKept, TurnedSurvives, records_left}
 use Rattle.segments.specs.Scan.{IsNextAt, IsRefusedFrom, NextGoes, StandBetween, StandBy, records_at}
 use Rattle.segments.proofs.Joining.{leaves_start}
-use Rattle.segments.proofs.RotationExamples.{empty, first_kind, log, lost, no_twin_where_none_is_closed, none_of_an_empty_file, nothing_after_it, number, owned, shut}
+use Rattle.segments.proofs.RotationExamples.{first_kind, log, lost, no_twin_where_none_is_closed, nothing_after_it, number, owned, shut}
 
 -- ---- a segment that was closed
 
 pub was_closed : (sum own : List ℕ → ℕ) (d : List ℕ → List ℕ) (s : LogState) (last : Life) (kept : Closed) → HasJournal s.current.journal (λ w. Unit {0}) → IsShut sum own s.page_size (records_now own s.current) last
-    → IsOf last.present.readable kept → kept.records ≡ length (records_now own s.current) → WasClosed sum own d s last kept
+    → IsSealedBy d s.page_size (content_now s.current) kept → kept.records ≡ length (records_now own s.current) → WasClosed sum own d s last kept
 was_closed sum own d s last kept was_open shut of counts = record { was_open = was_open; shut = shut; of = of; counts = counts }
 
 -- one record more was counted
@@ -41,9 +41,6 @@ not_one_record_more sum own d s last kept more was = absurd (omega (arith, more,
 abbrev last_one : CacheState → Life → WriterState → LogState
 last_one cache life w = record (shut cache life w) { listing = record { first = 18446744073709551615; closed = [] } }
 
-same_list : (s : LogState) → ListsTheSame s s
-same_list s = record { listing = refl; loaded = refl; page_size = refl; most = refl; known = refl }
-
 pub no_number : (cache : CacheState) (life : Life) (w : WriterState) → NextRefused (last_one cache life w) (last_one cache life w) errors.NumbersExhausted
 no_number cache life w = (omega arith, refl)
 
@@ -51,9 +48,19 @@ no_number cache life w = (omega arith, refl)
 pub a_number_is_left : (cache : CacheState) (life : Life) (w : WriterState) → NextRefused (log cache life w) (log cache life w) errors.NumbersExhausted → ⊥
 a_number_is_left cache life w is = absurd (omega (arith, is.0))
 
+-- the list was written before, and no file was opened
+abbrev unopened : (d : List ℕ → List ℕ) → CacheState → Life → WriterState → LogState
+unopened d cache life w = record (last_one cache life w) { asked = asked_listing d (last_one cache life w) }
+
 pub not_followed : (sum own : List ℕ → ℕ) (d : List ℕ → List ℕ) (cache : CacheState) (life : Life) (w : WriterState) → IsShut sum own 40 [] life
-    → IsNotFollowed sum own d (last_one cache life w) (last_one cache life w) errors.NumbersExhausted
-not_followed sum own d cache life w is = record { shut = is; manifest = refl; rest = same_list (last_one cache life w); refused = no_number cache life w }
+    → IsNotFollowed sum own d (last_one cache life w) (unopened d cache life w) errors.NumbersExhausted
+not_followed sum own d cache life w is =
+    record { shut = is; manifest = refl; rest = record { listing = refl; reading = refl; page_size = refl; most = refl; known = refl }; refused = (omega arith, refl) }
+
+-- without its list the segment isn't followed
+pub not_unlisted : (sum own : List ℕ → ℕ) (d : List ℕ → List ℕ) (cache : CacheState) (life : Life) (w : WriterState)
+    → IsNotFollowed sum own d (last_one cache life w) (last_one cache life w) errors.NumbersExhausted → ⊥
+not_unlisted sum own d cache life w is = absurd (omega (arith, ap length is.refused.1))
 
 -- the manifest may not be touched
 pub no_manifest_changes : (sum own : List ℕ → ℕ) (d : List ℕ → List ℕ) (cache : CacheState) (life : Life) (w : WriterState)
@@ -62,10 +69,10 @@ no_manifest_changes sum own d cache life w is = absurd (cc (ap (λ (o : OwnedSta
 
 -- the manifest couldn't be written, after the closed blob went back
 pub not_listed : (sum own : List ℕ → ℕ) (d : List ℕ → List ℕ) (cache : CacheState) (life last : Life) (w : WriterState) (kept : Closed) → WasClosed sum own d (log cache life w) last kept
-    → IsNotListed sum own d (log cache life w) (record (shut cache life w) { manifest = without_journal (owned cache life w); asked = asked_turning (log cache life w) last })
+    → IsNotListed sum own d (log cache life w) (record (shut cache life w) { manifest = without_journal (owned cache life w); asked = asked_turning d (log cache life w) last })
     (errors.Layer WriteFailed)
 not_listed sum own d cache life last w kept was =
-    record { last = last; kept = kept; closed = was; numbered = λ is. absurd (omega (arith, is)); asked = refl; rest = record { listing = refl; loaded = refl; page_size = refl; most = refl; known = refl }; left = inr refl; refused = tt }
+    record { last = last; kept = kept; closed = was; numbered = λ is. absurd (omega (arith, is)); asked = refl; rest = record { listing = refl; reading = refl; page_size = refl; most = refl; known = refl }; left = inr refl; refused = tt }
 
 -- the manifest may not be written before
 pub not_listed_early : (sum own : List ℕ → ℕ) (d : List ℕ → List ℕ) (cache : CacheState) (life : Life) (w : WriterState)
@@ -81,7 +88,7 @@ pub rotated : (sum own : List ℕ → ℕ) (d : List ℕ → List ℕ) (cache : 
       manifest = record manifest { journal = Some v };
       current = record next { journal = Some v };
       listing = record { first = 3; closed = kept ∷ [] };
-      asked = asked_turning (log cache life w) last ++ keeping_event 4 0 manifest.life.present.readable false ∷ [];
+      asked = asked_turning d (log cache life w) last ++ keeping_event 4 0 manifest.life.present.readable false ∷ [];
     })
 rotated sum own d cache life last w manifest next v kept was entries room none = record {
   last = last;
@@ -95,7 +102,7 @@ rotated sum own d cache life last w manifest next v kept was entries room none =
   none = none;
   copied = record { failed = false; asked = refl };
   known = refl;
-  loaded = refl;
+  reading = refl;
   page_size = refl;
   most = refl;
 }
@@ -136,11 +143,21 @@ none_more sum own d s held tells = inl (sym (append-nil (log_records own held s)
 longer : (rs : List (List ℕ)) (x : List ℕ) → rs ≡ rs ++ x ∷ [] → ⊥
 longer rs x is = absurd (omega (arith, ap length is, length-append rs (x ∷ [])))
 
+-- a digest that is the string itself
+abbrev itself : List ℕ → List ℕ
+itself bytes = bytes
+
+-- no other string has it
+none_by_itself : (P : ℕ) (content : List ℕ) → HasSecondPreimage itself P content → ⊥
+none_by_itself P content (inl (other, is)) = is.differ is.digest
+none_by_itself P content (inr (inl (i, other, within, is))) = is.differ is.digest
+none_by_itself P content (inr (inr (i, other, within, is))) = is.differ is.digest
+
 -- a record may not be said to be there that isn't
-pub not_one_more : (sum own : List ℕ → ℕ) (d : List ℕ → List ℕ) (cache : CacheState) (life : Life) (w : WriterState) (x : List ℕ) → HasMore sum own d (x ∷ []) (log cache life w) (log cache life w) → ⊥
-not_one_more sum own d cache life w x has = elim (has (λ n. []) tt) [
+pub not_one_more : (sum own : List ℕ → ℕ) (cache : CacheState) (life : Life) (w : WriterState) (x : List ℕ) → HasMore sum own itself (x ∷ []) (log cache life w) (log cache life w) → ⊥
+not_one_more sum own cache life w x has = elim (has (λ n. []) tt) [
   | inl same ↦ longer (log_records own (λ n. []) (log cache life w)) x same
-  | inr twin ↦ absurd (cc twin.1)
+  | inr twin ↦ none_by_itself 40 _ twin
 ]
 
 pub nothing_between : (sum own : List ℕ → ℕ) (d : List ℕ → List ℕ) (s : LogState) (p : Place) → StandBetween sum own d s [] p p
@@ -174,18 +191,18 @@ no_place_stays sum own d cache life w x p is = no_record_between sum own d cache
 
 -- ---- a read
 
-pub no_segment_7 : (own : List ℕ → ℕ) (cache : CacheState) (life : Life) (w : WriterState)
-    → LogReadRefused own (log cache life w) (log cache life w) (record { segment = 7; offset = 0 }) (errors.NoSegment 7)
-no_segment_7 own cache life w = (refl, λ is. absurd (omega (arith, is)), refl)
+pub no_segment_7 : (own : List ℕ → ℕ) (d : List ℕ → List ℕ) (cache : CacheState) (life : Life) (w : WriterState)
+    → LogReadRefused own d (log cache life w) (log cache life w) (record { segment = 7; offset = 0 }) (errors.NoSegment 7)
+no_segment_7 own d cache life w = (refl, λ is. absurd (omega (arith, is)), refl)
 
 -- the open segment isn't compared
-pub the_open_is_not_damaged : (own : List ℕ → ℕ) (cache : CacheState) (life : Life) (w : WriterState)
-    → LogReadRefused own (log cache life w) (log cache life w) (record { segment = 3; offset = 0 }) (errors.Damaged 3) → ⊥
-the_open_is_not_damaged own cache life w is = absurd (cc is.1.1)
+pub the_open_is_not_damaged : (own : List ℕ → ℕ) (d : List ℕ → List ℕ) (cache : CacheState) (life : Life) (w : WriterState)
+    → LogReadRefused own d (log cache life w) (log cache life w) (record { segment = 3; offset = 0 }) (errors.Damaged 3) → ⊥
+the_open_is_not_damaged own d cache life w is = absurd (cc is.1.1)
 
 pub a_refused_read : (sum own : List ℕ → ℕ) (d : List ℕ → List ℕ) (cache : CacheState) (life : Life) (w : WriterState)
     → LogReadGoes sum own d (log cache life w) (log cache life w) (record { segment = 7; offset = 0 }) (Err (errors.NoSegment 7))
-a_refused_read sum own d cache life w = no_segment_7 own cache life w
+a_refused_read sum own d cache life w = no_segment_7 own d cache life w
 
 -- of a segment that isn't there nothing can be said
 pub no_end_of_segment_7 : (sum own : List ℕ → ℕ) (d : List ℕ → List ℕ) (cache : CacheState) (life : Life) (w : WriterState)
@@ -200,12 +217,12 @@ refused_from sum own d cache life w = record {
   further = omega arith;
   none = nothing_between sum own d (log cache life w) (record { segment = 7; offset = 0 });
   reads = leaves_start sum own (log cache life w);
-  refused = no_segment_7 own cache life w;
+  refused = no_segment_7 own d cache life w;
 }
 
--- no read answers that the manifest can't be read
-pub not_by_the_manifest : (sum own : List ℕ → ℕ) (d : List ℕ → List ℕ) (s t : LogState) (p : Place) → IsRefusedFrom sum own d s t p errors.Manifest → ⊥
-not_by_the_manifest sum own d s t p is = is.refused
+-- no read answers that a file is too short
+pub not_as_too_short : (sum own : List ℕ → ℕ) (d : List ℕ → List ℕ) (s t : LogState) (p : Place) (n : ℕ) → IsRefusedFrom sum own d s t p (errors.Short n) → ⊥
+not_as_too_short sum own d s t p n is = is.refused
 
 pub a_refused_next : (sum own : List ℕ → ℕ) (d : List ℕ → List ℕ) (cache : CacheState) (life : Life) (w : WriterState)
     → NextGoes sum own d (log cache life w) (log cache life w) (record { segment = 7; offset = 0 }) (record { segment = 7; offset = 0 }) (Err (errors.NoSegment 7))
@@ -239,24 +256,25 @@ no_opening is = elim (subst (λ es. AreOfOlder 0 1 es) (sym is.all) is.below) [ 
 
 -- ---- a crash in a rotation
 
-pub turned_if : (sum own : List ℕ → ℕ) (d : List ℕ → List ℕ) (P : ℕ) (held : ℕ → List ℕ) (all : List (List ℕ)) (k : ℕ) (kept : Closed) (d e m : Disk)
-    → ((manifest : List ℕ) (file : ℕ → List ℕ) → records_left sum own P held file manifest ≡ Some all) → LogTurned sum own d P held all k kept d e m
-turned_if sum own d P held all k kept d e m all_back manifest image free file at_k at_next free_next = inl (all_back manifest file)
+pub turned_if : (sum own : List ℕ → ℕ) (d : List ℕ → List ℕ) (P : ℕ) (held : ℕ → List ℕ) (all : List (List ℕ)) (k : ℕ) (content : List ℕ) (last next m : Disk)
+    → ((manifest : List ℕ) (file : ℕ → List ℕ) → records_left sum own P held file manifest ≡ Some all) → LogTurned sum own d P held all k content last next m
+turned_if sum own d P held all k content last next m all_back manifest image free file at_k at_next free_next = inl (all_back manifest file)
 
 -- a manifest that can't be read brings nothing back
-pub not_turned : (sum own : List ℕ → ℕ) (d : List ℕ → List ℕ) (all : List (List ℕ)) (k : ℕ) (d e m : Disk) (manifest : List ℕ) (file : ℕ → List ℕ)
-    → IsImage m manifest → IsChanceFree sum 40 m manifest → IsImage d (file k) → IsImage e (file (k + 1)) → IsChanceFree sum 40 e (file (k + 1))
-    → records_left sum own 40 (λ n. []) file manifest ≡ None → LogTurned sum own d 40 (λ n. []) all k empty d e m → ⊥
-not_turned sum own d all k d e m manifest file image free at_k at_next free_next none is = elim (is manifest image free file at_k at_next free_next) [
+pub not_turned : (sum own : List ℕ → ℕ) (all : List (List ℕ)) (k : ℕ) (content : List ℕ) (last next m : Disk) (manifest : List ℕ) (file : ℕ → List ℕ)
+    → IsImage m manifest → IsChanceFree sum 40 m manifest → IsImage last (file k) → IsImage next (file (k + 1)) → IsChanceFree sum 40 next (file (k + 1))
+    → records_left sum own 40 (λ n. []) file manifest ≡ None → LogTurned sum own itself 40 (λ n. []) all k content last next m → ⊥
+not_turned sum own all k content last next m manifest file image free at_k at_next free_next none is = elim (is manifest image free file at_k at_next free_next) [
   | inl some ↦ absurd (cc (sym none ∙ some))
-  | inr twin ↦ none_of_an_empty_file sum d 40 [] twin
+  | inr twin ↦ none_by_itself 40 content twin
 ]
 
-pub turn_kept : (sum own : List ℕ → ℕ) (d : List ℕ → List ℕ) (held : ℕ → List ℕ) (cache : CacheState) (life last : Life) (w : WriterState) (kept : Closed) → KeepsLog sum own held (log cache life w) [] life last → IsOf last.present.readable kept
-    → (HoldsClosed sum d 40 kept (held 3) → Through (LogTurned sum own d 40 held (log_records own held (log cache life w)) 3 kept last.present life.present) life life)
-    → TurnKept sum own d held (log cache life w) (record (log cache life w) { asked = asked_turning (log cache life w) last })
+pub turn_kept : (sum own : List ℕ → ℕ) (d : List ℕ → List ℕ) (held : ℕ → List ℕ) (cache : CacheState) (life last : Life) (w : WriterState) (kept : Closed) → KeepsLog sum own held (log cache life w) [] life last
+    → IsSealedBy d 40 (content_now (owned cache life w)) kept
+    → (HoldsClosed sum d 40 kept (held 3) → Through (LogTurned sum own d 40 held (log_records own held (log cache life w)) 3 (content_now (owned cache life w)) last.present life.present) life life)
+    → TurnKept sum own d held (log cache life w) (record (log cache life w) { asked = asked_turning d (log cache life w) last })
 turn_kept sum own d held cache life last w kept closing of turning =
-    record { last = last; kept = kept; gone = nothing_after_it cache life last w; closing = closing; of = of; turning = turning }
+    record { last = last; kept = kept; gone = nothing_after_it d cache life last w; closing = closing; of = of; turning = turning }
 
 -- a blob that didn't go back
 pub not_kept : (sum own : List ℕ → ℕ) (d : List ℕ → List ℕ) (held : ℕ → List ℕ) (cache : CacheState) (life : Life) (w : WriterState) → TurnKept sum own d held (log cache life w) (log cache life w) → ⊥

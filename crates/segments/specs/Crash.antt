@@ -105,7 +105,8 @@ pub record HasLetGo (d : List ℕ → List ℕ) (s : LogState) (last : Life) (t 
 -- a rotation, at each moment: first the open segment is closed, and the folder takes its blob back;
 -- then the manifest gets its entry, and that leaves all records as they were. The next segment is
 -- the log's open one then
-pub record TurnKept (sum own : List ℕ → ℕ) (d : List ℕ → List ℕ) (held : ℕ → List ℕ) (s t : LogState) : Type 0 where
+pub record TurnKept (sum own : List ℕ → ℕ) (d : List ℕ → List ℕ) (held : ℕ → List ℕ)
+    (s t : LogState) : Type 0 where
   pub last : Life
   pub kept : Closed
   pub gone : HasLetGo d s last t
@@ -118,21 +119,22 @@ pub record TurnKept (sum own : List ℕ → ℕ) (d : List ℕ → List ℕ) (he
 
 -- a rotation, at each moment: it ended before the manifest got the entry, or it is as `TurnKept`
 -- has it
-abbrev pub IsRotationKept : (sum own : List ℕ → ℕ) → (d : List ℕ → List ℕ) → (held : ℕ → List ℕ) → LogState → LogState
-    → Type 0
+abbrev pub IsRotationKept : (sum own : List ℕ → ℕ) → (d : List ℕ → List ℕ) → (held : ℕ → List ℕ)
+    → LogState → LogState → Type 0
 IsRotationKept sum own d held s t =
     ((t.manifest ≡ s.manifest) × KeepsLog sum own held s [] s.current.life t.current.life)
     ⊎ TurnKept sum own d held s t
 
 -- a rotation, whatever it answers
-abbrev pub RotationSurvives : (sum own : List ℕ → ℕ) → (d : List ℕ → List ℕ) → LogState → LogState → Type 0
+abbrev pub RotationSurvives : (sum own : List ℕ → ℕ) → (d : List ℕ → List ℕ) → LogState → LogState
+    → Type 0
 RotationSurvives sum own d s t = IfSome s.manifest.journal (λ m. IfSome s.current.journal (λ w.
     (held : ℕ → List ℕ) → IsRotationKept sum own d held s t))
 
 -- a rotation, and then an append to the next segment, with this answer: of the log in between holds
 -- all that is said of it
-pub record TurnedSurvives (sum own : List ℕ → ℕ) (d : List ℕ → List ℕ) (bytes : List ℕ) (s t : LogState)
-    (result : Result Place Error) : Type 0 where
+pub record TurnedSurvives (sum own : List ℕ → ℕ) (d : List ℕ → List ℕ) (bytes : List ℕ)
+    (s t : LogState) (result : Result Place Error) : Type 0 where
   pub mid : LogState
   pub turned : IsRotated sum own d s mid
   pub here : AppendHereGoes sum own bytes mid t result
@@ -143,8 +145,8 @@ pub record TurnedSurvives (sum own : List ℕ → ℕ) (d : List ℕ → List �
 -- an append, with this answer: to the open segment, and nothing else was done; or a rotation that
 -- failed, by whose moments the log ended without an open segment; or a rotation, and then an append
 -- to the next segment
-abbrev pub AppendSurvives : (sum own : List ℕ → ℕ) → (d : List ℕ → List ℕ) → List ℕ → LogState → LogState
-    → Result Place Error → Type 0
+abbrev pub AppendSurvives : (sum own : List ℕ → ℕ) → (d : List ℕ → List ℕ) → List ℕ
+    → LogState → LogState → Result Place Error → Type 0
 AppendSurvives sum own d bytes s t result =
     (IsSameButCurrent s t × CurrentSurvives sum own (bytes ∷ []) s t)
     ⊎ ((t.current.journal ≡ None) × RotationSurvives sum own d s t)

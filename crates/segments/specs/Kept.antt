@@ -1,9 +1,9 @@
 -- What is kept of a closed segment, and of which content it is kept.
-use Rattle.std.specs.Prelude.{◌≡◌, ◌≢◌, ◌<◌, ℕ, List, [], ◌∷◌, length, get_or}
+use Rattle.std.specs.Prelude.{◌≡◌, ◌≢◌, ℕ, List, [], ◌∷◌, length}
 use Rattle.sha2.specs.Sha256.{sha256}
 use Rattle.page.specs.Page.{text}
 use Rattle.journal.specs.Frame.{whole_frames}
-use Rattle.page_digests.specs.Seals.{HasSecondPreimage, IsSealOf, TellsApart}
+use Rattle.page_digests.specs.Seals.{EachIsByte, HasSecondPreimage, IsSealOf, TellsApart}
 use Rattle.segments.specs.declared.closed.Closed.{Closed}
 use Rattle.segments.specs.declared.closed.FileDigest.{FileDigest}
 use Rattle.segments.specs.declared.closed.Fingerprint.{Fingerprint}
@@ -11,10 +11,6 @@ use Rattle.segments.specs.declared.closed.Fingerprint.TheVariants.{Whole, Paged}
 use Rattle.segments.specs.declared.closed.PagedSeal.{PagedSeal}
 
 -- ---- by the whole file
-
--- each of these numbers is a byte
-abbrev pub EachIsByte : List ℕ → Type 0
-EachIsByte bytes = (i : ℕ) → get_or bytes i 0 < 256
 
 -- a file of these bytes has this length and this digest
 pub record IsOf (bytes : List ℕ) (kept : FileDigest) : Type 0 where
@@ -72,7 +68,7 @@ abbrev pub HasTwinOf : (sum : List ℕ → ℕ) (d : List ℕ → List ℕ) (P :
 HasTwinOf sum d P kept content = HasTwinBy sum d P kept.fingerprint content
 
 -- what was kept is the seal of this content; and no other content has it, unless a second preimage
--- is at hand
+-- of that one is at hand
 pub record IsSealedBy (d : List ℕ → List ℕ) (P : ℕ) (content : List ℕ) (kept : Closed)
     : Type 0 where
   pub seal : PagedSeal

@@ -29,8 +29,8 @@ use Rattle.segments.specs.Kept.{HasTwinOf, HoldsClosed, IsInFile, IsSealedBy}
 use Rattle.segments.specs.FrameReads.{EndsBehind, IsReadOf}
 use Rattle.segments.specs.FolderEvents.{FolderEvent, closing_event, keeping_event, opening_with}
 use Rattle.segments.specs.FolderEvents.{plain_event, writing_event}
-use Rattle.segments.specs.Manifest.{ListingState, closed_at, closed_by, entry_in, free_after, listed_in}
-use Rattle.segments.specs.Manifest.{listed_with, open_in, padded}
+use Rattle.segments.specs.Manifest.{ListingState, closed_at, closed_by, entry_in, free_after}
+use Rattle.segments.specs.Manifest.{listed_in, listed_with, open_in, padded}
 use Rattle.segments.specs.Owned.{HasJournal, IsOwned, IsShut, KeepsRecords, OwnedAppendGoes}
 use Rattle.segments.specs.Owned.{content_now}
 use Rattle.segments.specs.Owned.{OwnedSealGoes}
@@ -193,8 +193,8 @@ pub record IsSameButCurrent (s t : LogState) : Type 0 where
 
 -- the open segment of a log was closed, at the end of this life of its blob: it has the records
 -- that it had, all of it is durable, and the seal of its content was kept
-pub record WasClosed (sum own : List ℕ → ℕ) (d : List ℕ → List ℕ) (s : LogState) (last : Life) (kept : Closed)
-    : Type 0 where
+pub record WasClosed (sum own : List ℕ → ℕ) (d : List ℕ → List ℕ) (s : LogState) (last : Life)
+    (kept : Closed) : Type 0 where
   pub was_open : HasJournal s.current.journal (λ w. Unit {0})
   pub shut : IsShut sum own s.page_size (records_now own s.current) last
   pub of : IsSealedBy d s.page_size (content_now s.current) kept
@@ -369,7 +369,8 @@ pub record IsNotWritten (sum own : List ℕ → ℕ) (d : List ℕ → List ℕ)
 
 -- a rotation that failed as the next segment was opened: all of the open one is durable, and the
 -- manifest is as it was
-pub record IsNotFollowed (sum own : List ℕ → ℕ) (d : List ℕ → List ℕ) (s t : LogState) (e : Error) : Type 0 where
+pub record IsNotFollowed (sum own : List ℕ → ℕ) (d : List ℕ → List ℕ) (s t : LogState) (e : Error)
+    : Type 0 where
   pub shut : IsShut sum own s.page_size (records_now own s.current) t.current.life
   pub manifest : t.manifest ≡ s.manifest
   pub rest : ListsTheSame s t
@@ -378,7 +379,8 @@ pub record IsNotFollowed (sum own : List ℕ → ℕ) (d : List ℕ → List ℕ
 -- a rotation that failed as the manifest was to get its entry: all of the closed segment is
 -- durable. The manifest is as it was; or it has no journal, and whether it has the entry shows at
 -- an opening
-pub record IsNotListed (sum own : List ℕ → ℕ) (d : List ℕ → List ℕ) (s t : LogState) (e : Error) : Type 0 where
+pub record IsNotListed (sum own : List ℕ → ℕ) (d : List ℕ → List ℕ) (s t : LogState) (e : Error)
+    : Type 0 where
   pub last : Life
   pub kept : Closed
   pub closed : WasClosed sum own d s last kept
@@ -389,8 +391,8 @@ pub record IsNotListed (sum own : List ℕ → ℕ) (d : List ℕ → List ℕ) 
   pub refused : EnterRefused (Closes kept) s e
 
 -- a rotation, by its answer: after an error the log has no open segment, and lists what it listed
-abbrev pub RotateGoes : (sum own : List ℕ → ℕ) → (d : List ℕ → List ℕ) → LogState → LogState → Result (Unit {0}) Error
-    → Type 0
+abbrev pub RotateGoes : (sum own : List ℕ → ℕ) → (d : List ℕ → List ℕ) → LogState → LogState
+    → Result (Unit {0}) Error → Type 0
 RotateGoes sum own d s t (Ok u) = IsRotated sum own d s t
 RotateGoes sum own d s t (Err e) = (t.current.journal ≡ None)
     × (IsNotClosed sum own d s t e ⊎ IsNotWritten sum own d s t e
@@ -411,8 +413,8 @@ AppendHereGoes sum own bytes s t (Ok p) = (p.segment ≡ open_in s.listing)
 AppendHereGoes sum own bytes s t (Err e) = OwnedAppendGoes sum own bytes s.current t.current (Err e)
 
 -- a record was appended: to the open segment, or to the next one, after a rotation
-pub record IsAppendedTo (sum own : List ℕ → ℕ) (d : List ℕ → List ℕ) (bytes : List ℕ) (s t : LogState) (p : Place)
-    : Type 0 where
+pub record IsAppendedTo (sum own : List ℕ → ℕ) (d : List ℕ → List ℕ) (bytes : List ℕ)
+    (s t : LogState) (p : Place) : Type 0 where
   pub mid : LogState
   pub before : ((mid ≡ s) × (owned_size s.current.journal < s.most))
       ⊎ (IsRotated sum own d s mid × (s.most ≤ owned_size s.current.journal))
@@ -420,8 +422,8 @@ pub record IsAppendedTo (sum own : List ℕ → ℕ) (d : List ℕ → List ℕ)
   pub rest : IsSameButCurrent mid t
 
 -- a rotation went well, and then the append to the next segment was refused
-pub record IsRefusedAfter (sum own : List ℕ → ℕ) (d : List ℕ → List ℕ) (bytes : List ℕ) (s t : LogState) (e : Error)
-    : Type 0 where
+pub record IsRefusedAfter (sum own : List ℕ → ℕ) (d : List ℕ → List ℕ) (bytes : List ℕ)
+    (s t : LogState) (e : Error) : Type 0 where
   pub mid : LogState
   pub turned : IsRotated sum own d s mid
   pub rest : IsSameButCurrent mid t
@@ -429,7 +431,8 @@ pub record IsRefusedAfter (sum own : List ℕ → ℕ) (d : List ℕ → List �
 
 -- an append is refused: the append to the open segment, and nothing else was done; or, where the
 -- log is to be rotated first, the rotation, or the append to the next segment
-abbrev pub AppendRefused : (sum own : List ℕ → ℕ) → (d : List ℕ → List ℕ) → List ℕ → LogState → LogState → Error → Type 0
+abbrev pub AppendRefused : (sum own : List ℕ → ℕ) → (d : List ℕ → List ℕ) → List ℕ
+    → LogState → LogState → Error → Type 0
 AppendRefused sum own d bytes s t e =
     ((owned_size s.current.journal < s.most) × IsSameButCurrent s t
     × OwnedAppendGoes sum own bytes s.current t.current (Err e))
@@ -437,8 +440,8 @@ AppendRefused sum own d bytes s t e =
     × (RotateGoes sum own d s t (Err e) ⊎ IsRefusedAfter sum own d bytes s t e))
 
 -- an append, by its answer: after an error the log has no open segment
-abbrev pub LogAppendGoes : (sum own : List ℕ → ℕ) → (d : List ℕ → List ℕ) → List ℕ → LogState → LogState
-    → Result Place Error → Type 0
+abbrev pub LogAppendGoes : (sum own : List ℕ → ℕ) → (d : List ℕ → List ℕ) → List ℕ
+    → LogState → LogState → Result Place Error → Type 0
 LogAppendGoes sum own d bytes s t (Ok p) = IsAppendedTo sum own d bytes s t p
 LogAppendGoes sum own d bytes s t (Err e) =
     (t.current.journal ≡ None) × AppendRefused sum own d bytes s t e
@@ -446,8 +449,8 @@ LogAppendGoes sum own d bytes s t (Err e) =
 -- ---- the records, by what closed segments held
 
 -- each closed segment held a content of which this was kept
-abbrev pub TellHeld : (sum : List ℕ → ℕ) → (d : List ℕ → List ℕ) → ℕ → (held : ℕ → List ℕ) → (first : ℕ) → List Closed
-    → Type 0
+abbrev pub TellHeld : (sum : List ℕ → ℕ) → (d : List ℕ → List ℕ) → ℕ → (held : ℕ → List ℕ)
+    → (first : ℕ) → List Closed → Type 0
 TellHeld sum d P held first [] = Unit {0}
 TellHeld sum d P held first (c ∷ cs) =
     HoldsClosed sum d P c (held first) × TellHeld sum d P held (suc first) cs
@@ -469,12 +472,14 @@ abbrev pub IsClosedIn : ListingState → ℕ → Type 0
 IsClosedIn l segment = (kept : Closed) × (closed_at l segment ≡ Some kept)
 
 -- this segment is closed, and of what it held a twin was found
-abbrev pub HasTwinAt : (sum : List ℕ → ℕ) → (d : List ℕ → List ℕ) → ℕ → (held : ℕ → List ℕ) → ListingState → ℕ → Type 0
+abbrev pub HasTwinAt : (sum : List ℕ → ℕ) → (d : List ℕ → List ℕ) → ℕ → (held : ℕ → List ℕ)
+    → ListingState → ℕ → Type 0
 HasTwinAt sum d P held l segment = (kept : Closed) × (closed_at l segment ≡ Some kept)
     × HasTwinOf sum d P kept (held segment)
 
 -- of what a closed segment held a twin was found
-abbrev pub HasTwinIn : (sum : List ℕ → ℕ) → (d : List ℕ → List ℕ) → ℕ → (held : ℕ → List ℕ) → ListingState → Type 0
+abbrev pub HasTwinIn : (sum : List ℕ → ℕ) → (d : List ℕ → List ℕ) → ℕ → (held : ℕ → List ℕ)
+    → ListingState → Type 0
 HasTwinIn sum d P held l = (segment : ℕ) × HasTwinAt sum d P held l segment
 
 -- a second preimage is at hand of what the open segment holds
@@ -484,7 +489,8 @@ HasOpenTwin d s = HasSecondPreimage d s.page_size (content_now s.current)
 -- whatever the closed segments held, so long as it fits what was kept of them: the log has the
 -- records that it had, and then these; or a second preimage is at hand of what the segment held
 -- that was the open one, and is closed now
-abbrev pub HasMore : (sum own : List ℕ → ℕ) → (d : List ℕ → List ℕ) → List (List ℕ) → LogState → LogState → Type 0
+abbrev pub HasMore : (sum own : List ℕ → ℕ) → (d : List ℕ → List ℕ) → List (List ℕ)
+    → LogState → LogState → Type 0
 HasMore sum own d more s t = (held : ℕ → List ℕ)
     → TellHeld sum d t.page_size held t.listing.first t.listing.closed
     → (log_records own held t ≡ log_records own held s ++ more)

@@ -17,7 +17,7 @@ use Rattle.journal.specs.Frame.{records}
 use Rattle.journal.specs.Journal.{CommitsAll, KeepsCommitted, LeavesRecords}
 use Rattle.journal.specs.Journal.{ReadContentGoes, RecordReadRefused, records_in}
 use Rattle.page_digests.specs.Pages.{list_of}
-use Rattle.page_digests.specs.Seals.{AreLevelsOf, TellsApart}
+use Rattle.page_digests.specs.Seals.{AreLevelsOf, EachIsByte, TellsApart}
 use Rattle.page_digests.specs.declared.levels.Levels.{Levels}
 use Rattle.page.specs.Page.{text}
 use Rattle.paged.specs.Reads.{size_of}
@@ -173,10 +173,11 @@ DigestsFail s t (errors.Layer e) =
 DigestsFail s t errors.Closed = s.journal ≡ None
 DigestsFail s t _ = ⊥
 
--- the digests of the pages of a journal's content, by the answer
+-- the digests of the pages of a journal's content, by the answer; then its content is of bytes
 abbrev pub ListGoes : (d : List ℕ → List ℕ) → OwnedState → OwnedState → {A : Type 0}
     → Result (Vec ℕ A) Error → Type 0
-ListGoes d s t (Ok list) = list.items ≡ list_of d s.page_size (content_now s)
+ListGoes d s t (Ok list) = HasJournal s.journal (λ w. Unit {0})
+    × (list.items ≡ list_of d s.page_size (content_now s)) × EachIsByte (content_now s)
 ListGoes d s t (Err e) = DigestsFail s t e
 
 -- the levels of a journal's content, by the answer

@@ -66,11 +66,10 @@ HasSeal seal (Paged kept) = kept.seal ≡ seal
 
 -- an error of the content of the segment of this number, as the log tells it
 abbrev pub IsToldAs : (number : ℕ) → pages.Error → Error → Type 0
-IsToldAs number causes.Damaged (errors.Damaged n) = n ≡ number
-IsToldAs number (causes.System e) (errors.Damaged n) = (n ≡ number) × FileEndsEarly e
-IsToldAs number (causes.System e) (errors.System f) = (f ≡ e) × (FileEndsEarly e → ⊥)
-IsToldAs number causes.OutOfMemory (errors.Layer e) = e ≡ layer.OutOfMemory
-IsToldAs number e f = ⊥
+IsToldAs number causes.Damaged e = e ≡ errors.Damaged number
+IsToldAs number (causes.System x) e = (FileEndsEarly x × (e ≡ errors.Damaged number))
+    ⊎ ((FileEndsEarly x → ⊥) × (e ≡ errors.System x))
+IsToldAs number causes.OutOfMemory e = e ≡ errors.Layer layer.OutOfMemory
 
 -- a segment in reading has this seal, and pages of this size
 pub record IsPagedOf (P : ℕ) (seal : Seal) (p : PagedSegmentState) : Type 0 where

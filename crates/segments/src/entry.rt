@@ -75,10 +75,10 @@ pub fn bytes_of(
             let zeros = padding(page_size, size, closing_len(&closed.fingerprint));
             match closed.fingerprint {
                 Fingerprint::Whole(kept) => {
-                    closes_whole(alloc, closed.records, &kept, zeros as usize)
+                    closes_whole(alloc, closed.records, kept, zeros as usize)
                 }
                 Fingerprint::Paged(kept) => {
-                    closes_paged(alloc, closed.records, &kept, zeros as usize)
+                    closes_paged(alloc, closed.records, kept, zeros as usize)
                 }
             }
         }
@@ -130,13 +130,13 @@ fn starts(alloc: Global, first: u64, page_size: u16) -> Result<Vec<u8>, Error>
 fn closes_whole(
     alloc: Global,
     records: u64,
-    kept: &FileDigest,
+    kept: FileDigest,
     zeros: usize,
 ) -> Result<Vec<u8>, Error>
     requires few { zeros ≤ 18 }
-    ensures bytes { let closed = closed_by records (Whole kept.now) in
+    ensures bytes { let closed = closed_by records (Whole kept) in
         IfOk result (λ bytes. bytes.items ≡ entry_bytes (Closes closed) ++ replicate zeros 0) }
-    ensures told { let closed = closed_by records (Whole kept.now) in
+    ensures told { let closed = closed_by records (Whole kept) in
         IfOk result (λ bytes. entry_in bytes.items ≡ Some (Closes closed)) }
     ensures short { IfOk result (λ bytes. length bytes.items ≤ 65535) }
     ensures err { IsOkUnless result Error.OutOfMemory }
@@ -155,13 +155,13 @@ fn closes_whole(
 fn closes_paged(
     alloc: Global,
     records: u64,
-    kept: &PagedSeal,
+    kept: PagedSeal,
     zeros: usize,
 ) -> Result<Vec<u8>, Error>
     requires few { zeros ≤ 18 }
-    ensures bytes { let closed = closed_by records (Paged kept.now) in
+    ensures bytes { let closed = closed_by records (Paged kept) in
         IfOk result (λ bytes. bytes.items ≡ entry_bytes (Closes closed) ++ replicate zeros 0) }
-    ensures told { let closed = closed_by records (Paged kept.now) in
+    ensures told { let closed = closed_by records (Paged kept) in
         IfOk result (λ bytes. entry_in bytes.items ≡ Some (Closes closed)) }
     ensures short { IfOk result (λ bytes. length bytes.items ≤ 65535) }
     ensures err { IsOkUnless result Error.OutOfMemory }

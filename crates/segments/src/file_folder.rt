@@ -20,8 +20,8 @@ use std::snapshot::Snapshot;
 use std::{fs, io};
 
 /// A folder of the system, in which a log's files stand: `manifest`, for each segment its number
-/// with twenty digits and `.segment`, and for each closed one the same with `.digests`: its list. The
-/// folder must be there; the files are made as they are needed.
+/// with twenty digits and `.segment`, and for each closed one the same with `.digests`: its list.
+/// The folder must be there; the files are made as they are needed.
 #[derive(Drop)]
 pub struct FileFolder {
     names: Names,

@@ -76,7 +76,8 @@ pub trait Folder<B: Blob> {
             life ≡ begun life.present.readable []) }
         ensures asked { asked self.new ≡ asked self.old };
 
-    /// The file of a closed segment, of which ranges are to be read. `NotFound` where it is missing.
+    /// The file of a closed segment, of which ranges are to be read. `NotFound` where it is
+    /// missing.
     fn source(&mut self, segment: u64) -> io::Result<Self::Source>
         ensures asked { asked self.new ≡ asked self.old };
 

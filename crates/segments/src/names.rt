@@ -11,8 +11,8 @@ const ENDING: &str = ".segment";
 // The same of the file of its list.
 const LIST_ENDING: &str = ".digests";
 
-/// The files of a log in a folder of the system: `manifest`, for each segment its number with twenty
-/// digits and `.segment`, and for each closed one the same with `.digests`: its list.
+/// The files of a log in a folder of the system: `manifest`, for each segment its number with
+/// twenty digits and `.segment`, and for each closed one the same with `.digests`: its list.
 #[derive(Drop)]
 pub struct Names {
     rt: HostRuntime,

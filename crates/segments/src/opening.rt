@@ -31,10 +31,10 @@ impl<F: Folder<B> + Drop, B: Blob + Drop, H: Sum, R: Sum, D: Digest> SegmentedLo
     /// there is no manifest: the manifest may be an old one, or be lost. `Outdated` where a copy of
     /// the manifest knows a later segment. `Missing` where the open segment isn't there, and
     /// `Short` where it has fewer bytes than it had as it was opened last. `AnotherDigest` where a
-    /// segment was closed with another digest than `D`. `System` where the
-    /// system refuses a file, `Unsynced` where it can't sync a file or the folder, and `Layer` where
-    /// the device or memory failed. After an error the blobs are gone, so no clause says what their
-    /// files hold: each recovery of a journal on the way keeps what was committed (`leaves` of
+    /// segment was closed with another digest than `D`. `System` where the system refuses a file,
+    /// `Unsynced` where it can't sync a file or the folder, and `Layer` where the device or memory
+    /// failed. After an error the blobs are gone, so no clause says what their files hold: each
+    /// recovery of a journal on the way keeps what was committed (`leaves` of
     /// [`journal::Journal::recover`]).
     #[tactic(auto, using(crate::proofs::Beginning::parts_open))]
     pub fn open(alloc: Global, folder: F, options: Options) -> Result<Self, Error>

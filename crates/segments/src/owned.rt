@@ -1,5 +1,5 @@
 // A blob with a journal on it, and a cache of its own.
-ghost use Rattle.std.specs.Prelude.{◌≡◌, ◌≤◌, ◌∷◌, ◌++◌, [], length, is_none, None, IfOk};
+ghost use Rattle.std.specs.Prelude.{◌≡◌, ◌≤◌, ◌+◌, ◌∷◌, ◌++◌, [], length, is_none, None, IfOk};
 ghost use Rattle.std.specs.Int.NonZero.{non_zero_u16_get};
 ghost use Rattle.segments.specs.Owned.{IsOwned, OwnedAddGoes, OwnedAddKeeps, OwnedAppendGoes};
 ghost use Rattle.segments.specs.Owned.{OwnedCommitGoes, OwnedLeaves};
@@ -7,7 +7,6 @@ ghost use Rattle.segments.specs.Owned.{OwnedStartGoes, OwnedWaitGoes};
 ghost use Rattle.segments.specs.Owned.{OwnedKeeps, OwnedReadLeaves, OwnedReadGoes, OwnedSealGoes};
 ghost use Rattle.segments.specs.Owned.{LevelsGo, ListGoes, OwnedContentGoes, OwnedRecoverGoes};
 ghost use Rattle.segments.specs.Owned.{owned_size, records_now, without_journal};
-ghost use Rattle.disk.specs.Disk.{IsImage};
 ghost use Rattle.journal.specs.Calls.{JournalRecoveryLeaves};
 
 use crate::error::Error;
@@ -271,7 +270,6 @@ impl<B: Blob + Drop, H: Sum, R: Sum> OwnedJournal<B, H, R> {
 
     /// Commits all records, closes the journal, and answers the levels of its content. All of the
     /// blob is durable then. After an error there is no journal either.
-    #[tactic(auto, using(crate::proofs::Sealing::seal_goes))]
     pub fn seal<D: Digest>(&mut self, alloc: Global) -> Result<Levels, Error>
         requires owned { IsOwned H.sum_of R.sum_of self.old }
         ensures goes { let d = D.digest_of in
@@ -281,12 +279,10 @@ impl<B: Blob + Drop, H: Sum, R: Sum> OwnedJournal<B, H, R> {
         ensures none { self.new.journal ≡ None }
         ensures page_size { self.new.page_size ≡ self.old.page_size }
     {
-        let sealed = match self.commit() {
-            Ok(()) => self.levels::<D>(alloc),
-            Err(error) => Err(error),
-        };
+        self.commit()?;
+        let levels = self.levels::<D>(alloc);
         self.forget();
-        sealed
+        levels
     }
 
     // The levels of the content.
@@ -307,8 +303,12 @@ impl<B: Blob + Drop, H: Sum, R: Sum> OwnedJournal<B, H, R> {
         ensures ready { IsOwned H.sum_of R.sum_of self.new }
         ensures leaves { OwnedReadLeaves H.sum_of R.sum_of self.old self.new }
     {
+        let Some(journal) = &self.journal else {
+            return Err(Error::Closed);
+        };
+        let size = journal.size();
         let page_size = self.page_size.get() as u64;
-        let full = self.size() / page_size;
+        let full = size / page_size;
         let mut digesting = Digesting::<D>::new(alloc);
         let mut page = Vec::new(alloc);
         page.resize(page_size as usize, 0)?;
@@ -316,7 +316,7 @@ impl<B: Blob + Drop, H: Sum, R: Sum> OwnedJournal<B, H, R> {
             self.read_content(&mut page, n * page_size)?;
             digesting.take_page(&page)?;
         }
-        page.truncate((self.size() - full * page_size) as usize);
+        page.truncate((size - full * page_size) as usize);
         self.read_content(&mut page, full * page_size)?;
         Ok(digesting.finish(&page)?)
     }
@@ -347,9 +347,7 @@ impl<B: Blob + Drop, H: Sum, R: Sum> OwnedJournal<B, H, R> {
 
     /// Lets the journal go. What wasn't committed may be lost.
     pub fn forget(&mut self)
-        requires owned { IsOwned H.sum_of R.sum_of self.old }
         ensures lets { self.new ≡ without_journal self.old }
-        ensures image { IsImage self.old.life.present self.old.life.present.readable }
     {
         self.journal = None;
     }

@@ -27,13 +27,13 @@ impl<F: Folder<B> + Drop, B: Blob + Drop, H: Sum, R: Sum, D: Digest> SegmentedLo
     /// All records are committed first. Then the digests of the content's pages are computed, and
     /// those of the list that these are; list and top are written into a file, and that is synced.
     /// The next segment's file is made, its name is made durable, and the folder takes the blob of
-    /// the closed segment back. Last, the closed segment is listed in the manifest with its root. So
-    /// a crash while the manifest is written leaves the log before that or after it, and both have
+    /// the closed segment back. Last, the manifest lists the closed segment with its root. So a
+    /// crash while the manifest is written leaves the log before that or after it, and both have
     /// the same records. Behind that entry there is room for the entry of a drop.
     ///
     /// `Closed` where a call before failed, `Layer` where the device or memory failed, `System`
-    /// where the folder refused the list's file or the next one, `Unsynced` where a sync of the next
-    /// file or of its name failed, `Unlisted` where the next file has bytes, which stay, and
+    /// where the folder refused the list's file or the next one, `Unsynced` where a sync of the
+    /// next file or of its name failed, `Unlisted` where the next file has bytes, which stay, and
     /// `NumbersExhausted` where no number is left. After an error the log is closed.
     pub fn rotate(&mut self) -> Result<(), Error>
         requires log { IsLog H.sum_of R.sum_of self.old }
@@ -88,7 +88,7 @@ impl<F: Folder<B> + Drop, B: Blob + Drop, H: Sum, R: Sum, D: Digest> SegmentedLo
     // Opens the next segment. `Unlisted` where its file has bytes, which stay as they were.
     fn open_next(&mut self) -> Result<OwnedJournal<B, H, R>, Error>
         requires log { IsLog H.sum_of R.sum_of self.old }
-        ensures goes { OpenNextGoes H.sum_of R.sum_of D.digest_of self.old self.new result }
+        ensures goes { OpenNextGoes H.sum_of R.sum_of self.old self.new result }
         ensures ready { IsLog H.sum_of R.sum_of self.new }
         ensures rest { IsSameButAsked self.old self.new }
     {

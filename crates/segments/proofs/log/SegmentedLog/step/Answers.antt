@@ -11,6 +11,7 @@ pub returns-in-Some-bytes-clause-goes : goal.returns-in-Some-bytes-clause-goes
 returns-in-Some-bytes-clause-goes g c =
     let sum = g.H.Sum.sum_of in
     let own = g.R.Sum.sum_of in
+    let d : List ℕ → List ℕ = g.D.Digest.digest_of in
     let at = place_at c.args.segment c.args.offset in
     let f = c.in-Some.found in
     let read = subst (λ (o : Option Found). LogReadGoes sum own d c.args.self.now c.read.new.self at (Ok o)) c.in-Some.is c.in_ok-found.ensures.goes in
@@ -22,6 +23,7 @@ pub returns-in-None-clause-goes : goal.returns-in-None-clause-goes
 returns-in-None-clause-goes g c =
     let sum = g.H.Sum.sum_of in
     let own = g.R.Sum.sum_of in
+    let d : List ℕ → List ℕ = g.D.Digest.digest_of in
     let at = place_at c.args.segment c.args.offset in
     let f = c.in-Some.found in
     let read = subst (λ (o : Option Found). LogReadGoes sum own d c.args.self.now c.read.new.self at (Ok o)) c.in-Some.is c.in_ok-found.ensures.goes in

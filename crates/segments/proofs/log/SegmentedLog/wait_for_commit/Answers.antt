@@ -1,3 +1,4 @@
+use Rattle.segments.proofs.TurnExamples.{no_number}
 use Rattle.std.proofs.Common.{arith}
 use Rattle.segments.proofs.Surviving.{survives_same}
 use Rattle.segments.proofs.log.SegmentedLog.wait_for_commit.Goals as goal
