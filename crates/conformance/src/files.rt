@@ -297,18 +297,21 @@ impl Files {
     }
 
     // Makes a file hold these bytes, durably, and with its name: half of them if that is to fail.
-    fn write_whole(&mut self, name: Name, bytes: Vec<u8>, noted: io::Result<()>) -> io::Result<()> {
+    fn write_whole(
+        &mut self,
+        name: Name,
+        mut bytes: Vec<u8>,
+        noted: io::Result<()>,
+    ) -> io::Result<()> {
         let room = match self.blob(name) {
             Ok(blob) => blob.bytes().len(),
             Err(_) => 0,
         };
         self.need_room(bytes.len() > room)?;
-        let len = if noted.is_err() {
-            bytes.len() / 2
-        } else {
-            bytes.len()
-        };
-        self.give(name, &bytes[..len])?;
+        if noted.is_err() {
+            bytes.truncate(bytes.len() / 2);
+        }
+        self.give(name, &bytes)?;
         noted
     }
 

@@ -243,7 +243,11 @@ fn what_is_whole_is_read(rt: HostRuntime) -> Result<(), Fail> {
 }
 
 // What a read of 30 bytes from byte 50 on appends to some bytes.
-fn appended(rt: &HostRuntime, paged: &mut Content, front: &[u8]) -> Result<Vec<u8>, Fail> {
+fn appended(
+    rt: &HostRuntime,
+    paged: &mut PagedContent<Memory, PolyDigest>,
+    front: &[u8],
+) -> Result<Vec<u8>, Fail> {
     let mut bytes = Vec::from_slice(rt.alloc(), front)?;
     if paged.len() < 80 {
         return Err("short".into());
