@@ -10,7 +10,7 @@ use Rattle.segments.specs.declared.closed.Fingerprint.TheVariants.{Whole, Paged}
 use Rattle.segments.specs.declared.entry.Entry.{Entry}
 use Rattle.segments.specs.declared.entry.Entry.TheVariants.{Starts, Closes}
 
--- an entry that closes a segment, of which this is kept
+-- what is kept of a segment that has so many records, and this fingerprint
 abbrev pub closed_by : (records : ℕ) → Fingerprint → Closed
 closed_by records fingerprint = record { records = records; fingerprint = fingerprint }
 

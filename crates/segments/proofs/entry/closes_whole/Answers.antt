@@ -1,8 +1,3 @@
-use Rattle.segments.proofs.KeptExamples.{one_is_of_another}
-use Rattle.segments.proofs.ManifestExamples.{an_entry}
-use Rattle.segments.proofs.OpeningExamples.{nothing_was_asked}
-use Rattle.segments.proofs.Padding.{room_after}
-use Rattle.segments.proofs.OfDigest.{drop_of}
 use Rattle.std.proofs.Common.{arith}
 use Rattle.segments.proofs.Entries.{closed_whole}
 use Rattle.segments.proofs.entry.closes_whole.Goals as goal
