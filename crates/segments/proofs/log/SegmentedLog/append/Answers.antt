@@ -4,6 +4,7 @@ use Rattle.std.proofs.lemmas.Grind.{common_steps}
 use Rattle.segments.specs.Owned.{owned_size}
 use Rattle.segments.proofs.Appends.{after_goes, after_survives, here_goes, is_long, turn_goes}
 use Rattle.segments.proofs.Records.{log_adds_after}
+use Rattle.segments.proofs.Rotating.{digest_same}
 use Rattle.segments.proofs.log.SegmentedLog.append.Given
 use Rattle.segments.proofs.log.SegmentedLog.append.Goals as goal
 use Rattle.segments.proofs.log.SegmentedLog.append.Goals.{After-append_here}
@@ -42,3 +43,11 @@ returns-in-Err-clause-goes g c =
 
 pub returns-in-Err-clause-survives : goal.returns-in-Err-clause-survives
 returns-in-Err-clause-survives g c = inr (inl (c.in-Err.ensures.goes.0, c.rotate.ensures.turns))
+
+pub returns-then-size-self-clause-digest : goal.returns-then-size-self-clause-digest
+returns-then-size-self-clause-digest g c = λ are.
+    digest_same g.D.Digest.NUMBER c.args.self.now.listing c.append_here.new.self.listing c.append_here.ensures.rest.listing are
+
+pub returns-in-Ok-clause-digest : goal.returns-in-Ok-clause-digest
+returns-in-Ok-clause-digest g c = λ are.
+    digest_same g.D.Digest.NUMBER c.rotate.new.self.listing c.append_here-in-Ok.new.self.listing c.append_here-in-Ok.ensures.rest.listing (c.rotate.ensures.digest are)

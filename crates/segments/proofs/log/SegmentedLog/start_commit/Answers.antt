@@ -1,5 +1,3 @@
-use Rattle.segments.proofs.SealingExamples.{it_has_none}
-use Rattle.segments.proofs.OwnedExamples.{one_is_left}
 use Rattle.std.proofs.Common.{arith}
 use Rattle.std.proofs.lemmas.Grind.{common_steps}
 use Rattle.segments.proofs.Surviving.{survives_call}

@@ -1,6 +1,3 @@
-use Rattle.segments.proofs.InnerExamples.{it_was_opened}
-use Rattle.segments.proofs.CrashExamples.{what_is_left}
-use Rattle.segments.proofs.TurnExamples.{no_number}
 use Rattle.std.proofs.Common.{arith}
 use Rattle.segments.proofs.Surviving.{survives_same}
 use Rattle.segments.proofs.log.SegmentedLog.wait_for_commit.Goals as goal
