@@ -1,5 +1,3 @@
-use Rattle.segments.proofs.ReadingExamples.{of_the_folder}
-use Rattle.segments.proofs.ScanExamples.{how_far}
 use Rattle.std.proofs.Common.{ap, sym, ◌∙◌, arith}
 use Rattle.segments.specs.Log.{LogState}
 use Rattle.segments.specs.Manifest.{open_in}
