@@ -1,11 +1,11 @@
-use Rattle.std.specs.Prelude.{◌≡◌, ◌+◌, ◌*◌, ◌-◌, ◌<◌, ◌≤◌, ◌/◌, drop, length}
+use Rattle.std.specs.Prelude.{◌≡◌, ◌+◌, ◌*◌, ◌-◌, ◌<◌, ◌≤◌, ◌/◌, drop, length, take}
 use Rattle.std.proofs.Common.{ap, sym, ◌∙◌, subst, arith, take_at}
 use Rattle.std.proofs.lemmas.Grind.{common_steps}
 use Rattle.page_digests.specs.Growing.{DigestsPage, FinishesList}
 use Rattle.page_digests.specs.Pages.{list_of}
 use Rattle.page_digests.specs.Seals.{EachIsByte}
 use Rattle.segments.specs.Owned.{OwnedState, content_now, owned_size}
-use Rattle.segments.proofs.Digested.{all_bytes, bytes_grow, content_kept, list_done, list_refused, memory_failed, no_bytes_yet, none_digested, page_digested, page_fits, read_is, size_there, there_is}
+use Rattle.segments.proofs.Digested.{all_bytes, bytes_grow, content_kept, list_done, list_refused, memory_failed, no_bytes_yet, none_digested, page_digested, page_fits, read_is, rest_short, size_there, there_is}
 use Rattle.segments.proofs.Joining.{owned_joins, reads_start}
 use Rattle.segments.proofs.owned.OwnedJournal.list.Goals as goal
 
@@ -57,7 +57,7 @@ loop-n-preserved g c =
       pages = c.in_ok-take_page.ensures.0 ∙ ap (λ n. n + 1) before.pages;
       digested = page_digested sum own d P c.loop-n.n s a b c.deref_mut.result.now c.read_content.new.bytes c.loop-n.digesting c.take_page.new.self c.in_ok-read_content.field-0
           c.requires.owned before.leaves c.in_ok-read_content.ensures.goes len fits before.pages before.digested
-          (subst (λ page. DigestsPage d page c.loop-n.digesting c.take_page.new.self) (c.deref-2.ensures.value ∙ same) c.in_ok-take_page.ensures.1);
+          (subst (λ page. DigestsPage d page c.loop-n.digesting c.take_page.new.self) (c.deref-in-loop-n.ensures.value ∙ same) c.in_ok-take_page.ensures.1);
       small = bytes_grow P c.loop-n.n s a b c.deref_mut.result.now c.read_content.new.bytes c.in_ok-read_content.field-0 (content_kept sum own s a before.leaves)
           c.in_ok-read_content.ensures.goes len (subst EachIsByte (c.deref.ensures.value ∙ same) c.are_bytes.ensures) before.small;
       len = ap length same ∙ read.1 ∙ len;
@@ -81,20 +81,27 @@ returns-clause-goes g c =
     let a = c.loop-n.self in
     let b = c.read_content-2.new.self in
     let before = c.loop-n.invariant in
+    let N = c.size-size.result / P in
     let there = there_is _ s c.in-Some.journal c.self.view_is c.in-Some.is in
     let size = size_there _ s c.in-Some.journal c.size-size.result c.self.view_is c.in-Some.is c.size-size.ensures in
-    let pages : P ≡ s.page_size = c.get-page_size.ensures.value ∙ ap (λ (o : OwnedState). o.page_size) c.self.view_is in
-    let full : c.loop-n.n ≡ owned_size s.journal / P = ? in
-    let len : length c.deref_mut-2.result.now ≡ owned_size s.journal - c.loop-n.n * P = ? in
-    let read = c.in_ok-read_content-2.ensures.goes in
-    let same : _ ≡ c.read_content-2.new.bytes = ? in (
+    let sized : P ≡ s.page_size = c.get-page_size.ensures.value ∙ ap (λ (o : OwnedState). o.page_size) c.self.view_is in
+    let ends : c.loop-n.n ≡ N = omega (arith, c.loop-n-test.false, c.loop-n.auto.n-end) in
+    let pages : c.loop-n.digesting.pages ≡ N = before.pages ∙ ends in
+    let small = subst (λ n. EachIsByte (take (n * P) (content_now s))) ends before.small in
+    let full : N ≡ owned_size s.journal / P = ap (λ k. k / P) size in
+    let less = rest_short P c.size-size.result c.get-page_size.ensures.nonzero in
+    let len : length c.deref_mut-2.result.now ≡ owned_size s.journal - N * P =
+    ap length c.deref_mut-2.ensures.value ∙ grind (arith, common_steps, size, less, before.len) in
+    let read = read_is (N * P) c.deref_mut-2.result.now c.read_content-2.new.bytes a b c.in_ok-read_content-2.field-0 c.in_ok-read_content-2.ensures.goes in
+    let filled : length c.read_content-2.new.bytes ≡ c.truncate.new.self.len = omega (arith, read.1, c.deref_mut-2.ensures.len) in
+    let same = take_at c.read_content-2.new.bytes (drop (length c.read_content-2.new.bytes) c.truncate.new.self.items) c.truncate.new.self.len filled in (
       there,
-      subst (λ P. c.in_ok-finish.field-0.items ≡ list_of d P (content_now s)) pages
-          (list_done sum own d P c.loop-n.n s a b c.deref_mut-2.result.now c.read_content-2.new.bytes c.loop-n.digesting c.in_ok-finish.field-0.items c.in_ok-read_content-2.field-0
-          c.requires.owned before.leaves read c.get-page_size.ensures.nonzero full len before.pages before.digested
-          (subst (λ rest. FinishesList d rest c.loop-n.digesting c.in_ok-finish.field-0.items) (c.deref-4.ensures.value ∙ same) c.in_ok-finish.ensures)),
-      all_bytes sum own P c.loop-n.n s a b c.deref_mut-2.result.now c.read_content-2.new.bytes c.in_ok-read_content-2.field-0 c.requires.owned (content_kept sum own s a before.leaves)
-          read len (subst EachIsByte (c.deref-3.ensures.value ∙ same) c.are_bytes-2.ensures) before.small,
+      subst (λ P. c.in_ok-finish.field-0.items ≡ list_of d P (content_now s)) sized
+          (list_done sum own d P N s a b c.deref_mut-2.result.now c.read_content-2.new.bytes c.loop-n.digesting c.in_ok-finish.field-0.items c.in_ok-read_content-2.field-0
+          c.requires.owned before.leaves c.in_ok-read_content-2.ensures.goes c.get-page_size.ensures.nonzero full len pages before.digested
+          (subst (λ rest. FinishesList d rest c.loop-n.digesting c.in_ok-finish.field-0.items) (c.deref-3.ensures.value ∙ same) c.in_ok-finish.ensures)),
+      all_bytes sum own P N s a b c.deref_mut-2.result.now c.read_content-2.new.bytes c.in_ok-read_content-2.field-0 c.requires.owned (content_kept sum own s a before.leaves)
+          c.in_ok-read_content-2.ensures.goes len (subst EachIsByte (c.deref-2.ensures.value ∙ same) c.are_bytes-2.ensures) small,
     )
 
 pub returns-clause-leaves : goal.returns-clause-leaves
