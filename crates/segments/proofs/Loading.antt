@@ -9,7 +9,6 @@ use Rattle.writer_state.specs.WriterState.{WriterState}
 use Rattle.writer_state.specs.Sound.{content}
 use Rattle.journal.specs.Frame.{whole_frames}
 use Rattle.journal.specs.declared.frame.Found.{Found}
-use Rattle.segments.specs.declared.closed.Closed.{Closed}
 use Rattle.segments.specs.declared.closed.FileDigest.{FileDigest}
 use Rattle.segments.specs.declared.closed.Fingerprint.{Fingerprint}
 use Rattle.segments.specs.declared.closed.Fingerprint.TheVariants.{Whole}

@@ -14,7 +14,7 @@ use Rattle.segments.specs.declared.error.Error.{Error}
 use Rattle.segments.specs.declared.error.Error.TheVariants as errors
 use Rattle.segments.specs.declared.place.Place.{Place}
 use Rattle.segments.specs.Kept.{HasFingerprint, HasTwinBy}
-use Rattle.segments.specs.Log.{IsDamagedBy, IsKeptAs, IsListed, IsReadOfClosed, IsTooLong, LogReadGoes, LogReadRefused, LogState}
+use Rattle.segments.specs.Log.{IsDamagedBy, IsKeptAs, IsListed, IsReadOfClosed, IsBeyondPages, LogReadGoes, LogReadRefused, LogState}
 use Rattle.segments.specs.Manifest.{ListingState, closed_at}
 use Rattle.segments.specs.PagedFrames.{PagedFrameGoes, ReadsPagedFrame}
 use Rattle.segments.specs.PagedReads.{HasDamagedFile, HasSeal, IsBeyondLimit, IsDamage, IsDamagedPaged, IsToldAs, OpensPaged, RebuildsPaged}
@@ -36,7 +36,7 @@ damaged_by : (d : List ℕ → List ℕ) (P : ℕ) (seal : Seal) (offset : ℕ) 
 damaged_by d P seal offset (Whole kept) is damaged = tt
 damaged_by d P seal offset (Paged kept) is damaged = subst (λ s. IsDamagedPaged d P s offset) (sym is) damaged
 
-long_by : (seal : Seal) (f : Fingerprint) → HasSeal seal f → IsBeyondLimit seal → IsTooLong f
+long_by : (seal : Seal) (f : Fingerprint) → HasSeal seal f → IsBeyondLimit seal → IsBeyondPages f
 long_by seal (Whole kept) is long = absurd is
 long_by seal (Paged kept) is long = subst (λ s. IsBeyondLimit s) (sym is) long
 

@@ -26,7 +26,7 @@ use Rattle.segments.specs.declared.error.Error.TheVariants as errors
 use Rattle.segments.specs.declared.place.Place.{Place}
 use Rattle.segments.specs.declared.segment_file.Kind.TheVariants.{Folder, Memory}
 use Rattle.segments.specs.Kept.{IsOf}
-use Rattle.segments.specs.Log.{HasLoaded, HeldReadGoes, IsDamagedBy, IsKeptAs, IsLoaded, IsReadOfClosed, IsReading, IsSameButReading, IsTooLong, LoadedState, LogReadGoes, LogReadRefused, LogState, TakeLoadedGoes}
+use Rattle.segments.specs.Log.{HasLoaded, HeldReadGoes, IsDamagedBy, IsKeptAs, IsLoaded, IsReadOfClosed, IsReading, IsSameButReading, IsBeyondPages, LoadedState, LogReadGoes, LogReadRefused, LogState, TakeLoadedGoes}
 use Rattle.segments.specs.Owned.{IsOwned, OwnedState, without_journal}
 use Rattle.segments.specs.PagedReads.{FileEndsEarly, HasDamagedFile, HasDamagedFrame, HasSeal, IsBeyondLimit, IsDamage, IsDamagedPaged, IsPagedOf, IsToldAs, OpensPaged, PagedSegmentState, RebuildsPaged}
 use Rattle.segments.specs.SegmentFiles.{reads_from}
@@ -142,14 +142,14 @@ a_file_has_no_seal kept is = is
 pub it_has_another_length : HasSeal (record its_seal { len = 4 }) (Paged sealed) → ⊥
 it_has_another_length same = let four : ◌≡◌ {A = ℕ} 3 4 = ap (λ (s : Seal). s.len) same in omega (arith, four)
 
-pub it_is_long : IsTooLong (Paged (record sealed { seal = record its_seal { len = 2 ^ 50 } }))
+pub it_is_long : IsBeyondPages (Paged (record sealed { seal = record its_seal { len = 2 ^ 50 } }))
 it_is_long = it_is_a_pebibyte
 
-pub it_is_short : IsTooLong (Paged sealed) → ⊥
+pub it_is_short : IsBeyondPages (Paged sealed) → ⊥
 it_is_short long = it_has_three_bytes long
 
 -- one that is known by its file is read whole, however long it is
-pub a_file_is_never_too_long : (kept : FileDigest) → IsTooLong (Whole kept) → ⊥
+pub a_file_is_never_too_long : (kept : FileDigest) → IsBeyondPages (Whole kept) → ⊥
 a_file_is_never_too_long kept is = is
 
 pub damaged_by_its_frame : IsDamagedBy first 32 0 (Paged sealed)
@@ -309,7 +309,7 @@ module _ (kept : FileDigest) where
 
   -- the manifest lists it with three bytes
   pub it_is_not_too_long : (own : List ℕ → ℕ) (t : LogState) → LogReadRefused own first log t (begin 0) errors.Manifest → ⊥
-  it_is_not_too_long own t (closed, listed, is) = it_is_short (subst (λ (c : Closed). IsTooLong c.fingerprint) (sym (it_is closed listed)) is)
+  it_is_not_too_long own t (closed, listed, is) = it_is_short (subst (λ (c : Closed). IsBeyondPages c.fingerprint) (sym (it_is closed listed)) is)
     where
       or_it : Option Closed → Closed
       or_it None = by_pages sealed

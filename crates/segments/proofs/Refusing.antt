@@ -1,5 +1,5 @@
 -- Why a rotation is refused.
-use Rattle.std.specs.Prelude.{◌≡◌, ◌⊎◌, ◌+◌, ◌++◌, ◌∷◌, ℕ, List, [], None, true, Result, Ok, Err}
+use Rattle.std.specs.Prelude.{◌≡◌, ◌⊎◌, ◌+◌, ◌++◌, ◌∷◌, ℕ, List, [], None, true, false, Result, Ok, Err}
 use Rattle.std.specs.Result.{IsErrAnd}
 use Rattle.std.proofs.Common.{ap, sym, ◌∙◌, subst, inl, inr}
 use Rattle.segments.specs.declared.call.FolderCall.TheVariants as calls
@@ -12,7 +12,7 @@ use Rattle.segments.specs.FolderEvents.{FolderEvent, plain_event}
 use Rattle.segments.specs.Manifest.{ListingState, listed_with, open_in}
 use Rattle.page_digests.specs.declared.levels.Levels.{Levels}
 use Rattle.segments.specs.Owned.{IsShut, OwnedSealGoes, OwnedState, records_now}
-use Rattle.segments.specs.Log.{AsksUnsynced, EnterRefused, IsNotEntered, IsSameButAsked, IsSameButCurrent, IsSameButManifest, IsSealed, ListRefused, ListsTheSame, LogState, NextRefused, RotateGoes, WriteListGoes, asked_listing, events_for}
+use Rattle.segments.specs.Log.{AsksUnsynced, EnterRefused, IsNotEntered, IsSameButAsked, IsSameButCurrent, IsSameButManifest, IsClosedAs, ListRefused, ListsTheSame, LogState, NextRefused, RotateGoes, WriteListGoes, asked_listing, events_for}
 use Rattle.segments.proofs.Rotating.{Turning, asked_is, listing_asked, numbered_as, same_listing, same_reading, same_known, same_manifest, same_most, same_pages}
 
 -- the open segment couldn't be closed
@@ -23,7 +23,7 @@ close_refused sum own d s t e (Err x) is goes rest none =
     (none, inl (record { rest = rest; refused = subst (λ y. OwnedSealGoes d sum own s.current t.current (Err y)) (sym is) goes }))
 
 -- the list of the open segment couldn't be written
-list_cause : (d : List ℕ → List ℕ) (sum own : List ℕ → ℕ) (s m t : LogState) (kept : Closed) (levels : Levels) (e : Error) → IsSealed sum own d s m.current.life kept levels → IsSameButCurrent s m
+list_cause : (d : List ℕ → List ℕ) (sum own : List ℕ → ℕ) (s m t : LogState) (kept : Closed) (levels : Levels) (e : Error) → IsClosedAs sum own d s m.current.life kept levels → IsSameButCurrent s m
     → WriteListGoes levels m t (Err e) → ListRefused d s t e
 list_cause d sum own s m t kept levels (errors.System x) sealed first is = listing_asked d sum own s m t kept levels true sealed first is
 list_cause d sum own s m t kept levels (errors.Layer x) sealed first is = is
@@ -50,7 +50,7 @@ same_asked s m t first asks = record {
 }
 
 pub list_refused : (sum own : List ℕ → ℕ) (d : List ℕ → List ℕ) (s m t : LogState) (kept : Closed) (levels : Levels) (e : Error) (result : Result (Unit {0}) Error) → IsErrAnd result (λ x. x ≡ e)
-    → IsSealed sum own d s m.current.life kept levels → IsSameButCurrent s m → m.current.journal ≡ None → IsSameButAsked m t → WriteListGoes levels m t (Err e) → RotateGoes sum own d s t result
+    → IsClosedAs sum own d s m.current.life kept levels → IsSameButCurrent s m → m.current.journal ≡ None → IsSameButAsked m t → WriteListGoes levels m t (Err e) → RotateGoes sum own d s t result
 list_refused sum own d s m t kept levels e (Ok u) is sealed first none asks goes = absurd is
 list_refused sum own d s m t kept levels e (Err x) is sealed first none asks goes =
     let current = ap (λ (l : LogState). l.current) asks in (
@@ -85,7 +85,7 @@ next_cause s m t errors.Closed asked lists is = is
 
 -- the next segment couldn't be opened
 pub next_refused : (sum own : List ℕ → ℕ) (d : List ℕ → List ℕ) (s m w t : LogState) (kept : Closed) (levels : Levels) (u : Unit {0}) (e : Error) (result : Result (Unit {0}) Error) → IsErrAnd result (λ x. x ≡ e)
-    → IsSealed sum own d s m.current.life kept levels → IsSameButCurrent s m → m.current.journal ≡ None → WriteListGoes levels m w (Ok u) → IsSameButAsked m w
+    → IsClosedAs sum own d s m.current.life kept levels → IsSameButCurrent s m → m.current.journal ≡ None → WriteListGoes levels m w (Ok u) → IsSameButAsked m w
     → IsSameButAsked w t → NextRefused w t e → RotateGoes sum own d s t result
 next_refused sum own d s m w t kept levels u e (Ok v) is sealed first none wrote lists asks goes = absurd is
 next_refused sum own d s m w t kept levels u e (Err x) is sealed first none wrote lists asks goes =

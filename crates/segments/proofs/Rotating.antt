@@ -13,7 +13,7 @@ use Rattle.writer_state.specs.WriterState.{WriterState}
 use Rattle.page_digests.specs.Pages.{list_of, top_of}
 use Rattle.page_digests.specs.declared.levels.Levels.{Levels}
 use Rattle.segments.specs.Owned.{HasJournal, IsOwned, OwnedState, content_now, owned_size, records_now, without_journal}
-use Rattle.segments.specs.Log.{CurrentKeeps, HasFollowed, HasNext, HasOpened, IsEntered, IsLog, IsRotated, IsSameButAsked, IsSameButCurrent, IsSameButManifest, IsSealed, LeavesOpened, LogState, WasClosed, WriteListGoes, asked_listing, asked_turning, entered_bytes, events_for, listing_event}
+use Rattle.segments.specs.Log.{CurrentKeeps, HasFollowed, HasNext, HasOpened, IsEntered, IsLog, IsRotated, IsSameButAsked, IsSameButCurrent, IsSameButManifest, IsClosedAs, LeavesOpened, LogState, WasClosed, WriteListGoes, asked_listing, asked_turning, entered_bytes, events_for, listing_event}
 use Rattle.segments.proofs.Padding.{paged_len, room_after}
 use Rattle.segments.proofs.Empty.{no_record}
 
@@ -73,7 +73,7 @@ pub listed : (P : ℕ) (kept : Closed) (l m : ListingState) → listed_with P (C
 listed P kept l m is = only_some (open_in l == 18446744073709551615) (record { first = l.first; closed = l.closed ++ kept ∷ [] }) m is
 
 -- the list of the open segment was written, by what the folder was asked for
-pub listing_asked : (d : List ℕ → List ℕ) (sum own : List ℕ → ℕ) (s m t : LogState) (kept : Closed) (levels : Levels) (failed : Bool) → IsSealed sum own d s m.current.life kept levels → IsSameButCurrent s m
+pub listing_asked : (d : List ℕ → List ℕ) (sum own : List ℕ → ℕ) (s m t : LogState) (kept : Closed) (levels : Levels) (failed : Bool) → IsClosedAs sum own d s m.current.life kept levels → IsSameButCurrent s m
     → t.asked ≡ m.asked ++ writing_event (open_in m.listing) (levels.list.items ++ levels.top.items) failed ∷ [] → t.asked ≡ s.asked ++ listing_event d s failed ∷ []
 listing_asked d sum own s m t kept levels failed sealed first asked =
     let bytes : levels.list.items ++ levels.top.items ≡ list_of d s.page_size (content_now s.current) ++ top_of d s.page_size (content_now s.current) =
@@ -94,7 +94,7 @@ pub record Turning (sum own : List ℕ → ℕ) (d : List ℕ → List ℕ) (s m
   pub asks : IsSameButAsked w n
   pub follows : HasFollowed next n f
 
-pub turning_of : (sum own : List ℕ → ℕ) (d : List ℕ → List ℕ) (s m w n f : LogState) (next : OwnedState) (kept : Closed) (levels : Levels) (u : Unit {0}) → IsSealed sum own d s m.current.life kept levels
+pub turning_of : (sum own : List ℕ → ℕ) (d : List ℕ → List ℕ) (s m w n f : LogState) (next : OwnedState) (kept : Closed) (levels : Levels) (u : Unit {0}) → IsClosedAs sum own d s m.current.life kept levels
     → CurrentKeeps sum own (records_now own s.current) s m → IsSameButCurrent s m → WriteListGoes levels m w (Ok u) → IsSameButAsked m w → HasNext sum own w n next → IsSameButAsked w n → HasFollowed next n f
     → Turning sum own d s m w n f next kept
 turning_of sum own d s m w n f next kept levels u sealed keeps first wrote lists has asks follows =

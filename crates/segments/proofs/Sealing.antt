@@ -1,15 +1,13 @@
 -- A journal that is sealed: its records are committed, its content is digested, and it is closed.
 use Rattle.std.specs.Prelude.{◌≡◌, ◌⊎◌, ℕ, List, length, Some, None, Option, IfSome, Result, Ok, Err}
 use Rattle.std.specs.Result.{IsErrAnd}
-use Rattle.std.proofs.Common.{ap, sym, ◌∙◌, refl, subst, inl, inr}
+use Rattle.std.proofs.Common.{ap, sym, ◌∙◌, subst, inl, inr}
 use Rattle.disk.specs.Disk.{Disk, Life}
-use Rattle.disk.specs.declared.error.Error as disk
 use Rattle.cache.specs.CacheState.{CacheState}
 use Rattle.crash.specs.Looks.{Looked}
 use Rattle.page.specs.Page.{text}
 use Rattle.paged.specs.Recovery.{IsDurable}
 use Rattle.writer_state.specs.WriterState.{WriterState}
-use Rattle.writer_state.specs.Sound.{content}
 use Rattle.journal.specs.Frame.{records}
 use Rattle.journal.specs.Journal.{CommitGoes, IsCommitted, RecordReadRefused, records_in}
 use Rattle.journal.specs.Calls.{JournalCallLeaves, RecordReadLeaves}
@@ -21,7 +19,7 @@ use Rattle.segments.specs.declared.closed.PagedSeal.{PagedSeal}
 use Rattle.segments.specs.declared.error.Error.{Error}
 use Rattle.segments.specs.declared.error.Error.TheVariants as errors
 use Rattle.segments.specs.Owned.{HasJournal, IsOwned, IsOwnedJournal, IsShut, IsUndigested, KeepsJournal, KeepsRecords, LevelsGo, OwnedCommitGoes, OwnedKeeps, OwnedLeaves, OwnedReadLeaves, OwnedSealGoes, OwnedState, content_now, content_of, owned_size, records_now, records_of, without_journal}
-use Rattle.segments.specs.Log.{IsLog, IsSealed, LogState}
+use Rattle.segments.specs.Log.{IsLog, IsClosedAs, LogState}
 use Rattle.segments.proofs.Adding.{keeps_joins}
 use Rattle.segments.proofs.Closing.{keeps_by, pages_of, shut_by}
 use Rattle.segments.proofs.Digested.{size_now}
@@ -207,7 +205,7 @@ counted_by sum own s (Some w) there owned = owned.counts
 pub sealed_of : (sum own : List ℕ → ℕ) (d : List ℕ → List ℕ) (s t : LogState) (kept : Closed) (seal : PagedSeal) (levels : Levels) → IsLog sum own s
     → OwnedSealGoes d sum own s.current t.current (Ok levels) → kept.fingerprint ≡ Paged seal → kept.records ≡ s.current.records
     → seal.seal.len ≡ owned_size s.current.journal → seal.seal.root ≡ levels.root
-    → IsSealed sum own d s t.current.life kept levels
+    → IsClosedAs sum own d s t.current.life kept levels
 sealed_of sum own d s t kept seal levels log is by counts len root =
     let held = content_now s.current in
     let pages = log.current_pages in

@@ -22,7 +22,7 @@ use Rattle.segments.specs.declared.error.Error.TheVariants as errors
 use Rattle.segments.specs.FolderEvents.{FolderEvent, closing_event, opening_with, plain_event, writing_event}
 use Rattle.segments.specs.Manifest.{closed_by, none_closed}
 use Rattle.segments.specs.Owned.{DigestsFail, IsUndigested, LevelsGo, ListGoes, OwnedContentGoes, OwnedSealGoes, OwnedState, without_journal}
-use Rattle.segments.specs.Log.{CloseCurrentGoes, HasOpenTwin, IsNotWritten, IsSealed, ListRefused, LogState, WasClosed, WriteListGoes, asked_listing, asked_turning, listing_event}
+use Rattle.segments.specs.Log.{CloseCurrentGoes, HasOpenTwin, IsNotWritten, IsClosedAs, ListRefused, LogState, WasClosed, WriteListGoes, asked_listing, asked_turning, listing_event}
 use Rattle.segments.proofs.BytesExamples.{c_frame, c_life, c_page, d_frame, resting, with_c, with_none, writer}
 use Rattle.segments.proofs.OwnedExamples.{all_is_durable}
 
@@ -191,11 +191,11 @@ module _ (l : Levels) where
   unfolding record_len is_record record_of frames records
   one_more_was_kept len is = let same : ◌≡◌ {A = ℕ} 2 1 = is.counts in omega (arith, same)
 
-  pub it_is_sealed : AreLevelsOf first 18 c_frame l → IsSealed add_sum add_sum first with_one c_life (its_seal 1 8) l
+  pub it_is_sealed : AreLevelsOf first 18 c_frame l → IsClosedAs add_sum add_sum first with_one c_life (its_seal 1 8) l
   it_is_sealed are = record { closed = it_was_closed are; levels = are }
 
   -- the levels are those of another content
-  pub it_is_sealed_as_d : (kept : Closed) → l.list.items ≡ list_of first 18 d_frame → IsSealed add_sum add_sum first with_one c_life kept l → ⊥
+  pub it_is_sealed_as_d : (kept : Closed) → l.list.items ≡ list_of first 18 d_frame → IsClosedAs add_sum add_sum first with_one c_life kept l → ⊥
   it_is_sealed_as_d kept is sealed = omega (arith, ap (λ (bytes : List ℕ). get_or bytes 2 0) (sym is ∙ sealed.levels.list))
 
   pub it_closes : AreLevelsOf first 18 c_frame l → CloseCurrentGoes add_sum add_sum first with_one (none_open []) (Ok (its_seal 1 8, l))

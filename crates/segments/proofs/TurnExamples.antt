@@ -17,7 +17,7 @@ use Rattle.page_digests.specs.Seals.{HasSecondPreimage}
 use Rattle.segments.specs.FolderEvents.{keeping_event, plain_event}
 use Rattle.segments.specs.Manifest.{ListingState, free_after, open_in}
 use Rattle.segments.specs.Owned.{HasJournal, IsShut, OwnedAppendGoes, OwnedState, content_now, owned_size, records_now, without_journal}
-use Rattle.segments.specs.Log.{AppendHereGoes, AreOfOlder, AsksOfOlder, HasMore, IsAppendedTo, IsNotFollowed, IsNotListed, IsRefusedAfter, IsRotated, IsSameButCurrent, ListsTheSame, LogReadGoes, LogReadRefused, LogState, NextRefused, WasClosed, asked_listing, asked_turning, entered_bytes, log_records}
+use Rattle.segments.specs.Log.{AppendHereGoes, AreOfOlder, AsksOfOlder, HasMore, IsAppendedTo, IsNotFollowed, IsNotListed, IsRefusedAfter, IsRotated, IsSameButCurrent, LogReadGoes, LogReadRefused, LogState, NextRefused, WasClosed, asked_listing, asked_turning, entered_bytes, log_records}
 use Rattle.segments.specs.Kept.{HoldsClosed, IsSealedBy}
 use Rattle.segments.specs.Crash.{CurrentSurvives, IsRotationKept, KeepsLog, LogTurned, RotationSurvives, TurnKept, TurnedSurvives, records_left}
 use Rattle.segments.specs.Scan.{IsNextAt, IsRefusedFrom, NextGoes, StandBetween, StandBy, records_at}

@@ -11,7 +11,7 @@ use Rattle.writer_state.specs.WriterState.{WriterState}
 use Rattle.writer_state.specs.Sound.{content}
 use Rattle.journal.specs.Frame.{records, whole_frames}
 use Rattle.journal.specs.declared.frame.Found.{Found}
-use Rattle.journal.specs.Journal.{CommitsAll, IsFound, OnlyRecords, records_in}
+use Rattle.journal.specs.Journal.{CommitsAll, OnlyRecords, records_in}
 use Rattle.segments.specs.declared.call.FolderCall.TheVariants as calls
 use Rattle.page_digests.specs.Pages.{list_of, top_of}
 use Rattle.page_digests.specs.Seals.{AreLevelsOf, HasSecondPreimage}
@@ -201,14 +201,14 @@ pub record WasClosed (sum own : List ℕ → ℕ) (d : List ℕ → List ℕ) (s
   pub counts : kept.records ≡ length (records_now own s.current)
 
 -- with it come the levels of its content
-pub record IsSealed (sum own : List ℕ → ℕ) (d : List ℕ → List ℕ) (s : LogState) (last : Life)
+pub record IsClosedAs (sum own : List ℕ → ℕ) (d : List ℕ → List ℕ) (s : LogState) (last : Life)
     (kept : Closed) (l : Levels) : Type 0 where
   pub closed : WasClosed sum own d s last kept
   pub levels : AreLevelsOf d s.page_size (content_now s.current) l
 
 abbrev pub CloseCurrentGoes : (sum own : List ℕ → ℕ) → (d : List ℕ → List ℕ) → LogState → LogState
     → Result (Closed × Levels) Error → Type 0
-CloseCurrentGoes sum own d s t (Ok r) = IsSealed sum own d s t.current.life r.0 r.1
+CloseCurrentGoes sum own d s t (Ok r) = IsClosedAs sum own d s t.current.life r.0 r.1
 CloseCurrentGoes sum own d s t (Err e) = OwnedSealGoes d sum own s.current t.current (Err e)
 
 -- what a call of the open segment's journal leaves: what was committed is so at each moment since,
@@ -539,9 +539,9 @@ IsDamagedBy d P offset (Whole kept) = Unit {0}
 IsDamagedBy d P offset (Paged kept) = IsDamagedPaged d P kept.seal offset
 
 -- a content of this fingerprint has more bytes than a content can have that is read by its pages
-abbrev pub IsTooLong : Fingerprint → Type 0
-IsTooLong (Whole kept) = ⊥
-IsTooLong (Paged kept) = IsBeyondLimit kept.seal
+abbrev pub IsBeyondPages : Fingerprint → Type 0
+IsBeyondPages (Whole kept) = ⊥
+IsBeyondPages (Paged kept) = IsBeyondLimit kept.seal
 
 -- a read of a segment is refused: there is none of this number; or it is closed, and its file
 -- doesn't hold what it held, or the folder refuses a file, or the manifest can't be right about its
@@ -553,7 +553,7 @@ LogReadRefused own d s t p (errors.NoSegment n) = (n ≡ p.segment)
 LogReadRefused own d s t p (errors.Damaged n) = (n ≡ p.segment)
     × IsKeptAs s.listing p.segment (IsDamagedBy d s.page_size p.offset)
 LogReadRefused own d s t p (errors.System e) = IsListed s p.segment
-LogReadRefused own d s t p errors.Manifest = IsKeptAs s.listing p.segment IsTooLong
+LogReadRefused own d s t p errors.Manifest = IsKeptAs s.listing p.segment IsBeyondPages
 LogReadRefused own d s t p errors.Closed =
     (p.segment ≡ open_in s.listing) × (s.current.journal ≡ None)
 LogReadRefused own d s t p (errors.Layer e) = ReadFails own s t p e

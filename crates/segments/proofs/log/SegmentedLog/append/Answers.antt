@@ -1,9 +1,8 @@
 use Rattle.std.specs.Prelude.{◌<◌}
 use Rattle.std.proofs.Common.{arith, inl, inr, subst}
-use Rattle.std.proofs.lemmas.Grind.{common_steps}
 use Rattle.segments.specs.Owned.{owned_size}
 use Rattle.segments.proofs.Appends.{after_goes, after_survives, here_goes, is_long, turn_goes}
-use Rattle.segments.proofs.Records.{log_adds_after}
+use Rattle.segments.proofs.Records.{log_adds, log_adds_after}
 use Rattle.segments.proofs.Rotating.{digest_same}
 use Rattle.segments.proofs.log.SegmentedLog.append.Given
 use Rattle.segments.proofs.log.SegmentedLog.append.Goals as goal
@@ -20,7 +19,9 @@ pub returns-then-size-self-clause-survives : goal.returns-then-size-self-clause-
 returns-then-size-self-clause-survives g c = inl (c.append_here.ensures.rest, c.append_here.ensures.lasts)
 
 pub returns-then-size-self-clause-adds : goal.returns-then-size-self-clause-adds
-returns-then-size-self-clause-adds c = grind (arith, common_steps)
+returns-then-size-self-clause-adds g c =
+    log_adds g.H.Sum.sum_of g.R.Sum.sum_of g.D.Digest.digest_of c.args.bytes.now c.args.self.now c.append_here.new.self c.append_here.result
+    (here_goes g.H.Sum.sum_of g.R.Sum.sum_of g.D.Digest.digest_of c.args.bytes.now c.args.self.now c.append_here.new.self c.append_here.result (is_short g c) c.append_here.ensures.goes c.append_here.ensures.rest)
 
 pub returns-in-Ok-clause-goes : goal.returns-in-Ok-clause-goes
 returns-in-Ok-clause-goes g c =

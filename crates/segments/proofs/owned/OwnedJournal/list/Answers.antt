@@ -1,5 +1,5 @@
-use Rattle.std.specs.Prelude.{◌≡◌, ◌+◌, ◌*◌, ◌-◌, ◌<◌, ◌≤◌, ◌/◌, drop, length, take}
-use Rattle.std.proofs.Common.{ap, sym, ◌∙◌, subst, arith, take_at}
+use Rattle.std.specs.Prelude.{◌≡◌, ◌+◌, ◌*◌, ◌-◌, ◌≤◌, ◌/◌, drop, length, take}
+use Rattle.std.proofs.Common.{ap, ◌∙◌, subst, arith, take_at}
 use Rattle.std.proofs.lemmas.Grind.{common_steps}
 use Rattle.page_digests.specs.Growing.{DigestsPage, FinishesList}
 use Rattle.page_digests.specs.Pages.{list_of}
