@@ -108,7 +108,7 @@ pub nothing_shows_it : (d : List ℕ → List ℕ) → IsDamagedPaged d 32 (none
 nothing_shows_it d (inl is) = omega (arith, is.fails.begins, ap (λ (s : Seal). s.len) is.of)
 nothing_shows_it d (inr is) = no_file_is_damaged d is
 
--- ---- as the log tells it
+-- ---- as the log answers it
 
 pub told_as_damage : IsToldAs 7 causes.Damaged (errors.Damaged 7)
 told_as_damage = refl

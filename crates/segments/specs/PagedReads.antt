@@ -64,7 +64,7 @@ abbrev pub HasSeal : Seal → Fingerprint → Type 0
 HasSeal seal (Whole kept) = ⊥
 HasSeal seal (Paged kept) = kept.seal ≡ seal
 
--- an error of the content of the segment of this number, as the log tells it
+-- an error of the content of the segment of this number, as the log answers it
 abbrev pub IsToldAs : (number : ℕ) → pages.Error → Error → Type 0
 IsToldAs number causes.Damaged e = e ≡ errors.Damaged number
 IsToldAs number (causes.System x) e = (FileEndsEarly x × (e ≡ errors.Damaged number))

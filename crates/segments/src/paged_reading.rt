@@ -171,7 +171,7 @@ fn is_damage(error: &PageError) -> bool
     }
 }
 
-// An error of a segment's content, as the log tells it.
+// An error of a segment's content, as the log answers it.
 fn told(number: u64, error: PageError) -> Error
     ensures { IsToldAs number error result }
 {
