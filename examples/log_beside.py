@@ -17,9 +17,9 @@ brackets, the ratio of the medians, the most memory of each program, and how man
   scan    `pagedd cat FOLDER` to /dev/null, and the plain program as `plain cat FILE`
   recent  10,000 reads by place in the open segment, at random, 500 of them at once; for the plain side pread
   one     the same in one closed segment, once the first read of it is answered
-  sorted  10,000 reads over all segments, sorted by place: each closed segment is read once
-  first   reads by place of closed segments, each of another one than that before, one after the other: each reads a
-          whole file, and compares it with its digest. The plain side: pread at the same places
+  sorted  10,000 reads over all segments, sorted by place: each closed segment is opened once
+  first   reads by place of closed segments, each of another one than that before, one after the other: each opens a
+          file and its list, and compares the pages that it touches. The plain side: pread at the same places
 
 The last three are left out where no segment is closed. The files are made in a new folder below --folder, and removed.
 That should be on the disk of interest. There is to be room for twice --mib.
@@ -44,7 +44,7 @@ from log_client import APPEND_RECORDS, APPEND_RECORDS_SYNC, SYNC_SIZE
 
 RECORD, FRAME = 1000, 1007
 # The records of a batch, how many batches with a sync are timed, and how many reads; how many of these are at once, and
-# how many of those that read a whole file.
+# how many of those that open a segment.
 GROUP, SYNCS, READS, WINDOW, FIRSTS = 1000, 64, 10_000, 500, 20
 # How long the answer to a read is.
 FOUND = 4 + 1 + 8 + 1 + RECORD

@@ -5,6 +5,7 @@ for reading alone, two programs at one log, and folders that were changed by han
 isn't as `docs/LOG_PROTOCOL.md` says ends it. It has no cases of a killed program: `log_kill.py` has them.
 """
 import errno
+import hashlib
 import json
 import os
 import re
@@ -15,6 +16,7 @@ import struct
 import subprocess
 import tempfile
 
+import reader
 import usage
 from client import APPEND, CLOSE, READ, SIZE, SYNC, Refusal, batch
 from log_client import (APPEND_RECORDS, APPEND_RECORDS_SYNC, AT_END, CLOSED, DAMAGED, DROP_BEFORE, FLUSH, NEXT,
@@ -70,6 +72,11 @@ def play(program, *words, given=b"", **options):
     """The exit status of a command, its output, and what it said on standard error."""
     ended = subprocess.run([program, *words], input=given, capture_output=True, timeout=120, check=False, **options)
     return ended.returncode, ended.stdout, ended.stderr.decode(errors="replace")
+
+
+def listed(folder, number):
+    """The path of a segment's list."""
+    return segment(folder, number).replace(".segment", ".digests")
 
 
 def segment(folder, number):
@@ -255,6 +262,175 @@ def expect_told(program, folder, status, said):
     print("and check says so in its own output")
 
 
+def unread(program, folder, back, places):
+    """What stands behind the content in a closed segment's file isn't read. Of its list nothing is needed: a list that
+    isn't what it was is told by check and map, and reads go on."""
+    back()
+    whole, held = contents(segment(folder, 1)), contents(listed(folder, 1))
+    last = places[-1][0]
+    cases = {"a segment is cut behind its content": (segment(folder, 1), whole[:-1], "whole"),
+             "a segment is grown": (segment(folder, 1), whole + b"\0", "whole"),
+             "a list is missing": (listed(folder, 1), None, "missing"), "a list is emptied": (listed(folder, 1), b"", "wrong"),
+             "a list is cut": (listed(folder, 1), held[:-1], "wrong"),
+             "a list is grown": (listed(folder, 1), held + b"\0", "whole"),
+             "one bit of a list is changed": (listed(folder, 1), flipped(held, 3), "wrong"),
+             "one bit of a list's top is changed": (listed(folder, 1), flipped(held, len(held) - 3), "wrong"),
+             "a list is that of another segment": (listed(folder, 1), contents(listed(folder, 0)), "wrong")}
+    for what, (path, data, state) in cases.items():
+        back()
+        os.remove(path)
+        if data is not None:
+            put(path, data)
+        before = image(folder)
+        log = Session(program, folder, "--read-only")
+        found = [log.read(place)[0] for place in places]
+        status, out, _ = play(program, "check", folder)
+        told = json.loads(play(program, "check", "--json", folder)[1])["closed"][1]
+        mapped = play(program, "map", folder)[1].decode().split()[-1]
+        if (found != [some(number) for number in range(len(places))] or log.end() != (0, "") or status != 0
+                or (told["state"], told["list"], told["wrong_pages"]) != ("whole", state, [])
+                or (f"segment 1: its list is {state}" in out.decode()) != (state != "whole")
+                or mapped != "#" + ("#" if state == "whole" else "~") + "#" * (last - 2) + "+" or image(folder) != before):
+            raise SystemExit(f"NOT SO: where {what}, all is read: {status} {out} {told} {mapped}")
+        print(f"where {what}, all is read, and check and map tell it")
+
+
+def pages(program, folder):
+    """Check names the pages of a damaged segment, as far as its list tells them; reads of others go on."""
+    shutil.rmtree(folder, ignore_errors=True)
+    small = ("--page-size=100", "--segment-size=2000")
+    log = Session(program, folder, *small)
+    places = log.append_all([some(number) for number in range(60)])
+    log.end()
+    path, whole, held = segment(folder, 0), contents(segment(folder, 0)), contents(listed(folder, 0))
+    size = json.loads(play(program, "check", "--json", "--page-size=100", folder)[1])["closed"][0]["content_bytes"]
+    count = -(-size // 100)
+    # The digests of pages 0 to 2 and a part of that of page 3 are in the list's first page.
+    for bad, at, rows, unknown in (({3}, None, [[3, 3]], 0), ({0, 1, 2, 7, count - 1}, None, [[0, 2], [7, 7], [count - 1] * 2], 0),
+                                   ({5}, 5, [[5, 5]], 4), ({5}, len(held) - 1, [], count)):
+        data = bytearray(whole)
+        for page in bad:
+            data[page * 112 + 2] ^= 4
+        put(path, data)
+        put(listed(folder, 0), held if at is None else flipped(held, at))
+        status, out, _ = play(program, "check", "--page-size=100", folder)
+        told = json.loads(play(program, "check", "--json", "--page-size=100", folder)[1])["closed"][0]
+        if (status, told["state"], told["wrong_pages"], told["unknown_pages"]) != (3, "damaged", rows, unknown):
+            raise SystemExit(f"NOT SO: check names the wrong pages {sorted(bad)}: {status} {told}")
+        words = ", ".join(f"{first} to {last}" if first < last else str(first) for first, last in rows)
+        expect(not rows or f"segment 0: wrong pages: {words}\n" in out.decode(),
+               f"check names the wrong pages {sorted(bad)} of a segment, with {unknown} of which it knows nothing")
+    put(listed(folder, 0), held)
+    log = Session(program, folder, *small)
+    for number, (at, offset) in enumerate(places):
+        touches = range(offset // 100, (offset + len(some(number)) + 6) // 100 + 1)
+        if at == 0 and 5 in touches:
+            if log.status(READ, at, offset) != DAMAGED:
+                raise SystemExit(f"NOT SO: record {number} is in a damaged page")
+        elif log.read((at, offset))[0] != some(number):
+            raise SystemExit(f"NOT SO: record {number} is in no damaged page")
+    expect(log.end() == (0, ""), "the records in that page are refused with 39, and all others are read")
+    out = folder + "-out"
+    status = play(program, "salvage", "--page-size=100", folder, out)[0]
+    found = play(program, "cat", "--page-size=100", out)[1].split(b"\n")[:-1]
+    expect(status == 3 and len(found) >= 58 and set(found) <= {some(number) for number in range(60)},
+           "and salvage takes all but the one that was changed")
+
+
+def digests(program, folder):
+    """A log is opened with the digest that its segments were closed with, and is told which one that is."""
+    other = ("--digest=poly61",)
+    for made, wrong, name in (((), other, "sha512-256"), (other, (), "poly61")):
+        shutil.rmtree(folder, ignore_errors=True)
+        log = Session(program, folder, SMALL, *made)
+        places = log.append_all([some(number) for number in range(20)])
+        log.end()
+        before, out = image(folder), folder + "-out"
+        for words in (["serve-log"], ["serve-log", "--read-only"], ["check"], ["cat"], ["map"], ["salvage"], ["copy"],
+                      ["rebuild"]):
+            shutil.rmtree(out, ignore_errors=True)
+            ended = play(program, *words, *wrong, folder, *([out] if words[0] in ("salvage", "copy") else []))
+            if ended[0] != 3 or f"take --digest {name}" not in ended[1].decode() + ended[2] or image(folder) != before:
+                raise SystemExit(f"NOT SO: pagedd {words[0]} tells which digest to take: {ended}")
+        print(f"each command tells that it needs --digest {name}, with status 3, and nothing changes")
+        expect([play(program, words, *made, folder)[0] for words in ("check", "map", "cat", "rebuild")] == [0, 0, 0, 0],
+               "with that all is whole")
+        os.remove(os.path.join(folder, "manifest"))
+        os.remove(os.path.join(folder, "manifest.copy"))
+        os.remove(listed(folder, 2))
+        status, told, _ = play(program, "rebuild", *made, folder)
+        now, text = image(folder), [reader.read(it["manifest"], 4084, reader.crc32c)[1] for it in (before, image(folder))]
+        expect(status == 0 and text[0] == text[1] and now.keys() == before.keys() - {"manifest.copy"}
+               and all(now[name] == before[name] for name in now if name != "manifest"),
+               f"rebuild makes the same manifest and list: {told.decode().strip()}")
+        for words in ("copy", "salvage"):
+            shutil.rmtree(out, ignore_errors=True)
+            status = play(program, words, *made, folder, out)[0]
+            log = Session(program, out, SMALL, *made)
+            found = list(log.records())
+            expect(status == 0 and [data for _, data in found] == [some(number) for number in range(20)]
+                   and (words != "copy" or [place for place, _ in found] == places) and log.end() == (0, ""),
+                   f"and {words} makes a log with the same records")
+            expect(words != "copy" or {name: data for name, data in image(out).items() if name.endswith(".digests")}
+                   == {name: data for name, data in before.items() if name.endswith(".digests")}, "with its lists")
+    status, out, said = play(program, "check", "--digest=md5", folder)
+    expect((status, out) == (1, b"") and "poly61" in said and "sha512-256" in said, "another name is refused, with the two")
+
+
+def older_log(program, folder):
+    """A log whose segments were closed by their whole files, as versions before 0.11 did it."""
+    shutil.rmtree(folder, ignore_errors=True)
+    places = a_log(program, folder)
+    last = places[-1][0]
+    manifest = entry(struct.pack(">BQH", 0, 0, 4084))
+    for number in range(last):
+        held = contents(segment(folder, number))
+        count = sum(place[0] == number for place in places)
+        manifest += entry(struct.pack(">BQQ", 1, count, len(held)) + hashlib.sha256(held).digest())
+        os.remove(listed(folder, number))
+    page = manifest.ljust(4084, b"\0") + struct.pack(">HIHI", len(manifest), reader.crc32c(manifest), 0, 0)
+    put(os.path.join(folder, "manifest"), page)
+    os.remove(os.path.join(folder, "manifest.copy"))
+    before = image(folder)
+    for options in ((), ("--digest=poly61",)):
+        log = Session(program, folder, "--read-only", *options)
+        expect(list(log.records()) == [(place, some(number)) for number, place in enumerate(places)]
+               and log.end() == (0, "") and [play(program, words, *options, folder)[0] for words in ("check", "map", "cat")]
+               == [0, 0, 0] and image(folder) == before, "a log of the form before is read, and is whole")
+    told = json.loads(play(program, "check", "--json", folder)[1])["closed"]
+    expect([(it["bytes"], it["state"]) for it in told] == [(len(before[os.path.basename(segment("", n))]), "whole")
+                                                            for n in range(last)], "check tells the bytes of its files")
+    log = Session(program, folder, SMALL)
+    more = log.append_all([some(number) for number in range(20, 40)])
+    expect([data for _, data in log.records()] == [some(number) for number in range(40)] and log.end() == (0, ""),
+           "it is appended to")
+    there = {int(name[:20]) for name in image(folder) if name.endswith(".digests")}
+    told = json.loads(play(program, "check", "--json", folder)[1])["closed"]
+    expect(there == set(range(last, more[-1][0])) == {it["segment"] for it in told if "list" in it},
+           "segments that are closed from then on have lists")
+    out = folder + "-out"
+    shutil.rmtree(out, ignore_errors=True)
+    status, now, copied = play(program, "copy", folder, out)[0], image(folder), image(out)
+    expect((status, play(program, "check", out)[0]) == (0, 0) and copied.keys() == now.keys()
+           and all(copied[name] == now[name] for name in now if name[:20].isdigit() and int(name[:20]) < more[-1][0]),
+           "it is copied, with these")
+    put(segment(folder, 1), flipped(contents(segment(folder, 1)), 4090))
+    status = play(program, "check", folder)[0]
+    log = Session(program, folder, SMALL)
+    expect((status, log.status(READ, 1, 0)) == (3, DAMAGED), "of its older segments each byte of the file counts")
+    for first in (2, last + 1):
+        log.drop_before(first)
+    expect([place for place, _ in log.records()] == [place for place in places + more if place[0] > last]
+           and log.end() == (0, "") and not {name for name in image(folder)
+                                             if name[:20].isdigit() and int(name[:20]) <= last},
+           "segments of both kinds are dropped, with their lists")
+
+
+def entry(record):
+    """A frame of the manifest."""
+    return struct.pack(">H", len(record)) + record + struct.pack(">IB", reader.crc32c(record), 1)
+
+
 def tampering(program, folder):
     shutil.rmtree(folder, ignore_errors=True)
     places = a_log(program, folder)
@@ -269,7 +445,7 @@ def tampering(program, folder):
             put(os.path.join(folder, name), data)
 
     whole = contents(segment(folder, 1))
-    cases = {"one bit changed": flipped(whole, 100), "cut": whole[:-1], "emptied": b"", "grown": whole + b"\0",
+    cases = {"one bit changed": flipped(whole, 100), "cut": whole[:100], "emptied": b"",
              "exchanged for another one": contents(segment(folder, 0)), "missing": None}
     for what, data in cases.items():
         back()
@@ -299,6 +475,7 @@ def tampering(program, folder):
             raise SystemExit(f"NOT SO: check, map and cat tell that it is {what}: {out} {told} {mapped} {written}")
         print(f"a closed segment that is {what}: its reads are refused with {expected}, check, map and cat tell it, "
               "and the others are read")
+    unread(program, folder, back, places)
     back()
     expect(play(program, "check", folder)[0] == 0 and play(program, "cat", folder)[0] == 0
            and play(program, "map", "--long", folder)[0] == 0, "a whole log is told as such")
@@ -531,8 +708,8 @@ def main():
     made.add_argument("PAGEDD", type=usage.program)
     program = made.parse_args().PAGEDD
     with tempfile.TemporaryDirectory() as room:
-        parts = (version_one, version_two, wrong_frames, in_order, alone, tampering, older_manifest, short_open, torn, begun,
-                 closed_by_a_failure, full, commands, documented)
+        parts = (version_one, version_two, wrong_frames, in_order, alone, tampering, pages, digests, older_log, older_manifest,
+                 short_open, torn, begun, closed_by_a_failure, full, commands, documented)
         for number, part in enumerate(parts):
             part(program, os.path.join(room, f"log-{number}"))
     print("all is so")

@@ -45,7 +45,8 @@ class Made:
         log.close()
         last = max(name for name in os.listdir(folder) if name.endswith(".segment"))
         self.open, self.closed = last, segment(int(last[:20]) - 2)
-        self.names = {"the manifest": "manifest", "the open segment": self.open, "a closed segment": self.closed}
+        self.names = {"the manifest": "manifest", "the open segment": self.open, "a closed segment": self.closed,
+                      "the list of a closed segment": self.closed.replace(".segment", ".digests")}
 
     def open_again(self, program):
         """Opens the log once more, so that the copy of its manifest knows how much the open segment has."""
@@ -71,6 +72,14 @@ def swaps(data, one, other):
 
 def doubles(data, page):
     return data[:(page + 1) * PAGE] + data[page * PAGE:]
+
+
+def list_damages(made, name):
+    """What becomes of a list, which is shorter than a page."""
+    data = made.data(name)
+    other = f"{int(name[:20]) + 1:020}.digests"
+    return {"a bit flipped": flips(data + bytes(PAGE), 0)[:len(data)], "its last bytes lost": data[:-9], "emptied": b"",
+            "missing": None, "another list in its place": made.data(other)}
 
 
 # The kinds of damage: each answers what becomes of a file's data, or None where the file goes.
@@ -168,7 +177,7 @@ def table(program):
 def rows(program, made, room):
     """The rows of some files of a log."""
     for what, name in made.names.items():
-        for damage, data in damages(made, name).items():
+        for damage, data in (list_damages if name.endswith(".digests") else damages)(made, name).items():
             yield f"| {what} | {damage} | " + " | ".join(row(program, made, room, name, data)) + " |"
 
 

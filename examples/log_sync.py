@@ -1,7 +1,7 @@
 """Lets each sync of a log fail, and starts the log again: python3 log_sync.py PAGEDD
 
 A client appends, syncs, rotates and drops over small segments, under strace, which lets one sync fail with EIO: of a
-segment, of the manifest, of its copy, or of the folder; each one once, and each one with all that come after it. The
+segment, of its list, of the manifest, of its copy, or of the folder; each one once, and each one with all that come after it. The
 refusal, or the line of a program that doesn't begin, is to say that files are to be replaced. Then `pagedd rewrite`
 replaces them, and each record whose commit was answered is to be read. strace is to be installed.
 """
@@ -17,8 +17,8 @@ from log_client import Log
 
 OPTIONS = ("--page-size", "100", "--segment-size", "150")
 
-# What a client may do next, by the byte of a refusal.
-REPLACE = 3
+# What a client may do next, by the byte of a refusal: to open the log anew, or to replace its files first.
+ANEW, REPLACE = 2, 3
 
 class Failing(Log):
     """A log whose program runs under strace, by which the sync of this number fails, or that and all later ones."""
@@ -49,11 +49,16 @@ class Failing(Log):
 
 
 def failed_in(trace):
-    """What the sync that failed was of: a file's name, or the folder."""
+    """What the sync that failed was of: a file's name, or the folder. The folder's sync right after that of a list is
+    of the list's name."""
+    before = ""
     with open(trace, encoding="utf-8") as lines:
         for line in lines:
-            if "EIO" in line:
-                return os.path.basename(line[line.index("<") + 1:line.index(">")])
+            if "fsync(" in line:
+                what = os.path.basename(line[line.index("<") + 1:line.index(">")])
+                if "EIO" in line:
+                    return before if before.endswith(".digests") and "." not in what else what
+                before = what
     return None
 
 
@@ -73,9 +78,12 @@ def read_again(program, folder, kept):
 
 
 def is_told(refusal, told, what):
-    """Whether the client was told to replace the files, or the line says so. The manifest's copy may fail: the next
-    entry writes it anew, and a line at an opening says so."""
+    """Whether the client was told to replace the files, or the line says so. A list may fail: the log is to be opened
+    anew, and reads compute a list that isn't whole. The manifest's copy may fail: the next entry writes it anew, and a
+    line at an opening says so."""
     if refusal and refusal.next == REPLACE or "pagedd rewrite" in told or "rename it and back" in told:
+        return True
+    if what.endswith(".digests") and refusal and refusal.next == ANEW:
         return True
     return what == "manifest.copy" or "manifest.copy:" in told
 

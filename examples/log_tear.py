@@ -13,11 +13,12 @@ folder may be gone until the one above it is synced. Such images are made at eve
 The program is started on each image. It is never refused. Its records must begin with all that were
 committed, and be the beginning of what was appended, each at its place, from the first segment on that
 wasn't dropped; of segments that were being dropped all records are there, or none. The file of a closed
-segment stays as it is. What the opening cuts of the manifest and of the open segment, also of a record
-that isn't whole, is in a new file beside it, unless the last such file has just these bytes, and one line
-for each says so; no other byte is. On every third image the log goes on: it appends, drops, and is opened
-again. On every tenth one the opening is itself torn, at each of its calls. Every second image is salvaged
-too: all that was committed comes out, in order, and nothing that wasn't appended.
+segment stays as it is, and so does its list, which may be torn. What the opening cuts of the manifest and
+of the open segment, also of a record that isn't whole, is in a new file beside it, unless the last such
+file has just these bytes, and one line for each says so; no other byte is. On every third image the log
+goes on: it appends, drops, and is opened again. On every tenth one the opening is itself torn, at each of
+its calls. Every second image is salvaged too: all that was committed comes out, in order, and nothing that
+wasn't appended.
 
 A run has several sessions of one log. Between two of them the program ends, or is killed after any of its
 calls, or an image of a crash takes the place of the folder. So openings are torn that follow a crash, and

@@ -1,6 +1,7 @@
 // Files in memory, whose names and bytes can be lost in a crash.
 use crate::words::out_of_memory;
 use disk::{Blob, Error, IoBufs, MemBlob, WriteOptions};
+use page_digests::Levels;
 use segments::{Asked, Known, copy_of};
 use std::alloc::Global;
 use std::io;
@@ -15,6 +16,8 @@ pub enum Name {
     Copy,
     /// The segment of this number.
     Segment(u64),
+    /// The list of the segment of this number.
+    List(u64),
 }
 
 impl Name {
@@ -42,6 +45,10 @@ pub enum FileCall {
     Remove(Name),
     /// To make the names of the files durable.
     SyncNames,
+    /// To take back the blob of a segment. It doesn't fail.
+    Close(u64),
+    /// To write so many bytes as the list of a segment.
+    WriteList(u64, usize),
     /// To keep a copy of so many bytes of the manifest, with what is known of the open segment.
     Keep(Known, usize),
 }
@@ -188,6 +195,20 @@ impl Files {
         Ok(numbers)
     }
 
+    /// The same of the lists.
+    pub fn lists(&self) -> io::Result<Vec<(u64, usize)>> {
+        let mut numbers = Vec::new(self.alloc);
+        for stored in &self.files {
+            match stored.name {
+                Name::List(number) if stored.standing != Standing::Removed => {
+                    numbers.push((number, stored.blob.bytes().len()))?;
+                }
+                _ => {}
+            }
+        }
+        Ok(numbers)
+    }
+
     /// Opens a file, and makes it where it is missing. Its bytes are durable then.
     pub fn open(&mut self, name: Name) -> io::Result<Vec<u8>> {
         self.note(FileCall::Open(name))?;
@@ -225,10 +246,15 @@ impl Files {
         done(self.blob_mut(name)?.sync())
     }
 
-    /// Removes the file of a segment.
+    /// Removes the file of a segment's list, if it is there, and that of the segment.
     pub fn remove(&mut self, segment: u64) -> io::Result<()> {
         self.note(FileCall::Remove(Name::Segment(segment)))?;
-        let index = self.place_of(Name::Segment(segment)).unwrap_or(usize::MAX);
+        let _ = self.take_away(Name::List(segment));
+        self.take_away(Name::Segment(segment))
+    }
+
+    fn take_away(&mut self, name: Name) -> io::Result<()> {
+        let index = self.place_of(name).unwrap_or(usize::MAX);
         match self.files.get_mut(index) {
             Some(stored) => {
                 stored.standing = Standing::Removed;
@@ -237,6 +263,11 @@ impl Files {
             }
             None => Err(ErrorKind::NotFound.into()),
         }
+    }
+
+    /// Takes back the blob of a segment.
+    pub fn take_back(&mut self, segment: u64) -> io::Result<()> {
+        Ok(self.calls.push(FileCall::Close(segment))?)
     }
 
     /// Makes the names of the files durable.
@@ -249,26 +280,38 @@ impl Files {
     /// Keeps a copy of these bytes of the manifest, which is durable then. Half of the copy is there
     /// after a call that failed.
     pub fn keep(&mut self, manifest: &[u8], known: Known) -> io::Result<()> {
-        let noted = self.note(FileCall::Keep(known, manifest.len()));
-        let Ok(mut copy) = copy_of(self.alloc, known, manifest) else {
+        let Ok(copy) = copy_of(self.alloc, known, manifest) else {
             return Err(out_of_memory());
         };
-        let room = match self.blob(Name::Copy) {
+        let noted = self.note(FileCall::Keep(known, manifest.len()));
+        self.write_whole(Name::Copy, copy, noted)
+    }
+
+    /// Writes the list of a segment and its top, which are durable then. Half of that is there after
+    /// a call that failed.
+    pub fn write_list(&mut self, segment: u64, levels: &Levels) -> io::Result<()> {
+        let mut bytes = Vec::from_slice(self.alloc, &levels.list)?;
+        bytes.extend_from_slice(&levels.top)?;
+        let noted = self.note(FileCall::WriteList(segment, bytes.len()));
+        self.write_whole(Name::List(segment), bytes, noted)
+    }
+
+    // Makes a file hold these bytes, durably, and with its name: half of them if that is to fail.
+    fn write_whole(
+        &mut self,
+        name: Name,
+        mut bytes: Vec<u8>,
+        noted: io::Result<()>,
+    ) -> io::Result<()> {
+        let room = match self.blob(name) {
             Ok(blob) => blob.bytes().len(),
             Err(_) => 0,
         };
-        self.need_room(copy.len() > room)?;
+        self.need_room(bytes.len() > room)?;
         if noted.is_err() {
-            copy.truncate(copy.len() / 2);
+            bytes.truncate(bytes.len() / 2);
         }
-        if !self.has(Name::Copy) {
-            self.files.push(Stored {
-                name: Name::Copy,
-                blob: MemBlob::new(self.alloc),
-                standing: Standing::Named,
-            })?;
-        }
-        self.replace(Name::Copy, &copy)?;
+        self.give(name, &bytes)?;
         noted
     }
 
@@ -314,6 +357,18 @@ impl Files {
         Ok(())
     }
 
+    /// The same, also of a file that is missing.
+    pub fn give(&mut self, name: Name, bytes: &[u8]) -> io::Result<()> {
+        if !self.has(name) {
+            self.files.push(Stored {
+                name,
+                blob: MemBlob::new(self.alloc),
+                standing: Standing::Named,
+            })?;
+        }
+        self.replace(name, bytes)
+    }
+
     /// Takes a file away, as somebody else may do.
     pub fn lose(&mut self, name: Name) {
         self.files.retain(|stored| stored.name != name);
@@ -339,12 +394,13 @@ impl Files {
     }
 }
 
-/// Writes the name of a file: `manifest`, `copy`, or the number of a segment.
+/// Writes the name of a file: `manifest`, `copy`, the number of a segment, or that with `.digests`.
 pub fn say_name(name: Name, said: &mut Vec<u8>) -> io::Result<()> {
     match name {
         Name::Manifest => write!(said, "manifest"),
         Name::Copy => write!(said, "copy"),
         Name::Segment(number) => write!(said, "{number}"),
+        Name::List(number) => write!(said, "{number}.digests"),
     }
 }
 
@@ -367,6 +423,8 @@ fn say_one(call: FileCall, said: &mut Vec<u8>) -> io::Result<()> {
         FileCall::Sync(name) => say_call("sync", name, said),
         FileCall::Remove(name) => say_call("remove", name, said),
         FileCall::SyncNames => write!(said, "sync names"),
+        FileCall::Close(number) => write!(said, "close {number}"),
+        FileCall::WriteList(number, len) => write!(said, "list {number} {len}"),
         FileCall::Keep(known, len) => { write!(said, "keep {} {} {len}", known.segment, known.len) }
     }
 }

@@ -9,6 +9,7 @@ use crate::line::Row;
 use crate::memory_folder::{MemoryFile, MemoryFolder, Shared, lent};
 use crate::subject::Subject;
 use crate::words::{buffer_size, flags, number, page_size, say_bytes, unreadable};
+use digest::ShaDigest;
 use disk::IoBuf;
 use journal::Found;
 use page::Sum;
@@ -21,7 +22,7 @@ use std::io::Write;
 use std::marker::Model;
 use std::rc::Rc;
 
-type Log<H> = SegmentedLog<MemoryFolder, MemoryFile, H, H>;
+type Log<H> = SegmentedLog<MemoryFolder, MemoryFile, H, H, ShaDigest>;
 
 /// Reads how a log is kept from the words of a `start` line: the logical bytes of a page, those
 /// that are buffered, and from how many on a segment is closed. Each opening reads a page at once,
@@ -58,12 +59,13 @@ enum Verb {
     Cut,
     Copy,
     Lose,
+    Give,
     Torn,
     TornDrop,
     TornOpen,
 }
 
-const STEPS: [Form<Verb>; 22] = [
+const STEPS: [Form<Verb>; 23] = [
     (b"open", &[], Verb::Open),
     (b"close", &[], Verb::Close),
     (b"append", &[Bytes], Verb::Append),
@@ -83,6 +85,7 @@ const STEPS: [Form<Verb>; 22] = [
     (b"cut", &[Word, Number], Verb::Cut),
     (b"copy", &[Word, Word], Verb::Copy),
     (b"lose", &[Word], Verb::Lose),
+    (b"give", &[Word, Bytes], Verb::Give),
     (b"torn", &[Bytes], Verb::Torn),
     (b"torn-drop", &[Number], Verb::TornDrop),
     (b"torn-open", &[], Verb::TornOpen),
@@ -140,12 +143,16 @@ impl<H: Sum> Model for Logs<H> {
     ghost invariant = { λ l. IfSome l.log (λ log. IsLog H.sum_of H.sum_of log) };
 }
 
-// The file of a name: `manifest`, `copy`, or the number of a segment.
+// The file of a name: `manifest`, `copy`, the number of a segment, or that of its list, as
+// `0.digests`.
 fn file_of(word: Option<&[u8]>) -> io::Result<Name> {
     match word {
         Some(b"manifest") => Ok(Name::Manifest),
         Some(b"copy") => Ok(Name::Copy),
-        Some(word) => Ok(Name::Segment(number(word)?)),
+        Some(word) => match word.strip_suffix(b".digests".as_slice()) {
+            Some(word) => Ok(Name::List(number(word)?)),
+            None => Ok(Name::Segment(number(word)?)),
+        },
         None => Err(unreadable()),
     }
 }
@@ -227,7 +234,7 @@ fn say_records(records: Result<Vec<IoBuf>, Error>, said: &mut Vec<u8>) -> io::Re
     }
 }
 
-// Writes the files with their sizes: the manifest, its copy, and then the segments.
+// Writes the files with their sizes: the manifest, its copy, the segments, and then the lists.
 fn say_files(files: &Files, said: &mut Vec<u8>) -> io::Result<()> {
     write!(said, "files")?;
     for name in [Name::Manifest, Name::Copy] {
@@ -239,6 +246,9 @@ fn say_files(files: &Files, said: &mut Vec<u8>) -> io::Result<()> {
     }
     for (number, len) in files.segments()? {
         write!(said, " {number}:{len}")?;
+    }
+    for (number, len) in files.lists()? {
+        write!(said, " {number}.digests:{len}")?;
     }
     Ok(())
 }
@@ -544,6 +554,11 @@ impl<H: Sum> Subject for Logs<H> {
             }
             Verb::Change | Verb::Cut | Verb::Copy | Verb::Lose => {
                 self.harm(verb, &words)?;
+                write!(said, "ok")
+            }
+            Verb::Give => {
+                let bytes = words.piece(1).unwrap_or_default();
+                lent(&self.files)?.give(file_of(words.piece(0))?, bytes)?;
                 write!(said, "ok")
             }
             Verb::Torn => self.tear(alloc, Act::Append(words.bytes()), said),

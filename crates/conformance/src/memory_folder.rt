@@ -1,5 +1,5 @@
 // A folder in memory, and a file in it as a host.
-ghost use Rattle.std.specs.Prelude.{◌≡◌, [], ◌∷◌, ◌++◌, IfOk};
+ghost use Rattle.std.specs.Prelude.{◌≡◌, [], ◌∷◌, ◌++◌, IfOk, length};
 ghost use Rattle.disk.specs.History.{life_of};
 ghost use Rattle.paged.specs.Recovery.{IsDurable};
 ghost use Rattle.segments.specs.FolderEvents.{plain_event, opening_outcome};
@@ -8,6 +8,7 @@ ghost use Rattle.segments.specs.Folders.{call_for};
 use crate::files::{Files, Name};
 use disk::{IoBufs, Past, VecBlob};
 use file::{Host, Mirror, OpenError};
+use page_digests::{Levels, Source, SourcePast};
 use segments::{Asked, Folder, FolderCall, FolderPast, Known};
 use std::cell::{RefCell, RefMut};
 use std::io;
@@ -91,6 +92,61 @@ impl Host for MemoryHost {
 /// A blob over a file in memory.
 pub type MemoryFile = Mirror<MemoryHost>;
 
+/// A file in memory of which ranges are read, each as the file is then.
+#[derive(Drop)]
+pub struct MemorySource {
+    files: Shared,
+    name: Name,
+    past: Snapshot<SourcePast>,
+}
+
+impl Model for MemorySource {
+    ghost use Rattle.std.specs.Prelude.{List};
+    ghost use Rattle.page_digests.specs.Sources.{SourceRead};
+
+    ghost Value = { List SourceRead };
+
+    ghost view = { λ s. s.past.value };
+}
+
+impl MemorySource {
+    // A file of which nothing was read yet. `NotFound` where it is missing.
+    fn new(files: &Shared, name: Name) -> io::Result<Self> {
+        if !lent(files)?.has(name) {
+            return Err(ErrorKind::NotFound.into());
+        }
+        Ok(MemorySource {
+            files: files.clone()?,
+            name,
+            past: SourcePast::begun(),
+        })
+    }
+
+    fn copy(&self, bytes: &mut [u8], offset: u64) -> io::Result<()>
+        ensures { length bytes.new ≡ length bytes.old }
+    {
+        let held = lent(&self.files)?.bytes(self.name)?;
+        let rest = held.get(offset as usize..).unwrap_or_default();
+        match rest.get(..bytes.len()) {
+            Some(range) => {
+                bytes.copy_from_slice(range);
+                Ok(())
+            }
+            None => Err(ErrorKind::UnexpectedEof.into()),
+        }
+    }
+}
+
+impl Source for MemorySource {
+    ghost reads = { λ s. s };
+
+    fn read_at(&mut self, bytes: &mut [u8], offset: u64) -> io::Result<()> {
+        let result = self.copy(bytes, offset);
+        self.past = SourcePast::after(&self.past, offset, bytes, result.is_err());
+        result
+    }
+}
+
 /// A folder in memory, whose files outlive it.
 #[derive(Drop)]
 pub struct MemoryFolder {
@@ -158,6 +214,8 @@ fn call_of(file: Asked) -> FolderCall
 }
 
 impl Folder<MemoryFile> for MemoryFolder {
+    type Source = MemorySource;
+
     ghost asked = { λ f. f };
 
     fn open(&mut self, file: Asked) -> Result<MemoryFile, OpenError> {
@@ -170,6 +228,9 @@ impl Folder<MemoryFile> for MemoryFolder {
     }
 
     fn close(&mut self, segment: u64, blob: MemoryFile, manifest: &MemoryFile) {
+        if let Ok(mut files) = lent(&self.files) {
+            let _ = files.take_back(segment);
+        }
         self.past = FolderPast::closed(&self.past, segment, &blob, manifest);
     }
 
@@ -183,6 +244,23 @@ impl Folder<MemoryFile> for MemoryFolder {
 
     fn read(&mut self, file: Asked) -> io::Result<VecBlob> {
         Ok(VecBlob::from_vec(lent(&self.files)?.bytes(Name::of(file))?))
+    }
+
+    fn source(&mut self, segment: u64) -> io::Result<MemorySource> {
+        MemorySource::new(&self.files, Name::Segment(segment))
+    }
+
+    fn list_source(&mut self, segment: u64) -> io::Result<MemorySource> {
+        MemorySource::new(&self.files, Name::List(segment))
+    }
+
+    fn write_list(&mut self, segment: u64, levels: &Levels) -> io::Result<()> {
+        let written = match lent(&self.files) {
+            Ok(mut files) => files.write_list(segment, levels),
+            Err(error) => Err(error),
+        };
+        self.past = FolderPast::wrote(&self.past, segment, levels, written.is_err());
+        written
     }
 
     fn has(&mut self, file: Asked) -> io::Result<bool> {

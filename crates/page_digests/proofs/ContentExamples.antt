@@ -9,7 +9,7 @@ use Rattle.std.proofs.lemmas.List.{same_from_push}
 use Rattle.std.proofs.lemmas.Option.{same_Some}
 use Rattle.page_digests.specs.declared.error.Error.{Error}
 use Rattle.page_digests.specs.declared.error.Error.TheVariants.{Damaged, System}
-use Rattle.page_digests.specs.Contents.{AppendsRange, HoldsLast, IsInCached, IsOpenedContent, IsSameContent, PagedState, PageFails, RangeAsks, RangeFails}
+use Rattle.page_digests.specs.Contents.{AppendsRange, HoldsLast, IsInCached, IsOpenedContent, IsSameContent, PagedState, PageFails, RangeAsks, RangeFails, unread}
 use Rattle.page_digests.specs.Contents.{ReadAnswers, PagedReadGoes, ReadIntoAnswers, PagedReadIntoGoes, SoundAnswers, SoundGoes}
 use Rattle.page_digests.specs.Pages.{list_of, content_page, range_at, top_of}
 use Rattle.page_digests.specs.Reads.{DigestFails, IsReadOn, ReadsDigestOn}
@@ -84,6 +84,14 @@ by_zeros is = by_case is.top
     by_case (top, same, verified) =
         let given : zeros ≡ top = same_Some zeros top (ap (λ (r : SourceRead). r.given) (same_from_push [] [] (gave 32 zeros) (gave 32 top) same).1) in
         differs (subst (λ (t : List ℕ). (t ≡ its_digest) ⊎ HasSecondPreimage first 32 abc) (sym given) (verified abc it_is_its_seal))
+
+-- nothing is held of a content that is just begun
+pub it_is_unread : unread 32 its_seal [] (gave 32 its_digest ∷ []) ≡ opened
+it_is_unread = refl
+
+-- one of which a page is held isn't
+pub a_page_is_held : unread 32 its_seal read.reads read.list_reads ≡ read → ⊥
+a_page_is_held same = cc (ap (λ (s : PagedState). s.cached) same)
 
 -- ---- a page
 

@@ -17,7 +17,7 @@ use Rattle.page_digests.specs.Lists.{DigestGoes, IsSameList, ListState}
 use Rattle.page_digests.specs.Pages.{list_len, content_page, pages_of_len, page_len, range_at, top_len, top_of}
 use Rattle.page_digests.specs.Reads.{DigestFails, IsReadOn, IsTouched, PageIsRefused, PageIsWrong, ReadsDigestOn, page_offset, pages_touched}
 use Rattle.page_digests.specs.Buffers.{ComparesGoes}
-use Rattle.page_digests.specs.Seals.{IsVerified}
+use Rattle.page_digests.specs.Seals.{EachIsByte, IsVerified}
 use Rattle.page_digests.specs.Sources.{EndsWithRead, SourceRead, gave, refused}
 use Rattle.page_digests.proofs.Costs.{last-in, touched_more}
 use Rattle.page_digests.proofs.ListReads.{one_more, one_read, read_after}
@@ -28,12 +28,12 @@ use Rattle.page_digests.proofs.Verified.{page_verified, part_wrong, top_verified
 
 -- the top was read
 pub top_read : (d : List ℕ → List ℕ) → ((b : List ℕ) → length (d b) ≡ 32) → (P : ℕ) (seal : Seal) (offset len : ℕ) (top : List ℕ) (old new : List SourceRead)
-    → offset ≡ list_len P seal.len → len ≡ top_len P seal.len → new ≡ old ++ gave offset top ∷ [] → length top ≡ len → d top ≡ seal.root
+    → offset ≡ list_len P seal.len → len ≡ top_len P seal.len → new ≡ old ++ gave offset top ∷ [] → length top ≡ len → EachIsByte top → d top ≡ seal.root
     → (top : List ℕ) × (new ≡ old ++ gave (list_len P seal.len) top ∷ []) × IsVerified d P seal (top_of d P) top
-top_read d sized P seal offset len top old new place count read long root = (
+top_read d sized P seal offset len top old new place count read long small root = (
   top,
   read ∙ ap (λ (k : ℕ). old ++ gave k top ∷ []) place,
-  top_verified d sized P seal top root (long ∙ count),
+  top_verified d sized P seal top small root (long ∙ count),
 )
 
 -- ---- whether a page is sound
@@ -103,10 +103,10 @@ sound_lost d l m seal P i cached page reads s e same is goes =
 pub sound_page : (d : List ℕ → List ℕ) (l m : ListState) (seal : Seal) (P i n : ℕ) (cached : Option ℕ) (page digest bytes : List ℕ) (old new : List SourceRead) (s : PagedState) → seen seal P cached l old ≡ s
     → IsPaged d l seal P cached page → DigestGoes d i l m (Ok digest) → i < pages_of_len s.page_size s.seal.len → n ≡ page_len P seal.len i
     → ComparesGoes d (page_offset P i) n digest old new bytes (Ok true) → IsContentPage d P seal i bytes
-sound_page d l m seal P i n cached page digest bytes old new s same is goes below count (read, long, compared) = record {
+sound_page d l m seal P i n cached page digest bytes old new s same is goes below count (read, long, small, compared) = record {
   within = within;
   len = long ∙ count;
-  verified = page_verified d P seal digest bytes i within (long ∙ count) (digest_had d l m seal P i cached page digest is goes) (compared.0 refl);
+  verified = page_verified d P seal digest bytes i small within (long ∙ count) (digest_had d l m seal P i cached page digest is goes) (compared.0 refl);
 }
   where
     within : i * P < seal.len
@@ -137,7 +137,7 @@ sound_yes d l m seal P i cached page digest bytes old new s same is goes its rea
 pub sound_no : (d : List ℕ → List ℕ) (l m : ListState) (seal : Seal) (P i n : ℕ) (cached : Option ℕ) (page digest bytes : List ℕ) (old new : List SourceRead) (s : PagedState) → seen seal P cached l old ≡ s
     → IsPaged d l seal P cached page → DigestGoes d i l m (Ok digest) → n ≡ page_len P seal.len i
     → ComparesGoes d (page_offset P i) n digest old new bytes (Ok false) → SoundGoes d i s (seen seal P None m new) (Ok false)
-sound_no d l m seal P i n cached page digest bytes old new s same is goes count (read, long, compared) =
+sound_no d l m seal P i n cached page digest bytes old new s same is goes count (read, long, small, compared) =
     subst (λ (u : PagedState). SoundGoes d i u (seen seal P None m new) (Ok false)) same (record {
       same = same_content l m seal P cached None old new _ goes.same read;
       calls = one_more old new _ read;

@@ -1,4 +1,5 @@
 pub mod Paging
+pub mod Bytes
 pub mod Twins
 pub mod Growth
 pub mod Payloads

@@ -32,7 +32,7 @@ top_holds d u s j same is within =
 pub its_digest : (d : List ℕ → List ℕ) → ((b : List ℕ) → length (d b) ≡ 32) → (u : ListState) (j : ℕ) → IsList d u → j * u.page_size < list_len u.page_size u.seal.len
     → IsVerified d u.page_size u.seal (λ content. d (content_page u.page_size j (list_of d u.page_size content))) (digest_at j u.top)
 its_digest d sized u j is within =
-    digest_in_top d sized u.page_size u.seal u.top j is.positive within (top_verified d sized u.page_size u.seal u.top is.root is.top)
+    digest_in_top d sized u.page_size u.seal u.top j is.positive within (top_verified d sized u.page_size u.seal u.top is.bytes is.root is.top)
 
 same_list : (s : ListState) → IsSameList s s
 same_list s = record { seal = refl; page_size = refl; top = refl; reads = ([], sym (append-nil s.reads)) }
@@ -73,7 +73,7 @@ pub load_wrong : (d : List ℕ → List ℕ) → ((b : List ℕ) → length (d b
     → j * s.page_size < list_len s.page_size s.seal.len → n ≡ page_len u.page_size (list_len u.page_size u.seal.len) j → digest ≡ digest_at j u.top
     → ComparesGoes d (j * u.page_size) n digest u.reads reads page (Ok false)
     → ListLoadGoes d j s (record u { cached = None; page = page; reads = reads }) (Err Damaged)
-load_wrong d sized u s j n digest page reads same fresh is within len its (read, long, compared) =
+load_wrong d sized u s j n digest page reads same fresh is within len its (read, long, small, compared) =
     subst (λ (v : ListState). (v.cached ≡ Some j → ⊥) → ListLoadGoes d j v (record u { cached = None; page = page; reads = reads }) (Err Damaged)) same
     (λ none. record {
       same = record { seal = refl; page_size = refl; top = refl; reads = (_, read) };
@@ -126,7 +126,7 @@ pub cached_verified : (d : List ℕ → List ℕ) → ((b : List ℕ) → length
     → IsVerified d v.page_size v.seal (λ content. content_page v.page_size j (list_of d v.page_size content)) v.page
 cached_verified d sized v j is there =
     let page : IsListPage d v j v.page = its_page d v j is there in
-    list_page_verified d sized v.page_size v.seal (digest_at j v.top) v.page j page.within page.len (its_digest d sized v j is page.within) page.digest
+    list_page_verified d sized v.page_size v.seal (digest_at j v.top) v.page j page.are_bytes page.within page.len (its_digest d sized v j is page.within) page.digest
 
 -- how many bytes of a digest are copied over
 pub part_len : (digest : List ℕ) (done n k : ℕ) → length digest ≡ 32 → done + n ≤ 32 → k ≡ n → length (take k (drop done digest)) ≡ n

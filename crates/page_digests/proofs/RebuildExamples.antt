@@ -12,7 +12,7 @@ use Rattle.page_digests.specs.Rebuilds.{GivesAll, RebuildGoes, page_reads}
 use Rattle.page_digests.specs.Seals.{AreLevelsOf}
 use Rattle.page_digests.specs.Sources.{SourceRead, gave, refused}
 use Rattle.page_digests.proofs.PageExamples.{first}
-use Rattle.page_digests.proofs.SealExamples.{abc, its_digest, its_levels, its_seal, levels_without_a_list, xyz}
+use Rattle.page_digests.proofs.SealExamples.{abc, abc_is_bytes, its_digest, its_levels, its_seal, levels_without_a_list, xyz, xyz_is_bytes}
 
 -- "abcdef" by pages of four bytes
 pub in_two_pages : page_reads 4 (codes "abcdef") 2 ≡ gave 0 (codes "abcd") ∷ gave 16 (codes "ef") ∷ []
@@ -23,7 +23,7 @@ by_its_logical_places same =
     omega (arith, ap (λ (r : SourceRead). r.offset) (same_from_push (gave 0 (codes "abcd") ∷ []) (gave 0 (codes "abcd") ∷ []) (gave 16 (codes "ef")) (gave 4 (codes "ef")) same).1)
 
 pub its_file_gives_it : GivesAll 32 3 [] (gave 0 abc ∷ []) abc
-its_file_gives_it = record { len = refl; reads = refl }
+its_file_gives_it = record { len = refl; are_bytes = abc_is_bytes; reads = refl }
 
 -- what is given by a file that holds one page
 given : (x bytes : List ℕ) → GivesAll 32 3 [] (gave 0 x ∷ []) bytes → bytes ≡ x
@@ -47,7 +47,7 @@ without_a_list l none (bytes, gives, root, are) =
 
 -- the file holds another content
 pub xyz_has_another_root : RebuildGoes first 32 its_seal [] (gave 0 xyz ∷ []) (Err Damaged)
-xyz_has_another_root = (xyz, record { len = refl; reads = refl }, λ same. omega (arith, ap (λ (l : List ℕ). get_or l 0 0) same))
+xyz_has_another_root = (xyz, record { len = refl; are_bytes = xyz_is_bytes; reads = refl }, λ same. omega (arith, ap (λ (l : List ℕ). get_or l 0 0) same))
 
 pub of_another_content : (l : Levels) → RebuildGoes first 32 its_seal [] (gave 0 xyz ∷ []) (Ok l) → ⊥
 of_another_content l (bytes, gives, root, are) =

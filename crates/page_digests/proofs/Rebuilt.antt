@@ -1,6 +1,6 @@
 -- Levels that are built again.
 use Rattle.std.proofs.Common.{◌≡◌, ◌<◌, ◌≤◌, ◌*◌, ◌+◌, ◌++◌, ◌∷◌, [], ◌∙◌, ℕ, zero, suc, List, length, take, min}
-use Rattle.std.proofs.Common.{ap, refl, sym, inl, inr, arith, add-one, append_assoc, length-append}
+use Rattle.std.proofs.Common.{ap, refl, subst, sym, inl, inr, arith, add-one, append_assoc, length-append}
 use Rattle.std.specs.Prelude.{Err}
 use Rattle.std.proofs.lemmas.List.{drop_at, take_all}
 use Rattle.std.proofs.Math.Nat.{suc-mul}
@@ -11,8 +11,9 @@ use Rattle.page_digests.specs.Pages.{digests, list_of, content_page, pages_of_le
 use Rattle.page_digests.specs.Reads.{page_offset}
 use Rattle.page_digests.specs.Buffers.{FillsGoes}
 use Rattle.page_digests.specs.Rebuilds.{GivesPages, ListReadGoes, page_reads}
-use Rattle.page_digests.specs.Seals.{IsVerified}
+use Rattle.page_digests.specs.Seals.{EachIsByte, IsVerified}
 use Rattle.page_digests.specs.Sources.{SourceRead, gave, refused}
+use Rattle.page_digests.proofs.Bytes.{bytes_joined}
 use Rattle.page_digests.proofs.Growth.{digests-grown, page-grown}
 use Rattle.page_digests.proofs.Paging.{page_within}
 use Rattle.page_digests.proofs.Twins.{told_apart}
@@ -30,11 +31,11 @@ last_page : (P : ℕ) (bytes page : List ℕ) (i : ℕ) → length bytes ≡ i *
 last_page P bytes page i len fits = ap (take P) (drop_at bytes page (i * P) len) ∙ take_all P page fits
 
 -- a page more is read
-pub pages_grow : (d : List ℕ → List ℕ) (P len : ℕ) (old mid new : List SourceRead) (i : ℕ) (bytes page list more : List ℕ) → 0 < P → i < pages_of_len P len → GivesPages P len old mid i bytes
+pub pages_grow : (d : List ℕ → List ℕ) (P len : ℕ) (old mid new : List SourceRead) (i : ℕ) (bytes page list more : List ℕ) → 0 < P → i < pages_of_len P len → GivesPages P len old mid i bytes → EachIsByte page
     → list ≡ digests d P bytes i → new ≡ mid ++ gave (page_offset P i) page ∷ [] → length page ≡ page_len P len i → more ≡ list ++ d page
     → (all : List ℕ) × GivesPages P len old new (i + 1) all × (more ≡ digests d P all (i + 1))
-pages_grow d P len old mid new i bytes page list more positive below gives lists read long mores =
-    (bytes ++ page, record { len = total; reads = reads }, listed)
+pages_grow d P len old mid new i bytes page list more positive below gives small lists read long mores =
+    (bytes ++ page, record { len = total; are_bytes = bytes_joined bytes page gives.are_bytes small; reads = reads }, listed)
   where
     within : i * P < len
     within = page_within P len i positive below
@@ -87,10 +88,11 @@ pages_end d P len n old mid new i bytes page (System x) positive below gives cou
 pages_end d P len n old mid new i bytes page OutOfMemory positive below gives count none = tt
 
 -- the list of bytes that have the root that was kept is the content's
-pub list_verified : (d : List ℕ → List ℕ) → ((b : List ℕ) → length (d b) ≡ 32) → (P : ℕ) (seal : Seal) (bytes list : List ℕ) → 0 < P → length bytes ≡ seal.len → root_of d P bytes ≡ seal.root
-    → list ≡ list_of d P bytes → IsVerified d P seal (list_of d P) list
-list_verified d sized P seal bytes list positive len root lists content of =
-    elim (told_apart d sized P content seal.root positive of.root bytes (len ∙ of.len) root) [
+pub list_verified : (d : List ℕ → List ℕ) → ((b : List ℕ) → length (d b) ≡ 32) → (P : ℕ) (seal : Seal) (bytes list : List ℕ) → EachIsByte bytes → EachIsByte list → EachIsByte (list_of d P list)
+    → 0 < P → length bytes ≡ seal.len → root_of d P bytes ≡ seal.root → list ≡ list_of d P bytes → IsVerified d P seal (list_of d P) list
+list_verified d sized P seal bytes list small lists_small tops_small positive len root lists content of =
+    elim (told_apart d sized P bytes seal.root small (subst EachIsByte lists lists_small) (subst (λ (l : List ℕ). EachIsByte (list_of d P l)) lists tops_small) positive (sym root) content
+    (sym of.len ∙ sym len) (sym of.root)) [
       | inr twin ↦ inr twin
-      | inl same ↦ inl (lists ∙ ap (list_of d P) same)
+      | inl same ↦ inl (lists ∙ ap (list_of d P) (sym same))
     ]

@@ -34,6 +34,17 @@ pub record IsOpenedContent (d : List ℕ → List ℕ) (P : ℕ) (kept : Seal)
   pub top : (top : List ℕ) × (c.list_reads ≡ list_before ++ gave (list_len P kept.len) top ∷ [])
       × IsVerified d P kept (top_of d P) top
 
+-- a content of which nothing is held; its files were read so far
+abbrev pub unread : (P : ℕ) → Seal → (reads list_reads : List SourceRead) → PagedState
+unread P seal reads list_reads = record {
+  seal = seal;
+  page_size = P;
+  cached = None;
+  cached_list = None;
+  reads = reads;
+  list_reads = list_reads;
+}
+
 -- ---- a page
 
 -- the same content, of which perhaps more was read

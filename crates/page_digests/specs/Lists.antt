@@ -5,7 +5,7 @@ use Rattle.page_digests.specs.Pages.{content_page, digest_at, list_len, list_of,
 use Rattle.page_digests.specs.Pages.{top_len}
 use Rattle.page_digests.specs.Reads.{DigestFails, IsReadOn, ListPageIsRefused, ListPageIsWrong}
 use Rattle.page_digests.specs.Reads.{ReadsDigestOn}
-use Rattle.page_digests.specs.Seals.{IsVerified}
+use Rattle.page_digests.specs.Seals.{EachIsByte, IsVerified}
 use Rattle.page_digests.specs.Sources.{SourceRead}
 use Rattle.page_digests.specs.declared.error.Error.{Error}
 use Rattle.page_digests.specs.declared.error.Error.TheVariants.{Damaged, OutOfMemory, System}
@@ -25,6 +25,7 @@ pub record ListState : Type 0 where
 pub record IsListPage (d : List ℕ → List ℕ) (s : ListState) (j : ℕ) (bytes : List ℕ) : Type 0 where
   pub within : j * s.page_size < list_len s.page_size s.seal.len
   pub len : length bytes ≡ page_len s.page_size (list_len s.page_size s.seal.len) j
+  pub are_bytes : EachIsByte bytes
   pub digest : d bytes ≡ digest_at j s.top
 
 -- the top has the root that was kept, and the page that was read last its digest in the top
@@ -32,6 +33,7 @@ pub record IsList (d : List ℕ → List ℕ) (s : ListState) : Type 0 where
   pub positive : 0 < s.page_size
   pub small : s.page_size < 2 ^ 16
   pub fits : s.seal.len < 2 ^ 50
+  pub bytes : EachIsByte s.top
   pub root : d s.top ≡ s.seal.root
   pub top : length s.top ≡ top_len s.page_size s.seal.len
   pub page : IfSome s.cached (λ j. IsListPage d s j s.page)

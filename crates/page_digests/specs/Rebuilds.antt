@@ -5,7 +5,7 @@ use Rattle.std.specs.Prelude.{Result, Ok, Err}
 use Rattle.std.specs.declared.alloc.Global.{Global}
 use Rattle.page_digests.specs.Pages.{list_of, content_page, pages_of_len, page_len, root_of}
 use Rattle.page_digests.specs.Reads.{PageIsRefused, page_offset}
-use Rattle.page_digests.specs.Seals.{AreLevelsOf}
+use Rattle.page_digests.specs.Seals.{AreLevelsOf, EachIsByte}
 use Rattle.page_digests.specs.Sources.{EndsWithRead, SourceRead, gave, refused}
 use Rattle.page_digests.specs.declared.error.Error.{Error}
 use Rattle.page_digests.specs.declared.error.Error.TheVariants.{Damaged, OutOfMemory, System}
@@ -21,12 +21,14 @@ page_reads P bytes (suc n) =
 -- since then all pages of so many bytes were read once, in order, and gave these bytes
 pub record GivesAll (P count : ℕ) (old new : List SourceRead) (bytes : List ℕ) : Type 0 where
   pub len : length bytes ≡ count
+  pub are_bytes : EachIsByte bytes
   pub reads : new ≡ old ++ page_reads P bytes (pages_of_len P count)
 
 -- the pages were read up to page i
 pub record GivesPages (P count : ℕ) (old new : List SourceRead) (i : ℕ) (bytes : List ℕ)
     : Type 0 where
   pub len : length bytes ≡ min (i * P) count
+  pub are_bytes : EachIsByte bytes
   pub reads : new ≡ old ++ page_reads P bytes i
 
 -- the list is built, by the answer

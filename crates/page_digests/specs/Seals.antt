@@ -1,5 +1,5 @@
 -- The seal of a content, and what it proves of bytes that were read.
-use Rattle.std.specs.Prelude.{◌≡◌, ◌≢◌, ◌⊎◌, ◌<◌, ◌*◌, ℕ, List, length}
+use Rattle.std.specs.Prelude.{◌≡◌, ◌≢◌, ◌⊎◌, ◌<◌, ◌*◌, ℕ, List, length, get_or}
 use Rattle.page_digests.specs.Pages.{list_of, content_page, root_of, top_of}
 use Rattle.page_digests.specs.declared.levels.Levels.{Levels}
 use Rattle.page_digests.specs.declared.seal.Seal.{Seal}
@@ -10,8 +10,13 @@ pub record IsSealOf (d : List ℕ → List ℕ) (P : ℕ) (content : List ℕ) (
   pub len : seal.len ≡ length content
   pub root : seal.root ≡ root_of d P content
 
--- another string is a second preimage of this one: it has the same length and the same digest
+-- each of these numbers is a byte
+abbrev pub EachIsByte : List ℕ → Type 0
+EachIsByte bytes = (i : ℕ) → get_or bytes i 0 < 256
+
+-- other bytes are a second preimage of these: they have the same length and the same digest
 pub record IsSecondPreimage (d : List ℕ → List ℕ) (other bytes : List ℕ) : Type 0 where
+  pub small : EachIsByte other
   pub differ : other ≢ bytes
   pub len : length other ≡ length bytes
   pub digest : d other ≡ d bytes
@@ -29,14 +34,15 @@ HasSecondPreimage d P content =
     ⊎ HasPagePreimage d P (list_of d P content)
     ⊎ HasPagePreimage d P content
 
--- no other content of this length has this root, unless a second preimage is at hand
+-- no other content of this length has this root, unless a second preimage of it is at hand
 abbrev pub TellsApart : (List ℕ → List ℕ) → (P : ℕ) → List ℕ → (root : List ℕ) → Type 0
 TellsApart d P content root = (other : List ℕ) → length other ≡ length content
-    → root_of d P other ≡ root → (other ≡ content) ⊎ HasSecondPreimage d P content
+    → root_of d P other ≡ root → (other ≡ content) ⊎ HasSecondPreimage d P other
 
 -- the levels of a content
 pub record AreLevelsOf (d : List ℕ → List ℕ) (P : ℕ) (content : List ℕ) (l : Levels)
     : Type 0 where
+  pub bytes : EachIsByte l.list.items × EachIsByte l.top.items
   pub list : l.list.items ≡ list_of d P content
   pub top : l.top.items ≡ top_of d P content
   pub root : l.root ≡ root_of d P content
@@ -44,6 +50,7 @@ pub record AreLevelsOf (d : List ℕ → List ℕ) (P : ℕ) (content : List ℕ
 -- the levels over a list that is given: it, its own list, and the digest of that one
 pub record AreLevelsOver (d : List ℕ → List ℕ) (P : ℕ) (given : List ℕ) (l : Levels)
     : Type 0 where
+  pub bytes : EachIsByte l.list.items × EachIsByte l.top.items
   pub list : l.list.items ≡ given
   pub top : l.top.items ≡ list_of d P given
   pub root : l.root ≡ d l.top.items

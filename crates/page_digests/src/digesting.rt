@@ -45,7 +45,7 @@ impl<D: Digest> Digesting<D> {
     /// nothing was taken.
     #[tactic(auto, using(crate::proofs::Growth::page_taken))]
     pub fn take_page(&mut self, page: &[u8]) -> Result<(), AllocError>
-        requires { self.old.pages < 2 ^ 63 }
+        requires { self.old.pages + 1 < 2 ^ 64 }
         ensures { TakesPage D.digest_of page.now self.old self.new result }
     {
         self.list.extend_from_slice(&D::digest(page))?;

@@ -2,7 +2,7 @@
 ghost use Rattle.std.specs.Prelude.{◌≡◌, ℕ, List, IfOk};
 ghost use Rattle.std.specs.Int.NonZero.{non_zero_u16_get};
 ghost use Rattle.page_digests.specs.Pages.{list_of};
-ghost use Rattle.page_digests.specs.Seals.{AreLevelsOf, AreLevelsOver, TellsApart};
+ghost use Rattle.page_digests.specs.Seals.{AreLevelsOf, AreLevelsOver, EachIsByte, TellsApart};
 
 use crate::pages::list_of;
 use digest::Digest;
@@ -46,11 +46,20 @@ pub fn levels_of_list<D: Digest>(
 ) -> Result<Levels, AllocError>
     ensures over { let P = non_zero_u16_get page_size in
         IfOk result (λ l. AreLevelsOver D.digest_of P list.items l) }
-    ensures apart { let P = non_zero_u16_get page_size in
-        IfOk result (λ l. (content : List ℕ) → list.items ≡ list_of D.digest_of P content
-        → TellsApart D.digest_of P content l.root) }
+    ensures each { let P = non_zero_u16_get page_size in
+        IfOk result (λ l. (content : List ℕ) → EachIsByte content
+        → list.items ≡ list_of D.digest_of P content → TellsApart D.digest_of P content l.root) }
 {
     let top = list_of::<D>(alloc, &list, usize::from(page_size.get()))?;
     let root = D::digest(&top);
+    are_bytes(&list);
+    are_bytes(&top);
     Ok(Levels { list, top, root })
+}
+
+// Does nothing: its clause says what a proof takes from the type.
+fn are_bytes(bytes: &[u8])
+    ensures { EachIsByte bytes.now }
+{
+    let _ = bytes;
 }

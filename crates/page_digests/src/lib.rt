@@ -16,6 +16,7 @@ mod rebuilding;
 mod seal;
 mod source;
 mod unopened;
+mod vec_source;
 
 pub use catching::catch_up;
 pub use digesting::Digesting;
@@ -29,3 +30,4 @@ pub use rebuilding::rebuild_levels;
 pub use seal::Seal;
 pub use source::Source;
 pub use unopened::Unopened;
+pub use vec_source::VecSource;

@@ -1,11 +1,12 @@
 // A content in a file of which nothing is believed.
-ghost use Rattle.std.specs.Prelude.{◌≡◌, ◌↔◌, ◌<◌, ◌≤◌, ◌+◌, ◌*◌, IfErr, IfOk, true};
+ghost use Rattle.std.specs.Prelude.{◌≡◌, ◌↔◌, ◌<◌, ◌≤◌, ◌+◌, ◌*◌, IfErr, IfOk, length};
+ghost use Rattle.std.specs.Prelude.{true};
 ghost use Rattle.std.specs.Int.NonZero.{non_zero_u16_get};
-ghost use Rattle.page_digests.specs.Contents.{IsOpenedContent};
+ghost use Rattle.page_digests.specs.Contents.{IsOpenedContent, unread};
 ghost use Rattle.page_digests.specs.Steps.{LoadGoes, PieceGoes, RangeAppendGoes};
 ghost use Rattle.page_digests.specs.Contents.{PagedReadGoes, PagedReadIntoGoes, SoundGoes};
 ghost use Rattle.page_digests.specs.Reads.{TopFails};
-ghost use Rattle.page_digests.specs.Pages.{pages_of_len};
+ghost use Rattle.page_digests.specs.Pages.{pages_of_len, top_len};
 
 use crate::error::Error;
 use crate::list::PagedList;
@@ -94,6 +95,40 @@ impl<F: Source + Drop, D: Digest> PagedContent<F, D> {
                 list_file,
             }),
         }
+    }
+
+    /// The content that has this seal, by pages of `page_size` bytes, whose top is known. The files
+    /// are as in [`open`](PagedContent::open). This reads nothing.
+    pub fn over(
+        alloc: Global,
+        file: F,
+        list_file: F,
+        seal: Seal,
+        page_size: NonZeroU16,
+        top: Vec<u8>,
+    ) -> Self
+        requires limit { seal.len < LEN_LIMIT }
+        requires root { D.digest_of top.items ≡ seal.root }
+        requires len { length top.items ≡ top_len (non_zero_u16_get page_size) seal.len }
+        ensures { let P = non_zero_u16_get page_size in
+            result ≡ unread P seal (F.reads file) (F.reads list_file) }
+    {
+        let page_size = usize::from(page_size.get());
+        PagedContent {
+            file,
+            list: PagedList::new(alloc, list_file, seal, page_size, top),
+            seal,
+            page_size,
+            cached: None,
+            page: Vec::new(alloc),
+        }
+    }
+
+    /// What is kept of the content.
+    pub fn seal(&self) -> Seal
+        ensures { result ≡ self.now.seal }
+    {
+        self.seal
     }
 
     /// How many bytes the content has.

@@ -1,7 +1,7 @@
 // The levels of a content, built again from its file.
-ghost use Rattle.std.specs.Prelude.{◌≡◌, ◌<◌, ◌^◌, IfOk};
+ghost use Rattle.std.specs.Prelude.{◌≡◌, ◌<◌, ◌^◌, length, IfOk};
 ghost use Rattle.std.specs.Int.NonZero.{non_zero_u16_get};
-ghost use Rattle.page_digests.specs.Pages.{list_of};
+ghost use Rattle.page_digests.specs.Pages.{list_of, top_len};
 ghost use Rattle.page_digests.specs.Rebuilds.{ListReadGoes, RebuildGoes};
 ghost use Rattle.page_digests.specs.Seals.{IsVerified};
 
@@ -29,6 +29,9 @@ pub fn rebuild_levels<F: Source, D: Digest>(
         RebuildGoes D.digest_of P seal.now (F.reads file.old) (F.reads file.new) result }
     ensures verified { let P = non_zero_u16_get page_size in let d = D.digest_of in
         IfOk result (λ l. IsVerified d P seal.now (list_of d P) l.list.items) }
+    ensures root { IfOk result (λ l. D.digest_of l.top.items ≡ seal.now.root) }
+    ensures top { let P = non_zero_u16_get page_size in
+        IfOk result (λ l. length l.top.items ≡ top_len P seal.now.len) }
 {
     let len = seal.len as usize;
     let list = read_list::<F, D>(alloc, file, len, usize::from(page_size.get()))?;

@@ -4,7 +4,7 @@ use clap::{Arg, ArgAction, Command, value_parser};
 use std::alloc::{AllocError, Global};
 
 /// The version of the program.
-pub const VERSION: &str = "0.10.1";
+pub const VERSION: &str = "0.11.0";
 
 /// The greatest buffer, and the most pages of a cache.
 const MOST: i64 = 0xFFFF_FFFF;
@@ -80,6 +80,8 @@ enum Takes {
     PageSize,
     /// The name of a checksum function.
     Checksum,
+    /// The name of a digest.
+    Digest,
 }
 
 /// An option, and the commands that have it. `pagedd` stands for a command line without a command.
@@ -93,7 +95,7 @@ struct Row {
 }
 
 /// The options, in the order in which help has them.
-const ROWS: [Row; 23] = [
+const ROWS: [Row; 24] = [
     Row {
         name: "FILE",
         takes: Takes::Word,
@@ -135,6 +137,21 @@ const ROWS: [Row; 23] = [
         default: Some("65536"),
         help: "the bytes that are held back, and those of a read",
         commands: &WITH_PAGES,
+    },
+    Row {
+        name: "digest",
+        takes: Takes::Digest,
+        default: Some("sha512-256"),
+        help: "the digest of the pages of a log's closed segments",
+        commands: &[
+            "serve-log",
+            "check",
+            "map",
+            "cat",
+            "salvage",
+            "rebuild",
+            "copy",
+        ],
     },
     Row {
         name: "segment-size",
@@ -336,6 +353,9 @@ fn option_of<'a>(alloc: Global, row: Row) -> Arg<'a> {
         Takes::Checksum => option
             .long(row.name)
             .value_parser(["add", "crc32c"].as_slice()),
+        Takes::Digest => option
+            .long(row.name)
+            .value_parser(["sha512-256", "poly61"].as_slice()),
     }
 }
 

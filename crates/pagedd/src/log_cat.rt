@@ -7,32 +7,33 @@ use crate::log_parts::Part;
 use crate::log_told::LogCopy;
 use crate::request::Request;
 use crate::status::Status;
+use digest::Digest;
 use page::Sum;
 use segments::{Error, Place};
 use std::io::{self, BufWriter, Stdout, Write};
 
-/// Writes the bytes of each record of a log to standard output, with a line end after it. A segment
-/// that can't be read is left out, with a line on standard error.
-pub fn cat_log<H: Sum>(
+/// Writes the bytes of each record of a log to standard output, with a line end after it. Of a segment
+/// those behind a record that can't be read are left out, with a line on standard error.
+pub fn cat_log<H: Sum, D: Digest>(
     rt: &HostRuntime,
     request: &Request,
-    log: &mut LogCopy<H>,
+    log: &mut LogCopy<H, D>,
 ) -> Result<Status, Status>
     requires log { IsLog H.sum_of H.sum_of log.old }
 {
-    let keeps_all = keeps_all::<H>(rt, request, log)?;
+    let keeps_all = keeps_all::<H, D>(rt, request, log)?;
     let mut out = or_end(rt, BufWriter::new(rt.alloc(), rt.stdout()))?;
-    let are_read = write_segments::<H>(rt, request, log, &mut out)?;
+    let are_read = write_segments::<H, D>(rt, request, log, &mut out)?;
     or_end(rt, out.flush())?;
     Ok(Status::of_file(are_read && keeps_all))
 }
 
 // Whether a recovery gives up nothing of the manifest and of the open segment. A line names each
 // of these two files of which it gives up something.
-fn keeps_all<H: Sum>(
+fn keeps_all<H: Sum, D: Digest>(
     rt: &HostRuntime,
     request: &Request,
-    log: &LogCopy<H>,
+    log: &LogCopy<H, D>,
 ) -> Result<bool, Status> {
     let manifest = manifest_in(rt.alloc(), request.file)?;
     let open = segment_in(rt.alloc(), request.file, log.last_segment())?;
@@ -60,18 +61,18 @@ fn keeps<H: Sum>(
 }
 
 // Writes the records of all segments, and answers whether each segment was read.
-fn write_segments<H: Sum>(
+fn write_segments<H: Sum, D: Digest>(
     rt: &HostRuntime,
     request: &Request,
-    log: &mut LogCopy<H>,
+    log: &mut LogCopy<H, D>,
     out: &mut BufWriter<Stdout>,
 ) -> Result<bool, Status>
     requires log { IsLog H.sum_of H.sum_of log.old }
 {
     let mut are_read = true;
     for segment in log.first_segment()..=log.last_segment() {
-        if let Some(error) = write_segment::<H>(rt, log, segment, out)? {
-            let words = "its records are left out";
+        if let Some(error) = write_segment::<H, D>(rt, log, segment, out)? {
+            let words = "its other records are left out";
             tell(
                 rt,
                 format_args!("{}: segment {segment}: {error}: {words}", request.file),
@@ -83,9 +84,9 @@ fn write_segments<H: Sum>(
 }
 
 // Writes the records of a segment, up to an error of the log.
-fn write_segment<H: Sum>(
+fn write_segment<H: Sum, D: Digest>(
     rt: &HostRuntime,
-    log: &mut LogCopy<H>,
+    log: &mut LogCopy<H, D>,
     segment: u64,
     out: &mut BufWriter<Stdout>,
 ) -> Result<Option<Error>, Status>

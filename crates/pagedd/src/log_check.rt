@@ -1,25 +1,27 @@
 // Reporting what the folder of a log holds.
 use crate::ending::or_end;
+use crate::log_closed::{ListState, Size};
 use crate::log_files::{copy_of, manifest_in, segment_in};
 use crate::log_known::{CopyState, copy_state_of};
 use crate::log_names::FolderNames;
-use crate::log_parts::{Kept, Part};
+use crate::log_parts::{Checked, Kept, Part};
 use crate::log_refusing::{Why, fit_of, refuse_log};
 use crate::log_report::{print_closed, print_ending, print_heading, print_names, print_unopened};
 use crate::log_told::LogCopy;
 use crate::request::Request;
 use crate::status::Status;
+use digest::Digest;
 use page::Sum;
-use segments::Error;
+use segments::{Closed, Error};
 use std::io;
 
 /// Reports what a log has, and which of its files aren't whole. The log is whole where each closed
 /// segment holds what it held when it was closed, and a recovery of the manifest and of the open
 /// segment gives up nothing.
-pub fn check_log<H: Sum>(
+pub fn check_log<H: Sum, D: Digest>(
     rt: &HostRuntime,
     request: &Request,
-    log: &LogCopy<H>,
+    log: &LogCopy<H, D>,
 ) -> Result<Status, Status> {
     let folder = request.file;
     let last = log.last_segment();
@@ -37,7 +39,7 @@ pub fn check_log<H: Sum>(
             tell_part(rt, "manifest", &manifest, manifest_path.as_str()),
         )?;
     }
-    let are_whole = check_closed::<H>(rt, request, log)?;
+    let are_whole = check_closed::<H, D>(rt, request, log)?;
     let names = FolderNames::of(rt, folder)?;
     let copy = copy_state_of::<H>(rt, request)?;
     if request.json {
@@ -103,10 +105,10 @@ fn tell_names(rt: &HostRuntime, names: &FolderNames, copy: &CopyState) -> io::Re
 }
 
 // Prints the state of each closed segment, and answers whether all are whole.
-fn check_closed<H: Sum>(
+fn check_closed<H: Sum, D: Digest>(
     rt: &HostRuntime,
     request: &Request,
-    log: &LogCopy<H>,
+    log: &LogCopy<H, D>,
 ) -> Result<bool, Status> {
     let mut folder = copy_of(rt, request.file)?;
     let mut are_whole = true;
@@ -115,21 +117,48 @@ fn check_closed<H: Sum>(
         let Some(closed) = log.closed(number) else {
             continue;
         };
-        let kept = Kept::of(&mut folder, number, &closed);
-        are_whole = are_whole && kept == Kept::Whole;
+        let checked = Checked::of::<D>(rt, request, &mut folder, number, &closed)?;
+        are_whole = are_whole && checked.kept == Kept::Whole;
         if request.json {
-            print_closed(rt, number, &closed, kept, is_first)?;
+            print_closed(rt, number, &closed, &checked, is_first)?;
         } else {
-            let words = kept.words();
-            let told = println!(rt;
-                "segment {number}: {} records, {} bytes, {words}",
-                closed.records, closed.len
-            );
-            or_end(rt, told)?;
+            or_end(rt, tell_closed(rt, number, &closed, &checked))?;
         }
         is_first = false;
     }
     Ok(are_whole)
+}
+
+// Prints the state of a closed segment, and which of its pages are wrong. A line says if its list
+// isn't whole.
+fn tell_closed(
+    rt: &HostRuntime,
+    number: u64,
+    closed: &Closed,
+    checked: &Checked,
+) -> io::Result<()> {
+    let words = checked.kept.words();
+    println!(rt;
+        "segment {number}: {} records, {}, {words}",
+        closed.records,
+        Size(closed)
+    )?;
+    if !checked.wrong.is_empty() {
+        println!(rt; "segment {number}: wrong pages: {checked}")?;
+    }
+    if checked.unknown > 0 {
+        println!(rt;
+            "segment {number}: which are wrong of {} pages isn't known, without their digests",
+            checked.unknown
+        )?;
+    }
+    match checked.list {
+        Some(list) if list != ListState::Whole => println!(rt;
+            "segment {number}: its list is {}: reads compute it again, as long as the segment is whole",
+            list.name()
+        ),
+        _ => Ok(()),
+    }
 }
 
 /// Prints why a log can't be opened. Where the status is 1, standard error says it too.

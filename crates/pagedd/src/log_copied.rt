@@ -1,5 +1,6 @@
 // The folder of a log's copy, and what is written to it.
 use crate::ending::{fail, or_end};
+use crate::log_closed::{Held, are_same, put_list, remove_list};
 use crate::log_files::{manifest_copy_in, manifest_in, segment_in};
 use crate::log_known::{Known, copy_bytes, manifest_bytes};
 use crate::log_names::FolderNames;
@@ -8,6 +9,7 @@ use crate::log_text::{Front, Text};
 use crate::request::Request;
 use crate::salvage::blob_of;
 use crate::status::Status;
+use digest::Digest;
 use page::Sum;
 use segments::Closed;
 use std::alloc::{AllocError, Global};
@@ -106,11 +108,16 @@ fn new_name(alloc: Global, path: &str) -> Result<String, AllocError> {
     format!(in alloc; "{path}.new")
 }
 
-// Whether a file has what was kept of a closed segment.
-fn has_closed(rt: &HostRuntime, path: &str, closed: &Closed) -> bool {
+// How the file at a path stands to what was kept of a closed segment. `Other` if it can't be read.
+fn held_at<D: Digest>(
+    rt: &HostRuntime,
+    request: &Request,
+    path: &str,
+    closed: &Closed,
+) -> Result<Held, AllocError> {
     match fs::read(rt, path) {
-        Ok(bytes) => closed.is_of(bytes.as_slice()),
-        Err(_) => false,
+        Ok(bytes) => Held::of::<D>(rt.alloc(), request.shape.page_size, closed, &bytes),
+        Err(_) => Ok(Held::Other),
     }
 }
 
@@ -162,7 +169,7 @@ impl<'a, 'b> Target<'a, 'b> {
         }
         for number in old.first().max(new.first())..old.open() {
             let is_same = match (old.closed(number), new.closed(number)) {
-                (Some(old), Some(new)) => old.len == new.len && old.digest == new.digest,
+                (Some(old), Some(new)) => are_same(&old, &new),
                 _ => false,
             };
             if !is_same {
@@ -192,35 +199,50 @@ impl<'a, 'b> Target<'a, 'b> {
         Ok(theirs.bytes.starts_with(front))
     }
 
-    /// Copies a closed segment, unless the folder has it.
-    pub fn stage_closed(
+    /// Copies a closed segment, unless the folder has it, and writes its list.
+    pub fn stage_closed<D: Digest>(
         &self,
         rt: &HostRuntime,
+        request: &Request,
         number: u64,
         closed: &Closed,
         staged: &mut Staged,
     ) -> Result<Option<Flaw>, Status> {
         let to = segment_in(rt.alloc(), self.out, number)?;
-        if has_closed(rt, to.as_str(), closed) {
+        let mut held = held_at::<D>(rt, request, to.as_str(), closed)?;
+        if !matches!(held, Held::Other) {
             staged.kept = staged.kept.saturating_add(1);
+            self.put_list_of(rt, number, &held)?;
             return Ok(None);
         }
         let new = new_name(rt.alloc(), to.as_str())?;
-        if !has_closed(rt, new.as_str(), closed) {
+        held = held_at::<D>(rt, request, new.as_str(), closed)?;
+        if matches!(held, Held::Other) {
             let from = segment_in(rt.alloc(), self.folder, number)?;
-            match fs::read(rt, from.as_str()) {
-                Ok(bytes) if closed.is_of(bytes.as_slice()) => {
-                    write_file(rt, new.as_str(), bytes.as_slice())?;
-                }
-                Ok(_) => return Ok(Some(Flaw::Damaged(number))),
+            let bytes = match fs::read(rt, from.as_str()) {
+                Ok(bytes) => bytes,
                 Err(error) if error.kind() == ErrorKind::NotFound => {
                     return Ok(Some(Flaw::Missing(number)));
                 }
                 Err(error) => return Err(fail(rt, from.as_str(), error)),
+            };
+            held = Held::of::<D>(rt.alloc(), request.shape.page_size, closed, &bytes)?;
+            if matches!(held, Held::Other) {
+                return Ok(Some(Flaw::Damaged(number)));
             }
+            write_file(rt, new.as_str(), bytes.as_slice())?;
         }
+        self.put_list_of(rt, number, &held)?;
         staged.numbers.push(number)?;
         Ok(None)
+    }
+
+    // Writes the list of a closed segment, if it has one.
+    fn put_list_of(&self, rt: &HostRuntime, number: u64, held: &Held) -> Result<(), Status> {
+        match held {
+            Held::Paged(levels) => put_list(rt, self.out, number, levels),
+            _ => Ok(()),
+        }
     }
 
     /// Writes the open segment with this content.
@@ -293,6 +315,7 @@ impl<'a, 'b> Target<'a, 'b> {
         let names = FolderNames::of(rt, self.out)?;
         let mut dropped = 0u64;
         for number in names.numbers.iter().filter(|number| **number < first) {
+            remove_list(rt, self.out, *number)?;
             let path = segment_in(rt.alloc(), self.out, *number)?;
             if let Err(error) = fs::remove_file(rt, path.as_str()) {
                 return Err(fail(rt, path.as_str(), error));

@@ -10,6 +10,7 @@ use crate::log_serving::keep_name;
 use crate::log_text::{Front, Text};
 use crate::request::Request;
 use crate::status::Status;
+use digest::Digest;
 use page::Sum;
 use std::fs;
 use std::io::ErrorKind;
@@ -20,13 +21,17 @@ const TRIES: u32 = 8;
 /// Copies the log in a folder to the folder `out`, or brings a copy there up to date. The log may
 /// be served meanwhile: the manifest is read first, then the segments that it lists, and of the
 /// open one what is whole.
-pub fn copy_log<H: Sum>(rt: &HostRuntime, request: &Request, out: &str) -> Result<Status, Status> {
+pub fn copy_log<H: Sum, D: Digest>(
+    rt: &HostRuntime,
+    request: &Request,
+    out: &str,
+) -> Result<Status, Status> {
     let names = FolderNames::of(rt, request.file)?;
     refuse_other_shape::<H>(rt, request, &names)?;
-    drop(listed::<H>(rt, request)?);
+    drop(listed::<H, D>(rt, request)?);
     begin_out(rt, request.file, out)?;
     let lock = lock_folder(rt, out, false)?;
-    let ended = copy_to::<H>(rt, request, out);
+    let ended = copy_to::<H, D>(rt, request, out);
     drop(lock);
     ended
 }
@@ -46,13 +51,17 @@ fn begin_out(rt: &HostRuntime, folder: &str, out: &str) -> Result<(), Status> {
 }
 
 // Copies the log, from its manifest on again while it changes.
-fn copy_to<H: Sum>(rt: &HostRuntime, request: &Request, out: &str) -> Result<Status, Status> {
+fn copy_to<H: Sum, D: Digest>(
+    rt: &HostRuntime,
+    request: &Request,
+    out: &str,
+) -> Result<Status, Status> {
     let folder = request.file;
     let mut last = 0;
     for _ in 0..TRIES {
-        let known = listed::<H>(rt, request)?;
+        let known = listed::<H, D>(rt, request)?;
         let target = Target::of::<H>(rt, request, &known, out)?;
-        let flaw = match copy_once::<H>(rt, request, &known, &target)? {
+        let flaw = match copy_once::<H, D>(rt, request, &known, &target)? {
             None => return Ok(Status::Done),
             Some(flaw) => flaw,
         };
@@ -75,7 +84,7 @@ fn refuse(rt: &HostRuntime, folder: &str, flaw: &Flaw) -> Status {
 }
 
 // What the manifest of the log lists.
-fn listed<H: Sum>(rt: &HostRuntime, request: &Request) -> Result<Known, Status> {
+fn listed<H: Sum, D: Digest>(rt: &HostRuntime, request: &Request) -> Result<Known, Status> {
     let folder = request.file;
     match manifest_bytes(rt, folder) {
         Ok(Some(bytes)) => {
@@ -85,6 +94,7 @@ fn listed<H: Sum>(rt: &HostRuntime, request: &Request) -> Result<Known, Status> 
                 tell(rt, format_args!("{folder}: {words}"));
                 return Err(Status::NotWhole);
             }
+            known.refuse_other_digest::<D>(rt, request)?;
             Ok(known)
         }
         Ok(None) => Err(fail(
@@ -97,7 +107,7 @@ fn listed<H: Sum>(rt: &HostRuntime, request: &Request) -> Result<Known, Status> 
 }
 
 // Copies the log once. The answer is why it must be begun again, if it must.
-fn copy_once<H: Sum>(
+fn copy_once<H: Sum, D: Digest>(
     rt: &HostRuntime,
     request: &Request,
     known: &Known,
@@ -110,7 +120,13 @@ fn copy_once<H: Sum>(
     let listing = &known.listing;
     for number in listing.first()..listing.open() {
         if let Some(closed) = listing.closed(number) {
-            if let Some(flaw) = target.stage_closed(rt, number, &closed, &mut staged)? {
+            if let Some(flaw) = target.stage_closed::<D>(
+                rt,
+                request,
+                number,
+                &closed,
+                &mut staged,
+            )? {
                 return Ok(Some(flaw));
             }
         }

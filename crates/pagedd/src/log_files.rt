@@ -5,6 +5,7 @@ ghost use Rattle.segments.specs.Log.{IsLog};
 use crate::ending::fail;
 use crate::request::Request;
 use crate::status::Status;
+use digest::Digest;
 use disk::Blob;
 use page::Sum;
 use segments::{Asked, Error, Folder, FolderCopy, Options, SegmentedLog};
@@ -24,11 +25,12 @@ pub fn fail_folder(rt: &HostRuntime, path: &str, advice: &str) -> Status {
     fail(rt, path, format_args!("it is a folder: {advice}"))
 }
 
-/// The folder of the log of which a path names a file: the manifest or a segment, in a folder that
-/// has both. None where it names another file, or the folder can't be read.
+/// The folder of the log of which a path names a file: the manifest, a segment or a list, in a
+/// folder that has the first two. None where it names another file, or the folder can't be read.
 pub fn log_around<'a>(rt: &HostRuntime, path: &'a str) -> Option<&'a str> {
     let (folder, name) = path.rsplit_once('/').unwrap_or((".", path));
-    if name != "manifest" && name != "manifest.copy" && number_of(name).is_none() {
+    let is_manifest = name == "manifest" || name == "manifest.copy";
+    if !is_manifest && !is_segment(name) && !is_list(name) {
         return None;
     }
     let folder = if folder.is_empty() { "/" } else { folder };
@@ -44,7 +46,20 @@ fn has_log(rt: &HostRuntime, folder: &str) -> bool {
 
 /// The number of the segment whose file has this name. `None` for another name.
 pub fn number_of(name: &str) -> Option<u64> {
-    let digits = name.strip_suffix(".segment")?;
+    numbered(name, ".segment")
+}
+
+/// Whether this is the name of the file of a segment's list.
+pub fn is_list(name: &str) -> bool {
+    numbered(name, LIST_ENDING).is_some()
+}
+
+// What stands after the number in the name of the file of a list.
+const LIST_ENDING: &str = ".digests";
+
+// The number in a name with this ending. `None` for another name.
+fn numbered(name: &str, ending: &str) -> Option<u64> {
+    let digits = name.strip_suffix(ending)?;
     if digits.len() != 20 || !digits.bytes().all(|byte| byte.is_ascii_digit()) {
         return None;
     }
@@ -80,6 +95,11 @@ pub fn segment_in(alloc: Global, folder: &str, number: u64) -> Result<String, Al
     format!(in alloc; "{folder}/{number:020}.segment")
 }
 
+/// The path of the file of a segment's list.
+pub fn list_in(alloc: Global, folder: &str, number: u64) -> Result<String, AllocError> {
+    format!(in alloc; "{folder}/{number:020}{LIST_ENDING}")
+}
+
 /// A copy of the folder: each file is read into memory as it is opened, and none changes. Where
 /// the copy can't be made, a line says why.
 pub fn copy_of(rt: &HostRuntime, folder: &str) -> Result<FolderCopy, Status> {
@@ -101,11 +121,11 @@ fn options_of(request: &Request) -> Options {
 }
 
 /// Opens the log of a folder.
-pub fn open_log<F: Folder<B> + Drop, B: Blob + Drop, H: Sum>(
+pub fn open_log<F: Folder<B> + Drop, B: Blob + Drop, H: Sum, D: Digest>(
     alloc: Global,
     request: &Request,
     folder: F,
-) -> Result<SegmentedLog<F, B, H, H>, Error>
+) -> Result<SegmentedLog<F, B, H, H, D>, Error>
     ensures log { IfOk result (λ log. IsLog H.sum_of H.sum_of log) }
 {
     SegmentedLog::open(alloc, folder, options_of(request))

@@ -7,6 +7,7 @@ use crate::look::{Look, looked, read};
 use crate::opening::{Allowed, allow_looked, open};
 use crate::request::Request;
 use crate::status::Status;
+use digest::Digest;
 use disk::VecBlob;
 use file::FileBlob;
 use page::Sum;
@@ -27,13 +28,16 @@ pub struct GivenUp {
 
 /// What an opening of a log gives up, unless the log is refused. A copy of that is set aside, and a
 /// line on standard error says what goes. For reading alone the line says what isn't served.
-pub fn guard_log<H: Sum>(rt: &HostRuntime, request: &Request) -> Result<GivenUp, Status> {
+pub fn guard_log<H: Sum, D: Digest>(
+    rt: &HostRuntime,
+    request: &Request,
+) -> Result<GivenUp, Status> {
     let mut given_up = GivenUp {
         cut: 0,
         bytes: 0,
         copy: None,
     };
-    if let Some(kept) = kept_of::<H>(rt, request)? {
+    if let Some(kept) = kept_of::<H, D>(rt, request)? {
         let manifest = manifest_in(rt.alloc(), request.file)?;
         let segment = segment_in(rt.alloc(), request.file, kept.number)?;
         guard_file::<H>(rt, request, manifest.as_str(), kept.manifest, &mut given_up)?;
@@ -53,9 +57,9 @@ struct Kept {
 }
 
 // What an opening keeps, by a copy of the log. None where a file isn't there yet, and may be made.
-fn kept_of<H: Sum>(rt: &HostRuntime, request: &Request) -> Result<Option<Kept>, Status> {
+fn kept_of<H: Sum, D: Digest>(rt: &HostRuntime, request: &Request) -> Result<Option<Kept>, Status> {
     let folder = copy_of(rt, request.file)?;
-    match open_log::<FolderCopy, VecBlob, H>(rt.alloc(), request, folder) {
+    match open_log::<FolderCopy, VecBlob, H, D>(rt.alloc(), request, folder) {
         Ok(log) => {
             let kept = Kept {
                 number: log.last_segment(),

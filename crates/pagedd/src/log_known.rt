@@ -1,11 +1,13 @@
 // What the manifest of a log lists, or the copy of it, as far as it can be read.
 use crate::log_files::{manifest_copy_in, manifest_in};
+use crate::log_refusing::refuse_log;
 use crate::log_text::{Frames, Text};
 use crate::request::{Request, Shape};
 use crate::status::Status;
 use crc32c::Crc32c;
+use digest::Digest;
 use page::Sum;
-use segments::{Entry, Listing, entry_of};
+use segments::{Entry, Error, Listing, entry_of};
 use std::alloc::Global;
 use std::io::ErrorKind;
 use std::{fs, io};
@@ -99,6 +101,18 @@ impl Known {
                 Ok(follows)
             }
             Err(_) => Err(Status::OutOfMemory),
+        }
+    }
+
+    /// Refuses it if a closed segment is known by another digest than this one.
+    pub fn refuse_other_digest<D: Digest>(
+        &self,
+        rt: &HostRuntime,
+        request: &Request,
+    ) -> Result<(), Status> {
+        match self.listing.other_digest(D::NUMBER) {
+            Some(number) => Err(refuse_log(rt, request, &Error::AnotherDigest(number))),
+            None => Ok(()),
         }
     }
 
@@ -260,6 +274,18 @@ impl Sources {
             (_, CopyState::Whole(copy)) if takes_copy => copy.known,
             (Some(known), _) => known,
             _ => Known::new(alloc),
+        }
+    }
+
+    /// Refuses what lists more of the log if a closed segment is known by another digest.
+    pub fn refuse_other_digest<D: Digest>(
+        &self,
+        rt: &HostRuntime,
+        request: &Request,
+    ) -> Result<(), Status> {
+        match self.best() {
+            Some(known) => known.refuse_other_digest::<D>(rt, request),
+            None => Ok(()),
         }
     }
 

@@ -1,16 +1,18 @@
 // A picture of a log's segments.
 use crate::ending::{fail, or_end};
+use crate::log_closed::Size;
 use crate::log_files::copy_of;
-use crate::log_parts::Kept;
+use crate::log_parts::Checked;
 use crate::log_report::print_log_map;
 use crate::log_told::LogCopy;
 use crate::map::draw;
 use crate::request::Request;
 use crate::status::Status;
+use digest::Digest;
 use page::Sum;
 
 /// What the marks mean.
-const LEGEND: &str = "# whole, ! damaged, ? missing, - not read, + open";
+const LEGEND: &str = "# whole, ~ whole without its list, ! damaged, ? missing, - not read, + open";
 
 /// Which segments are drawn, and how.
 #[derive(Clone, Copy)]
@@ -24,10 +26,10 @@ pub struct Drawn {
 }
 
 /// Draws the segments of a log: a mark for each, or a line. Each closed one is read whole.
-pub fn map_log<H: Sum>(
+pub fn map_log<H: Sum, D: Digest>(
     rt: &HostRuntime,
     request: &Request,
-    log: &LogCopy<H>,
+    log: &LogCopy<H, D>,
     drawn: Drawn,
 ) -> Result<Status, Status> {
     let last = log.last_segment();
@@ -43,10 +45,10 @@ pub fn map_log<H: Sum>(
         ));
     }
     if drawn.long && !request.json {
-        draw_long::<H>(rt, request, log, first, end)?;
+        draw_long::<H, D>(rt, request, log, first, end)?;
         return Ok(Status::Done);
     }
-    let marks = marks_of::<H>(rt, request, log, first, end)?;
+    let marks = marks_of::<H, D>(rt, request, log, first, end)?;
     if request.json {
         print_log_map(rt, request, first, end, marks.as_str())?;
     } else {
@@ -55,10 +57,10 @@ pub fn map_log<H: Sum>(
     Ok(Status::Done)
 }
 
-fn marks_of<H: Sum>(
+fn marks_of<H: Sum, D: Digest>(
     rt: &HostRuntime,
     request: &Request,
-    log: &LogCopy<H>,
+    log: &LogCopy<H, D>,
     first: u64,
     end: u64,
 ) -> Result<String, Status> {
@@ -66,7 +68,7 @@ fn marks_of<H: Sum>(
     let mut marks = String::new(rt.alloc());
     for number in first..end {
         let mark = match log.closed(number) {
-            Some(closed) => Kept::of(&mut folder, number, &closed).mark(),
+            Some(closed) => { Checked::of::<D>(rt, request, &mut folder, number, &closed)?.mark() }
             None => '+',
         };
         marks.push(mark)?;
@@ -75,10 +77,10 @@ fn marks_of<H: Sum>(
 }
 
 // Draws a line for each segment.
-fn draw_long<H: Sum>(
+fn draw_long<H: Sum, D: Digest>(
     rt: &HostRuntime,
     request: &Request,
-    log: &LogCopy<H>,
+    log: &LogCopy<H, D>,
     first: u64,
     end: u64,
 ) -> Result<(), Status> {
@@ -87,10 +89,11 @@ fn draw_long<H: Sum>(
     for number in first..end {
         let told = match log.closed(number) {
             Some(closed) => {
-                let mark = Kept::of(&mut folder, number, &closed).mark();
+                let mark = Checked::of::<D>(rt, request, &mut folder, number, &closed)?.mark();
                 println!(rt;
-                    "{number:>10} {mark} {} records, {} bytes",
-                    closed.records, closed.len
+                    "{number:>10} {mark} {} records, {}",
+                    closed.records,
+                    Size(&closed)
                 )
             }
             None => println!(rt; "{number:>10} + {} records", log.records()),

@@ -1,6 +1,6 @@
 // The names in the folder of a log.
 use crate::ending::fail;
-use crate::log_files::{number_of, segment_in};
+use crate::log_files::{is_list, number_of, segment_in};
 use crate::status::Status;
 use std::alloc::{AllocError, Global};
 use std::io::ErrorKind;
@@ -70,6 +70,7 @@ impl FolderNames {
         match name {
             "manifest" => self.has_manifest = true,
             "manifest.copy" => {}
+            _ if is_list(name) => {}
             _ if is_cut(name) => self.cut_count = self.cut_count.saturating_add(1),
             _ => {
                 if self.others.len() < MOST {

@@ -1,13 +1,18 @@
 // The states of a log's files.
 use crate::census::Census;
+use crate::log_closed::{Held, ListState};
 use crate::look::{looked, read};
 use crate::request::Request;
 use crate::status::Status;
+use digest::Digest;
 use disk::VecBlob;
 use page::Sum;
-use segments::{Asked, Closed, Folder, FolderCopy};
+use page_digests::{Error as PageError, LEN_LIMIT, PagedContent, Seal, Source};
+use segments::{Asked, Closed, Fingerprint, Folder, FolderCopy};
+use std::alloc::{AllocError, Global};
 use std::fmt;
 use std::io::ErrorKind;
+use std::num::NonZeroU16;
 
 /// The state of a closed segment's file.
 #[derive(Clone, Copy, PartialEq, Eq)]
@@ -23,22 +28,6 @@ pub enum Kept {
 }
 
 impl Kept {
-    /// The state of the file of a closed segment, of which the manifest keeps `closed`. The file is
-    /// read whole.
-    pub fn of(folder: &mut FolderCopy, number: u64, closed: &Closed) -> Self {
-        match folder.read(Asked::Segment(number)) {
-            Ok(blob) => {
-                if closed.is_of(blob.bytes()) {
-                    Kept::Whole
-                } else {
-                    Kept::Damaged
-                }
-            }
-            Err(error) if error.kind() == ErrorKind::NotFound => Kept::Missing,
-            Err(_) => Kept::Unread,
-        }
-    }
-
     /// One word for the state.
     pub fn name(self) -> &'static str {
         match self {
@@ -49,8 +38,8 @@ impl Kept {
         }
     }
 
-    /// One mark for the state.
-    pub fn mark(self) -> char {
+    // One mark for the state.
+    fn mark(self) -> char {
         match self {
             Kept::Whole => '#',
             Kept::Damaged => '!',
@@ -69,6 +58,160 @@ impl Kept {
             Kept::Missing => "missing: bring it back from a copy",
             Kept::Unread => "not read, since the system refuses it",
         }
+    }
+}
+
+/// The states of a closed segment's file and of that of its list.
+#[derive(Drop)]
+pub struct Checked {
+    pub kept: Kept,
+    /// `None` if the segment has no list, or its own file can't be read.
+    pub list: Option<ListState>,
+    /// The pages of a damaged segment that aren't what they were: the first and the last of each row
+    /// of them.
+    pub wrong: Vec<(u64, u64)>,
+    /// Of how many pages of a damaged segment nobody knows, since their digests aren't known.
+    pub unknown: u64,
+}
+
+impl Checked {
+    // What is known of a segment whose file is in this state, and that has no list.
+    fn plain(alloc: Global, kept: Kept) -> Self {
+        Checked {
+            kept,
+            list: None,
+            wrong: Vec::new(alloc),
+            unknown: 0,
+        }
+    }
+
+    /// What is known of a closed segment, of which the manifest keeps `closed`. Its file is read
+    /// whole.
+    pub fn of<D: Digest>(
+        rt: &HostRuntime,
+        request: &Request,
+        folder: &mut FolderCopy,
+        number: u64,
+        closed: &Closed,
+    ) -> Result<Self, Status> {
+        let page_size = request.shape.page_size;
+        let blob = match folder.read(Asked::Segment(number)) {
+            Ok(blob) => blob,
+            Err(error) if error.kind() == ErrorKind::NotFound => {
+                return Ok(Checked::plain(rt.alloc(), Kept::Missing));
+            }
+            Err(_) => return Ok(Checked::plain(rt.alloc(), Kept::Unread)),
+        };
+        let held = Held::of::<D>(rt.alloc(), page_size, closed, blob.bytes())?;
+        let mut checked = Checked::plain(rt.alloc(), Kept::Whole);
+        match (&held, &closed.fingerprint) {
+            (Held::Whole, _) => {}
+            (Held::Paged(levels), _) => {
+                let list = ListState::of(rt, request.file, number, levels)?;
+                checked.list = Some(list);
+            }
+            (Held::Other, Fingerprint::Whole(_)) => checked.kept = Kept::Damaged,
+            (Held::Other, Fingerprint::Paged(kept)) => {
+                checked.kept = Kept::Damaged;
+                checked.look::<D>(rt.alloc(), page_size, folder, number, kept.seal)?;
+            }
+        }
+        Ok(checked)
+    }
+
+    // Looks which pages of a damaged segment aren't what they were, by its list.
+    fn look<D: Digest>(
+        &mut self,
+        alloc: Global,
+        page_size: NonZeroU16,
+        folder: &mut FolderCopy,
+        number: u64,
+        seal: Seal,
+    ) -> Result<(), Status> {
+        self.list = Some(ListState::Whole);
+        let list = match folder.list_source(number) {
+            Ok(list) => list,
+            Err(error) => {
+                let is_missing = error.kind() == ErrorKind::NotFound;
+                return Ok(self.lack(is_missing, page_size, seal));
+            }
+        };
+        let Ok(file) = folder.source(number) else {
+            return Ok(self.lack(false, page_size, seal));
+        };
+        if seal.len >= LEN_LIMIT {
+            return Ok(self.lack(false, page_size, seal));
+        }
+        match PagedContent::<_, D>::open(alloc, file, list, seal, page_size) {
+            Ok(mut content) => self.count(&mut content),
+            Err(_) => Ok(self.lack(false, page_size, seal)),
+        }
+    }
+
+    // Counts all pages as such of which nobody knows, since the list is missing or wrong.
+    fn lack(&mut self, is_missing: bool, page_size: NonZeroU16, seal: Seal) {
+        self.list = Some(if is_missing {
+            ListState::Missing
+        } else {
+            ListState::Wrong
+        });
+        self.unknown = seal.len.div_ceil(u64::from(page_size.get()));
+    }
+
+    // Counts the pages of a content that aren't what they were. Where the file ends before a page,
+    // that is one of them.
+    fn count<S: Source + Drop, D: Digest>(
+        &mut self,
+        content: &mut PagedContent<S, D>,
+    ) -> Result<(), Status> {
+        for page in 0..u64::MAX {
+            if page >= content.page_count() {
+                break;
+            }
+            match content.page_is_sound(page) {
+                Ok(true) => {}
+                Ok(false) | Err(PageError::System(_)) => self.add(page)?,
+                Err(PageError::Damaged) => {
+                    self.list = Some(ListState::Wrong);
+                    self.unknown = self.unknown.saturating_add(1);
+                }
+                Err(PageError::OutOfMemory) => return Err(Status::OutOfMemory),
+            }
+        }
+        Ok(())
+    }
+
+    // Counts a page that isn't what it was.
+    fn add(&mut self, page: u64) -> Result<(), AllocError> {
+        match self.wrong.last_mut() {
+            Some(row) if row.1.checked_add(1) == Some(page) => row.1 = page,
+            _ => self.wrong.push((page, page))?,
+        }
+        Ok(())
+    }
+
+    /// One mark for the states.
+    pub fn mark(&self) -> char {
+        match (self.kept, self.list) {
+            (Kept::Whole, Some(ListState::Missing | ListState::Wrong)) => '~',
+            (kept, _) => kept.mark(),
+        }
+    }
+}
+
+/// The pages of a damaged segment that aren't what they were, in words.
+impl fmt::Display for Checked {
+    fn fmt<W: fmt::Write>(&self, f: &mut fmt::Formatter<W>) -> fmt::Result {
+        let mut mark = "";
+        for (first, last) in &self.wrong {
+            if first == last {
+                write!(f, "{mark}{first}")?;
+            } else {
+                write!(f, "{mark}{first} to {last}")?;
+            }
+            mark = ", ";
+        }
+        Ok(())
     }
 }
 

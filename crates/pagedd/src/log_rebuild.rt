@@ -1,5 +1,6 @@
 // A new manifest for a log.
 use crate::ending::{fail, or_end, tell};
+use crate::log_closed::{put_list, sealed};
 use crate::log_files::{manifest_in, segment_in};
 use crate::log_known::{Known, Sources, manifest_bytes};
 use crate::log_lock::lock_folder;
@@ -11,6 +12,7 @@ use crate::opening::{open, set_aside_once};
 use crate::request::{Request, Shape};
 use crate::salvage::blob_of;
 use crate::status::Status;
+use digest::Digest;
 use disk::Error;
 use file::FileBlob;
 use journal::frame_of;
@@ -24,7 +26,7 @@ const MOST_DROPPED: u64 = 1 << 20;
 /// Makes the manifest of the log in a folder anew, unless it is whole and fits the folder: of its
 /// entries as far as they can be read, or of those of its copy, and of the closed segments that
 /// they don't list. Each of these must be whole. The old manifest is set aside.
-pub fn rebuild<H: Sum>(rt: &HostRuntime, request: &Request) -> Result<Status, Status> {
+pub fn rebuild<H: Sum, D: Digest>(rt: &HostRuntime, request: &Request) -> Result<Status, Status> {
     let folder = request.file;
     let lock = lock_folder(rt, folder, false)?;
     let names = FolderNames::of(rt, folder)?;
@@ -35,6 +37,7 @@ pub fn rebuild<H: Sum>(rt: &HostRuntime, request: &Request) -> Result<Status, St
     let held = hold(rt, request, &names, *last)?;
     refuse_other_shape::<H>(rt, request, &names)?;
     let sources = Sources::of::<H>(rt, request)?;
+    sources.refuse_other_digest::<D>(rt, request)?;
     let ended = if fits(rt, request, &sources, &names) {
         or_end(
             rt,
@@ -42,7 +45,7 @@ pub fn rebuild<H: Sum>(rt: &HostRuntime, request: &Request) -> Result<Status, St
         )?;
         Ok(Status::Done)
     } else {
-        rebuild_of::<H>(rt, request, &names, sources, *last)
+        rebuild_of::<H, D>(rt, request, &names, sources, *last)
     };
     drop(held);
     drop(lock);
@@ -82,7 +85,7 @@ fn is_open(rt: &HostRuntime, request: &Request, known: &Known, names: &FolderNam
 }
 
 // Makes the manifest anew.
-fn rebuild_of<H: Sum>(
+fn rebuild_of<H: Sum, D: Digest>(
     rt: &HostRuntime,
     request: &Request,
     names: &FolderNames,
@@ -98,7 +101,7 @@ fn rebuild_of<H: Sum>(
     let mut known = sources.into_best(rt.alloc());
     let taken = known.entries;
     if known.is_empty() {
-        begin::<H>(rt, request, &mut known, names)?;
+        begin::<H, D>(rt, request, &mut known, names)?;
     }
     let open = known.listing.open();
     let last = if is_open(rt, request, &known, names) {
@@ -115,14 +118,14 @@ fn rebuild_of<H: Sum>(
         return Err(Status::NotWhole);
     }
     for number in open..last {
-        let closed = closed_of::<H>(rt, request, number)?;
+        let closed = closed_of::<H, D>(rt, request, number)?;
         enter::<H>(rt, request, &mut known, &Entry::Closes(closed))?;
     }
     put::<H>(rt, request, &known)?;
     let first = known.listing.first();
     let told = println!(rt;
         "{folder}: the manifest lists segments {first} to {last}, and {last} is the open one; \
-         entries from {source}: {taken}; segments whose digest is of what is there now: {}",
+         entries from {source}: {taken}; segments whose digests are of what is there now: {}",
         last.saturating_sub(open)
     );
     or_end(rt, told)?;
@@ -131,7 +134,7 @@ fn rebuild_of<H: Sum>(
 
 // The first entries of a manifest of which nothing can be read: the log begins with the first
 // segment that has a file.
-fn begin<H: Sum>(
+fn begin<H: Sum, D: Digest>(
     rt: &HostRuntime,
     request: &Request,
     known: &mut Known,
@@ -149,8 +152,9 @@ fn begin<H: Sum>(
     }
     let page_size = request.shape.page_size.get();
     enter::<H>(rt, request, known, &Entry::Starts(0, page_size))?;
+    let (empty, _) = sealed::<D>(rt.alloc(), request.shape.page_size, 0, &[])?;
     for _ in 0..first {
-        enter::<H>(rt, request, known, &Entry::Closes(Closed::of(&[], 0)))?;
+        enter::<H>(rt, request, known, &Entry::Closes(empty))?;
     }
     if first > 0 {
         tell(
@@ -193,7 +197,11 @@ fn framed<H: Sum>(
 
 // What is to be kept of a closed segment that isn't listed, by what its file holds now, unless that
 // isn't whole.
-fn closed_of<H: Sum>(rt: &HostRuntime, request: &Request, number: u64) -> Result<Closed, Status> {
+fn closed_of<H: Sum, D: Digest>(
+    rt: &HostRuntime,
+    request: &Request,
+    number: u64,
+) -> Result<Closed, Status> {
     let path = segment_in(rt.alloc(), request.file, number)?;
     let bytes = match fs::read(rt, path.as_str()) {
         Ok(bytes) => bytes,
@@ -213,12 +221,15 @@ fn closed_of<H: Sum>(rt: &HostRuntime, request: &Request, number: u64) -> Result
         );
         return Err(Status::NotWhole);
     }
-    let closed = Closed::of(bytes.as_slice(), front.records);
+    let page_size = request.shape.page_size;
+    let (closed, levels) = sealed::<D>(rt.alloc(), page_size, front.records, &text.bytes)?;
+    put_list(rt, request.file, number, &levels)?;
     tell(
         rt,
         format_args!(
-            "{path}: {} records, {} bytes: its digest is of what is there now",
-            closed.records, closed.len
+            "{path}: {} records, {} content bytes: its digests are of what is there now",
+            closed.records,
+            text.bytes.len()
         ),
     );
     Ok(closed)

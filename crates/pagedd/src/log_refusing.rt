@@ -5,7 +5,7 @@ use crate::log_files::{manifest_in, segment_in};
 use crate::log_names::FolderNames;
 use crate::look::read;
 use crate::pages::value_of;
-use crate::request::Request;
+use crate::request::{DigestName, Request};
 use crate::serving::fail_file;
 use crate::status::Status;
 use page::Sum;
@@ -22,6 +22,16 @@ impl fmt::Display for Why<'_> {
     fn fmt<W: fmt::Write>(&self, f: &mut fmt::Formatter<W>) -> fmt::Result {
         match self.0 {
             Error::System(why) if why.kind() == ErrorKind::NotFound => write!(f, "{NO_LOG}"),
+            Error::AnotherDigest(number) => match DigestName::of_number(*number) {
+                Some(digest) => {
+                    let name = digest.name();
+                    write!(f, "its closed segments have {name}: take --digest {name}")
+                }
+                None => write!(
+                    f,
+                    "its closed segments have digest {number}, which isn't known"
+                ),
+            },
             error => write!(f, "{error}"),
         }
     }

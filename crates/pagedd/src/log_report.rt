@@ -1,13 +1,13 @@
 // What check and map answer of a log in JSON: one line, whose members stand in a fixed order.
 use crate::ending::or_end;
 use crate::log_names::FolderNames;
-use crate::log_parts::{Kept, Part};
+use crate::log_parts::{Checked, Part};
 use crate::log_refusing::Why;
 use crate::report::quoted;
 use crate::request::Request;
 use crate::status::Status;
-use segments::Closed;
-use std::fmt;
+use segments::{Closed, Fingerprint};
+use std::{fmt, io};
 
 /// What is known of a file that an opening recovers, as members of an object.
 #[derive(Clone, Copy)]
@@ -54,17 +54,35 @@ pub fn print_closed(
     rt: &HostRuntime,
     number: u64,
     closed: &Closed,
-    kept: Kept,
+    checked: &Checked,
     is_first: bool,
 ) -> Result<(), Status> {
     let mark = if is_first { "" } else { "," };
+    let (what, len) = match &closed.fingerprint {
+        Fingerprint::Whole(kept) => ("bytes", kept.len),
+        Fingerprint::Paged(kept) => ("content_bytes", kept.seal.len),
+    };
     let printed = print!(rt;
-        "{mark}{{\"segment\":{number},\"records\":{},\"bytes\":{},\"state\":\"{}\"}}",
+        "{mark}{{\"segment\":{number},\"records\":{},\"{what}\":{len},\"state\":\"{}\"",
         closed.records,
-        closed.len,
-        kept.name()
+        checked.kept.name()
     );
-    or_end(rt, printed)
+    or_end(rt, printed)?;
+    or_end(rt, print_pages(rt, checked))
+}
+
+// Prints the state of a segment's list, and which pages are wrong, and ends the object.
+fn print_pages(rt: &HostRuntime, checked: &Checked) -> io::Result<()> {
+    if let Some(list) = checked.list {
+        print!(rt; ",\"list\":\"{}\",\"wrong_pages\":[", list.name())?;
+        let mut mark = "";
+        for (first, last) in &checked.wrong {
+            print!(rt; "{mark}[{first},{last}]")?;
+            mark = ",";
+        }
+        print!(rt; "],\"unknown_pages\":{}", checked.unknown)?;
+    }
+    print!(rt; "}}")
 }
 
 /// Prints what stands behind the closed segments.

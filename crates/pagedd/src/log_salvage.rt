@@ -2,6 +2,7 @@
 ghost use Rattle.segments.specs.Log.{IsLog};
 
 use crate::ending::{fail, tell};
+use crate::log_closed::Held;
 use crate::log_files::{open_log, segment_in};
 use crate::log_known::Sources;
 use crate::log_lock::{begin_folder, lock_folder};
@@ -12,22 +13,24 @@ use crate::log_serving::keep_name;
 use crate::log_text::{Frames, Text};
 use crate::request::Request;
 use crate::status::Status;
+use digest::Digest;
 use file::FileBlob;
 use journal::MOST_BYTES;
 use page::Sum;
-use segments::{Error, FileFolder, SegmentedLog};
+use segments::{Closed, Error, FileFolder, SegmentedLog};
+use std::alloc::AllocError;
 use std::fs;
 
 /// At most so many segments that are missing one after another are counted.
 const MOST_MISSING: u64 = 1000;
 
 /// The log that is made.
-type NewLog<H> = SegmentedLog<FileFolder, FileBlob, H, H>;
+type NewLog<H, D> = SegmentedLog<FileFolder, FileBlob, H, H, D>;
 
 /// Makes in the folder `out` a new log with all records of the log in a folder whose frames fit: of
 /// the open segment, of closed ones and of those that no manifest lists, and where `dropped` asks
 /// of those that were dropped and whose files were left. Standard error says what is missing.
-pub fn salvage_log<H: Sum>(
+pub fn salvage_log<H: Sum, D: Digest>(
     rt: &HostRuntime,
     request: &Request,
     out: &str,
@@ -41,6 +44,7 @@ pub fn salvage_log<H: Sum>(
     }
     refuse_other_shape::<H>(rt, request, &names)?;
     let sources = Sources::of::<H>(rt, request)?;
+    sources.refuse_other_digest::<D>(rt, request)?;
     begin_folder(rt, request.file, out)?;
     keep_name(rt, out)?;
     let source = Source {
@@ -49,7 +53,7 @@ pub fn salvage_log<H: Sum>(
         dropped,
         out,
     };
-    let ended = salvage_to::<H>(rt, request, &source);
+    let ended = salvage_to::<H, D>(rt, request, &source);
     drop(lock);
     ended
 }
@@ -66,7 +70,7 @@ struct Source<'a> {
 }
 
 // Makes the new log.
-fn salvage_to<H: Sum>(
+fn salvage_to<H: Sum, D: Digest>(
     rt: &HostRuntime,
     request: &Request,
     source: &Source<'_>,
@@ -75,18 +79,18 @@ fn salvage_to<H: Sum>(
         Ok(files) => files,
         Err(error) => return Err(fail(rt, source.out, error)),
     };
-    match open_log::<FileFolder, FileBlob, H>(rt.alloc(), request, files) {
-        Ok(mut log) => fill_log::<H>(rt, request, source, &mut log),
+    match open_log::<FileFolder, FileBlob, H, D>(rt.alloc(), request, files) {
+        Ok(mut log) => fill_log::<H, D>(rt, request, source, &mut log),
         Err(error) => Err(refuse_log(rt, &request.about(source.out), &error)),
     }
 }
 
 // Fills the new log, and commits it.
-fn fill_log<H: Sum>(
+fn fill_log<H: Sum, D: Digest>(
     rt: &HostRuntime,
     request: &Request,
     source: &Source<'_>,
-    log: &mut NewLog<H>,
+    log: &mut NewLog<H, D>,
 ) -> Result<Status, Status>
     requires log { IsLog H.sum_of H.sum_of log.old }
 {
@@ -97,7 +101,7 @@ fn fill_log<H: Sum>(
     }
     for number in &source.names.numbers {
         tell_missing(rt, request, source, *number, &mut salvaged)?;
-        salvage_segment::<H>(rt, request, source, *number, log, &mut salvaged)?;
+        salvage_segment::<H, D>(rt, request, source, *number, log, &mut salvaged)?;
     }
     tell_missing(rt, request, source, u64::MAX, &mut salvaged)?;
     match log.commit() {
@@ -204,12 +208,12 @@ fn missing_between(source: &Source<'_>, before: u64, salvaged: &Salvaged) -> (u6
 }
 
 // Appends the records of a segment to the new log.
-fn salvage_segment<H: Sum>(
+fn salvage_segment<H: Sum, D: Digest>(
     rt: &HostRuntime,
     request: &Request,
     source: &Source<'_>,
     number: u64,
-    log: &mut NewLog<H>,
+    log: &mut NewLog<H, D>,
     salvaged: &mut Salvaged,
 ) -> Result<(), Status>
     requires log { IsLog H.sum_of H.sum_of log.old }
@@ -232,7 +236,7 @@ fn salvage_segment<H: Sum>(
     };
     let text = Text::of::<H>(rt.alloc(), request.shape, bytes.as_slice())?;
     let before = salvaged.records;
-    append_text::<H>(
+    append_text::<H, D>(
         rt,
         request,
         source,
@@ -242,7 +246,7 @@ fn salvage_segment<H: Sum>(
         salvaged,
     )?;
     tell_short(rt, request, source, number, text.bytes.len(), salvaged)?;
-    end_segment(
+    end_segment::<D>(
         rt,
         request,
         source,
@@ -295,13 +299,13 @@ fn skip_dropped(
 }
 
 // Appends the records of a text to the new log.
-fn append_text<H: Sum>(
+fn append_text<H: Sum, D: Digest>(
     rt: &HostRuntime,
     request: &Request,
     source: &Source<'_>,
     number: u64,
     text: &[u8],
-    log: &mut NewLog<H>,
+    log: &mut NewLog<H, D>,
     salvaged: &mut Salvaged,
 ) -> Result<(), Status>
     requires log { IsLog H.sum_of H.sum_of log.old }
@@ -313,17 +317,17 @@ fn append_text<H: Sum>(
             break;
         };
         salvaged.add(rt, request.file, number, &piece)?;
-        append_record::<H>(rt, source, piece.record, log)?;
+        append_record::<H, D>(rt, source, piece.record, log)?;
     }
     Ok(())
 }
 
 // Appends a record, if there is one.
-fn append_record<H: Sum>(
+fn append_record<H: Sum, D: Digest>(
     rt: &HostRuntime,
     source: &Source<'_>,
     record: Option<&[u8]>,
-    log: &mut NewLog<H>,
+    log: &mut NewLog<H, D>,
 ) -> Result<(), Status>
     requires log { IsLog H.sum_of H.sum_of log.old }
     ensures log { IsLog H.sum_of H.sum_of log.new }
@@ -361,8 +365,23 @@ fn tell_short(
     Ok(())
 }
 
+// Whether a file of these bytes is that of a closed segment of which this was kept, and is what it
+// was.
+fn is_whole<D: Digest>(
+    rt: &HostRuntime,
+    request: &Request,
+    closed: Option<&Closed>,
+    bytes: &[u8],
+) -> Result<bool, AllocError> {
+    let Some(closed) = closed else {
+        return Ok(false);
+    };
+    let held = Held::of::<D>(rt.alloc(), request.shape.page_size, closed, bytes)?;
+    Ok(!matches!(held, Held::Other))
+}
+
 // Counts a segment whose file has these bytes. Before it so many records had been salvaged.
-fn end_segment(
+fn end_segment<D: Digest>(
     rt: &HostRuntime,
     request: &Request,
     source: &Source<'_>,
@@ -375,9 +394,10 @@ fn end_segment(
         .sources
         .best()
         .and_then(|known| known.listing.closed(number));
-    let fate = match closed {
-        Some(closed) if closed.is_of(bytes) => Fate::Whole,
-        _ => fate_of(source, number),
+    let fate = if is_whole::<D>(rt, request, closed.as_ref(), bytes)? {
+        Fate::Whole
+    } else {
+        fate_of(source, number)
     };
     let part = Part {
         segment: number,

@@ -17,6 +17,7 @@ use crate::rewrite::Unsynced;
 use crate::serving::{flushed, tell_stop};
 use crate::status::Status;
 use crate::streams::Streams;
+use digest::Digest;
 use disk::{Blob, VecBlob};
 use file::FileBlob;
 use page::Sum;
@@ -28,7 +29,7 @@ use std::io::{self, BufRead, BufReader, BufWriter, Read, Write};
 
 /// Serves the log of a folder, or for reading alone a copy of it in memory. A folder that is
 /// missing is made, except for reading alone.
-pub fn serve_log<H: Sum>(rt: &HostRuntime, request: &Request) -> Result<Status, Status> {
+pub fn serve_log<H: Sum, D: Digest>(rt: &HostRuntime, request: &Request) -> Result<Status, Status> {
     let folder = request.file;
     if !is_folder(rt, folder) {
         make_folder(rt, request)?;
@@ -38,7 +39,7 @@ pub fn serve_log<H: Sum>(rt: &HostRuntime, request: &Request) -> Result<Status, 
     }
     // From the look on, so that nobody changes the log between it and the opening.
     let lock = lock_for(rt, request)?;
-    let ended = guard_and_serve::<H>(rt, request);
+    let ended = guard_and_serve::<H, D>(rt, request);
     drop(lock);
     ended
 }
@@ -52,15 +53,18 @@ fn lock_for(rt: &HostRuntime, request: &Request) -> Result<Option<File>, Status>
 }
 
 // Looks at the log in a folder, and serves it.
-fn guard_and_serve<H: Sum>(rt: &HostRuntime, request: &Request) -> Result<Status, Status> {
+fn guard_and_serve<H: Sum, D: Digest>(
+    rt: &HostRuntime,
+    request: &Request,
+) -> Result<Status, Status> {
     let folder = request.file;
-    let given_up = guard_log::<H>(rt, request)?;
+    let given_up = guard_log::<H, D>(rt, request)?;
     if request.read_only {
         let copy = copy_of(rt, folder)?;
-        return serve_folder::<FolderCopy, VecBlob, H>(rt, request, &given_up, copy);
+        return serve_folder::<FolderCopy, VecBlob, H, D>(rt, request, &given_up, copy);
     }
     match FileFolder::new(rt, folder) {
-        Ok(files) => serve_folder::<FileFolder, FileBlob, H>(rt, request, &given_up, files),
+        Ok(files) => serve_folder::<FileFolder, FileBlob, H, D>(rt, request, &given_up, files),
         Err(error) => Err(fail(rt, folder, error)),
     }
 }
@@ -93,13 +97,13 @@ pub fn keep_name(rt: &HostRuntime, folder: &str) -> Result<(), Status> {
 }
 
 // Serves the log of a folder.
-fn serve_folder<F: Folder<B> + Drop, B: Blob + Cause + Drop, H: Sum>(
+fn serve_folder<F: Folder<B> + Drop, B: Blob + Cause + Drop, H: Sum, D: Digest>(
     rt: &HostRuntime,
     request: &Request,
     given_up: &GivenUp,
     folder: F,
 ) -> Result<Status, Status> {
-    match open_log::<F, B, H>(rt.alloc(), request, folder) {
+    match open_log::<F, B, H, D>(rt.alloc(), request, folder) {
         Ok(mut log) => serve_opened(rt, request, given_up, &mut log),
         Err(error) => Err(refuse(rt, request, &error)),
     }
@@ -120,11 +124,11 @@ fn refuse(rt: &HostRuntime, request: &Request, error: &Error) -> Status {
     refuse_log(rt, request, error)
 }
 
-fn serve_opened<F: Folder<B> + Drop, B: Blob + Cause + Drop, H: Sum>(
+fn serve_opened<F: Folder<B> + Drop, B: Blob + Cause + Drop, H: Sum, D: Digest>(
     rt: &HostRuntime,
     request: &Request,
     given_up: &GivenUp,
-    log: &mut SegmentedLog<F, B, H, H>,
+    log: &mut SegmentedLog<F, B, H, H, D>,
 ) -> Result<Status, Status>
     requires log { IsLog H.sum_of H.sum_of log.old }
 {
@@ -132,11 +136,11 @@ fn serve_opened<F: Folder<B> + Drop, B: Blob + Cause + Drop, H: Sum>(
     serve_streams(rt, request, given_up, log, &mut streams)
 }
 
-fn serve_streams<F: Folder<B> + Drop, B: Blob + Cause + Drop, H: Sum>(
+fn serve_streams<F: Folder<B> + Drop, B: Blob + Cause + Drop, H: Sum, D: Digest>(
     rt: &HostRuntime,
     request: &Request,
     given_up: &GivenUp,
-    log: &mut SegmentedLog<F, B, H, H>,
+    log: &mut SegmentedLog<F, B, H, H, D>,
     streams: &mut Streams,
 ) -> Result<Status, Status>
     requires log { IsLog H.sum_of H.sum_of log.old }
@@ -234,11 +238,18 @@ fn fail_unsynced(rt: &HostRuntime, folder: &str, file: Asked) -> Result<Status, 
 }
 
 // Greets a client, agrees on a version, and serves it.
-fn serve_client<F: Folder<B> + Drop, B: Blob + Cause + Drop, H: Sum, R: Read, W: Write + Drop>(
+fn serve_client<
+    F: Folder<B> + Drop,
+    B: Blob + Cause + Drop,
+    H: Sum,
+    D: Digest,
+    R: Read,
+    W: Write + Drop,
+>(
     alloc: Global,
     hello: &Hello<'_>,
     client: &mut Client,
-    log: &mut SegmentedLog<F, B, H, H>,
+    log: &mut SegmentedLog<F, B, H, H, D>,
     input: &mut BufReader<R>,
     out: &mut BufWriter<W>,
 ) -> Result<(), Stop>
@@ -260,10 +271,17 @@ fn serve_client<F: Folder<B> + Drop, B: Blob + Cause + Drop, H: Sum, R: Read, W:
 
 // Takes the requests of the input, one after another, and writes an answer to each, up to a close
 // or the end of the input.
-fn serve_requests<F: Folder<B> + Drop, B: Blob + Cause + Drop, H: Sum, R: Read, W: Write + Drop>(
+fn serve_requests<
+    F: Folder<B> + Drop,
+    B: Blob + Cause + Drop,
+    H: Sum,
+    D: Digest,
+    R: Read,
+    W: Write + Drop,
+>(
     alloc: Global,
     client: &mut Client,
-    log: &mut SegmentedLog<F, B, H, H>,
+    log: &mut SegmentedLog<F, B, H, H, D>,
     input: &mut BufReader<R>,
     out: &mut BufWriter<W>,
 ) -> Result<(), Stop>

@@ -83,7 +83,11 @@ pub fn status_of(error: &Error) -> u8 {
         Error::System(_) | Error::Unsynced(_) => 40,
         Error::Unlisted(_) => 41,
         Error::NumbersExhausted => 42,
-        Error::Missing(_) | Error::Short(_) | Error::Outdated(_) | Error::Manifest => 43,
+        Error::Missing(_)
+        | Error::Short(_)
+        | Error::Outdated(_)
+        | Error::Manifest
+        | Error::AnotherDigest(_) => 43,
     }
 }
 
@@ -104,14 +108,15 @@ pub fn status_of_flaw(flaw: Flaw) -> u8 {
 fn advice_after(error: &Error, is_closing: bool) -> u8 {
     match error {
         Error::Unsynced(_) | Error::Layer(disk::Error::SyncFailed) => REPLACE,
-        Error::NoSegment(_) | Error::Damaged(_) => 0,
+        // `Manifest` is that of a read, which leaves the log as it was.
+        Error::NoSegment(_) | Error::Damaged(_) | Error::Manifest => 0,
         Error::Closed
         | Error::Unlisted(_)
         | Error::NumbersExhausted
         | Error::Missing(_)
         | Error::Short(_)
         | Error::Outdated(_)
-        | Error::Manifest => 2,
+        | Error::AnotherDigest(_) => 2,
         _ if is_closing => 2,
         Error::System(_) => 1,
         Error::Layer(disk::Error::ReadFailed | disk::Error::OutOfMemory) => 1,

@@ -5,6 +5,7 @@ use crate::log_answer::{Refusal, write_answer, write_found, write_places, write_
 use crate::log_records::{Records, length_of, split_record};
 use crate::log_request::LogTask;
 use crate::log_status::{AT_END, Failure, NO_RECORDS, READ_ONLY, is_failed_sync, refusal_of};
+use digest::Digest;
 use disk::Blob;
 use journal::MOST_BYTES;
 use page::Sum;
@@ -41,10 +42,10 @@ impl Client {
 }
 
 /// Takes a request with these bytes, unless it is refused, and writes its answer.
-pub fn take_request<F: Folder<B> + Drop, B: Blob + Cause + Drop, H: Sum, W: Write>(
+pub fn take_request<F: Folder<B> + Drop, B: Blob + Cause + Drop, H: Sum, D: Digest, W: Write>(
     alloc: Global,
     client: &mut Client,
-    log: &mut SegmentedLog<F, B, H, H>,
+    log: &mut SegmentedLog<F, B, H, H, D>,
     task: LogTask,
     bytes: &[u8],
     out: &mut W,
@@ -76,8 +77,8 @@ fn refuse<W: Write>(alloc: Global, client: &Client, out: &mut W, status: u8) -> 
 
 // Why a file of the log failed, if one did. The file of the open segment is asked first, then the
 // manifest.
-fn failure_of<F: Folder<B> + Drop, B: Blob + Cause + Drop, H: Sum>(
-    log: &SegmentedLog<F, B, H, H>,
+fn failure_of<F: Folder<B> + Drop, B: Blob + Cause + Drop, H: Sum, D: Digest>(
+    log: &SegmentedLog<F, B, H, H, D>,
 ) -> Failure<'_> {
     let error = match log.blob().cause() {
         Some(error) => Some(error),
@@ -90,8 +91,8 @@ fn failure_of<F: Folder<B> + Drop, B: Blob + Cause + Drop, H: Sum>(
 }
 
 /// The file of the log of which a sync failed, if one did.
-pub fn unsynced_of<F: Folder<B> + Drop, B: Blob + Cause + Drop, H: Sum>(
-    log: &SegmentedLog<F, B, H, H>,
+pub fn unsynced_of<F: Folder<B> + Drop, B: Blob + Cause + Drop, H: Sum, D: Digest>(
+    log: &SegmentedLog<F, B, H, H, D>,
 ) -> Option<Asked> {
     if log.blob().failed_sync() {
         return Some(Asked::Segment(log.last_segment()));
@@ -133,10 +134,10 @@ fn refuse_kept<W: Write>(
 }
 
 // Answers a request that can't be met since the log is closed.
-fn refuse_lost<F: Folder<B> + Drop, B: Blob + Cause + Drop, H: Sum, W: Write>(
+fn refuse_lost<F: Folder<B> + Drop, B: Blob + Cause + Drop, H: Sum, D: Digest, W: Write>(
     alloc: Global,
     client: &Client,
-    log: &SegmentedLog<F, B, H, H>,
+    log: &SegmentedLog<F, B, H, H, D>,
     out: &mut W,
 ) -> Result<(), Stop> {
     refuse_kept(alloc, client, out, &Error::Closed, failure_of(log))
@@ -148,10 +149,10 @@ fn write_flushed<W: Write>(out: &mut W) -> Result<(), Stop> {
     Ok(())
 }
 
-fn take_append<F: Folder<B> + Drop, B: Blob + Cause + Drop, H: Sum, W: Write>(
+fn take_append<F: Folder<B> + Drop, B: Blob + Cause + Drop, H: Sum, D: Digest, W: Write>(
     alloc: Global,
     client: &mut Client,
-    log: &mut SegmentedLog<F, B, H, H>,
+    log: &mut SegmentedLog<F, B, H, H, D>,
     bytes: &[u8],
     out: &mut W,
 ) -> Result<(), Stop>
@@ -169,10 +170,10 @@ fn take_append<F: Folder<B> + Drop, B: Blob + Cause + Drop, H: Sum, W: Write>(
 
 // Appends records, and commits where `syncs` asks. Nothing is appended where the fields are no
 // records.
-fn take_records<F: Folder<B> + Drop, B: Blob + Cause + Drop, H: Sum, W: Write>(
+fn take_records<F: Folder<B> + Drop, B: Blob + Cause + Drop, H: Sum, D: Digest, W: Write>(
     alloc: Global,
     client: &mut Client,
-    log: &mut SegmentedLog<F, B, H, H>,
+    log: &mut SegmentedLog<F, B, H, H, D>,
     fields: &[u8],
     syncs: bool,
     out: &mut W,
@@ -187,7 +188,7 @@ fn take_records<F: Folder<B> + Drop, B: Blob + Cause + Drop, H: Sum, W: Write>(
         return refuse_lost(alloc, client, log, out);
     }
     let mut places = Vec::with_capacity(alloc, records.count())?;
-    let appended = append_records::<F, B, H>(log, records, &mut places);
+    let appended = append_records::<F, B, H, D>(log, records, &mut places);
     let taken = places.len() as u64;
     let ended = match appended {
         Ok(()) if syncs => log.commit(),
@@ -200,8 +201,8 @@ fn take_records<F: Folder<B> + Drop, B: Blob + Cause + Drop, H: Sum, W: Write>(
 }
 
 // Appends records up to the first that is refused, and keeps the place of each.
-fn append_records<F: Folder<B> + Drop, B: Blob + Cause + Drop, H: Sum>(
-    log: &mut SegmentedLog<F, B, H, H>,
+fn append_records<F: Folder<B> + Drop, B: Blob + Cause + Drop, H: Sum, D: Digest>(
+    log: &mut SegmentedLog<F, B, H, H, D>,
     records: Records<'_>,
     places: &mut Vec<Place>,
 ) -> Result<(), Error>
@@ -219,10 +220,10 @@ fn append_records<F: Folder<B> + Drop, B: Blob + Cause + Drop, H: Sum>(
 }
 
 // Commits, and answers how many records there are where `counts` asks.
-fn take_sync<F: Folder<B> + Drop, B: Blob + Cause + Drop, H: Sum, W: Write>(
+fn take_sync<F: Folder<B> + Drop, B: Blob + Cause + Drop, H: Sum, D: Digest, W: Write>(
     alloc: Global,
     client: &mut Client,
-    log: &mut SegmentedLog<F, B, H, H>,
+    log: &mut SegmentedLog<F, B, H, H, D>,
     out: &mut W,
     counts: bool,
 ) -> Result<(), Stop>
@@ -237,10 +238,10 @@ fn take_sync<F: Folder<B> + Drop, B: Blob + Cause + Drop, H: Sum, W: Write>(
 }
 
 // Once the log is closed nobody knows how many of the last records it keeps.
-fn take_size<F: Folder<B> + Drop, B: Blob + Cause + Drop, H: Sum, W: Write>(
+fn take_size<F: Folder<B> + Drop, B: Blob + Cause + Drop, H: Sum, D: Digest, W: Write>(
     alloc: Global,
     client: &Client,
-    log: &SegmentedLog<F, B, H, H>,
+    log: &SegmentedLog<F, B, H, H, D>,
     out: &mut W,
 ) -> Result<(), Stop> {
     if client.lost.is_some() {
@@ -249,10 +250,10 @@ fn take_size<F: Folder<B> + Drop, B: Blob + Cause + Drop, H: Sum, W: Write>(
     write_answer(out, &[log.len().unwrap_or(u64::MAX)], &[])
 }
 
-fn take_read<F: Folder<B> + Drop, B: Blob + Cause + Drop, H: Sum, W: Write>(
+fn take_read<F: Folder<B> + Drop, B: Blob + Cause + Drop, H: Sum, D: Digest, W: Write>(
     alloc: Global,
     client: &Client,
-    log: &mut SegmentedLog<F, B, H, H>,
+    log: &mut SegmentedLog<F, B, H, H, D>,
     place: Place,
     out: &mut W,
 ) -> Result<(), Stop>
@@ -270,10 +271,10 @@ fn take_read<F: Folder<B> + Drop, B: Blob + Cause + Drop, H: Sum, W: Write>(
 }
 
 // The place 0, 0 stands for the start of the log, also where segment 0 was dropped.
-fn take_next<F: Folder<B> + Drop, B: Blob + Cause + Drop, H: Sum, W: Write>(
+fn take_next<F: Folder<B> + Drop, B: Blob + Cause + Drop, H: Sum, D: Digest, W: Write>(
     alloc: Global,
     client: &Client,
-    log: &mut SegmentedLog<F, B, H, H>,
+    log: &mut SegmentedLog<F, B, H, H, D>,
     place: Place,
     out: &mut W,
 ) -> Result<(), Stop>
@@ -294,10 +295,10 @@ fn take_next<F: Folder<B> + Drop, B: Blob + Cause + Drop, H: Sum, W: Write>(
     }
 }
 
-fn take_drop<F: Folder<B> + Drop, B: Blob + Cause + Drop, H: Sum, W: Write>(
+fn take_drop<F: Folder<B> + Drop, B: Blob + Cause + Drop, H: Sum, D: Digest, W: Write>(
     alloc: Global,
     client: &mut Client,
-    log: &mut SegmentedLog<F, B, H, H>,
+    log: &mut SegmentedLog<F, B, H, H, D>,
     segment: u64,
     out: &mut W,
 ) -> Result<(), Stop>

@@ -9,35 +9,40 @@ use crate::log_map::{Drawn, map_log};
 use crate::log_refusing::refuse_log;
 use crate::request::{Request, Told};
 use crate::status::Status;
+use digest::Digest;
 use disk::VecBlob;
 use page::Sum;
 use segments::{Error, FolderCopy, SegmentedLog};
 
 /// A log over a copy of its folder.
-pub type LogCopy<H> = SegmentedLog<FolderCopy, VecBlob, H, H>;
+pub type LogCopy<H, D> = SegmentedLog<FolderCopy, VecBlob, H, H, D>;
 
 /// Reports what is asked about the log in a folder. `cat` writes all its records.
-pub fn tell_log<H: Sum>(rt: &HostRuntime, request: &Request, told: Told) -> Result<Status, Status> {
+pub fn tell_log<H: Sum, D: Digest>(
+    rt: &HostRuntime,
+    request: &Request,
+    told: Told,
+) -> Result<Status, Status> {
     let folder = copy_of(rt, request.file)?;
-    match open_log::<FolderCopy, VecBlob, H>(rt.alloc(), request, folder) {
-        Ok(mut log) => tell_opened::<H>(rt, request, told, &mut log),
+    match open_log::<FolderCopy, VecBlob, H, D>(rt.alloc(), request, folder) {
+        Ok(mut log) => tell_opened::<H, D>(rt, request, told, &mut log),
         Err(error) => tell_unopened(rt, request, told, &error),
     }
 }
 
-fn tell_opened<H: Sum>(
+fn tell_opened<H: Sum, D: Digest>(
     rt: &HostRuntime,
     request: &Request,
     told: Told,
-    log: &mut LogCopy<H>,
+    log: &mut LogCopy<H, D>,
 ) -> Result<Status, Status>
     requires log { IsLog H.sum_of H.sum_of log.old }
 {
     let has_all = tell_missing(rt, request, log.last_segment(), log.size())?;
     let status = match told {
-        Told::Check => check_log::<H>(rt, request, log),
-        Told::Map { from, to, long } => map_log::<H>(rt, request, log, Drawn { from, to, long }),
-        Told::Cat { .. } => cat_log::<H>(rt, request, log),
+        Told::Check => check_log::<H, D>(rt, request, log),
+        Told::Map { from, to, long } => map_log::<H, D>(rt, request, log, Drawn { from, to, long }),
+        Told::Cat { .. } => cat_log::<H, D>(rt, request, log),
     }?;
     Ok(match status {
         Status::Done if !has_all => Status::NotWhole,

@@ -28,6 +28,7 @@ mod fits;
 mod log_answer;
 mod log_cat;
 mod log_check;
+mod log_closed;
 mod log_copied;
 mod log_copying;
 mod log_durable;
@@ -81,7 +82,7 @@ use crate::log_serving::serve_log;
 use crate::log_told::tell_log;
 use crate::look::read;
 use crate::map::map;
-use crate::request::{Checksum, Request, Task, Told, set_aside_in};
+use crate::request::{Checksum, DigestName, Request, Task, Told, set_aside_in};
 use crate::rewrite::rewrite;
 use crate::salvage::salvage;
 use crate::serving::serve;
@@ -89,18 +90,19 @@ use crate::status::Status;
 use crate::words::{put_command_first, read_words, tell_unknown, unknown_name};
 use clap::ArgMatches;
 use crc32c::Crc32c;
+use digest::{Digest, PolyDigest, ShaDigest};
 use disk::VecBlob;
 use page::{AddSum, Sum};
 use std::process::ExitCode;
 
-// Performs a request with this checksum function.
-fn perform<H: Sum>(
+// Performs a request with this checksum function and this digest.
+fn perform<H: Sum, D: Digest>(
     rt: &HostRuntime,
     request: &Request,
     set_aside: &[&str],
 ) -> Result<Status, Status> {
     if is_folder(rt, request.file) {
-        return perform_on_folder::<H>(rt, request, set_aside);
+        return perform_on_folder::<H, D>(rt, request, set_aside);
     }
     if let Some(advice) = advice_for_log(request) {
         if let Some(folder) = log_around(rt, request.file) {
@@ -108,7 +110,7 @@ fn perform<H: Sum>(
         }
     }
     match request.task {
-        Task::ServeLog => serve_log::<H>(rt, request),
+        Task::ServeLog => serve_log::<H, D>(rt, request),
         Task::Serve { create } => serve::<H>(rt, request, create),
         Task::Append { each_line } => append::<H>(rt, request, each_line),
         Task::Tell(told) => tell_of::<H>(rt, request, told, &mut read(rt, request.file)?),
@@ -145,7 +147,7 @@ fn advice_for_log(request: &Request) -> Option<&'static str> {
 }
 
 // Performs a request whose file is a folder, as that of a log.
-fn perform_on_folder<H: Sum>(
+fn perform_on_folder<H: Sum, D: Digest>(
     rt: &HostRuntime,
     request: &Request,
     set_aside: &[&str],
@@ -155,7 +157,7 @@ fn perform_on_folder<H: Sum>(
         Task::Tell(Told::Cat { from, len }) if from > 0 || len < u64::MAX => {
             Err(fail_folder(rt, folder, "--from and --len are of a file's content"))
         }
-        Task::Tell(told) => tell_log::<H>(rt, request, told),
+        Task::Tell(told) => tell_log::<H, D>(rt, request, told),
         Task::Serve { .. } => {
             Err(fail_folder(rt, folder, "'pagedd serve-log' serves the log in it"))
         }
@@ -169,10 +171,10 @@ fn perform_on_folder<H: Sum>(
         Task::Salvage { .. } if !set_aside.is_empty() => {
             Err(fail_folder(rt, folder, "CUT is for a file, not for a log"))
         }
-        Task::Salvage { out, dropped } => salvage_log::<H>(rt, request, out, dropped),
-        Task::Rebuild => rebuild::<H>(rt, request),
-        Task::Copy { out } => copy_log::<H>(rt, request, out),
-        Task::ServeLog => serve_log::<H>(rt, request),
+        Task::Salvage { out, dropped } => salvage_log::<H, D>(rt, request, out, dropped),
+        Task::Rebuild => rebuild::<H, D>(rt, request),
+        Task::Copy { out } => copy_log::<H, D>(rt, request, out),
+        Task::ServeLog => serve_log::<H, D>(rt, request),
         Task::Rewrite => rewrite(rt, request),
         Task::Version => Ok(Status::Done),
     }
@@ -196,9 +198,21 @@ fn tell_of<H: Sum>(
 fn perform_matched(rt: &HostRuntime, matches: &ArgMatches<'_>) -> Result<Status, Status> {
     let request = Request::of(matches);
     let set_aside = set_aside_in(matches).unwrap_or_default();
+    match request.digest {
+        DigestName::Sha => perform_with::<ShaDigest>(rt, &request, set_aside),
+        DigestName::Poly => perform_with::<PolyDigest>(rt, &request, set_aside),
+    }
+}
+
+// Performs a request with this digest.
+fn perform_with<D: Digest>(
+    rt: &HostRuntime,
+    request: &Request,
+    set_aside: &[&str],
+) -> Result<Status, Status> {
     match request.shape.checksum {
-        Checksum::Add => perform::<AddSum>(rt, &request, set_aside),
-        Checksum::Crc32c => perform::<Crc32c>(rt, &request, set_aside),
+        Checksum::Add => perform::<AddSum, D>(rt, request, set_aside),
+        Checksum::Crc32c => perform::<Crc32c, D>(rt, request, set_aside),
     }
 }
 

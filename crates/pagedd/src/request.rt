@@ -1,5 +1,6 @@
 // What the command line asks for.
 use clap::ArgMatches;
+use digest::{Digest, PolyDigest, ShaDigest};
 use std::fmt;
 use std::num::{NonZeroU16, NonZeroUsize};
 
@@ -18,6 +19,43 @@ impl Checksum {
         match self {
             Checksum::Add => "add",
             Checksum::Crc32c => "crc32c",
+        }
+    }
+}
+
+/// A digest of the pages of a log's closed segments, by its name.
+#[derive(Clone, Copy, PartialEq, Eq)]
+pub enum DigestName {
+    /// SHA-512/256.
+    Sha,
+    /// The polynomial.
+    Poly,
+}
+
+impl DigestName {
+    /// The name, as the command line has it.
+    pub fn name(self) -> &'static str {
+        match self {
+            DigestName::Sha => ShaDigest::name(),
+            DigestName::Poly => PolyDigest::name(),
+        }
+    }
+
+    /// The digest of this number. `None` for a number that no digest has.
+    pub fn of_number(number: u8) -> Option<Self> {
+        match number {
+            ShaDigest::NUMBER => Some(DigestName::Sha),
+            PolyDigest::NUMBER => Some(DigestName::Poly),
+            _ => None,
+        }
+    }
+
+    // The digest of this name; SHA-512/256 for another.
+    fn of(name: &str) -> Self {
+        if name == PolyDigest::name() {
+            DigestName::Poly
+        } else {
+            DigestName::Sha
         }
     }
 }
@@ -86,6 +124,8 @@ pub struct Request<'a> {
     /// A file is cut whatever its survey finds.
     pub cut: bool,
     pub cut_limit: u64,
+    /// The digest of the pages of a log's closed segments.
+    pub digest: DigestName,
     /// From how many content bytes on a segment of a log is closed.
     pub segment_size: u64,
     /// The answer is one JSON object.
@@ -108,6 +148,7 @@ impl<'a> Request<'a> {
             read_only: words.get_flag("read-only"),
             cut: words.get_flag("cut"),
             cut_limit: words.get_one::<u64>("cut-limit").unwrap_or(0),
+            digest: DigestName::of(words.get_str("digest").unwrap_or_default()),
             segment_size: words.get_one::<u64>("segment-size").unwrap_or(u64::MAX),
             json: words.get_flag("json"),
         }

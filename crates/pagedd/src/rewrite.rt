@@ -1,7 +1,7 @@
 // Putting a copy of a file in its place, after a sync of it failed. A later sync of the same file may
 // succeed without what was written before; one of a new file with the same bytes doesn't.
 use crate::ending::{fail, or_end};
-use crate::log_files::{is_folder, is_segment, manifest_copy_in, manifest_in};
+use crate::log_files::{is_folder, is_list, is_segment, manifest_copy_in, manifest_in};
 use crate::request::Request;
 use crate::status::Status;
 use file::FileBlob;
@@ -67,15 +67,15 @@ fn rewrite_log(rt: &HostRuntime, folder: &str) -> Result<(), Status> {
     if fs::exists(rt, copy.as_str()).unwrap_or(true) {
         rewrite_file(rt, copy.as_str())?;
     }
-    for name in segments_in(rt, folder)? {
+    for name in names_in(rt, folder)? {
         let path = format!(in rt.alloc(); "{folder}/{name}")?;
         rewrite_file(rt, path.as_str())?;
     }
     Ok(())
 }
 
-// The names of the segments' files in a folder, the oldest first.
-fn segments_in(rt: &HostRuntime, folder: &str) -> Result<Vec<String>, Status> {
+// The names of the files of segments and of their lists in a folder, the oldest first.
+fn names_in(rt: &HostRuntime, folder: &str) -> Result<Vec<String>, Status> {
     match read_names(rt, folder) {
         Ok(mut names) => {
             names.sort()?;
@@ -88,21 +88,21 @@ fn segments_in(rt: &HostRuntime, folder: &str) -> Result<Vec<String>, Status> {
 fn read_names(rt: &HostRuntime, folder: &str) -> io::Result<Vec<String>> {
     let mut names = Vec::new(rt.alloc());
     for entry in fs::read_dir(rt, folder)? {
-        if let Some(name) = segment_of(rt.alloc(), entry)? {
+        if let Some(name) = name_of(rt.alloc(), entry)? {
             names.push(name)?;
         }
     }
     Ok(names)
 }
 
-// The name of the segment's file that an entry of a folder is, if it is one.
-fn segment_of(alloc: Global, entry: io::Result<DirEntry>) -> io::Result<Option<String>> {
+// The name of the file that an entry of a folder is, if that is one of a segment or of a list.
+fn name_of(alloc: Global, entry: io::Result<DirEntry>) -> io::Result<Option<String>> {
     let entry = match entry {
         Ok(entry) => entry,
         Err(error) if error.kind() == ErrorKind::InvalidFilename => return Ok(None),
         Err(error) => return Err(error),
     };
-    if is_segment(entry.file_name()) {
+    if is_segment(entry.file_name()) || is_list(entry.file_name()) {
         return Ok(Some(String::from_str(alloc, entry.file_name())?));
     }
     Ok(None)

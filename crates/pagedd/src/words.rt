@@ -39,9 +39,10 @@ const FLAGS: [&str; 11] = [
 ];
 
 /// The options that take a value, which may be the next word.
-const WITH_VALUE: [&str; 9] = [
+const WITH_VALUE: [&str; 10] = [
     "--page-size",
     "--checksum",
+    "--digest",
     "--buffer",
     "--cache",
     "--cut-limit",

@@ -81,6 +81,7 @@ add_goes sum own bytes s m t offset (Err (errors.Damaged n)) owned is failed = f
 add_goes sum own bytes s m t offset (Err (errors.Unlisted n)) owned is failed = failed
 add_goes sum own bytes s m t offset (Err (errors.Missing n)) owned is failed = failed
 add_goes sum own bytes s m t offset (Err (errors.Short n)) owned is failed = failed
+add_goes sum own bytes s m t offset (Err (errors.AnotherDigest n)) owned is failed = failed
 add_goes sum own bytes s m t offset (Err (errors.Outdated n)) owned is failed = failed
 add_goes sum own bytes s m t offset (Err errors.Manifest) owned is failed = failed
 add_goes sum own bytes s m t offset (Err (errors.NoSegment n)) owned is failed = failed

@@ -22,6 +22,7 @@ none_left sum own bytes s t (errors.Damaged n) is = absurd is
 none_left sum own bytes s t (errors.Unlisted n) is = absurd is
 none_left sum own bytes s t (errors.Missing n) is = absurd is
 none_left sum own bytes s t (errors.Short n) is = absurd is
+none_left sum own bytes s t (errors.AnotherDigest n) is = absurd is
 none_left sum own bytes s t (errors.Outdated n) is = absurd is
 none_left sum own bytes s t errors.Manifest is = absurd is
 none_left sum own bytes s t (errors.NoSegment n) is = absurd is
@@ -32,23 +33,23 @@ pub is_long : (view s : LogState) → view ≡ s → view.most ≤ owned_size vi
 is_long view s is long = subst (λ (s : LogState). s.most ≤ owned_size s.current.journal) is long
 
 -- to the open segment
-pub here_goes : (sum own : List ℕ → ℕ) (bytes : List ℕ) (s t : LogState) (result : Result Place Error) → owned_size s.current.journal < s.most
-    → AppendHereGoes sum own bytes s t result → IsSameButCurrent s t → LogAppendGoes sum own bytes s t result
-here_goes sum own bytes s t (Ok p) short is rest = record { mid = s; before = inl (refl, short); here = is; rest = rest }
-here_goes sum own bytes s t (Err e) short is rest = (none_left sum own bytes s.current t.current e is, inl (short, rest, is))
+pub here_goes : (sum own : List ℕ → ℕ) (d : List ℕ → List ℕ) (bytes : List ℕ) (s t : LogState) (result : Result Place Error) → owned_size s.current.journal < s.most
+    → AppendHereGoes sum own bytes s t result → IsSameButCurrent s t → LogAppendGoes sum own d bytes s t result
+here_goes sum own d bytes s t (Ok p) short is rest = record { mid = s; before = inl (refl, short); here = is; rest = rest }
+here_goes sum own d bytes s t (Err e) short is rest = (none_left sum own bytes s.current t.current e is, inl (short, rest, is))
 
 -- to the next one, after a rotation
-pub after_goes : (sum own : List ℕ → ℕ) (bytes : List ℕ) (s m t : LogState) (result : Result Place Error) → s.most ≤ owned_size s.current.journal
-    → IsRotated sum own s m → AppendHereGoes sum own bytes m t result → IsSameButCurrent m t → LogAppendGoes sum own bytes s t result
-after_goes sum own bytes s m t (Ok p) long turned is rest = record { mid = m; before = inr (turned, long); here = is; rest = rest }
-after_goes sum own bytes s m t (Err e) long turned is rest =
+pub after_goes : (sum own : List ℕ → ℕ) (d : List ℕ → List ℕ) (bytes : List ℕ) (s m t : LogState) (result : Result Place Error) → s.most ≤ owned_size s.current.journal
+    → IsRotated sum own d s m → AppendHereGoes sum own bytes m t result → IsSameButCurrent m t → LogAppendGoes sum own d bytes s t result
+after_goes sum own d bytes s m t (Ok p) long turned is rest = record { mid = m; before = inr (turned, long); here = is; rest = rest }
+after_goes sum own d bytes s m t (Err e) long turned is rest =
     (none_left sum own bytes m.current t.current e is, inr (long, inr (record { mid = m; turned = turned; rest = rest; refused = is })))
 
 -- the rotation failed
-pub turn_goes : (sum own : List ℕ → ℕ) (bytes : List ℕ) (s t : LogState) (e : Error) → s.most ≤ owned_size s.current.journal → RotateGoes sum own s t (Err e)
-    → LogAppendGoes sum own bytes s t (Err e)
-turn_goes sum own bytes s t e long is = (is.0, inr (long, inl is))
+pub turn_goes : (sum own : List ℕ → ℕ) (d : List ℕ → List ℕ) (bytes : List ℕ) (s t : LogState) (e : Error) → s.most ≤ owned_size s.current.journal → RotateGoes sum own d s t (Err e)
+    → LogAppendGoes sum own d bytes s t (Err e)
+turn_goes sum own d bytes s t e long is = (is.0, inr (long, inl is))
 
-pub after_survives : (sum own : List ℕ → ℕ) (bytes : List ℕ) (s m t : LogState) (result : Result Place Error) → IsRotated sum own s m → AppendHereGoes sum own bytes m t result → IsSameButCurrent m t
-    → RotationSurvives sum own s m → CurrentSurvives sum own (bytes ∷ []) m t → AppendSurvives sum own bytes s t result
-after_survives sum own bytes s m t result turned here rest turns appends = inr (inr (record { mid = m; turned = turned; here = here; rest = rest; turns = turns; appends = appends }))
+pub after_survives : (sum own : List ℕ → ℕ) (d : List ℕ → List ℕ) (bytes : List ℕ) (s m t : LogState) (result : Result Place Error) → IsRotated sum own d s m → AppendHereGoes sum own bytes m t result → IsSameButCurrent m t
+    → RotationSurvives sum own d s m → CurrentSurvives sum own (bytes ∷ []) m t → AppendSurvives sum own d bytes s t result
+after_survives sum own d bytes s m t result turned here rest turns appends = inr (inr (record { mid = m; turned = turned; here = here; rest = rest; turns = turns; appends = appends }))

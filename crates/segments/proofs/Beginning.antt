@@ -60,9 +60,9 @@ begin_opened sum own first before view s t (Err e) same log is started = tt
 -- a log over the manifest and the segment that were opened
 pub parts_open : (sum own : List ℕ → ℕ) (P most known : ℕ) (before after : List FolderEvent) (manifest current : OwnedState) (l : ListingState) → AreParts sum own P manifest current l before after → known ≡ owned_size current.journal
     → HasOpenedFiles sum own before after
-    (record { manifest = manifest; current = current; listing = l; asked = after; loaded = None; page_size = P; most = most; known = known })
+    (record { manifest = manifest; current = current; listing = l; asked = after; reading = record { whole = None; paged = None }; page_size = P; most = most; known = known })
 parts_open sum own P most known before after manifest current l parts all =
-    let s : LogState = record { manifest = manifest; current = current; listing = l; asked = after; loaded = None; page_size = P; most = most; known = known } in
+    let s : LogState = record { manifest = manifest; current = current; listing = l; asked = after; reading = record { whole = None; paged = None }; page_size = P; most = most; known = known } in
     let first = opening_with calls.OpensManifest parts.lists.bytes in
     let events = events_for (open_in l) parts.stands.bytes in
     record {

@@ -1,5 +1,5 @@
 -- A journal that is committed whole is durable whole, and its bytes have just its records.
-use Rattle.std.specs.Prelude.{◌≡◌, ◌≤◌, ◌++◌, ℕ, List, [], ◌∷◌, length, Some, None, Option, IfSome, Result, Ok, Err}
+use Rattle.std.specs.Prelude.{◌≡◌, ◌≤◌, ◌++◌, ℕ, List, [], ◌∷◌, length, Some, None, Option, IfSome}
 use Rattle.std.proofs.Common.{ap, sym, ◌∙◌, refl, subst, arith, length-append, append-nil}
 use Rattle.disk.specs.Disk.{Disk, IsImage, IsWhole, Life}
 use Rattle.cache.specs.CacheState.{CacheState}
@@ -13,9 +13,7 @@ use Rattle.journal.specs.Frame.{IsPrefix, records}
 use Rattle.journal.specs.Journal.{CommitsAll, IsCommitted, OnlyRecords, records_in}
 use Rattle.journal.specs.Calls.{JournalCallLeaves}
 use Rattle.journal.proofs.Journals.{brings_back}
-use Rattle.segments.specs.declared.error.Error.{Error}
-use Rattle.segments.specs.declared.error.Error.TheVariants as errors
-use Rattle.segments.specs.Owned.{HasJournal, IsOwned, IsOwnedJournal, IsShut, KeepsJournal, KeepsRecords, OwnedCloseGoes, OwnedCommitGoes, OwnedKeeps, OwnedLeaves, OwnedState, records_now, records_of, without_journal}
+use Rattle.segments.specs.Owned.{IsOwnedJournal, IsShut, KeepsRecords, OwnedState}
 
 -- where all is durable, what is readable is free of chance
 pub chance_free : (sum : List ℕ → ℕ) (P : ℕ) (d : Disk) → IsDurable d → IsChanceFree sum P d d.readable
@@ -53,16 +51,6 @@ shut_by sum own w now cache after old new image is leaves =
       tells = whole_prefix (records own (text sum w.page_size new.present.readable)) (records_in own w old) first (omega (arith, back.0, same));
     }
 
-closes_by : (sum own : List ℕ → ℕ) (P : ℕ) (j k : Option WriterState) (cache after : CacheState) (old new : Life)
-    → IsImage new.present new.present.readable → IfSome j (λ w. w.page_size ≡ P)
-    → KeepsJournal j k (λ w now. IsCommitted sum own w after old new now)
-    → IfSome j (λ w. JournalCallLeaves sum own w (records_of own j old) cache after old new)
-    → HasJournal j (λ w. IsShut sum own P (records_in own w old) new)
-closes_by sum own P None k cache after old new image page is leaves = is
-closes_by sum own P (Some w) None cache after old new image page is leaves = absurd is
-closes_by sum own P (Some w) (Some now) cache after old new image page is leaves =
-    subst (λ P. IsShut sum own P (records_in own w old) new) page (shut_by sum own w now cache after old new image is leaves)
-
 pub keeps_by : (sum own : List ℕ → ℕ) (P : ℕ) (j : Option WriterState) (all : List (List ℕ)) (cache after : CacheState) (old new : Life)
     → IfSome j (λ w. w.page_size ≡ P)
     → IfSome j (λ w. JournalCallLeaves sum own w all cache after old new)
@@ -71,41 +59,6 @@ keeps_by sum own P None all cache after old new page leaves = tt
 keeps_by sum own P (Some w) all cache after old new page leaves =
     subst (λ P. KeepsRecords sum own P all old new) page (record { kept = leaves.kept; only = leaves.only })
 
-its_records : (sum own : List ℕ → ℕ) (P : ℕ) (j : Option WriterState) (old new : Life)
-    → IfSome j (λ w. KeepsRecords sum own P (records_of own j old) old new)
-    → IfSome j (λ w. KeepsRecords sum own P (records_in own w old) old new)
-its_records sum own P None old new keeps = keeps
-its_records sum own P (Some w) old new keeps = keeps
-
-has_then : (P Q : WriterState → Type 0) (j : Option WriterState) → ((w : WriterState) → P w → Q w) → HasJournal j P → HasJournal j Q
-has_then P Q None then is = is
-has_then P Q (Some w) then is = then w is
-
 pub pages_of : (sum own : List ℕ → ℕ) (s : OwnedState) (j : Option WriterState) → IfSome j (λ w. IsOwnedJournal sum own s w) → IfSome j (λ w. w.page_size ≡ s.page_size)
 pages_of sum own s None owned = tt
 pages_of sum own s (Some w) owned = owned.page_size
-
-pub close_keeps : (sum own : List ℕ → ℕ) (s m : OwnedState) → IsOwned sum own s
-    → OwnedLeaves sum own (records_now own s) s m → OwnedKeeps sum own s (without_journal m)
-close_keeps sum own s m owned leaves =
-    its_records sum own s.page_size s.journal s.life m.life
-    (keeps_by sum own s.page_size s.journal (records_now own s) s.cache m.cache s.life m.life (pages_of sum own s s.journal owned.1) leaves)
-
-pub close_goes : (sum own : List ℕ → ℕ) (s m : OwnedState) (result : Result (Unit {0}) Error) → IsImage m.life.present m.life.present.readable
-    → IsOwned sum own s → OwnedLeaves sum own (records_now own s) s m → OwnedCommitGoes sum own s m result
-    → OwnedCloseGoes sum own s (without_journal m) result
-close_goes sum own s m (Ok u) image owned leaves is =
-    closes_by sum own s.page_size s.journal m.journal s.cache m.cache s.life m.life image (pages_of sum own s s.journal owned.1) is leaves
-close_goes sum own s m (Err (errors.Layer e)) image owned leaves is = has_then _ _ s.journal (λ w is. is.1) is
-close_goes sum own s m (Err errors.Closed) image owned leaves is =
-    (is.0, ap (λ (o : OwnedState). without_journal o) is.1 ∙ ap (λ (j : Option WriterState). record s { journal = j }) (sym is.0))
-close_goes sum own s m (Err (errors.System e)) image owned leaves is = is
-close_goes sum own s m (Err (errors.Unsynced e)) image owned leaves is = is
-close_goes sum own s m (Err (errors.Damaged n)) image owned leaves is = is
-close_goes sum own s m (Err (errors.Unlisted n)) image owned leaves is = is
-close_goes sum own s m (Err (errors.Missing n)) image owned leaves is = is
-close_goes sum own s m (Err (errors.Short n)) image owned leaves is = is
-close_goes sum own s m (Err (errors.Outdated n)) image owned leaves is = is
-close_goes sum own s m (Err errors.Manifest) image owned leaves is = is
-close_goes sum own s m (Err (errors.NoSegment n)) image owned leaves is = is
-close_goes sum own s m (Err errors.NumbersExhausted) image owned leaves is = is

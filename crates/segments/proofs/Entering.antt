@@ -1,5 +1,5 @@
 -- An entry that is added to a manifest.
-use Rattle.std.specs.Prelude.{◌≡◌, ◌++◌, ℕ, List, [], ◌∷◌, Some, None, Option, IfSome, Ok, Err}
+use Rattle.std.specs.Prelude.{◌≡◌, ◌+◌, ◌++◌, ℕ, List, [], ◌∷◌, length, Some, None, Option, IfSome, Ok, Err}
 use Rattle.std.proofs.Common.{ap, sym, ◌∙◌, refl, subst, inr}
 use Rattle.disk.specs.Disk.{Life}
 use Rattle.crash.specs.Moments.{through_start}
@@ -10,8 +10,8 @@ use Rattle.segments.specs.declared.entry.Entry.{Entry}
 use Rattle.segments.specs.declared.error.Error.{Error}
 use Rattle.segments.specs.declared.error.Error.TheVariants as errors
 use Rattle.segments.specs.Manifest.{ListingState, entry_in, listed_in, listed_with}
-use Rattle.segments.specs.Owned.{HasJournal, IsAdded, IsOwned, IsOwnedJournal, KeepsJournal, KeepsRecords, OwnedAddGoes, OwnedAddKeeps, OwnedState, records_now, records_of}
-use Rattle.segments.specs.Log.{IsLog, Lists, LogState, Tries, entered_bytes}
+use Rattle.segments.specs.Owned.{HasJournal, IsAdded, IsOwned, IsOwnedJournal, KeepsJournal, KeepsRecords, OwnedAddGoes, OwnedAddKeeps, OwnedState, owned_size, records_now, records_of}
+use Rattle.segments.specs.Log.{HasKept, IsEntered, IsLog, Lists, LogState, Tries, entered_bytes, known_with}
 use Rattle.segments.proofs.Listings.{listed_more}
 
 lists_by : (sum own : List ℕ → ℕ) (P : ℕ) (entry : Entry) (bytes : List ℕ) (l m : ListingState) (j k : Option WriterState) (old new : Life)
@@ -42,6 +42,7 @@ no_journal sum own bytes s t (errors.Damaged n) is = absurd is
 no_journal sum own bytes s t (errors.Unlisted n) is = absurd is
 no_journal sum own bytes s t (errors.Missing n) is = absurd is
 no_journal sum own bytes s t (errors.Short n) is = absurd is
+no_journal sum own bytes s t (errors.AnotherDigest n) is = absurd is
 no_journal sum own bytes s t (errors.Outdated n) is = absurd is
 no_journal sum own bytes s t errors.Manifest is = absurd is
 no_journal sum own bytes s t (errors.NoSegment n) is = absurd is
@@ -61,7 +62,7 @@ enter_ready sum own entry bytes s m manifest known u log owned pages told with i
       (lists_by sum own s.manifest.page_size entry bytes s.listing m s.manifest.journal manifest.journal s.manifest.life manifest.life told
       (subst (λ P. listed_with P entry s.listing ≡ Some m) (sym log.manifest_pages) with)
       (subst (λ P. IfSome s.manifest.journal (λ w. Lists sum own P s.listing w s.manifest.life)) (sym log.manifest_pages) log.lists) is);
-  loaded = log.loaded;
+  reading = log.reading;
 }
 
 -- the log stands without it, and its manifest has no journal
@@ -74,7 +75,7 @@ enter_failed sum own bytes s manifest e log owned pages is = record {
   manifest_pages = pages ∙ log.manifest_pages;
   current_pages = log.current_pages;
   lists = lists_if sum own s.page_size s.listing manifest.journal manifest.life (no_journal sum own bytes s.manifest manifest e is);
-  loaded = log.loaded;
+  reading = log.reading;
 }
 
 keeps_none : (sum own : List ℕ → ℕ) (P : ℕ) (s : OwnedState) (more : List (List ℕ)) (j : Option WriterState) → IfSome j (λ w. IsOwnedJournal sum own s w) → s.page_size ≡ P
@@ -116,3 +117,42 @@ entry_tried sum own entry bytes view s t m manifest now is same told follows pag
   keeps = entered_keeps sum own view.page_size bytes (entered_bytes entry view) view.manifest t.manifest pages same
       (subst (λ (o : OwnedState). OwnedAddKeeps sum own bytes view.manifest o) (sym now) keeps);
 }))
+
+-- ---- an entry that was added
+
+added_there : (P : WriterState → WriterState → Type 0) (j k : Option WriterState) → KeepsJournal j k P → HasJournal k (λ w. Unit {0})
+added_there P None k is = absurd is
+added_there P (Some w) None is = absurd is
+added_there P (Some w) (Some now) is = tt
+
+added_records : (sum own : List ℕ → ℕ) (P : ℕ) (bytes : List ℕ) (j k : Option WriterState) (old new : Life) → KeepsJournal j k (λ w now. IsAdded sum own P bytes w old now new)
+    → records_of own k new ≡ records_of own j old ++ bytes ∷ []
+added_records sum own P bytes None k old new is = absurd is
+added_records sum own P bytes (Some w) None old new is = absurd is
+added_records sum own P bytes (Some w) (Some now) old new is = is.records
+
+added_size : (sum own : List ℕ → ℕ) (P : ℕ) (bytes : List ℕ) (j k : Option WriterState) (old new : Life) → KeepsJournal j k (λ w now. IsAdded sum own P bytes w old now new)
+    → owned_size k ≡ owned_size j + (length bytes + 7)
+added_size sum own P bytes None k old new is = absurd is
+added_size sum own P bytes (Some w) None old new is = absurd is
+added_size sum own P bytes (Some w) (Some now) old new is = is.size
+
+-- and then a copy of the manifest was to be kept
+pub entered_goes : (sum own : List ℕ → ℕ) (entry : Entry) (bytes : List ℕ) (view s t : LogState) (l : ListingState) (manifest : OwnedState) (known : ℕ) → view ≡ s → bytes ≡ entered_bytes entry view
+    → listed_with view.page_size entry view.listing ≡ Some l → OwnedAddGoes sum own bytes view.manifest manifest (Ok tt) → known ≡ known_with entry view.known
+    → HasKept (record view { manifest = manifest; listing = l; known = known }) t → IsEntered own entry s t
+entered_goes sum own entry bytes view s t l manifest known is same follows goes counts has =
+    let now : t.manifest ≡ manifest = ap (λ (t : LogState). t.manifest) has.rest in
+    let P = view.manifest.page_size in
+    let j = view.manifest.journal in
+    let k = manifest.journal in
+    subst (λ s. IsEntered own entry s t) is (record {
+      listing = follows ∙ ap (λ (l : ListingState). Some l) (sym (ap (λ (t : LogState). t.listing) has.rest));
+      there = subst (λ (o : OwnedState). HasJournal o.journal (λ w. Unit {0})) (sym now) (added_there _ j k goes);
+      records = ap (λ (o : OwnedState). records_now own o) now ∙ added_records sum own P bytes j k view.manifest.life manifest.life goes
+          ∙ ap (λ (b : List ℕ). records_now own view.manifest ++ b ∷ []) same;
+      size = ap (λ (o : OwnedState). owned_size o.journal) now ∙ added_size sum own P bytes j k view.manifest.life manifest.life goes
+          ∙ ap (λ (b : List ℕ). owned_size j + (length b + 7)) same;
+      known = ap (λ (t : LogState). t.known) has.rest ∙ counts;
+      kept = has.kept;
+    })

@@ -24,6 +24,7 @@ kind calls.Syncs = 2
 kind calls.OpensManifest = 3
 kind (calls.Opens segment) = 4
 kind (calls.Closes segment) = 5
+kind (calls.WritesList segment) = 6
 
 abbrev known_as_open : FolderCall → ℕ
 known_as_open (calls.Keeps segment len) = segment
@@ -32,6 +33,7 @@ known_as_open calls.Syncs = 0
 known_as_open calls.OpensManifest = 0
 known_as_open (calls.Opens segment) = 0
 known_as_open (calls.Closes segment) = 0
+known_as_open (calls.WritesList segment) = 0
 
 abbrev first_of : (FolderCall → ℕ) → List FolderEvent → ℕ
 first_of f [] = 9
@@ -42,7 +44,7 @@ module _ (cache : CacheState) (life : Life) (w : WriterState) (kept : Closed) wh
   owned = record { cache = cache; life = life; journal = Some w; page_size = 4; records = 0 }
 
   abbrev log : LogState
-  log = record { manifest = owned; current = owned; listing = record { first = 0; closed = kept ∷ [] }; asked = []; loaded = None; page_size = 4; most = 100; known = 3 }
+  log = record { manifest = owned; current = owned; listing = record { first = 0; closed = kept ∷ [] }; asked = []; reading = record { whole = None; paged = None }; page_size = 4; most = 100; known = 3 }
 
   -- the manifest couldn't be written, and the log was closed
   abbrev shut : LogState
@@ -57,7 +59,7 @@ module _ (cache : CacheState) (life : Life) (w : WriterState) (kept : Closed) wh
   dropped = record log { listing = listing_from 1 log.listing; asked = copied false ∷ [] }
 
   pub closes_off : IsClosedOff log shut
-  closes_off = record { current = refl; listing = refl; asked = refl; loaded = refl; page_size = refl; most = refl; known = refl }
+  closes_off = record { current = refl; listing = refl; asked = refl; reading = refl; page_size = refl; most = refl; known = refl }
 
   pub a_failed_start : StartOrCloseGoes 1 log shut (Err (errors.Layer WriteFailed))
   a_failed_start = (closes_off, tt)
@@ -127,7 +129,7 @@ module _ (cache : CacheState) (life : Life) (w : WriterState) (kept : Closed) wh
   not_forgotten is = absurd (omega (arith, is))
 
   abbrev same : IsSameButManifest log dropped
-  same = record { current = refl; loaded = refl; page_size = refl; most = refl }
+  same = record { current = refl; reading = refl; page_size = refl; most = refl }
 
   -- the manifest couldn't be written, so nothing was taken in and no copy was to be kept
   pub not_entered : IsNotEntered (Starts 1 4) log (record log { manifest = without_journal owned }) (errors.Layer WriteFailed)

@@ -1,8 +1,8 @@
 -- The definitions that only the clauses of inner calls name: what each holds of, and what it
 -- refuses. The logs are those of `LogExamples`: `small` has an empty manifest, and `both` has two
 -- closed segments.
-use Rattle.std.specs.Prelude.{◌≡◌, ◌<◌, ◌++◌, ℕ, List, [], ◌∷◌, length, replicate, Some, None, Ok, Err}
-use Rattle.std.proofs.Common.{refl, ap, inl, inr, arith, lit<, lit≤}
+use Rattle.std.specs.Prelude.{◌≡◌, ◌++◌, ℕ, List, [], ◌∷◌, length, replicate, Some, None, Ok, Err}
+use Rattle.std.proofs.Common.{refl, ap, inl, inr, arith}
 use Rattle.disk.specs.Disk.{next}
 use Rattle.disk.specs.declared.error.Error.TheVariants.{OutOfMemory}
 use Rattle.page.specs.Sums.{add_sum}
@@ -12,30 +12,14 @@ use Rattle.journal.specs.Journal.{Commits, OnlyRecords}
 use Rattle.segments.specs.declared.closed.Closed.{Closed}
 use Rattle.segments.specs.declared.entry.Entry.TheVariants.{Starts}
 use Rattle.segments.specs.declared.error.Error.TheVariants as errors
-use Rattle.segments.specs.declared.scanning.Step.TheVariants.{End}
-use Rattle.segments.specs.Digests.{IsOf, SameKept}
 use Rattle.segments.specs.FolderEvents.{FolderEvent}
 use Rattle.segments.specs.Manifest.{ListingState, entry_bytes, entry_in, none_closed}
-use Rattle.segments.specs.Owned.{IsOwned, OwnedState, without_journal}
-use Rattle.segments.specs.Log.{CloseCurrentGoes, EnterGoes, EnterRefused, HasLoaded, HasOpened, HeldReadGoes, IsEntered, IsKept, IsLoaded, IsSameButLoaded, IsTried, LeavesOpened, LogState, ManifestKeeps, StartFromGoes, TakeLoadedGoes, Tries, WasClosed}
-use Rattle.segments.specs.Scan.{IsBehind, StepGoes, far_from, place_at}
+use Rattle.segments.specs.Owned.{IsOwned, OwnedState}
+use Rattle.segments.specs.Log.{EnterGoes, EnterRefused, HasOpened, IsEntered, IsKept, IsTried, LeavesOpened, LogState, ManifestKeeps, StartFromGoes, Tries}
 use Rattle.segments.proofs.BytesExamples.{c, c_life, c_page, changed_life, first_byte, life_of, none_committed, not_only, only_of, resting, rests, with_c, with_none, writer}
 use Rattle.segments.proofs.Closing.{chance_free}
-use Rattle.segments.proofs.LogExamples.{both, in_memory, none_is_read_of_closed, small}
-use Rattle.segments.proofs.OwnedExamples.{all_is_durable}
-use Rattle.segments.proofs.ScanExamples.{not_the_end, the_end}
+use Rattle.segments.proofs.LogExamples.{both, small}
 use Rattle.segments.proofs.Surviving.{image_of}
-
--- what was kept of a segment with so many records, bytes and such a digest
-abbrev kept_of : (count len : ℕ) (digest : List ℕ) → Closed
-kept_of count len digest = record { records = count; len = len; digest = digest }
-
-pub the_same_was_kept : (digest : List ℕ) → SameKept (kept_of 1 30 digest) (kept_of 2 30 digest)
-the_same_was_kept digest = record { len = refl; digest = refl }
-
--- one byte more was kept
-pub another_length : (digest : List ℕ) → SameKept (kept_of 1 30 digest) (kept_of 1 31 digest) → ⊥
-another_length digest same = let one : ◌≡◌ {A = ℕ} 30 31 = same.len in omega (arith, one)
 
 -- ---- an entry. The log begins with segment 0, and its pages have 18 bytes
 
@@ -104,26 +88,6 @@ pub it_changed_for_nothing : (sum own : List ℕ → ℕ) → Tries sum own (Sta
 it_changed_for_nothing sum own (inl same) = let some : ◌≡◌ {A = ℕ} 30 0 = ap (λ (o : OwnedState). length o.life.present.readable) same in omega (arith, some)
 it_changed_for_nothing sum own (inr tried) = it_was_tried_in_vain sum own foreign tried
 
--- ---- the open segment is closed
-
-abbrev closed : LogState
-closed = record small { current = without_journal with_c }
-
-pub it_was_closed : (len : ℕ) (digest : List ℕ) → IsOf c_page (kept_of 1 len digest) → WasClosed add_sum add_sum small c_life (kept_of 1 len digest)
-unfolding record_len is_record record_of frames records
-it_was_closed len digest is = record { was_open = tt; shut = all_is_durable; of = is; counts = refl }
-
--- one record more was kept than it had
-pub one_more_was_kept : (len : ℕ) (digest : List ℕ) → WasClosed add_sum add_sum small c_life (kept_of 2 len digest) → ⊥
-unfolding record_len is_record record_of frames records
-one_more_was_kept len digest is = let same : ◌≡◌ {A = ℕ} 2 1 = is.counts in omega (arith, same)
-
-pub it_is_closed_already : (sum own : List ℕ → ℕ) → CloseCurrentGoes sum own closed closed (Err errors.Closed)
-it_is_closed_already sum own = (refl, refl)
-
-pub it_counts_one_more : (len : ℕ) (digest : List ℕ) → CloseCurrentGoes add_sum add_sum small closed (Ok (kept_of 2 len digest)) → ⊥
-it_counts_one_more len digest is = one_more_was_kept len digest is
-
 -- ---- a blob is opened
 
 pub it_was_opened : IsOwned add_sum add_sum with_none → HasOpened add_sum add_sum 18 (life_of []) with_none []
@@ -143,63 +107,15 @@ pub it_leaves_d : LeavesOpened add_sum add_sum 18 c_life (record with_c { life =
 unfolding record_len is_record record_of frames records
 it_leaves_d leaves = not_only (leaves (rests c_page))
 
--- ---- a closed segment in memory
-
-pub another_is_in_memory : (kept : Closed) → IsSameButLoaded small (record small { loaded = Some (in_memory kept) })
-another_is_in_memory kept = record { manifest = refl; current = refl; listing = refl; asked = refl; page_size = refl; most = refl; known = refl }
-
-pub and_the_open_one_is_closed : (kept : Closed) → IsSameButLoaded small (record closed { loaded = Some (in_memory kept) }) → ⊥
-and_the_open_one_is_closed kept same = absurd (cc (ap (λ (o : OwnedState). o.journal) same.current))
-
-pub none_at_its_end : (own : List ℕ → ℕ) (kept : Closed) → IsOf c_page kept → HeldReadGoes add_sum own 18 kept 8 (Ok None)
-none_at_its_end own kept is = none_is_read_of_closed own kept is
-
--- a closed segment can be read, whether or not the log is closed
-pub it_is_called_closed : (sum own : List ℕ → ℕ) (kept : Closed) → HeldReadGoes sum own 18 kept 0 (Err errors.Closed) → ⊥
-it_is_called_closed sum own kept is = is
+-- ---- a drop
 
 module _ (one two : Closed) where
-  pub it_was_loaded : IsLoaded add_sum add_sum 18 (in_memory one) → HasLoaded add_sum add_sum (both one two) 0 (in_memory one)
-  it_was_loaded loaded = record { kept = one; listed = refl; same = record { len = refl; digest = refl }; loaded = loaded }
-
-  -- the open segment isn't read into memory
-  pub the_open_one_was : (sum own : List ℕ → ℕ) → HasLoaded sum own (both one two) 2 (in_memory one) → ⊥
-  the_open_one_was sum own is = let none : None ≡ Some is.kept = is.listed in absurd (cc none)
-
-  pub there_is_no_third : (sum own : List ℕ → ℕ) → TakeLoadedGoes sum own (both one two) 2 (Err (errors.NoSegment 2))
-  there_is_no_third sum own = (refl, refl)
-
-  -- segment 1 is there
-  pub there_is_a_second : (sum own : List ℕ → ℕ) → TakeLoadedGoes sum own (both one two) 1 (Err (errors.NoSegment 1)) → ⊥
-  there_is_a_second sum own is = let none : Some two ≡ None = is.1 in absurd (cc none)
-
-  -- ---- a drop
-
   pub no_such_segment : StartFromGoes 3 (both one two) (both one two) (Err errors.Manifest)
   no_such_segment = (
-    record { current = refl; loaded = refl; page_size = refl; most = refl },
+    record { current = refl; reading = refl; page_size = refl; most = refl },
     record { listing = refl; asked = refl; known = refl; left = inl refl; refused = refl },
   )
 
   -- after an error the drop isn't in the listing
   pub it_is_in_the_listing : StartFromGoes 1 (both one two) (record (both one two) { listing = record { first = 1; closed = two ∷ [] } }) (Err (errors.Layer OutOfMemory)) → ⊥
   it_is_in_the_listing is = let same : ◌≡◌ {A = ℕ} 1 0 = ap (λ (l : ListingState). l.first) is.1.listing in omega (arith, same)
-
-  -- ---- one frame further
-
-  pub it_ends_here : StepGoes add_sum add_sum (both one two) (both one two) (place_at 2 8) (Ok End)
-  it_ends_here = the_end one two
-
-  -- the open segment follows
-  pub it_goes_on : StepGoes add_sum add_sum (both one two) (both one two) (place_at 1 8) (Ok End) → ⊥
-  it_goes_on is = not_the_end one two is
-
-pub how_far : far_from small (place_at 0 8) ≡ 18446744073709551608
-how_far = refl
-
-pub it_is_behind : IsBehind small (place_at 0 0) (place_at 0 8)
-it_is_behind = record { segment = lit≤ tt; nearer = lit< tt }
-
--- the same place isn't behind itself
-pub it_is_the_same : IsBehind small (place_at 0 8) (place_at 0 8) → ⊥
-it_is_the_same is = let less : 18446744073709551608 < 18446744073709551608 = is.nearer in omega (arith, less)

@@ -1,16 +1,18 @@
 -- Reads, one after another.
-use Rattle.std.specs.Prelude.{◌≡◌, ◌⊎◌, ℕ, List, Some, None, Option, IfSome}
-use Rattle.std.proofs.Common.{ap, sym, ◌∙◌, subst, inl, inr, refl}
+use Rattle.std.specs.Prelude.{◌≡◌, ◌⊎◌, ℕ, List, [], Some, None, Option, IfSome}
+use Rattle.std.proofs.Common.{ap, sym, ◌∙◌, subst, inl, inr, refl, append-nil}
 use Rattle.disk.specs.Disk.{Disk, Life}
 use Rattle.cache.specs.CacheState.{CacheState}
-use Rattle.crash.specs.Looks.{Looked, looked_joins}
-use Rattle.crash.specs.Moments.{through_end, through_joins}
+use Rattle.cache.specs.Pages.{IsFresh}
+use Rattle.crash.specs.Looks.{Looked, looked_joins, looked_start}
+use Rattle.crash.specs.Moments.{through_end, through_joins, through_start}
 use Rattle.writer_state.specs.WriterState.{WriterState}
 use Rattle.writer_state.specs.Sound.{content}
 use Rattle.journal.specs.Frame.{records}
 use Rattle.journal.specs.Journal.{Commits, OnlyRecords, records_in}
 use Rattle.journal.specs.Calls.{JournalCallLeaves, RecordReadLeaves}
-use Rattle.segments.specs.Owned.{OwnedReadLeaves, OwnedState, content_of}
+use Rattle.journal.proofs.Journals.{between_of, leaves_still}
+use Rattle.segments.specs.Owned.{IsOwned, IsOwnedJournal, OwnedReadLeaves, OwnedState, content_of}
 use Rattle.segments.specs.Log.{IsSameButCurrent, LeavesReading, LogState}
 
 -- two calls of a journal, as one
@@ -30,7 +32,7 @@ call_joins sum own w all cache mid after old half new first second = record {
 }
 
 -- a read leaves the bytes
-looked_bytes : (old new : Life) → Looked old new → new.present.readable ≡ old.present.readable
+pub looked_bytes : (old new : Life) → Looked old new → new.present.readable ≡ old.present.readable
 looked_bytes old new looked = ap (λ (d : Disk). d.readable) looked.same
 
 read_joins : (sum own : List ℕ → ℕ) (w : WriterState) (cache mid after : CacheState) (old half new : Life)
@@ -41,13 +43,31 @@ read_joins sum own w cache mid after old half new first second = record {
       (subst (λ (bytes : List ℕ). JournalCallLeaves sum own w (records own (content w bytes)) mid after half new) (looked_bytes old half first.looked) second.call);
 }
 
+start_by : (sum own : List ℕ → ℕ) (s : OwnedState) (j : Option WriterState) → IsFresh s.cache → IfSome j (λ w. IsOwnedJournal sum own s w) → IfSome j (λ w. RecordReadLeaves sum own w s.cache s.cache s.life s.life)
+start_by sum own s None fresh owned = tt
+start_by sum own s (Some w) fresh owned = record {
+  looked = looked_start s.life;
+  call = record {
+    fresh = fresh;
+    readers = λ r below reader. record { reader = reader; holds = refl };
+    others = λ sum other life apart is. is;
+    their_readers = λ sum r life apart is. is;
+    kept = λ held n commits. through_start (Commits sum own w.page_size held n) s.life commits;
+    only = leaves_still sum own w (records_in own w s.life) s.life (between_of sum w s.cache s.life owned.journal).only ([], sym (append-nil (records_in own w s.life)));
+  };
+}
+
+-- before any read
+pub reads_start : (sum own : List ℕ → ℕ) (s : OwnedState) → IsOwned sum own s → OwnedReadLeaves sum own s s
+reads_start sum own s owned = record { journal = refl; page_size = refl; records = refl; call = start_by sum own s s.journal owned.0 owned.1 }
+
 reads_by : (sum own : List ℕ → ℕ) (j : Option WriterState) (cache mid after : CacheState) (old half new : Life)
     → IfSome j (λ w. RecordReadLeaves sum own w cache mid old half) → IfSome j (λ w. RecordReadLeaves sum own w mid after half new)
     → IfSome j (λ w. RecordReadLeaves sum own w cache after old new)
 reads_by sum own None cache mid after old half new first second = tt
 reads_by sum own (Some w) cache mid after old half new first second = read_joins sum own w cache mid after old half new first second
 
-owned_joins : (sum own : List ℕ → ℕ) (s m t : OwnedState) → OwnedReadLeaves sum own s m → OwnedReadLeaves sum own m t → OwnedReadLeaves sum own s t
+pub owned_joins : (sum own : List ℕ → ℕ) (s m t : OwnedState) → OwnedReadLeaves sum own s m → OwnedReadLeaves sum own m t → OwnedReadLeaves sum own s t
 owned_joins sum own s m t first second = record {
   journal = second.journal ∙ first.journal;
   page_size = second.page_size ∙ first.page_size;

@@ -11,7 +11,7 @@ still sum own s asked log = record {
   manifest_pages = log.manifest_pages;
   current_pages = log.current_pages;
   lists = log.lists;
-  loaded = log.loaded;
+  reading = log.reading;
 }
 
 -- the log stands as it did

@@ -1,7 +1,8 @@
 -- What a log has, and what stands between its calls: what each of these definitions holds of, and
 -- what it refuses. The log has two closed segments, number 0 with "c" and number 1 with "d", and
 -- segment 2 is open and has "c"; what was kept of the closed ones is any. `small` is a log with an
--- empty manifest, whose segment 0 is open and has "c".
+-- empty manifest, whose segment 0 is open and has "c". What a read of a closed segment finds is in
+-- `ReadingExamples`.
 use Rattle.std.specs.Prelude.{◌≡◌, ◌<◌, ◌≤◌, ◌++◌, ℕ, zero, suc, List, [], ◌∷◌, length, Bool, true, false, Option, Some, None, Ok, Err}
 use Rattle.std.proofs.Common.{refl, sym, subst, ap, inl, inr, arith, ◌∙◌, lit<, lit≤}
 use Rattle.disk.specs.declared.error.Error.TheVariants.{WriteFailed}
@@ -11,22 +12,30 @@ use Rattle.journal.specs.declared.frame.Found.{Found}
 use Rattle.journal.specs.Frame.{frames, is_record, record_len, record_of, records, whole_frames}
 use Rattle.journal.proofs.Frames.{whole_is_whole}
 use Rattle.segments.specs.declared.call.FolderCall.TheVariants as calls
+use Rattle.page_digests.specs.Seals.{IsSealOf}
 use Rattle.segments.specs.declared.closed.Closed.{Closed}
+use Rattle.segments.specs.declared.closed.FileDigest.{FileDigest}
+use Rattle.segments.specs.declared.closed.Fingerprint.TheVariants.{Whole, Paged}
+use Rattle.segments.specs.declared.closed.PagedSeal.{PagedSeal}
 use Rattle.segments.specs.declared.error.Error.TheVariants as errors
 use Rattle.std.specs.declared.io.Error as io_error
-use Rattle.segments.specs.Digests.{IsOf, IsTwin}
+use Rattle.segments.specs.Kept.{IsOf, IsTwin}
 use Rattle.segments.specs.FolderEvents.{FolderEvent, plain_event}
-use Rattle.segments.specs.Manifest.{ListingState, none_closed}
+use Rattle.segments.specs.Manifest.{ListingState, closed_by, none_closed}
 use Rattle.segments.specs.Owned.{IsOwned, OwnedAppendGoes, OwnedState, without_journal}
-use Rattle.segments.specs.Log.{AppendHereGoes, AreDone, AsksNoSync, AsksWell, CurrentKeeps, EndsBehind, EndsRemoval, EndsSynced, EndsUnsynced, HasKept, HasTwinOf, HoldsClosed, IsBeyond, IsClosedLog, IsClosedOff, IsCurrentContent, IsDropped, IsKept, IsListed, IsLoaded, IsLog, IsReadOf, IsReadOfClosed, IsReadOfOpen, IsRefusedDrop, IsSameButAsked, IsSameButCurrent, IsSameButManifest, IsStartedFrom, IsUnsyncedDrop, LeavesReading, Lists, LoadedState, LogAppendGoes, LogReadGoes, LogState, NoneSyncs, StartsAt, TellHeld, closed_records, listing_from, log_records}
-use Rattle.segments.proofs.BytesExamples.{c, c_frame, c_page, changed_life, d, d_frame, d_page, life_of, none_committed, rests, with_c, with_none, writer}
+use Rattle.segments.specs.Log.{AppendHereGoes, AreDone, AsksNoSync, AsksWell, CurrentKeeps, EndsRemoval, EndsSynced, EndsUnsynced, HasKept, IsBeyond, IsClosedLog, IsClosedOff, IsCurrentContent, IsDropped, IsKept, IsListed, IsLog, IsReadOfOpen, IsRefusedDrop, IsSameButAsked, IsSameButCurrent, IsSameButManifest, IsStartedFrom, IsUnsyncedDrop, LeavesReading, Lists, LogAppendGoes, LogState, NoneSyncs, ReadingState, StartsAt, TellHeld, closed_records, listing_from, log_records}
+use Rattle.segments.specs.FrameReads.{EndsBehind, IsReadOf}
+use Rattle.segments.specs.Kept.{HasTwinOf, HoldsClosed}
+use Rattle.segments.proofs.BytesExamples.{c, c_frame, c_page, changed_life, d, d_frame, life_of, none_committed, rests, with_c, with_none, writer}
 use Rattle.segments.proofs.OwnedExamples.{another_record, nothing_was_done}
-use Rattle.segments.proofs.Readings.{read_forward}
-use Rattle.segments.proofs.Records.{same_content}
+
+-- no closed segment was read yet
+abbrev pub none_read : ReadingState
+none_read = record { whole = None; paged = None }
 
 -- a log of an empty manifest
 abbrev pub small : LogState
-small = record { manifest = with_none; current = with_c; listing = none_closed; asked = []; loaded = None; page_size = 18; most = 100; known = 0 }
+small = record { manifest = with_none; current = with_c; listing = none_closed; asked = []; reading = none_read; page_size = 18; most = 100; known = 0 }
 
 -- what the closed segments held
 abbrev pub held : ℕ → List ℕ
@@ -39,43 +48,33 @@ how_many (Some l) = length l.closed
 
 -- ---- a closed segment
 
-pub it_holds_c : (kept : Closed) → IsOf c_page kept → HoldsClosed add_sum 18 kept c_frame
-unfolding record_len frames whole_frames
-it_holds_c kept is = record { bytes = c_page; of = is; holds = refl }
+-- what was kept of a segment of one record, by its whole file
+abbrev pub by_file : FileDigest → Closed
+by_file kept = closed_by 1 (Whole kept)
 
-pub it_holds_d : (kept : Closed) → IsOf d_page kept → HoldsClosed add_sum 18 kept d_frame
+-- and by its pages
+abbrev pub by_pages : PagedSeal → Closed
+by_pages kept = closed_by 1 (Paged kept)
+
+pub it_holds_c : (digest : List ℕ → List ℕ) (kept : FileDigest) → IsOf c_page kept → HoldsClosed add_sum digest 18 (by_file kept) c_frame
 unfolding record_len frames whole_frames
-it_holds_d kept is = record { bytes = d_page; of = is; holds = refl }
+it_holds_c digest kept is = record { bytes = c_page; of = is; holds = refl }
 
 -- a content doesn't end within a frame
-pub a_cut_content : (sum : List ℕ → ℕ) (P : ℕ) (kept : Closed) → HoldsClosed sum P kept (c_frame ++ 0 ∷ []) → ⊥
+pub a_cut_content : (sum : List ℕ → ℕ) (digest : List ℕ → List ℕ) (P : ℕ) (kept : FileDigest) → HoldsClosed sum digest P (by_file kept) (c_frame ++ 0 ∷ []) → ⊥
 unfolding record_len frames whole_frames
-a_cut_content sum P kept is =
+a_cut_content sum digest P kept is =
     let whole : whole_frames (c_frame ++ 0 ∷ []) ≡ c_frame ++ 0 ∷ [] =
     ap whole_frames is.holds ∙ whole_is_whole (text sum P is.bytes) ∙ sym is.holds in
     let same : ◌≡◌ {A = ℕ} 8 9 = ap length whole in omega (arith, same)
 
-pub it_has_a_twin : (kept : Closed) (other : List ℕ) → IsOf c_page kept → IsTwin c_page other → HasTwinOf add_sum 18 kept c_frame
+pub it_has_a_twin : (digest : List ℕ → List ℕ) (kept : FileDigest) (other : List ℕ) → IsOf c_page kept → IsTwin c_page other → HasTwinOf add_sum digest 18 (by_file kept) c_frame
 unfolding record_len frames whole_frames
-it_has_a_twin kept other is twin = record { holds = record { bytes = c_page; of = is; holds = refl }; twin = (other, twin) }
+it_has_a_twin digest kept other is twin = record { holds = record { bytes = c_page; of = is; holds = refl }; twin = (other, twin) }
 
 -- what isn't a segment's content has no twin either
-pub a_cut_content_has_none : (sum : List ℕ → ℕ) (P : ℕ) (kept : Closed) → HasTwinOf sum P kept (c_frame ++ 0 ∷ []) → ⊥
-a_cut_content_has_none sum P kept has = a_cut_content sum P kept has.holds
-
-abbrev pub in_memory : Closed → LoadedState
-in_memory kept = record { kept = kept; owned = with_c }
-
-pub it_is_in_memory : (kept : Closed) → IsOf c_page kept → IsOwned add_sum add_sum with_c → IsLoaded add_sum add_sum 18 (in_memory kept)
-it_is_in_memory kept is owned = record { page_size = refl; owned = owned; there = tt; holds = it_holds_c kept is }
-
--- in memory it has pages of the log's size
-pub of_another_size : (sum own : List ℕ → ℕ) (kept : Closed) → IsLoaded sum own 16 (in_memory kept) → ⊥
-of_another_size sum own kept is = let same : ◌≡◌ {A = ℕ} 18 16 = is.page_size in omega (arith, same)
-
--- and a journal
-pub it_was_given_up : (sum own : List ℕ → ℕ) (kept : Closed) → IsLoaded sum own 18 (record { kept = kept; owned = without_journal with_c }) → ⊥
-it_was_given_up sum own kept is = is.there
+pub a_cut_content_has_none : (sum : List ℕ → ℕ) (digest : List ℕ → List ℕ) (P : ℕ) (kept : FileDigest) → HasTwinOf sum digest P (by_file kept) (c_frame ++ 0 ∷ []) → ⊥
+a_cut_content_has_none sum digest P kept has = a_cut_content sum digest P kept has.holds
 
 -- ---- a manifest
 
@@ -96,7 +95,7 @@ a_log manifest current = record {
   manifest_pages = refl;
   current_pages = refl;
   lists = it_lists_none;
-  loaded = tt;
+  reading = record { whole = tt; paged = tt };
 }
 
 -- its listing has a segment that the manifest doesn't have
@@ -110,13 +109,13 @@ other_pages sum own log = let same : ◌≡◌ {A = ℕ} 16 18 = log.current_pag
 -- ---- what stays the same
 
 pub the_manifest_changes : IsSameButManifest small (record small { manifest = without_journal with_none })
-the_manifest_changes = record { current = refl; loaded = refl; page_size = refl; most = refl }
+the_manifest_changes = record { current = refl; reading = refl; page_size = refl; most = refl }
 
 pub the_open_one_may_not : IsSameButManifest small (record small { current = without_journal with_c }) → ⊥
 the_open_one_may_not same = absurd (cc (ap (λ (o : OwnedState). o.journal) same.current))
 
 pub the_open_one_changes : IsSameButCurrent small (record small { current = without_journal with_c })
-the_open_one_changes = record { manifest = refl; listing = refl; asked = refl; loaded = refl; page_size = refl; most = refl; known = refl }
+the_open_one_changes = record { manifest = refl; listing = refl; asked = refl; reading = refl; page_size = refl; most = refl; known = refl }
 
 pub the_manifest_may_not : IsSameButCurrent small (record small { manifest = without_journal with_none }) → ⊥
 the_manifest_may_not same = absurd (cc (ap (λ (o : OwnedState). o.journal) same.manifest))
@@ -141,7 +140,7 @@ a_call_loses keeps = another_record keeps
 -- ---- a frame of a content
 
 -- the frame of "c" as it is found
-abbrev c_found : Found
+abbrev pub c_found : Found
 c_found = record { bytes = Some c; end = 8 }
 
 pub a_record_is_read : IsReadOf add_sum c_frame 0 (Some c_found)
@@ -167,31 +166,11 @@ it_goes_forward = lit< tt
 pub it_ends_where_it_begins : EndsBehind 8 (Some c_found) → ⊥
 it_ends_where_it_begins forward = let less : 8 < 8 = forward in omega (arith, less)
 
--- what is read of "c" is read of a closed segment that held it
-of_c : (own : List ℕ → ℕ) (kept : Closed) (offset : ℕ) (found : Option Found) → IsOf c_page kept → IsReadOf own c_frame offset found → IsReadOfClosed add_sum own 18 kept offset found
-of_c own kept offset found is read = record {
-  forward = read_forward own c_frame offset found read;
-  reads = λ content holds. elim (same_content add_sum 18 kept content c_frame holds (it_holds_c kept is)) [
-    | inl same ↦ inl (subst (λ content. IsReadOf own content offset found) same read)
-    | inr twin ↦ inr twin
-  ];
-}
-
-pub c_is_read_of_closed : (kept : Closed) → IsOf c_page kept → IsReadOfClosed add_sum add_sum 18 kept 0 (Some c_found)
-c_is_read_of_closed kept is = of_c add_sum kept 0 (Some c_found) is a_record_is_read
-
-pub none_is_read_of_closed : (own : List ℕ → ℕ) (kept : Closed) → IsOf c_page kept → IsReadOfClosed add_sum own 18 kept 8 None
-none_is_read_of_closed own kept is = of_c own kept 8 None is (none_is_read own)
-
--- so a read goes forward
-pub it_stays_where_it_was : (sum own : List ℕ → ℕ) (kept : Closed) → IsReadOfClosed sum own 18 kept 8 (Some c_found) → ⊥
-it_stays_where_it_was sum own kept is = it_ends_where_it_begins is.forward
-
 -- ---- two closed segments
 
 module _ (one two : Closed) where
   abbrev pub both : LogState
-  both = record { manifest = with_none; current = with_c; listing = record { first = 0; closed = one ∷ two ∷ [] }; asked = []; loaded = None; page_size = 18; most = 100; known = 3 }
+  both = record { manifest = with_none; current = with_c; listing = record { first = 0; closed = one ∷ two ∷ [] }; asked = []; reading = none_read; page_size = 18; most = 100; known = 3 }
 
   pub their_records : closed_records add_sum held 0 (one ∷ two ∷ []) ≡ c ∷ d ∷ []
   unfolding record_len is_record record_of frames records
@@ -200,9 +179,6 @@ module _ (one two : Closed) where
   pub all_records : log_records add_sum held both ≡ c ∷ d ∷ c ∷ []
   unfolding record_len is_record record_of frames records
   all_records = refl
-
-  pub they_are_held : IsOf c_page one → IsOf d_page two → TellHeld add_sum 18 held 0 (one ∷ two ∷ [])
-  they_are_held first second = (it_holds_c one first, (it_holds_d two second, tt))
 
   pub the_first_goes : listing_from 1 (record { first = 0; closed = one ∷ two ∷ [] }) ≡ record { first = 1; closed = two ∷ [] }
   the_first_goes = refl
@@ -221,7 +197,7 @@ module _ (one two : Closed) where
   it_starts_from_1 asked kept = record {
     listing = refl;
     there = tt;
-    rest = record { current = refl; loaded = refl; page_size = refl; most = refl };
+    rest = record { current = refl; reading = refl; page_size = refl; most = refl };
     known = refl;
     kept = kept;
   }
@@ -235,7 +211,7 @@ module _ (one two : Closed) where
   it_forgets_a_segment is = let same : ◌≡◌ {A = ℕ} 1 0 = ap (λ (l : ListingState). l.first) is.listing in omega (arith, same)
 
   pub it_was_closed_off : IsClosedOff both (record both { current = without_journal with_c; manifest = without_journal with_none })
-  it_was_closed_off = record { current = refl; listing = refl; asked = refl; loaded = refl; page_size = refl; most = refl; known = refl }
+  it_was_closed_off = record { current = refl; listing = refl; asked = refl; reading = refl; page_size = refl; most = refl; known = refl }
 
   pub its_manifest_is_closed : IsClosedLog (record both { manifest = without_journal with_none })
   its_manifest_is_closed = inr refl
@@ -253,17 +229,6 @@ module _ (one two : Closed) where
   pub it_is_not_listed : IsListed both 2 → ⊥
   it_is_not_listed is = let none : None ≡ Some is.0 = is.1 in absurd (cc none)
 
-  pub a_closed_one_is_read : (t : LogState) → IsOf c_page one → LogReadGoes add_sum add_sum both t (record { segment = 0; offset = 0 }) (Ok (Some c_found))
-  a_closed_one_is_read t is = inr (one, refl, c_is_read_of_closed one is)
-
-  pub the_open_one_is_read : (t : LogState) → LogReadGoes add_sum add_sum both t (record { segment = 2; offset = 0 }) (Ok (Some c_found))
-  the_open_one_is_read t = inl (refl, (c_frame, refl, a_record_is_read))
-
-  -- a frame stands there
-  pub the_open_one_is_passed_over : (sum own : List ℕ → ℕ) (t : LogState) → LogReadGoes sum own both t (record { segment = 2; offset = 0 }) (Ok None) → ⊥
-  the_open_one_is_passed_over sum own t (inl is) = omega (arith, ap length is.1.1, is.1.2)
-  the_open_one_is_passed_over sum own t (inr is) = let none : None ≡ Some is.0 = is.1 in absurd (cc none)
-
   -- a record is said to stand in the segment before the open one
   pub in_the_segment_before : (sum own : List ℕ → ℕ) (t : LogState) → AppendHereGoes sum own c both t (Ok (record { segment = 1; offset = 8 })) → ⊥
   in_the_segment_before sum own t is = let same : ◌≡◌ {A = ℕ} 1 2 = is.0 in omega (arith, same)
@@ -271,9 +236,18 @@ module _ (one two : Closed) where
   pub in_the_open_one : (sum own : List ℕ → ℕ) (t : LogState) → OwnedAppendGoes sum own c with_c t.current (Ok 8) → AppendHereGoes sum own c both t (Ok (record { segment = 2; offset = 8 }))
   in_the_open_one sum own t is = (refl, is)
 
+-- the one is known by its file, and the other by its pages
+pub they_are_held : (digest : List ℕ → List ℕ) (one : FileDigest) (two : PagedSeal) → IsOf c_page one → IsSealOf digest 18 d_frame two.seal
+    → TellHeld add_sum digest 18 held 0 (by_file one ∷ by_pages two ∷ [])
+they_are_held digest one two first second = (it_holds_c digest one first, (second, tt))
+
 -- a closed segment didn't hold a part of a frame
-pub a_cut_one_is_held : (sum : List ℕ → ℕ) (P : ℕ) (kept : Closed) → TellHeld sum P (λ n. c_frame ++ 0 ∷ []) 0 (kept ∷ []) → ⊥
-a_cut_one_is_held sum P kept is = a_cut_content sum P kept is.0
+pub a_cut_one_is_held : (sum : List ℕ → ℕ) (digest : List ℕ → List ℕ) (P : ℕ) (kept : FileDigest) → TellHeld sum digest P (λ n. c_frame ++ 0 ∷ []) 0 (by_file kept ∷ []) → ⊥
+a_cut_one_is_held sum digest P kept is = a_cut_content sum digest P kept is.0
+
+-- nor one byte more than its seal has
+pub one_byte_more_is_held : (digest : List ℕ → List ℕ) (two : PagedSeal) → two.seal.len ≡ 8 → TellHeld add_sum digest 18 (λ n. d_frame ++ 0 ∷ []) 0 (by_pages two ∷ []) → ⊥
+one_byte_more_is_held digest two long is = omega (arith, is.0.len, long)
 
 -- ---- the open segment is read
 
@@ -311,8 +285,8 @@ it_was_closed_by_a_read sum own is = absurd (cc (is.journal))
 -- ---- appending, and the last call
 
 -- after an error the log has no open segment
-pub it_stays_open : (sum own : List ℕ → ℕ) → LogAppendGoes sum own c small small (Err (errors.Layer WriteFailed)) → ⊥
-it_stays_open sum own is = absurd (cc (is.0))
+pub it_stays_open : (sum own : List ℕ → ℕ) → (digest : List ℕ → List ℕ) → LogAppendGoes sum own digest c small small (Err (errors.Layer WriteFailed)) → ⊥
+it_stays_open sum own digest is = absurd (cc (is.0))
 
 -- there was nothing to drop, and the names are durable
 pub nothing_was_dropped : IsDropped 0 small (record small { asked = plain_event calls.Syncs false ∷ [] })

@@ -1,17 +1,19 @@
 -- Each definition of manifests, of their copies and of what a folder is asked for, computed on a
 -- few bytes, and what `TakesIn` refuses. Pages have 18 bytes. The log has two closed segments,
 -- number 0 and number 1; what was kept of them is any.
-use Rattle.std.specs.Prelude.{◌≡◌, ◌++◌, ℕ, List, [], ◌∷◌, replicate, true, false, Option, Some, None, Ok, Err}
+use Rattle.std.specs.Prelude.{◌≡◌, ◌++◌, ℕ, List, [], ◌∷◌, get_or, length, replicate, take, true, false, Option, Some, None, Ok, Err}
 use Rattle.std.proofs.Common.{refl, ap, arith}
 use Rattle.crc32c.specs.Crc.{after_bits, after_byte, crc32c}
 use Rattle.segments.specs.declared.call.FolderCall.TheVariants as calls
 use Rattle.segments.specs.declared.closed.Closed.{Closed}
+use Rattle.segments.specs.declared.closed.Fingerprint.{Fingerprint}
+use Rattle.segments.specs.declared.closed.Fingerprint.TheVariants.{Whole, Paged}
 use Rattle.segments.specs.declared.entry.Entry.TheVariants.{Starts, Closes}
 use Rattle.segments.specs.declared.folder.Asked.TheVariants.{Manifest, Segment}
 use Rattle.segments.specs.declared.known.Known.{Known}
 use Rattle.segments.specs.Copies.{copy_body, copy_bytes, known_in}
 use Rattle.segments.specs.Folders.{call_for}
-use Rattle.segments.specs.Manifest.{ListingState, TakesIn, closed_at, closed_count, entry_bytes, entry_in, fitting, listed_after, listed_by, listed_in, listed_with, none_closed, open_in}
+use Rattle.segments.specs.Manifest.{ListingState, TakesIn, closed_at, closed_by, closed_count, closing_bytes, closing_len, entry_bytes, entry_in, fitting, listed_after, listed_by, listed_in, listed_with, none_closed, open_in, padded, padding, paged_in, whole_in}
 
 -- ---- entries
 
@@ -31,8 +33,8 @@ pub a_cut_entry : entry_in (0 ∷ 0 ∷ 0 ∷ 0 ∷ 0 ∷ 0 ∷ 0 ∷ 1 ∷ 2 �
 unfolding entry_in
 a_cut_entry = refl
 
--- an entry of a third kind
-pub no_such_kind : entry_in (2 ∷ 0 ∷ 0 ∷ 0 ∷ 0 ∷ 0 ∷ 0 ∷ 1 ∷ 2 ∷ 15 ∷ 244 ∷ []) ≡ None
+-- an entry of a fourth kind
+pub no_such_kind : entry_in (3 ∷ 0 ∷ 0 ∷ 0 ∷ 0 ∷ 0 ∷ 0 ∷ 1 ∷ 2 ∷ 15 ∷ 244 ∷ []) ≡ None
 unfolding entry_in
 no_such_kind = refl
 
@@ -45,6 +47,111 @@ starts_1 = replicate 8 0 ++ 1 ∷ 0 ∷ 18 ∷ []
 
 abbrev pub starts_2 : List ℕ
 starts_2 = replicate 8 0 ++ 2 ∷ 0 ∷ 18 ∷ []
+
+-- ---- entries that close a segment
+
+-- a digest, or a root
+abbrev sevens : List ℕ
+sevens = replicate 32 7
+
+-- what is kept of a segment of 772 bytes: the digest of its file; or its root, by the digest of number 5
+abbrev by_file : Fingerprint
+by_file = Whole (record { len = 772; digest = sevens })
+
+abbrev by_pages : Fingerprint
+by_pages = Paged (record { number = 5; seal = record { len = 772; root = sevens } })
+
+-- it has 258 records
+abbrev file_entry : List ℕ
+file_entry = 1 ∷ 0 ∷ 0 ∷ 0 ∷ 0 ∷ 0 ∷ 0 ∷ 1 ∷ 2 ∷ 0 ∷ 0 ∷ 0 ∷ 0 ∷ 0 ∷ 0 ∷ 3 ∷ 4 ∷ sevens
+
+abbrev pages_entry : List ℕ
+pages_entry = 2 ∷ 0 ∷ 0 ∷ 0 ∷ 0 ∷ 0 ∷ 0 ∷ 1 ∷ 2 ∷ 0 ∷ 0 ∷ 0 ∷ 0 ∷ 0 ∷ 0 ∷ 3 ∷ 4 ∷ 5 ∷ sevens
+
+pub it_is_kept : closed_by 258 by_file ≡ record { records = 258; fingerprint = by_file }
+it_is_kept = refl
+
+pub not_of_so_many : (f : Fingerprint) → closed_by 258 f ≡ closed_by 257 f → ⊥
+not_of_so_many f is = let same : ◌≡◌ {A = ℕ} 258 257 = ap (λ (c : Closed). c.records) is in omega (arith, same)
+
+pub bytes_by_its_file : closing_bytes 258 by_file ≡ file_entry
+bytes_by_its_file = refl
+
+pub bytes_by_its_pages : closing_bytes 258 by_pages ≡ pages_entry
+bytes_by_its_pages = refl
+
+-- which of the two it is is told by the first byte
+pub they_are_told_apart : closing_bytes 258 by_file ≡ closing_bytes 258 by_pages → ⊥
+they_are_told_apart is = let same : ◌≡◌ {A = ℕ} 1 2 = ap (λ (l : List ℕ). get_or l 0 0) is in omega (arith, same)
+
+pub a_closing_entry : entry_bytes (Closes (closed_by 258 by_pages)) ≡ pages_entry
+a_closing_entry = refl
+
+pub frame_by_its_file : closing_len by_file ≡ 56
+frame_by_its_file = refl
+
+-- one byte more, for the number of the digest
+pub frame_by_its_pages : closing_len by_pages ≡ 57
+frame_by_its_pages = refl
+
+pub not_as_long : closing_len by_pages ≡ 56 → ⊥
+not_as_long is = let same : ◌≡◌ {A = ℕ} 57 56 = is in omega (arith, same)
+
+-- a manifest with 6 bytes, and pages of 40: 18 are free behind 62 bytes, and one fewer behind 63
+pub room_by_its_file : padding 40 6 56 ≡ 0
+room_by_its_file = refl
+
+pub zeros_by_its_pages : padding 40 6 57 ≡ 18
+zeros_by_its_pages = refl
+
+pub not_as_many_zeros : padding 40 6 57 ≡ padding 40 6 56 → ⊥
+not_as_many_zeros is = let same : ◌≡◌ {A = ℕ} 18 0 = is in omega (arith, same)
+
+-- pages of 18 bytes have no such room
+pub no_room_anyway : padding 18 6 57 ≡ 0
+no_room_anyway = refl
+
+pub padded_by_its_file : padded 40 6 (Closes (closed_by 258 by_file)) ≡ file_entry
+padded_by_its_file = refl
+
+pub padded_by_its_pages : padded 40 6 (Closes (closed_by 258 by_pages)) ≡ pages_entry ++ replicate 18 0
+padded_by_its_pages = refl
+
+pub not_without_zeros : padded 40 6 (Closes (closed_by 258 by_pages)) ≡ pages_entry → ⊥
+not_without_zeros is = let same : ◌≡◌ {A = ℕ} 68 50 = ap length is in omega (arith, same)
+
+-- a drop's entry has none behind it
+pub padded_no_further : padded 40 6 (Starts 258 4084) ≡ starts_258
+padded_no_further = refl
+
+pub whole_is_read : whole_in (file_entry ++ replicate 18 0) ≡ Some (Closes (closed_by 258 by_file))
+whole_is_read = refl
+
+pub one_behind_a_whole : whole_in (file_entry ++ 0 ∷ 1 ∷ []) ≡ None
+one_behind_a_whole = refl
+
+pub paged_is_read : paged_in (pages_entry ++ replicate 18 0) ≡ Some (Closes (closed_by 258 by_pages))
+paged_is_read = refl
+
+pub one_behind_a_paged : paged_in (pages_entry ++ 0 ∷ 1 ∷ []) ≡ None
+one_behind_a_paged = refl
+
+pub first_kind_is_read : entry_in file_entry ≡ Some (Closes (closed_by 258 by_file))
+unfolding entry_in
+first_kind_is_read = refl
+
+pub second_kind_is_read : entry_in pages_entry ≡ Some (Closes (closed_by 258 by_pages))
+unfolding entry_in
+second_kind_is_read = refl
+
+-- their last byte is missing
+pub a_cut_first_kind : entry_in (take 48 file_entry) ≡ None
+unfolding entry_in
+a_cut_first_kind = refl
+
+pub a_cut_second_kind : entry_in (take 49 pages_entry) ≡ None
+unfolding entry_in
+a_cut_second_kind = refl
 
 -- ---- listings
 
@@ -143,8 +250,8 @@ module _ (one two : Closed) where
   not_by_halves is = let same : ◌≡◌ {A = ℕ} 1 0 = ap (λ (l : ListingState). l.first) is in omega (arith, same)
 
 -- two records and three
-pub five_records : (len : ℕ) (digest : List ℕ) → closed_count (record { records = 2; len = len; digest = digest } ∷ record { records = 3; len = len; digest = digest } ∷ []) ≡ 5
-five_records len digest = refl
+pub five_records : (one two : Fingerprint) → closed_count (closed_by 2 one ∷ closed_by 3 two ∷ []) ≡ 5
+five_records one two = refl
 
 pub a_new_manifest : listed_in 18 (starts_0 ∷ []) ≡ Some none_closed
 unfolding entry_in

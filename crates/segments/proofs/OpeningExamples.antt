@@ -1,7 +1,7 @@
 -- What the opening of files comes to, and what a folder's calls answer: what each of these
 -- definitions holds of, and what it refuses. The files have nothing in them, or "c". That a blob
 -- has a journal between two calls is a premise, and so is that "c" is committed.
-use Rattle.std.specs.Prelude.{◌≡◌, ◌++◌, ℕ, List, [], ◌∷◌, length, Bool, false, true, Some, Ok, Err}
+use Rattle.std.specs.Prelude.{◌≡◌, ◌++◌, ℕ, List, [], ◌∷◌, length, Bool, false, true, Some, None, Ok, Err}
 use Rattle.std.proofs.Common.{refl, sym, ap, inl, inr, arith, ◌∙◌, length-append}
 use Rattle.disk.specs.Disk.{Life}
 use Rattle.page.specs.Page.{text}
@@ -18,7 +18,7 @@ use Rattle.file.specs.declared.opening.OpenError.TheVariants as refusals
 use Rattle.std.specs.declared.io.Error as io_error
 use Rattle.segments.specs.declared.past.Last.TheVariants.{Nothing}
 use Rattle.segments.specs.FolderPast.{events_of}
-use Rattle.segments.specs.FolderEvents.{FolderEvent, folder_outcome, keeping_event, keeping_outcome, opening_outcome, opening_with, plain_event}
+use Rattle.segments.specs.FolderEvents.{FolderEvent, folder_outcome, keeping_event, keeping_outcome, opening_outcome, opening_with, plain_event, writing_event, writing_outcome}
 use Rattle.segments.specs.Manifest.{none_closed}
 use Rattle.segments.specs.Owned.{IsOwned}
 use Rattle.segments.specs.Log.{AreParts, AsksForSegment, AsksUnsynced, HasCurrent, HasManifest, HasNext, LogState, OpenNextGoes, events_for}
@@ -100,6 +100,7 @@ opened calls.Syncs = 9
 opened calls.OpensManifest = 9
 opened (calls.Opens segment) = segment
 opened (calls.Closes segment) = 9
+opened (calls.WritesList segment) = 9
 
 abbrev second_opened : List FolderEvent → ℕ
 second_opened [] = 9
@@ -215,6 +216,19 @@ a_sync_failed e = refl
 
 pub a_copy_was_kept : keeping_outcome {T = Unit {0}} {E = Error} 1 3 (7 ∷ []) (Ok tt) ≡ keeping_event 1 3 (7 ∷ []) false
 a_copy_was_kept = refl
+
+pub its_list_is_given : writing_event 3 (7 ∷ []) true ≡ record { call = calls.WritesList 3; failed = true; given = 7 ∷ []; closed = None }
+its_list_is_given = refl
+
+-- a call that gives no bytes is another one
+pub without_its_list : writing_event 3 (7 ∷ []) true ≡ plain_event (calls.WritesList 3) true → ⊥
+without_its_list is = let same : ◌≡◌ {A = ℕ} 1 0 = ap (λ (e : FolderEvent). length e.given) is in omega (arith, same)
+
+pub a_list_was_written : writing_outcome {T = Unit {0}} {E = Error} 3 (7 ∷ []) (Ok tt) ≡ writing_event 3 (7 ∷ []) false
+a_list_was_written = refl
+
+pub a_list_was_refused : (e : Error) → writing_outcome {T = Unit {0}} 3 (7 ∷ []) (Err e) ≡ writing_event 3 (7 ∷ []) true
+a_list_was_refused e = refl
 
 pub a_file_was_opened : opening_outcome {E = Error} (λ (l : Life). l) (calls.Opens 0) (Ok c_life) ≡ opening_with (calls.Opens 0) c_page
 a_file_was_opened = refl

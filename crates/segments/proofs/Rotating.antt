@@ -1,18 +1,20 @@
 -- A rotation, step by step.
-use Rattle.std.specs.Prelude.{◌≡◌, ◌≢◌, ◌<◌, ◌+◌, ◌++◌, ◌==◌, ℕ, List, [], ◌∷◌, length, Some, None, Option, IfSome, Bool, true, false, if◌then◌else◌}
-use Rattle.std.proofs.Common.{ap, sym, ◌∙◌, subst, refl, arith}
+use Rattle.std.specs.Prelude.{◌≡◌, ◌≢◌, ◌<◌, ◌+◌, ◌++◌, ◌==◌, ℕ, List, [], ◌∷◌, length, Some, None, Option, IfSome, Bool, true, false, if◌then◌else◌, Ok}
+use Rattle.std.proofs.Common.{ap, ap₂, sym, ◌∙◌, subst, refl, arith}
 use Rattle.disk.specs.Disk.{Life}
 use Rattle.segments.specs.declared.closed.Closed.{Closed}
 use Rattle.segments.specs.declared.entry.Entry.TheVariants.{Closes}
-use Rattle.segments.specs.FolderEvents.{FolderEvent, closing_event, keeping_event}
+use Rattle.segments.specs.FolderEvents.{FolderEvent, closing_event, keeping_event, writing_event}
+use Rattle.segments.specs.Kept.{AreOfDigest, IsOfDigest}
 use Rattle.segments.specs.Manifest.{ListingState, listed_with, open_in, padded}
 use Rattle.paged.specs.Recovery.{IsDurable}
 use Rattle.journal.specs.Journal.{OnlyRecords}
 use Rattle.writer_state.specs.WriterState.{WriterState}
-use Rattle.segments.specs.Owned.{HasJournal, IsOwned, OwnedState, owned_size, records_now}
-use Rattle.segments.specs.Log.{CurrentKeeps, HasFollowed, HasNext, HasOpened, IsEntered, IsLog, IsRotated, IsSameButAsked, IsSameButCurrent, IsSameButManifest, LeavesOpened, LogState, WasClosed, asked_turning, entered_bytes, events_for}
-use Rattle.sha2.proofs.Facts256.{length-sha256}
-use Rattle.segments.proofs.Padding.{room_after}
+use Rattle.page_digests.specs.Pages.{list_of, top_of}
+use Rattle.page_digests.specs.declared.levels.Levels.{Levels}
+use Rattle.segments.specs.Owned.{HasJournal, IsOwned, OwnedState, content_now, owned_size, records_now, without_journal}
+use Rattle.segments.specs.Log.{CurrentKeeps, HasFollowed, HasNext, HasOpened, IsEntered, IsLog, IsRotated, IsSameButAsked, IsSameButCurrent, IsSameButManifest, IsClosedAs, LeavesOpened, LogState, WasClosed, WriteListGoes, asked_listing, asked_turning, entered_bytes, events_for, listing_event}
+use Rattle.segments.proofs.Padding.{paged_len, room_after}
 use Rattle.segments.proofs.Empty.{no_record}
 
 journal_is : (P : WriterState → Type 0) (j : Option WriterState) → HasJournal j P → HasJournal j (λ w. Unit {0})
@@ -70,68 +72,93 @@ only_some false l m is = sym (ap (λ (o : Option ListingState). or_first o) is) 
 pub listed : (P : ℕ) (kept : Closed) (l m : ListingState) → listed_with P (Closes kept) l ≡ Some m → m ≡ record { first = l.first; closed = l.closed ++ kept ∷ [] }
 listed P kept l m is = only_some (open_in l == 18446744073709551615) (record { first = l.first; closed = l.closed ++ kept ∷ [] }) m is
 
--- the steps of a rotation up to the entry: the open segment was closed, the next one was opened, and took its place
-pub record Turning (sum own : List ℕ → ℕ) (s m n f : LogState) (next : OwnedState) (kept : Closed) : Type 0 where
-  pub closed : WasClosed sum own s m.current.life kept
+-- the list of the open segment was written, by what the folder was asked for
+pub listing_asked : (d : List ℕ → List ℕ) (sum own : List ℕ → ℕ) (s m t : LogState) (kept : Closed) (levels : Levels) (failed : Bool) → IsClosedAs sum own d s m.current.life kept levels → IsSameButCurrent s m
+    → t.asked ≡ m.asked ++ writing_event (open_in m.listing) (levels.list.items ++ levels.top.items) failed ∷ [] → t.asked ≡ s.asked ++ listing_event d s failed ∷ []
+listing_asked d sum own s m t kept levels failed sealed first asked =
+    let bytes : levels.list.items ++ levels.top.items ≡ list_of d s.page_size (content_now s.current) ++ top_of d s.page_size (content_now s.current) =
+    ap₂ (λ (a b : List ℕ). a ++ b) sealed.levels.list sealed.levels.top in
+    asked
+    ∙ ap (λ (events : List FolderEvent). events ++ writing_event (open_in m.listing) (levels.list.items ++ levels.top.items) failed ∷ []) first.asked
+    ∙ ap (λ (l : ListingState). s.asked ++ writing_event (open_in l) (levels.list.items ++ levels.top.items) failed ∷ []) first.listing
+    ∙ ap (λ (bytes : List ℕ). s.asked ++ writing_event (open_in s.listing) bytes failed ∷ []) bytes
+
+-- the steps of a rotation up to the entry: the open segment was closed, its list was written, the next one was opened, and took its place
+pub record Turning (sum own : List ℕ → ℕ) (d : List ℕ → List ℕ) (s m w n f : LogState) (next : OwnedState) (kept : Closed) : Type 0 where
+  pub closed : WasClosed sum own d s m.current.life kept
   pub keeps : CurrentKeeps sum own (records_now own s.current) s m
   pub first : IsSameButCurrent s m
-  pub has : HasNext sum own m n next
-  pub asks : IsSameButAsked m n
+  pub listed : w.asked ≡ asked_listing d s
+  pub lists : IsSameButAsked m w
+  pub has : HasNext sum own w n next
+  pub asks : IsSameButAsked w n
   pub follows : HasFollowed next n f
 
-pub turning_of : (sum own : List ℕ → ℕ) (s m n f : LogState) (next : OwnedState) (kept : Closed) → WasClosed sum own s m.current.life kept → CurrentKeeps sum own (records_now own s.current) s m
-    → IsSameButCurrent s m → HasNext sum own m n next → IsSameButAsked m n → HasFollowed next n f → Turning sum own s m n f next kept
-turning_of sum own s m n f next kept closed keeps first has asks follows = record { closed = closed; keeps = keeps; first = first; has = has; asks = asks; follows = follows }
+pub turning_of : (sum own : List ℕ → ℕ) (d : List ℕ → List ℕ) (s m w n f : LogState) (next : OwnedState) (kept : Closed) (levels : Levels) (u : Unit {0}) → IsClosedAs sum own d s m.current.life kept levels
+    → CurrentKeeps sum own (records_now own s.current) s m → IsSameButCurrent s m → WriteListGoes levels m w (Ok u) → IsSameButAsked m w → HasNext sum own w n next → IsSameButAsked w n → HasFollowed next n f
+    → Turning sum own d s m w n f next kept
+turning_of sum own d s m w n f next kept levels u sealed keeps first wrote lists has asks follows =
+    record { closed = sealed.closed; keeps = keeps; first = first; listed = listing_asked d sum own s m w kept levels false sealed first wrote; lists = lists; has = has; asks = asks; follows = follows }
 
 -- ---- what a log is after these steps
 
-module _ (sum own : List ℕ → ℕ) (s m n f : LogState) (next : OwnedState) (kept : Closed) (is : Turning sum own s m n f next kept) where
+module _ (sum own : List ℕ → ℕ) (d : List ℕ → List ℕ) (s m w n f : LogState) (next : OwnedState) (kept : Closed) (is : Turning sum own d s m w n f next kept) where
   pub same_manifest : f.manifest ≡ s.manifest
-  same_manifest = ap (λ (l : LogState). l.manifest) is.follows.rest ∙ ap (λ (l : LogState). l.manifest) is.asks ∙ is.first.manifest
+  same_manifest = ap (λ (l : LogState). l.manifest) is.follows.rest ∙ ap (λ (l : LogState). l.manifest) is.asks ∙ ap (λ (l : LogState). l.manifest) is.lists ∙ is.first.manifest
 
   pub same_listing : f.listing ≡ s.listing
-  same_listing = ap (λ (l : LogState). l.listing) is.follows.rest ∙ ap (λ (l : LogState). l.listing) is.asks ∙ is.first.listing
+  same_listing = ap (λ (l : LogState). l.listing) is.follows.rest ∙ ap (λ (l : LogState). l.listing) is.asks ∙ ap (λ (l : LogState). l.listing) is.lists ∙ is.first.listing
 
-  pub same_loaded : f.loaded ≡ s.loaded
-  same_loaded = ap (λ (l : LogState). l.loaded) is.follows.rest ∙ ap (λ (l : LogState). l.loaded) is.asks ∙ is.first.loaded
+  pub same_reading : f.reading ≡ s.reading
+  same_reading = ap (λ (l : LogState). l.reading) is.follows.rest ∙ ap (λ (l : LogState). l.reading) is.asks ∙ ap (λ (l : LogState). l.reading) is.lists ∙ is.first.reading
 
   pub same_pages : f.page_size ≡ s.page_size
-  same_pages = ap (λ (l : LogState). l.page_size) is.follows.rest ∙ ap (λ (l : LogState). l.page_size) is.asks ∙ is.first.page_size
+  same_pages = ap (λ (l : LogState). l.page_size) is.follows.rest ∙ ap (λ (l : LogState). l.page_size) is.asks ∙ ap (λ (l : LogState). l.page_size) is.lists ∙ is.first.page_size
 
   pub same_most : f.most ≡ s.most
-  same_most = ap (λ (l : LogState). l.most) is.follows.rest ∙ ap (λ (l : LogState). l.most) is.asks ∙ is.first.most
+  same_most = ap (λ (l : LogState). l.most) is.follows.rest ∙ ap (λ (l : LogState). l.most) is.asks ∙ ap (λ (l : LogState). l.most) is.lists ∙ is.first.most
 
   pub same_known : f.known ≡ s.known
-  same_known = ap (λ (l : LogState). l.known) is.follows.rest ∙ ap (λ (l : LogState). l.known) is.asks ∙ is.first.known
+  same_known = ap (λ (l : LogState). l.known) is.follows.rest ∙ ap (λ (l : LogState). l.known) is.asks ∙ ap (λ (l : LogState). l.known) is.lists ∙ is.first.known
 
   pub current_is : f.current ≡ next
   current_is = ap (λ (l : LogState). l.current) is.follows.rest
 
-  pub asked_is : f.asked ≡ asked_turning s m.current.life
+  -- the list was written of the same open segment
+  pub numbered_as : w.listing ≡ s.listing
+  numbered_as = ap (λ (l : LogState). l.listing) is.lists ∙ is.first.listing
+
+  pub asked_is : f.asked ≡ asked_turning d s m.current.life
   asked_is =
       is.follows.asked
       ∙ ap (λ (l : LogState). l.asked ++ closing_event (open_in l.listing) l.current.life l.manifest.life.present.readable ∷ []) is.asks
-      ∙ ap (λ (events : List FolderEvent). events ++ closing_event (open_in m.listing) m.current.life m.manifest.life.present.readable ∷ []) is.has.asked
-      ∙ ap (λ (events : List FolderEvent). (events ++ events_for (open_in m.listing + 1) []) ++ closing_event (open_in m.listing) m.current.life m.manifest.life.present.readable ∷ []) is.first.asked
-      ∙ ap (λ (l : ListingState). (s.asked ++ events_for (open_in l + 1) []) ++ closing_event (open_in l) m.current.life m.manifest.life.present.readable ∷ []) is.first.listing
-      ∙ ap (λ (o : OwnedState). (s.asked ++ events_for (open_in s.listing + 1) []) ++ closing_event (open_in s.listing) m.current.life o.life.present.readable ∷ []) is.first.manifest
+      ∙ ap (λ (events : List FolderEvent). events ++ closing_event (open_in w.listing) w.current.life w.manifest.life.present.readable ∷ []) is.has.asked
+      ∙ ap (λ (events : List FolderEvent). (events ++ events_for (open_in w.listing + 1) []) ++ closing_event (open_in w.listing) w.current.life w.manifest.life.present.readable ∷ []) is.listed
+      ∙ ap (λ (l : LogState). (asked_listing d s ++ events_for (open_in l.listing + 1) []) ++ closing_event (open_in l.listing) l.current.life l.manifest.life.present.readable ∷ []) is.lists
+      ∙ ap (λ (l : ListingState). (asked_listing d s ++ events_for (open_in l + 1) []) ++ closing_event (open_in l) m.current.life m.manifest.life.present.readable ∷ []) is.first.listing
+      ∙ ap (λ (o : OwnedState). (asked_listing d s ++ events_for (open_in s.listing + 1) []) ++ closing_event (open_in s.listing) m.current.life o.life.present.readable ∷ []) is.first.manifest
 
   pub same_bytes : entered_bytes (Closes kept) f ≡ entered_bytes (Closes kept) s
   same_bytes =
       ap (λ P. padded P (owned_size f.manifest.journal) (Closes kept)) same_pages
       ∙ ap (λ (o : OwnedState). padded s.page_size (owned_size o.journal) (Closes kept)) same_manifest
 
-  pub rotate_goes : (e : LogState) → IsEntered own (Closes kept) f e → IsSameButManifest f e → IsRotated sum own s e
-  rotate_goes e entered last = record {
+  -- what the manifest lists then
+  pub listing_is : (e : LogState) → IsEntered own (Closes kept) f e → e.listing ≡ record { first = s.listing.first; closed = s.listing.closed ++ kept ∷ [] }
+  listing_is e entered =
+      listed f.page_size kept f.listing e.listing entered.listing
+      ∙ ap (λ (l : ListingState). record { first = l.first; closed = l.closed ++ kept ∷ [] }) same_listing
+
+  pub rotate_goes : (e : LogState) → ((bytes : List ℕ) → length (d bytes) ≡ 32) → IsEntered own (Closes kept) f e → IsSameButManifest f e → IsRotated sum own d s e
+  rotate_goes e sized entered last = record {
     last = m.current.life;
     kept = kept;
     closed = is.closed;
-    listing = listed f.page_size kept f.listing e.listing entered.listing
-        ∙ ap (λ (l : ListingState). record { first = l.first; closed = l.closed ++ kept ∷ [] }) same_listing;
+    listing = listing_is e entered;
     entries = entered.records ∙ ap (λ (o : OwnedState). records_now own o ++ entered_bytes (Closes kept) f ∷ []) same_manifest
         ∙ ap (λ (bytes : List ℕ). records_now own s.manifest ++ bytes ∷ []) same_bytes;
     room = room_after s.page_size (owned_size s.manifest.journal) (owned_size e.manifest.journal) kept
-        (ap length is.closed.of.digest ∙ length-sha256 m.current.life.present.readable)
+        (paged_len kept is.closed.of.seal is.closed.of.is (ap length is.closed.of.of.root ∙ sized (top_of d s.page_size (content_now s.current))))
         (entered.size ∙ ap (λ (o : OwnedState). owned_size o.journal + (length (entered_bytes (Closes kept) f) + 7)) same_manifest
         ∙ ap (λ (bytes : List ℕ). owned_size s.manifest.journal + (length bytes + 7)) same_bytes);
     listed = entered.there;
@@ -143,7 +170,7 @@ module _ (sum own : List ℕ → ℕ) (s m n f : LogState) (next : OwnedState) (
           ∙ ap (λ (events : List FolderEvent). events ++ keeping_event (open_in e.listing) e.known e.manifest.life.present.readable entered.kept.failed ∷ []) asked_is;
     };
     known = entered.known;
-    loaded = last.loaded ∙ same_loaded;
+    reading = last.reading ∙ same_reading;
     page_size = last.page_size ∙ same_pages;
     most = last.most ∙ same_most;
   }
@@ -157,5 +184,33 @@ follow_ready sum own s next asked owned pages log = record {
   manifest_pages = log.manifest_pages;
   current_pages = pages;
   lists = log.lists;
-  loaded = log.loaded;
+  reading = log.reading;
 }
+
+-- the log stands without a journal of the open segment
+pub forget_ready : (sum own : List ℕ → ℕ) (s : LogState) (o : OwnedState) → IsLog sum own s → o ≡ without_journal s.current → IsLog sum own (record s { current = o })
+forget_ready sum own s o log is = subst (λ (o : OwnedState). IsLog sum own (record s { current = o })) (sym is) (record {
+  manifest = log.manifest;
+  current = (log.current.0, tt);
+  manifest_pages = log.manifest_pages;
+  current_pages = log.current_pages;
+  lists = log.lists;
+  reading = log.reading;
+})
+
+-- ---- the digest
+
+-- one more closed segment of this digest
+pub digest_more : (number : ℕ) (cs : List Closed) (c : Closed) → IsOfDigest number c.fingerprint → AreOfDigest number cs → AreOfDigest number (cs ++ c ∷ [])
+digest_more number [] c is are = (is, tt)
+digest_more number (k ∷ ks) c is are = (are.0, digest_more number ks c is are.1)
+
+-- where the manifest lists what it listed, and one more
+pub digest_after : (number : ℕ) (l m : ListingState) (kept : Closed) → m ≡ record { first = l.first; closed = l.closed ++ kept ∷ [] } → IsOfDigest number kept.fingerprint
+    → AreOfDigest number l.closed → AreOfDigest number m.closed
+digest_after number l m kept is of are =
+    subst (λ (m : ListingState). AreOfDigest number m.closed) (sym is) (digest_more number l.closed kept of are)
+
+-- where it lists the same
+pub digest_same : (number : ℕ) (l m : ListingState) → m ≡ l → AreOfDigest number l.closed → AreOfDigest number m.closed
+digest_same number l m is are = subst (λ (m : ListingState). AreOfDigest number m.closed) (sym is) are

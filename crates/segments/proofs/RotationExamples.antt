@@ -1,8 +1,7 @@
 -- What a rotation and an append leave, shown of small logs, and refuted of something nearly right. Segment 3 is open, no
 -- segment is closed, and a page has 40 bytes. The journals and the life of the blobs are any.
-use Rattle.std.specs.Prelude.{◌≡◌, ◌≢◌, ◌-◌, ◌++◌, ℕ, zero, suc, List, [], ◌∷◌, length, nat_lt, replicate, slice_get, Option, Some, None, Err, Bool, true, false, if◌then◌else◌}
-use Rattle.std.proofs.Common.{refl, sym, ap, subst, inl, inr, arith, ◌∙◌}
-use Rattle.sha2.specs.Sha256.{sha256}
+use Rattle.std.specs.Prelude.{◌≡◌, ◌-◌, ◌++◌, ℕ, zero, suc, List, [], ◌∷◌, length, nat_lt, replicate, slice_get, Option, Some, None, Err, Bool, true, false, if◌then◌else◌}
+use Rattle.std.proofs.Common.{refl, ap, subst, inl, inr, arith, sym, ◌∙◌}
 use Rattle.disk.specs.Disk.{IsImage, Life}
 use Rattle.disk.specs.declared.error.Error.TheVariants.{WriteFailed}
 use Rattle.cache.specs.CacheState.{CacheState}
@@ -10,66 +9,23 @@ use Rattle.page.specs.Page.{text}
 use Rattle.page.specs.Sums.{add_sum}
 use Rattle.paged.specs.Reads.{size_of}
 use Rattle.journal.specs.declared.frame.Found.{Found}
-use Rattle.journal.specs.Frame.{frames, record_len, records, whole_frames}
+use Rattle.journal.specs.Frame.{records}
 use Rattle.writer_state.specs.WriterState.{WriterState}
 use Rattle.segments.specs.declared.call.FolderCall.{FolderCall}
 use Rattle.segments.specs.declared.call.FolderCall.TheVariants as calls
 use Rattle.segments.specs.declared.closed.Closed.{Closed}
+use Rattle.segments.specs.declared.closed.Fingerprint.TheVariants.{Whole}
 use Rattle.segments.specs.declared.entry.Entry.TheVariants.{Closes}
 use Rattle.segments.specs.declared.error.Error.TheVariants as errors
-use Rattle.segments.specs.Digests.{EachIsByte, HasTwin, IsOf, IsTwin}
 use Rattle.segments.specs.FolderEvents.{FolderEvent, closing_event, keeping_event, opening_with, plain_event}
-use Rattle.segments.specs.Manifest.{ListingState, closing_in, entry_bytes, free_after, listed_in, padded, padding}
+use Rattle.segments.specs.Manifest.{ListingState, closed_by, entry_bytes, free_after, listed_in, padded, padding, whole_in}
 use Rattle.segments.specs.Owned.{OwnedState, without_journal}
-use Rattle.segments.specs.Log.{AppendRefused, HasFollowed, HasTwinAt, HasTwinIn, HasTwinOf, HoldsClosed, IsClosedIn, IsNotClosed, IsReadOfClosed, IsRotated, IsSameButCurrent, ListsTheSame, LogAppendGoes, LogState, ReadFails, RotateGoes, TellHeld, asked_turning, entered_bytes}
+use Rattle.segments.specs.Log.{AppendRefused, HasFollowed, HasTwinAt, HasTwinIn, IsClosedIn, IsNotClosed, IsReadOfClosed, IsRotated, IsSameButCurrent, ListsTheSame, LogAppendGoes, LogState, ReadFails, RotateGoes, TellHeld, asked_turning, entered_bytes, listing_event}
+use Rattle.segments.specs.Kept.{HasTwinOf}
 use Rattle.segments.specs.Crash.{AppendSurvives, HasLetGo, ListsFrom, RemovesUnlisted, RotationSurvives, WasRemoved}
+use Rattle.segments.proofs.KeptExamples.{empty, it_holds_no_byte, it_holds_nothing, none_of_an_empty_file}
 
--- ---- bytes and twins
-
-pub two_bytes : EachIsByte (7 ∷ 255 ∷ [])
-two_bytes zero = omega arith
-two_bytes (suc zero) = omega arith
-two_bytes (suc (suc i)) = omega arith
-
--- a greater number is no byte
-pub no_byte : EachIsByte (256 ∷ []) → ⊥
-no_byte are = absurd (omega (arith, are 0))
-
-none_are_bytes : EachIsByte []
-none_are_bytes i = omega arith
-
--- what is kept of a file of no bytes
-abbrev pub empty : Closed
-empty = record { records = 0; len = 0; digest = sha256 [] }
-
-pub of_no_bytes : IsOf [] empty
-of_no_bytes = record { small = none_are_bytes; len = refl; digest = refl }
-
--- another length was kept
-pub not_of_one_byte : IsOf (7 ∷ []) empty → ⊥
-not_of_one_byte is = absurd (omega (arith, is.len))
-
--- other bytes with the digest are a twin
-pub a_twin : (content other : List ℕ) → EachIsByte other → length other ≡ length content → other ≢ content → sha256 other ≡ sha256 content → IsTwin content other
-a_twin content other small long differs same = record { small = small; len = long; differs = differs; same = same }
-
--- a content is no twin of itself
-pub no_twin_of_itself : (content : List ℕ) → IsTwin content content → ⊥
-no_twin_of_itself content is = is.differs refl
-
--- numbers that aren't bytes, though they have the digest, are none either
-pub no_twin_of_numbers : IsTwin (1 ∷ 0 ∷ 0 ∷ 0 ∷ []) (0 ∷ 256 ∷ 0 ∷ 0 ∷ []) → ⊥
-no_twin_of_numbers is = absurd (omega (arith, is.small 1))
-
-pub has_a_twin : (content other : List ℕ) → IsTwin content other → HasTwin content
-has_a_twin content other is = (other, is)
-
--- no bytes have a twin: it would have as many
-pub none_has_no_twin : HasTwin [] → ⊥
-none_has_no_twin has = none_other has.0 has.1.differs has.1.len where
-  none_other : (other : List ℕ) → other ≢ [] → length other ≡ 0 → ⊥
-  none_other [] differs few = differs refl
-  none_other (b ∷ other) differs few = absurd (omega (arith, few))
+-- ---- closed segments
 
 abbrev pub one_closed : ListingState
 one_closed = record { first = 0; closed = empty ∷ [] }
@@ -81,23 +37,15 @@ is_closed = (empty, refl)
 pub the_open_is_not : IsClosedIn one_closed 1 → ⊥
 the_open_is_not is = absurd (cc is.1)
 
--- of an empty file there is no twin
-few_have_no_twin : (bytes : List ℕ) → length bytes ≡ 0 → HasTwin bytes → ⊥
-few_have_no_twin [] few has = none_has_no_twin has
-few_have_no_twin (b ∷ bytes) few has = absurd (omega (arith, few))
-
-pub none_of_an_empty_file : (sum : List ℕ → ℕ) (P : ℕ) (content : List ℕ) → HasTwinOf sum P empty content → ⊥
-none_of_an_empty_file sum P content has = few_have_no_twin has.holds.bytes (sym has.holds.of.len) has.twin
-
-pub a_twin_at_segment_0 : (sum : List ℕ → ℕ) (P : ℕ) (held : ℕ → List ℕ) (kept : Closed) → HasTwinOf sum P kept (held 0) → HasTwinAt sum P held (record { first = 0; closed = kept ∷ [] }) 0
-a_twin_at_segment_0 sum P held kept has = (kept, refl, has)
+pub a_twin_at_segment_0 : (sum : List ℕ → ℕ) (d : List ℕ → List ℕ) (P : ℕ) (held : ℕ → List ℕ) (kept : Closed) → HasTwinOf sum d P kept (held 0) → HasTwinAt sum d P held (record { first = 0; closed = kept ∷ [] }) 0
+a_twin_at_segment_0 sum d P held kept has = (kept, refl, has)
 
 -- of the open segment nothing was kept
-pub no_twin_at_the_open_one : (sum : List ℕ → ℕ) (P : ℕ) (held : ℕ → List ℕ) → HasTwinAt sum P held one_closed 1 → ⊥
-no_twin_at_the_open_one sum P held has = absurd (cc has.1)
+pub no_twin_at_the_open_one : (sum : List ℕ → ℕ) (d : List ℕ → List ℕ) (P : ℕ) (held : ℕ → List ℕ) → HasTwinAt sum d P held one_closed 1 → ⊥
+no_twin_at_the_open_one sum d P held has = absurd (cc has.1)
 
-pub a_twin_of_segment_0 : (sum : List ℕ → ℕ) (P : ℕ) (held : ℕ → List ℕ) (kept : Closed) → HasTwinOf sum P kept (held 0) → HasTwinIn sum P held (record { first = 0; closed = kept ∷ [] })
-a_twin_of_segment_0 sum P held kept has = (0, a_twin_at_segment_0 sum P held kept has)
+pub a_twin_of_segment_0 : (sum : List ℕ → ℕ) (d : List ℕ → List ℕ) (P : ℕ) (held : ℕ → List ℕ) (kept : Closed) → HasTwinOf sum d P kept (held 0) → HasTwinIn sum d P held (record { first = 0; closed = kept ∷ [] })
+a_twin_of_segment_0 sum d P held kept has = (0, a_twin_at_segment_0 sum d P held kept has)
 
 no_other : (b : Bool) (k : ℕ) (kept : Closed) → (if b then None else slice_get (empty ∷ []) k) ≡ Some kept → empty ≡ kept
 no_other true k kept is = absurd (cc is)
@@ -108,41 +56,30 @@ no_other false zero kept is = ap (λ o. or_empty o) is where
 no_other false (suc k) kept is = absurd (cc is)
 
 -- the only closed segment was empty
-pub no_twin_of_nothing : (sum : List ℕ → ℕ) (P : ℕ) (held : ℕ → List ℕ) → HasTwinIn sum P held one_closed → ⊥
-no_twin_of_nothing sum P held has =
+pub no_twin_of_nothing : (sum : List ℕ → ℕ) (d : List ℕ → List ℕ) (P : ℕ) (held : ℕ → List ℕ) → HasTwinIn sum d P held one_closed → ⊥
+no_twin_of_nothing sum d P held has =
     let same = no_other (nat_lt has.0 0) (has.0 - 0) has.1.0 has.1.1 in
-    none_of_an_empty_file sum P (held has.0) (subst (λ kept. HasTwinOf sum P kept (held has.0)) (sym same) has.1.2)
+    none_of_an_empty_file sum d P (held has.0) (subst (λ kept. HasTwinOf sum d P kept (held has.0)) (sym same) has.1.2)
 
 not_listed : (b : Bool) (k : ℕ) (kept : Closed) → (if b then None else slice_get [] k) ≡ Some kept → ⊥
 not_listed true k kept is = absurd (cc is)
 not_listed false k kept is = absurd (cc is)
 
 -- no segment is closed
-pub no_twin_where_none_is_closed : (sum : List ℕ → ℕ) (P : ℕ) (held : ℕ → List ℕ) → HasTwinIn sum P held (record { first = 3; closed = [] }) → ⊥
-no_twin_where_none_is_closed sum P held has = not_listed (nat_lt has.0 3) (has.0 - 3) has.1.0 has.1.1
+pub no_twin_where_none_is_closed : (sum : List ℕ → ℕ) (d : List ℕ → List ℕ) (P : ℕ) (held : ℕ → List ℕ) → HasTwinIn sum d P held (record { first = 3; closed = [] }) → ⊥
+no_twin_where_none_is_closed sum d P held has = not_listed (nat_lt has.0 3) (has.0 - 3) has.1.0 has.1.1
 
 -- ---- an empty file
 
-it_holds_nothing : HoldsClosed add_sum 18 empty []
-unfolding record_len frames whole_frames
-it_holds_nothing = record { bytes = []; of = of_no_bytes; holds = refl }
-
-none_are_held : (bytes content : List ℕ) → length bytes ≡ 0 → content ≡ whole_frames (text add_sum 18 bytes) → content ≡ []
-unfolding record_len frames whole_frames
-none_are_held [] content few holds = holds
-none_are_held (b ∷ bytes) content few holds = absurd (omega (arith, few))
-
 -- so the segment held no byte
-pub it_holds_one_byte : (b : ℕ) → TellHeld add_sum 18 (λ n. b ∷ []) 0 (empty ∷ []) → ⊥
-it_holds_one_byte b is =
-    let none = none_are_held is.0.bytes (b ∷ []) (sym is.0.of.len) is.0.holds in
-    absurd (omega (arith, ap length none))
+pub it_holds_one_byte : (d : List ℕ → List ℕ) (b : ℕ) → TellHeld add_sum d 18 (λ n. b ∷ []) 0 (empty ∷ []) → ⊥
+it_holds_one_byte d b is = it_holds_no_byte d b is.0
 
 -- no frame is found in it
-pub nothing_is_found : (own : List ℕ → ℕ) (f : Found) → IsReadOfClosed add_sum own 18 empty 0 (Some f) → ⊥
-nothing_is_found own f is = elim (is.reads [] it_holds_nothing) [
+pub nothing_is_found : (own : List ℕ → ℕ) (d : List ℕ → List ℕ) (f : Found) → IsReadOfClosed add_sum own d 18 empty 0 (Some f) → ⊥
+nothing_is_found own d f is = elim (is.reads [] (it_holds_nothing d)) [
   | inl found ↦ absurd (omega (arith, found.within))
-  | inr twin ↦ none_of_an_empty_file add_sum 18 [] twin
+  | inr twin ↦ none_of_an_empty_file add_sum d 18 [] twin
 ]
 
 -- ---- room behind an entry
@@ -154,18 +91,22 @@ pub no_page_is_begun : free_after 40 80 ≡ 0
 no_page_is_begun = refl
 
 -- 18 and 56 bytes leave 6 of the second page
-pub seven_zeros : padding 40 18 ≡ 7
+pub seven_zeros : padding 40 18 56 ≡ 7
 seven_zeros = refl
 
-pub room_without_zeros : padding 4084 18 ≡ 0
+-- the frame of a segment that is known by its pages has one more
+pub six_zeros : padding 40 18 57 ≡ 6
+six_zeros = refl
+
+pub room_without_zeros : padding 4084 18 56 ≡ 0
 room_without_zeros = refl
 
 -- 16 would be free
-pub seventeen_zeros : padding 4084 4012 ≡ 17
+pub seventeen_zeros : padding 4084 4012 56 ≡ 17
 seventeen_zeros = refl
 
 -- a page of 18 bytes has no such room
-pub small_page : padding 18 18 ≡ 0
+pub small_page : padding 18 18 56 ≡ 0
 small_page = refl
 
 pub with_zeros : padded 40 18 (Closes empty) ≡ entry_bytes (Closes empty) ++ 0 ∷ 0 ∷ 0 ∷ 0 ∷ 0 ∷ 0 ∷ 0 ∷ []
@@ -173,12 +114,12 @@ with_zeros = refl
 
 -- an entry with a digest of nines
 abbrev pub nines : Closed
-nines = record { records = 0; len = 0; digest = replicate 32 9 }
+nines = closed_by 0 (Whole (record { len = 0; digest = replicate 32 9 }))
 
-pub zeros_behind : closing_in (entry_bytes (Closes nines) ++ 0 ∷ 0 ∷ []) ≡ Some (Closes nines)
+pub zeros_behind : whole_in (entry_bytes (Closes nines) ++ 0 ∷ 0 ∷ []) ≡ Some (Closes nines)
 zeros_behind = refl
 
-pub not_zeros_behind : closing_in (entry_bytes (Closes nines) ++ 0 ∷ 1 ∷ []) ≡ None
+pub not_zeros_behind : whole_in (entry_bytes (Closes nines) ++ 0 ∷ 1 ∷ []) ≡ None
 not_zeros_behind = refl
 
 -- ---- a log
@@ -188,7 +129,7 @@ owned cache life w = record { cache = cache; life = life; journal = Some w; page
 
 abbrev pub log : CacheState → Life → WriterState → LogState
 log cache life w =
-    record { manifest = owned cache life w; current = owned cache life w; listing = record { first = 3; closed = [] }; asked = []; loaded = None; page_size = 40; most = 20; known = 0 }
+    record { manifest = owned cache life w; current = owned cache life w; listing = record { first = 3; closed = [] }; asked = []; reading = record { whole = None; paged = None }; page_size = 40; most = 20; known = 0 }
 
 -- the same, closed since a call before failed
 abbrev pub shut : CacheState → Life → WriterState → LogState
@@ -208,6 +149,7 @@ kind calls.Syncs = 2
 kind calls.OpensManifest = 3
 kind (calls.Opens segment) = 4
 kind (calls.Closes segment) = 5
+kind (calls.WritesList segment) = 6
 
 abbrev pub number : FolderCall → ℕ
 number (calls.Keeps segment len) = segment
@@ -216,6 +158,7 @@ number calls.Syncs = 0
 number calls.OpensManifest = 0
 number (calls.Opens segment) = segment
 number (calls.Closes segment) = segment
+number (calls.WritesList segment) = segment
 
 abbrev pub first_kind : List FolderEvent → ℕ
 first_kind [] = 9
@@ -228,9 +171,10 @@ bytes_given (e ∷ es) = length e.given
 pub what_closing_notes : (life : Life) → closing_event 3 life (7 ∷ []) ≡ record { call = calls.Closes 3; failed = false; given = 7 ∷ []; closed = Some life }
 what_closing_notes life = refl
 
-pub asked_in_order : (cache : CacheState) (life last : Life) (w : WriterState)
-    → asked_turning (log cache life w) last ≡ opening_with (calls.Opens 4) [] ∷ plain_event calls.Syncs false ∷ closing_event 3 last life.present.readable ∷ []
-asked_in_order cache life last w = refl
+pub asked_in_order : (d : List ℕ → List ℕ) (cache : CacheState) (life last : Life) (w : WriterState)
+    → asked_turning d (log cache life w) last
+    ≡ listing_event d (log cache life w) false ∷ opening_with (calls.Opens 4) [] ∷ plain_event calls.Syncs false ∷ closing_event 3 last life.present.readable ∷ []
+asked_in_order d cache life last w = refl
 
 pub followed : (cache : CacheState) (life : Life) (w : WriterState) (next : OwnedState)
     → HasFollowed next (log cache life w) (record (log cache life w) { current = next; asked = closing_event 3 life life.present.readable ∷ [] })
@@ -241,16 +185,16 @@ pub not_listed_before : (cache : CacheState) (life : Life) (w : WriterState) (ne
     → HasFollowed next (log cache life w) (record (log cache life w) { current = next; asked = closing_event 3 life (7 ∷ life.present.readable) ∷ [] }) → ⊥
 not_listed_before cache life w next is = absurd (omega (arith, ap bytes_given is.asked))
 
-pub nothing_after_it : (cache : CacheState) (life last : Life) (w : WriterState)
-    → HasLetGo (log cache life w) last (record (log cache life w) { asked = asked_turning (log cache life w) last })
-nothing_after_it cache life last w = record { after = []; asked = refl }
+pub nothing_after_it : (d : List ℕ → List ℕ) (cache : CacheState) (life last : Life) (w : WriterState)
+    → HasLetGo d (log cache life w) last (record (log cache life w) { asked = asked_turning d (log cache life w) last })
+nothing_after_it d cache life last w = record { after = []; asked = refl }
 
 -- a blob that didn't go back
-pub not_let_go : (cache : CacheState) (life last : Life) (w : WriterState) → HasLetGo (log cache life w) last (log cache life w) → ⊥
-not_let_go cache life last w is = absurd (omega (arith, ap first_kind is.asked))
+pub not_let_go : (d : List ℕ → List ℕ) (cache : CacheState) (life last : Life) (w : WriterState) → HasLetGo d (log cache life w) last (log cache life w) → ⊥
+not_let_go d cache life last w is = absurd (omega (arith, ap first_kind is.asked))
 
 pub lists_the_same : (cache : CacheState) (life : Life) (w : WriterState) → ListsTheSame (log cache life w) (shut cache life w)
-lists_the_same cache life w = record { listing = refl; loaded = refl; page_size = refl; most = refl; known = refl }
+lists_the_same cache life w = record { listing = refl; reading = refl; page_size = refl; most = refl; known = refl }
 
 -- a log that counts segment 3 as gone
 abbrev pub lost : CacheState → Life → WriterState → LogState
@@ -262,65 +206,68 @@ not_one_less cache life w is = absurd (omega (arith, ap (λ (l : ListingState). 
 -- ---- a rotation
 
 same_but_current : (cache : CacheState) (life : Life) (w : WriterState) → IsSameButCurrent (shut cache life w) (shut cache life w)
-same_but_current cache life w = record { manifest = refl; listing = refl; asked = refl; loaded = refl; page_size = refl; most = refl; known = refl }
+same_but_current cache life w = record { manifest = refl; listing = refl; asked = refl; reading = refl; page_size = refl; most = refl; known = refl }
 
 module _ (sum own : List ℕ → ℕ) (cache : CacheState) (life : Life) (w : WriterState) where
   nothing_kept : (kept : Closed) → ◌≡◌ {A = ListingState} (record { first = 4; closed = [] }) (record { first = 3; closed = [] ++ kept ∷ [] }) → ⊥
   nothing_kept kept is = absurd (omega (arith, ap (λ (l : ListingState). l.first) is))
 
-pub closed_before : (sum own : List ℕ → ℕ) (cache : CacheState) (life : Life) (w : WriterState) → IsNotClosed sum own (shut cache life w) (shut cache life w) errors.Closed
-closed_before sum own cache life w = record { rest = same_but_current cache life w; refused = (refl, refl) }
+pub closed_before : (sum own : List ℕ → ℕ) (d : List ℕ → List ℕ) (cache : CacheState) (life : Life) (w : WriterState) → IsNotClosed sum own d (shut cache life w) (shut cache life w) errors.Closed
+closed_before sum own d cache life w = record { rest = same_but_current cache life w; refused = (refl, refl) }
 
 -- an open log doesn't refuse as closed
-pub not_closed_before : (sum own : List ℕ → ℕ) (cache : CacheState) (life : Life) (w : WriterState) → IsNotClosed sum own (log cache life w) (log cache life w) errors.Closed → ⊥
-not_closed_before sum own cache life w is = absurd (cc is.refused.0)
+pub not_closed_before : (sum own : List ℕ → ℕ) (d : List ℕ → List ℕ) (cache : CacheState) (life : Life) (w : WriterState) → IsNotClosed sum own d (log cache life w) (log cache life w) errors.Closed → ⊥
+not_closed_before sum own d cache life w is = absurd (cc is.refused.0)
 
-pub a_refused_rotation : (sum own : List ℕ → ℕ) (cache : CacheState) (life : Life) (w : WriterState) → RotateGoes sum own (shut cache life w) (shut cache life w) (Err errors.Closed)
-a_refused_rotation sum own cache life w = (refl, inl (closed_before sum own cache life w))
+pub a_refused_rotation : (sum own : List ℕ → ℕ) (d : List ℕ → List ℕ) (cache : CacheState) (life : Life) (w : WriterState) → RotateGoes sum own d (shut cache life w) (shut cache life w) (Err errors.Closed)
+a_refused_rotation sum own d cache life w = (refl, inl (closed_before sum own d cache life w))
 
 -- after an error no segment may be left out, whatever the error is
-pub no_segment_is_lost : (sum own : List ℕ → ℕ) (cache : CacheState) (life : Life) (w : WriterState)
-    → RotateGoes sum own (log cache life w) (lost cache life w) (Err (errors.Layer WriteFailed)) → ⊥
-no_segment_is_lost sum own cache life w is = elim (is.1) [
+pub no_segment_is_lost : (sum own : List ℕ → ℕ) (d : List ℕ → List ℕ) (cache : CacheState) (life : Life) (w : WriterState)
+    → RotateGoes sum own d (log cache life w) (lost cache life w) (Err (errors.Layer WriteFailed)) → ⊥
+no_segment_is_lost sum own d cache life w is = elim (is.1) [
   | inl none ↦ absurd (omega (arith, ap (λ (l : ListingState). l.first) none.rest.listing))
   | inr later ↦ elim later [
     | inl closed ↦ not_one_less cache life w closed.rest
-    | inr turned ↦ not_one_less cache life w turned.rest
+    | inr written ↦ elim written [
+      | inl closed ↦ not_one_less cache life w closed.rest
+      | inr turned ↦ not_one_less cache life w turned.rest
+    ]
   ]
 ]
 
 -- a rotation that lists the segment, and never let its blob go
-pub not_rotated : (sum own : List ℕ → ℕ) (cache : CacheState) (life : Life) (w : WriterState)
-    → IsRotated sum own (log cache life w) (record (log cache life w) { listing = one_closed; asked = keeping_event 4 0 life.present.readable false ∷ [] }) → ⊥
-not_rotated sum own cache life w is = absurd (omega (arith, ap first_kind is.copied.asked))
+pub not_rotated : (sum own : List ℕ → ℕ) (d : List ℕ → List ℕ) (cache : CacheState) (life : Life) (w : WriterState)
+    → IsRotated sum own d (log cache life w) (record (log cache life w) { listing = one_closed; asked = keeping_event 4 0 life.present.readable false ∷ [] }) → ⊥
+not_rotated sum own d cache life w is = absurd (omega (arith, ap first_kind is.copied.asked))
 
 -- ---- an append
 
-pub a_refused_append : (sum own : List ℕ → ℕ) (cache : CacheState) (life : Life) (w : WriterState) → AppendRefused sum own (7 ∷ []) (shut cache life w) (shut cache life w) errors.Closed
-a_refused_append sum own cache life w = inl (omega arith, same_but_current cache life w, (refl, refl))
+pub a_refused_append : (sum own : List ℕ → ℕ) (d : List ℕ → List ℕ) (cache : CacheState) (life : Life) (w : WriterState) → AppendRefused sum own d (7 ∷ []) (shut cache life w) (shut cache life w) errors.Closed
+a_refused_append sum own d cache life w = inl (omega arith, same_but_current cache life w, (refl, refl))
 
-pub an_append_to_a_closed_log : (sum own : List ℕ → ℕ) (cache : CacheState) (life : Life) (w : WriterState)
-    → LogAppendGoes sum own (7 ∷ []) (shut cache life w) (shut cache life w) (Err errors.Closed)
-an_append_to_a_closed_log sum own cache life w = (refl, a_refused_append sum own cache life w)
+pub an_append_to_a_closed_log : (sum own : List ℕ → ℕ) (d : List ℕ → List ℕ) (cache : CacheState) (life : Life) (w : WriterState)
+    → LogAppendGoes sum own d (7 ∷ []) (shut cache life w) (shut cache life w) (Err errors.Closed)
+an_append_to_a_closed_log sum own d cache life w = (refl, a_refused_append sum own d cache life w)
 
 -- an append that fails may erase no closed segment
-pub no_append_erases : (sum own : List ℕ → ℕ) (cache : CacheState) (life : Life) (w : WriterState)
-    → AppendRefused sum own (7 ∷ []) (log cache life w) (lost cache life w) (errors.Layer WriteFailed) → ⊥
-no_append_erases sum own cache life w is = elim is [
+pub no_append_erases : (sum own : List ℕ → ℕ) (d : List ℕ → List ℕ) (cache : CacheState) (life : Life) (w : WriterState)
+    → AppendRefused sum own d (7 ∷ []) (log cache life w) (lost cache life w) (errors.Layer WriteFailed) → ⊥
+no_append_erases sum own d cache life w is = elim is [
   | inl here ↦ absurd (omega (arith, ap (λ (l : ListingState). l.first) here.1.listing))
   | inr turned ↦ elim (turned.1) [
-    | inl failed ↦ no_segment_is_lost sum own cache life w failed
+    | inl failed ↦ no_segment_is_lost sum own d cache life w failed
     | inr after ↦ nothing_kept sum own cache life w after.turned.kept (after.rest.listing ∙ after.turned.listing)
   ]
 ]
 
-pub a_closed_log_survives : (sum own : List ℕ → ℕ) (cache : CacheState) (life : Life) (w : WriterState) → AppendSurvives sum own (7 ∷ []) (shut cache life w) (shut cache life w) (Err errors.Closed)
-a_closed_log_survives sum own cache life w = inl (same_but_current cache life w, tt)
+pub a_closed_log_survives : (sum own : List ℕ → ℕ) (d : List ℕ → List ℕ) (cache : CacheState) (life : Life) (w : WriterState) → AppendSurvives sum own d (7 ∷ []) (shut cache life w) (shut cache life w) (Err errors.Closed)
+a_closed_log_survives sum own d cache life w = inl (same_but_current cache life w, tt)
 
 -- a log that lost a segment doesn't survive, if it goes on
-pub a_lost_segment_does_not_survive : (sum own : List ℕ → ℕ) (cache : CacheState) (life : Life) (w : WriterState)
-    → AppendSurvives sum own (7 ∷ []) (log cache life w) (record (log cache life w) { listing = record { first = 4; closed = [] } }) (Err errors.Closed) → ⊥
-a_lost_segment_does_not_survive sum own cache life w is = elim is [
+pub a_lost_segment_does_not_survive : (sum own : List ℕ → ℕ) (d : List ℕ → List ℕ) (cache : CacheState) (life : Life) (w : WriterState)
+    → AppendSurvives sum own d (7 ∷ []) (log cache life w) (record (log cache life w) { listing = record { first = 4; closed = [] } }) (Err errors.Closed) → ⊥
+a_lost_segment_does_not_survive sum own d cache life w is = elim is [
   | inl here ↦ absurd (omega (arith, ap (λ (l : ListingState). l.first) here.0.listing))
   | inr later ↦ elim later [
     | inl failed ↦ absurd (cc failed.0)
@@ -328,13 +275,13 @@ a_lost_segment_does_not_survive sum own cache life w is = elim is [
   ]
 ]
 
-pub a_closed_log_turns : (sum own : List ℕ → ℕ) (cache : CacheState) (life : Life) (w : WriterState) → RotationSurvives sum own (shut cache life w) (shut cache life w)
-a_closed_log_turns sum own cache life w = tt
+pub a_closed_log_turns : (sum own : List ℕ → ℕ) (d : List ℕ → List ℕ) (cache : CacheState) (life : Life) (w : WriterState) → RotationSurvives sum own d (shut cache life w) (shut cache life w)
+a_closed_log_turns sum own d cache life w = tt
 
 -- a manifest that changed though no blob went back
-pub no_entry_without_a_blob : (sum own : List ℕ → ℕ) (cache : CacheState) (life : Life) (w : WriterState)
-    → RotationSurvives sum own (log cache life w) (record (log cache life w) { manifest = without_journal (owned cache life w) }) → ⊥
-no_entry_without_a_blob sum own cache life w is = elim (is (λ n. [])) [
+pub no_entry_without_a_blob : (sum own : List ℕ → ℕ) (d : List ℕ → List ℕ) (cache : CacheState) (life : Life) (w : WriterState)
+    → RotationSurvives sum own d (log cache life w) (record (log cache life w) { manifest = without_journal (owned cache life w) }) → ⊥
+no_entry_without_a_blob sum own d cache life w is = elim (is (λ n. [])) [
   | inl same ↦ absurd (cc (ap (λ (o : OwnedState). o.journal) same.0))
   | inr turned ↦ absurd (omega (arith, ap first_kind turned.gone.asked))
 ]

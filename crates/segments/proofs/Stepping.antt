@@ -15,7 +15,9 @@ use Rattle.segments.specs.declared.error.Error.{Error}
 use Rattle.segments.specs.declared.place.Place.{Place}
 use Rattle.segments.specs.Manifest.{ListingState, closed_at, open_in}
 use Rattle.segments.specs.Owned.{HasJournal, content_now, content_of, records_of}
-use Rattle.segments.specs.Log.{EndsBehind, HasTwinIn, HoldsClosed, IsCurrentContent, IsReadOf, IsReadOfOpen, LeavesReading, LogReadGoes, LogReadRefused, LogState, TellHeld, closed_records}
+use Rattle.segments.specs.Log.{HasTwinIn, IsCurrentContent, IsReadOfOpen, LeavesReading, LogReadGoes, LogReadRefused, LogState, TellHeld, closed_records}
+use Rattle.segments.specs.FrameReads.{EndsBehind, IsReadOf}
+use Rattle.segments.specs.Kept.{HoldsClosed}
 use Rattle.segments.proofs.Readings.{read_forward}
 use Rattle.segments.specs.Scan.{ComesFirst, IsBehind, IsEnd, NextGoes, StandBetween, StandBy, held_content, records_after, records_at}
 
@@ -42,31 +44,31 @@ within l segment kept is =
     let few = get_within l.closed (segment - l.first) kept parts.1 in
     record { after = after; there = parts.1; before = omega (arith, after, few) }
 
-tells_at : (sum : List ℕ → ℕ) (P : ℕ) (held : ℕ → List ℕ) (first : ℕ) (cs : List Closed) (k : ℕ) (kept : Closed) → TellHeld sum P held first cs → slice_get cs k ≡ Some kept
-    → HoldsClosed sum P kept (held (first + k))
-tells_at sum P held first [] k kept tells is = absurd (subst (λ (o : Option Closed). IfSome o (λ c. ⊥)) is tt)
-tells_at sum P held first (c ∷ cs) zero kept tells is =
+tells_at : (sum : List ℕ → ℕ) (d : List ℕ → List ℕ) (P : ℕ) (held : ℕ → List ℕ) (first : ℕ) (cs : List Closed) (k : ℕ) (kept : Closed) → TellHeld sum d P held first cs → slice_get cs k ≡ Some kept
+    → HoldsClosed sum d P kept (held (first + k))
+tells_at sum d P held first [] k kept tells is = absurd (subst (λ (o : Option Closed). IfSome o (λ c. ⊥)) is tt)
+tells_at sum d P held first (c ∷ cs) zero kept tells is =
     let same : c ≡ kept = some_is c kept is in
-    subst (λ n. HoldsClosed sum P kept (held n)) (omega arith) (subst (λ c. HoldsClosed sum P c (held first)) same tells.0) where
+    subst (λ n. HoldsClosed sum d P kept (held n)) (omega arith) (subst (λ c. HoldsClosed sum d P c (held first)) same tells.0) where
       some_or : Option Closed → Closed → Closed
       some_or None d = d
       some_or (Some c) d = c
 
       some_is : (c kept : Closed) → Some c ≡ Some kept → c ≡ kept
       some_is c kept is = ap (λ o. some_or o c) is
-tells_at sum P held first (c ∷ cs) (suc k) kept tells is =
-    subst (λ n. HoldsClosed sum P kept (held n)) (omega arith) (tells_at sum P held (suc first) cs k kept tells.1 is)
+tells_at sum d P held first (c ∷ cs) (suc k) kept tells is =
+    subst (λ n. HoldsClosed sum d P kept (held n)) (omega arith) (tells_at sum d P held (suc first) cs k kept tells.1 is)
 
 -- ---- a read
 
 -- a segment that was read is no later than the open one
-is_inside : (sum own : List ℕ → ℕ) (s t : LogState) (at : Place) (found : Option Found) → LogReadGoes sum own s t at (Ok found) → at.segment ≤ open_in s.listing
-is_inside sum own s t at found (inl is) = omega (arith, is.0)
-is_inside sum own s t at found (inr is) = let here = within s.listing at.segment is.0 is.1 in omega (arith, here.before)
+is_inside : (sum own : List ℕ → ℕ) (d : List ℕ → List ℕ) (s t : LogState) (at : Place) (found : Option Found) → LogReadGoes sum own d s t at (Ok found) → at.segment ≤ open_in s.listing
+is_inside sum own d s t at found (inl is) = omega (arith, is.0)
+is_inside sum own d s t at found (inr is) = let here = within s.listing at.segment is.0 is.1 in omega (arith, here.before)
 
-is_forward : (sum own : List ℕ → ℕ) (s t : LogState) (at : Place) (found : Option Found) → LogReadGoes sum own s t at (Ok found) → EndsBehind at.offset found
-is_forward sum own s t at found (inl is) = read_forward own is.1.0 at.offset found is.1.2
-is_forward sum own s t at found (inr is) = is.2.forward
+is_forward : (sum own : List ℕ → ℕ) (d : List ℕ → List ℕ) (s t : LogState) (at : Place) (found : Option Found) → LogReadGoes sum own d s t at (Ok found) → EndsBehind at.offset found
+is_forward sum own d s t at found (inl is) = read_forward own is.1.0 at.offset found is.1.2
+is_forward sum own d s t at found (inr is) = is.2.forward
 
 current_is : (j : Option WriterState) (life : Life) (C : List ℕ) → HasJournal j (λ w. C ≡ content w life.present.readable) → content_of j life ≡ C
 current_is None life C is = absurd is
@@ -84,16 +86,16 @@ open_content held s segment C last is =
     ∙ current_is s.current.journal s.current.life C is
 
 -- a read is of what the segment has, by what the closed ones held
-read_is : (sum own : List ℕ → ℕ) (held : ℕ → List ℕ) (s t : LogState) (at : Place) (found : Option Found) → TellHeld sum s.page_size held s.listing.first s.listing.closed
-    → LogReadGoes sum own s t at (Ok found)
-    → IsReadOf own (held_content held s.listing (content_now s.current) at.segment) at.offset found ⊎ HasTwinIn sum s.page_size held s.listing
-read_is sum own held s t at found tells (inl is) =
+read_is : (sum own : List ℕ → ℕ) (d : List ℕ → List ℕ) (held : ℕ → List ℕ) (s t : LogState) (at : Place) (found : Option Found) → TellHeld sum d s.page_size held s.listing.first s.listing.closed
+    → LogReadGoes sum own d s t at (Ok found)
+    → IsReadOf own (held_content held s.listing (content_now s.current) at.segment) at.offset found ⊎ HasTwinIn sum d s.page_size held s.listing
+read_is sum own d held s t at found tells (inl is) =
     inl (subst (λ content. IsReadOf own content at.offset found) (sym (open_content held s at.segment is.1.0 is.0 is.1.1)) is.1.2)
-read_is sum own held s t at found tells (inr is) =
+read_is sum own d held s t at found tells (inr is) =
     let l = s.listing in
     let here = within l at.segment is.0 is.1 in
-    let told : HoldsClosed sum s.page_size is.0 (held at.segment) =
-    subst (λ n. HoldsClosed sum s.page_size is.0 (held n)) (omega (arith, here.after)) (tells_at sum s.page_size held l.first l.closed (at.segment - l.first) is.0 tells here.there) in
+    let told : HoldsClosed sum d s.page_size is.0 (held at.segment) =
+    subst (λ n. HoldsClosed sum d s.page_size is.0 (held n)) (omega (arith, here.after)) (tells_at sum d s.page_size held l.first l.closed (at.segment - l.first) is.0 tells here.there) in
     elim (is.2.reads (held at.segment) told) [
       | inl read ↦ inl (subst (λ content. IsReadOf own content at.offset found)
           (sym (pick_true (nat_lt at.segment (open_in l)) (held at.segment) (content_now s.current) (lt-ltb at.segment (open_in l) here.before))) read)
@@ -103,12 +105,12 @@ read_is sum own held s t at found tells (inr is) =
 -- ---- one frame further
 
 -- a frame that was found
-found_between : (sum own : List ℕ → ℕ) (s t : LogState) (at : Place) (f : Found) → LogReadGoes sum own s t at (Ok (Some f))
-    → StandBetween sum own s (listed f.bytes) at (record { segment = at.segment; offset = f.end })
-found_between sum own s t at f is held tells =
+found_between : (sum own : List ℕ → ℕ) (d : List ℕ → List ℕ) (s t : LogState) (at : Place) (f : Found) → LogReadGoes sum own d s t at (Ok (Some f))
+    → StandBetween sum own d s (listed f.bytes) at (record { segment = at.segment; offset = f.end })
+found_between sum own d s t at f is held tells =
     let now = content_now s.current in
     let after = records_after own held s.listing now at.segment in
-    elim (read_is sum own held s t at (Some f) tells is) [
+    elim (read_is sum own d held s t at (Some f) tells is) [
       | inl found ↦ inl (
           ap (λ rs. rs ++ after) found.rest
           ∙ append_assoc (listed f.bytes) (records own (drop f.end (held_content held s.listing now at.segment))) after)
@@ -152,15 +154,15 @@ none_there : (own : List ℕ → ℕ) (content : List ℕ) (offset : ℕ) → le
 none_there own content offset le = ap (λ l. records own l) (drop_all offset content le) ∙ records-none own
 
 -- the next segment follows a closed one
-closed_between : (sum own : List ℕ → ℕ) (s t : LogState) (at : Place) (kept : Closed) → closed_at s.listing at.segment ≡ Some kept → LogReadGoes sum own s t at (Ok None)
-    → StandBetween sum own s [] at (record { segment = at.segment + 1; offset = 0 })
-closed_between sum own s t at kept listed is held tells =
+closed_between : (sum own : List ℕ → ℕ) (d : List ℕ → List ℕ) (s t : LogState) (at : Place) (kept : Closed) → closed_at s.listing at.segment ≡ Some kept → LogReadGoes sum own d s t at (Ok None)
+    → StandBetween sum own d s [] at (record { segment = at.segment + 1; offset = 0 })
+closed_between sum own d s t at kept listed is held tells =
     let l = s.listing in
     let now = content_now s.current in
     let here = within l at.segment kept listed in
     let n = at.segment + 1 in
     let more : suc at.segment ≡ n = omega arith in
-    elim (read_is sum own held s t at None tells is) [
+    elim (read_is sum own d held s t at None tells is) [
       | inl few ↦ inl (
           ap (λ rs. rs ++ records_after own held l now at.segment) (none_there own (held_content held l now at.segment) at.offset few)
           ∙ pick_true (nat_lt at.segment (open_in l)) (closed_records own held (suc at.segment) (drop (suc at.segment - l.first) l.closed) ++ records own now) [] (lt-ltb at.segment (open_in l) here.before)
@@ -196,13 +198,13 @@ comes_first own s held =
 -- ---- one step
 
 -- a frame was found: its record stands here, and the place behind it
-pub step_found : (sum own : List ℕ → ℕ) (s t : LogState) (at : Place) (f : Found) → at.offset < 18446744073709551616 → LogReadGoes sum own s t at (Ok (Some f))
-    → StandBetween sum own s (listed f.bytes) at (record { segment = at.segment; offset = f.end })
+pub step_found : (sum own : List ℕ → ℕ) (d : List ℕ → List ℕ) (s t : LogState) (at : Place) (f : Found) → at.offset < 18446744073709551616 → LogReadGoes sum own d s t at (Ok (Some f))
+    → StandBetween sum own d s (listed f.bytes) at (record { segment = at.segment; offset = f.end })
     × IsBehind s at (record { segment = at.segment; offset = f.end })
-step_found sum own s t at f fits is =
-    let inside = is_inside sum own s t at (Some f) is in
-    let forward : at.offset < f.end = is_forward sum own s t at (Some f) is in (
-      found_between sum own s t at f is,
+step_found sum own d s t at f fits is =
+    let inside = is_inside sum own d s t at (Some f) is in
+    let forward : at.offset < f.end = is_forward sum own d s t at (Some f) is in (
+      found_between sum own d s t at f is,
       record {
         segment = omega arith;
         nearer = omega (arith, inside, fits, forward);
@@ -210,33 +212,33 @@ step_found sum own s t at f fits is =
     )
 
 -- no frame was found in a closed segment: the next one follows
-passed_by : (sum own : List ℕ → ℕ) (s : LogState) (at : Place) (kept : Closed) → at.offset < 18446744073709551616 → closed_at s.listing at.segment ≡ Some kept → LogReadGoes sum own s s at (Ok None)
-    → StandBetween sum own s [] at (record { segment = at.segment + 1; offset = 0 })
+passed_by : (sum own : List ℕ → ℕ) (d : List ℕ → List ℕ) (s : LogState) (at : Place) (kept : Closed) → at.offset < 18446744073709551616 → closed_at s.listing at.segment ≡ Some kept → LogReadGoes sum own d s s at (Ok None)
+    → StandBetween sum own d s [] at (record { segment = at.segment + 1; offset = 0 })
     × IsBehind s at (record { segment = at.segment + 1; offset = 0 }) × (at.segment < open_in s.listing)
-passed_by sum own s at kept fits listed is =
+passed_by sum own d s at kept fits listed is =
     let here = within s.listing at.segment kept listed in (
-      closed_between sum own s s at kept listed is,
+      closed_between sum own d s s at kept listed is,
       record { segment = omega arith; nearer = omega (arith, fits, here.before) },
       here.before,
     )
 
-pub step_passed : (sum own : List ℕ → ℕ) (s : LogState) (at : Place) → at.offset < 18446744073709551616 → at.segment ≢ open_in s.listing → LogReadGoes sum own s s at (Ok None)
-    → StandBetween sum own s [] at (record { segment = at.segment + 1; offset = 0 })
+pub step_passed : (sum own : List ℕ → ℕ) (d : List ℕ → List ℕ) (s : LogState) (at : Place) → at.offset < 18446744073709551616 → at.segment ≢ open_in s.listing → LogReadGoes sum own d s s at (Ok None)
+    → StandBetween sum own d s [] at (record { segment = at.segment + 1; offset = 0 })
     × IsBehind s at (record { segment = at.segment + 1; offset = 0 }) × (at.segment < open_in s.listing)
-step_passed sum own s at fits other (inl last) = absurd (other last.0)
-step_passed sum own s at fits other (inr closed) = passed_by sum own s at closed.0 fits closed.1 (inr closed)
+step_passed sum own d s at fits other (inl last) = absurd (other last.0)
+step_passed sum own d s at fits other (inr closed) = passed_by sum own d s at closed.0 fits closed.1 (inr closed)
 
 -- no frame was found in the open one: it is the end
-pub step_stops : (sum own : List ℕ → ℕ) (s : LogState) (at : Place) → at.segment ≡ open_in s.listing → LogReadGoes sum own s s at (Ok None) → IsEnd own s at
-step_stops sum own s at last (inl here) = open_end own s at last here.1
-step_stops sum own s at last (inr closed) =
+pub step_stops : (sum own : List ℕ → ℕ) (d : List ℕ → List ℕ) (s : LogState) (at : Place) → at.segment ≡ open_in s.listing → LogReadGoes sum own d s s at (Ok None) → IsEnd own s at
+step_stops sum own d s at last (inl here) = open_end own s at last here.1
+step_stops sum own d s at last (inr closed) =
     let here = within s.listing at.segment closed.0 closed.1 in
     absurd (omega (arith, here.before, last))
 
 -- ---- one step after another
 
-pub between_joins : (sum own : List ℕ → ℕ) (s : LogState) (these : List (List ℕ)) (p q r : Place) → StandBetween sum own s [] p q → StandBetween sum own s these q r → StandBetween sum own s these p r
-between_joins sum own s these p q r first second held tells =
+pub between_joins : (sum own : List ℕ → ℕ) (d : List ℕ → List ℕ) (s : LogState) (these : List (List ℕ)) (p q r : Place) → StandBetween sum own d s [] p q → StandBetween sum own d s these q r → StandBetween sum own d s these p r
+between_joins sum own d s these p q r first second held tells =
     elim (first held tells) [
       | inl same ↦ elim (second held tells) [
         | inl more ↦ inl (same ∙ more)
@@ -246,11 +248,11 @@ between_joins sum own s these p q r first second held tells =
     ]
 
 -- what holds of the log after reads held before them
-pub between_back : (sum own : List ℕ → ℕ) (s m : LogState) (these : List (List ℕ)) (p q : Place) → LeavesReading sum own s m → StandBetween sum own m these p q → StandBetween sum own s these p q
-between_back sum own s m these p q leaves is =
-    subst (λ P. StandBy sum own P s.listing (content_now s.current) these p q) leaves.page_size
-    (subst (λ l. StandBy sum own m.page_size l (content_now s.current) these p q) leaves.listing
-    (subst (λ held. StandBy sum own m.page_size m.listing held these p q) leaves.holds is))
+pub between_back : (sum own : List ℕ → ℕ) (d : List ℕ → List ℕ) (s m : LogState) (these : List (List ℕ)) (p q : Place) → LeavesReading sum own s m → StandBetween sum own d m these p q → StandBetween sum own d s these p q
+between_back sum own d s m these p q leaves is =
+    subst (λ P. StandBy sum own d P s.listing (content_now s.current) these p q) leaves.page_size
+    (subst (λ l. StandBy sum own d m.page_size l (content_now s.current) these p q) leaves.listing
+    (subst (λ held. StandBy sum own d m.page_size m.listing held these p q) leaves.holds is))
 
 pub end_back : (sum own : List ℕ → ℕ) (s m : LogState) (p : Place) → LeavesReading sum own s m → IsEnd own m p → IsEnd own s p
 end_back sum own s m p leaves is held =
@@ -264,9 +266,9 @@ behind_back sum own s m p q leaves is = record {
 }
 
 -- a step was refused: the records up to there were read
-pub next_refused : (sum own : List ℕ → ℕ) (s m t : LogState) (from at place : Place) (e : Error) (result : Result (Option (Place × List ℕ)) Error) → LeavesReading sum own s m
-    → from.segment ≤ at.segment → StandBetween sum own s [] from at → place ≡ from → IsErrAnd result (λ x. x ≡ e) → LogReadRefused own m t at e
-    → NextGoes sum own s t from place result
-next_refused sum own s m t from at place e (Ok r) leaves further so_far same is refused = absurd is
-next_refused sum own s m t from at place e (Err x) leaves further so_far same is refused =
-    (same, record { at = at; mid = m; further = further; none = so_far; reads = leaves; refused = subst (λ y. LogReadRefused own m t at y) (sym is) refused })
+pub next_refused : (sum own : List ℕ → ℕ) (d : List ℕ → List ℕ) (s m t : LogState) (from at place : Place) (e : Error) (result : Result (Option (Place × List ℕ)) Error) → LeavesReading sum own s m
+    → from.segment ≤ at.segment → StandBetween sum own d s [] from at → place ≡ from → IsErrAnd result (λ x. x ≡ e) → LogReadRefused own d m t at e
+    → NextGoes sum own d s t from place result
+next_refused sum own d s m t from at place e (Ok r) leaves further so_far same is refused = absurd is
+next_refused sum own d s m t from at place e (Err x) leaves further so_far same is refused =
+    (same, record { at = at; mid = m; further = further; none = so_far; reads = leaves; refused = subst (λ y. LogReadRefused own d m t at y) (sym is) refused })

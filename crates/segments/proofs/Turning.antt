@@ -17,7 +17,8 @@ use Rattle.segments.specs.declared.entry.Entry.TheVariants.{Closes}
 use Rattle.segments.specs.FolderEvents.{FolderEvent, keeping_event}
 use Rattle.segments.specs.Manifest.{ListingState, entry_in, listed_in, listed_with, open_in}
 use Rattle.segments.specs.Owned.{IsOwnedJournal, IsShut, KeepsRecords, OwnedState, records_now, records_of}
-use Rattle.segments.specs.Log.{CurrentKeeps, HoldsClosed, IsKept, IsLog, Lists, LogState, Tries, WasClosed, asked_turning, closed_records, entered_bytes, log_records}
+use Rattle.segments.specs.Log.{CurrentKeeps, IsKept, IsLog, Lists, LogState, Tries, WasClosed, asked_turning, closed_records, entered_bytes, log_records}
+use Rattle.segments.specs.Kept.{HoldsClosed}
 use Rattle.segments.specs.Crash.{HasLetGo, IsRotationKept, KeepsLog, LogTurned, RotationSurvives, records_by}
 use Rattle.segments.proofs.Listings.{listed_more}
 use Rattle.segments.proofs.Records.{closed_more, same_records}
@@ -46,13 +47,13 @@ here_are : (sum own : List ℕ → ℕ) (s : LogState) (last : Life) (file : Lis
     → records own (text sum s.page_size file) ≡ all
 here_are sum own s last file all shut image = ap (λ bytes. records own (text sum s.page_size bytes)) (durable_image last.present file shut.durable image) ∙ shut.tells
 
-turned_at : (sum own : List ℕ → ℕ) (held : ℕ → List ℕ) (s : LogState) (kept : Closed) (added : List ℕ) (last : Life) (next : Disk) (m : ListingState) (rs : List (List ℕ)) (told : List ℕ)
-    → WasClosed sum own s last kept → HoldsClosed sum s.page_size kept (held (open_in s.listing))
+turned_at : (sum own : List ℕ → ℕ) (d : List ℕ → List ℕ) (held : ℕ → List ℕ) (s : LogState) (kept : Closed) (added : List ℕ) (last : Life) (next : Disk) (m : ListingState) (rs : List (List ℕ)) (told : List ℕ)
+    → WasClosed sum own d s last kept → HoldsClosed sum d s.page_size kept (held (open_in s.listing))
     → OnlyRecords sum own s.page_size [] next → listed_in s.page_size rs ≡ Some s.listing → listed_in s.page_size (rs ++ added ∷ []) ≡ Some m
     → m ≡ record { first = s.listing.first; closed = s.listing.closed ++ kept ∷ [] } → records own told ≡ rs
     → (e : Disk) → Commits sum own s.page_size told (length rs) e → OnlyRecords sum own s.page_size (rs ++ added ∷ []) e
-    → LogTurned sum own s.page_size held (log_records own held s) (open_in s.listing) kept last.present next e
-turned_at sum own held s kept added last next m rs told closed holds leaves lists lists_more made has e commits only manifest image free file at_k at_next free_next =
+    → LogTurned sum own d s.page_size held (log_records own held s) (open_in s.listing) last.present next e
+turned_at sum own d held s kept added last next m rs told closed holds leaves lists lists_more made has e commits only manifest image free file at_k at_next free_next =
     let P = s.page_size in
     let l = s.listing in
     let before = closed_records own held l.first l.closed in
@@ -62,7 +63,7 @@ turned_at sum own held s kept added last next m rs told closed holds leaves list
     let here = here_are sum own s last (file (open_in l)) (records_now own s.current) closed.shut at_k in
     elim (two_cases rs added back long first.0 first.1) [
       | inl same ↦ inl (ap (λ rs. records_by sum own P held file (listed_in P rs)) same ∙ ap (λ o. records_by sum own P held file o) lists ∙ ap (λ rs. Some (before ++ rs)) here)
-      | inr same ↦ elim (same_records sum own P kept (held (open_in l)) last.present.readable holds closed.of) [
+      | inr same ↦ elim (same_records sum own d s last kept (held (open_in l)) closed holds) [
         | inl equal ↦
             let number : open_in (record { first = l.first; closed = l.closed ++ kept ∷ [] }) ≡ open_in l + 1 = omega (arith, length-append l.closed (kept ∷ [])) in
             let none : records own (text sum P (file (open_in l + 1))) ≡ [] = none_back (records own (text sum P (file (open_in l + 1)))) (leaves.only (file (open_in l + 1)) at_next free_next) in
@@ -71,36 +72,36 @@ turned_at sum own held s kept added last next m rs told closed holds leaves list
             ∙ ap (λ n. Some (closed_records own held l.first (l.closed ++ kept ∷ []) ++ records own (text sum P (file n)))) number
             ∙ ap (λ rs. Some (closed_records own held l.first (l.closed ++ kept ∷ []) ++ rs)) none
             ∙ ap (λ rs. Some rs) (append-nil (closed_records own held l.first (l.closed ++ kept ∷ [])) ∙ closed_more own held l.first l.closed kept
-            ∙ ap (λ rs. before ++ rs) (equal ∙ closed.shut.tells)))
+            ∙ ap (λ rs. before ++ rs) equal))
         | inr twin ↦ inr twin
       ]
     ]
 
-turn_by : (sum own : List ℕ → ℕ) (held : ℕ → List ℕ) (s : LogState) (kept : Closed) (added : List ℕ) (last : Life) (next : Disk) (m : ListingState) (j : Option WriterState) (new : Life)
-    → WasClosed sum own s last kept
+turn_by : (sum own : List ℕ → ℕ) (d : List ℕ → List ℕ) (held : ℕ → List ℕ) (s : LogState) (kept : Closed) (added : List ℕ) (last : Life) (next : Disk) (m : ListingState) (j : Option WriterState) (new : Life)
+    → WasClosed sum own d s last kept
     → OnlyRecords sum own s.page_size [] next → entry_in added ≡ Some (Closes kept) → listed_with s.page_size (Closes kept) s.listing ≡ Some m
     → IfSome j (λ w. Lists sum own s.page_size s.listing w s.manifest.life)
     → IfSome j (λ w. KeepsRecords sum own s.page_size (records_of own j s.manifest.life ++ added ∷ []) s.manifest.life new)
-    → IfSome j (λ w. HoldsClosed sum s.page_size kept (held (open_in s.listing)) → Through (LogTurned sum own s.page_size held (log_records own held s) (open_in s.listing) kept last.present next) s.manifest.life new)
-turn_by sum own held s kept added last next m None new closed leaves told follows lists keeps = tt
-turn_by sum own held s kept added last next m (Some w) new closed leaves told follows lists keeps = λ holds.
+    → IfSome j (λ w. HoldsClosed sum d s.page_size kept (held (open_in s.listing)) → Through (LogTurned sum own d s.page_size held (log_records own held s) (open_in s.listing) last.present next) s.manifest.life new)
+turn_by sum own d held s kept added last next m None new closed leaves told follows lists keeps = tt
+turn_by sum own d held s kept added last next m (Some w) new closed leaves told follows lists keeps = λ holds.
     let P = s.page_size in
     let rs = records_in own w s.manifest.life in
     let held_now = content w s.manifest.life.present.readable in
     through_then (λ e. Commits sum own P held_now (length rs) e × OnlyRecords sum own P (rs ++ added ∷ []) e)
-    (LogTurned sum own P held (log_records own held s) (open_in s.listing) kept last.present next) s.manifest.life new
-    (λ e both. turned_at sum own held s kept added last next m rs held_now closed holds leaves lists.told
+    (LogTurned sum own d P held (log_records own held s) (open_in s.listing) last.present next) s.manifest.life new
+    (λ e both. turned_at sum own d held s kept added last next m rs held_now closed holds leaves lists.told
     (listed_more P rs added (Closes kept) s.listing m lists.told told follows) (listed P kept s.listing m follows) refl e both.0 both.1)
     (through_both (Commits sum own P held_now (length rs)) (OnlyRecords sum own P (rs ++ added ∷ [])) s.manifest.life new
     (keeps.kept held_now (length rs) lists.committed) keeps.only)
 
 -- the manifest wasn't touched
-still_by : (sum own : List ℕ → ℕ) (held : ℕ → List ℕ) (s : LogState) (kept : Closed) (last : Life) (next : Disk) (j : Option WriterState) → s.manifest.page_size ≡ s.page_size
-    → WasClosed sum own s last kept → IfSome j (λ m. IsOwnedJournal sum own s.manifest m) → IfSome j (λ m. Lists sum own s.page_size s.listing m s.manifest.life)
-    → IfSome j (λ w. HoldsClosed sum s.page_size kept (held (open_in s.listing)) → Through (LogTurned sum own s.page_size held (log_records own held s) (open_in s.listing) kept last.present next) s.manifest.life s.manifest.life)
-still_by sum own held s kept last next None pages closed owned lists = tt
-still_by sum own held s kept last next (Some w) pages closed owned lists = λ holds.
-    through_start (LogTurned sum own s.page_size held (log_records own held s) (open_in s.listing) kept last.present next) s.manifest.life
+still_by : (sum own : List ℕ → ℕ) (d : List ℕ → List ℕ) (held : ℕ → List ℕ) (s : LogState) (kept : Closed) (last : Life) (next : Disk) (j : Option WriterState) → s.manifest.page_size ≡ s.page_size
+    → WasClosed sum own d s last kept → IfSome j (λ m. IsOwnedJournal sum own s.manifest m) → IfSome j (λ m. Lists sum own s.page_size s.listing m s.manifest.life)
+    → IfSome j (λ w. HoldsClosed sum d s.page_size kept (held (open_in s.listing)) → Through (LogTurned sum own d s.page_size held (log_records own held s) (open_in s.listing) last.present next) s.manifest.life s.manifest.life)
+still_by sum own d held s kept last next None pages closed owned lists = tt
+still_by sum own d held s kept last next (Some w) pages closed owned lists = λ holds.
+    through_start (LogTurned sum own d s.page_size held (log_records own held s) (open_in s.listing) last.present next) s.manifest.life
     (λ manifest image free file at_k at_next free_next. inl (left_of sum own held file s w pages owned lists manifest image
     ∙ ap (λ rs. Some (closed_records own held s.listing.first s.listing.closed ++ rs))
     (here_are sum own s last (file (open_in s.listing)) (records_now own s.current) closed.shut at_k)))
@@ -120,23 +121,23 @@ manifest_as sum own added f e s manifest pages keeps =
     (subst (λ P. IfSome f.manifest.journal (λ w. KeepsRecords sum own P (records_now own f.manifest ++ added ∷ []) f.manifest.life e.manifest.life)) pages keeps)
 
 -- after the closed segment's blob went back, whatever the folder was asked for then
-turned_log : (sum own : List ℕ → ℕ) (s m t : LogState) (kept : Closed) → IsLog sum own s → WasClosed sum own s m.current.life kept
-    → CurrentKeeps sum own (records_now own s.current) s m → HasLetGo s m.current.life t
-    → ((held : ℕ → List ℕ) → IfSome s.manifest.journal (λ w. HoldsClosed sum s.page_size kept (held (open_in s.listing))
-    → Through (LogTurned sum own s.page_size held (log_records own held s) (open_in s.listing) kept m.current.life.present t.current.life.present) s.manifest.life t.manifest.life))
-    → RotationSurvives sum own s t
-turned_log sum own s m t kept log closed keeps gone turning =
+turned_log : (sum own : List ℕ → ℕ) (d : List ℕ → List ℕ) (s m t : LogState) (kept : Closed) → IsLog sum own s → WasClosed sum own d s m.current.life kept
+    → CurrentKeeps sum own (records_now own s.current) s m → HasLetGo d s m.current.life t
+    → ((held : ℕ → List ℕ) → IfSome s.manifest.journal (λ w. HoldsClosed sum d s.page_size kept (held (open_in s.listing))
+    → Through (LogTurned sum own d s.page_size held (log_records own held s) (open_in s.listing) m.current.life.present t.current.life.present) s.manifest.life t.manifest.life))
+    → RotationSurvives sum own d s t
+turned_log sum own d s m t kept log closed keeps gone turning =
     joined (λ held. KeepsLog sum own held s [] s.current.life m.current.life)
-    (λ held. HoldsClosed sum s.page_size kept (held (open_in s.listing)) → Through (LogTurned sum own s.page_size held (log_records own held s) (open_in s.listing) kept m.current.life.present t.current.life.present) s.manifest.life t.manifest.life)
-    (λ held. IsRotationKept sum own held s t) s.manifest.journal s.current.journal
+    (λ held. HoldsClosed sum d s.page_size kept (held (open_in s.listing)) → Through (LogTurned sum own d s.page_size held (log_records own held s) (open_in s.listing) m.current.life.present t.current.life.present) s.manifest.life t.manifest.life)
+    (λ held. IsRotationKept sum own d held s t) s.manifest.journal s.current.journal
     (λ held closing turning. inr (record { last = m.current.life; kept = kept; gone = gone; closing = closing; of = closed.of; turning = turning }))
     (survives_same sum own s m log keeps) turning
 
 -- a rotation that ended before the manifest got the entry
-pub close_survives : (sum own : List ℕ → ℕ) (s m t : LogState) → IsLog sum own s → CurrentKeeps sum own (records_now own s.current) s m
-    → t.manifest ≡ s.manifest → t.current ≡ m.current → RotationSurvives sum own s t
-close_survives sum own s m t log keeps manifest current =
-    joined (λ held. KeepsLog sum own held s [] s.current.life m.current.life) (λ held. Unit {0}) (λ held. IsRotationKept sum own held s t) s.manifest.journal s.current.journal
+pub close_survives : (sum own : List ℕ → ℕ) (d : List ℕ → List ℕ) (s m t : LogState) → IsLog sum own s → CurrentKeeps sum own (records_now own s.current) s m
+    → t.manifest ≡ s.manifest → t.current ≡ m.current → RotationSurvives sum own d s t
+close_survives sum own d s m t log keeps manifest current =
+    joined (λ held. KeepsLog sum own held s [] s.current.life m.current.life) (λ held. Unit {0}) (λ held. IsRotationKept sum own d held s t) s.manifest.journal s.current.journal
     (λ held closing none. inl (manifest, subst (λ (o : OwnedState). KeepsLog sum own held s [] s.current.life o.life) (sym current) closing))
     (survives_same sum own s m log keeps) (λ held. nothing s.manifest.journal) where
       nothing : (j : Option WriterState) → IfSome j (λ m. Unit {0})
@@ -144,22 +145,22 @@ close_survives sum own s m t log keeps manifest current =
       nothing (Some m) = tt
 
 -- the manifest got the entry, or may have got it, or wasn't touched
-pub turn_survives : (sum own : List ℕ → ℕ) (s m n f e t : LogState) (next : OwnedState) (kept : Closed) → IsLog sum own s → Turning sum own s m n f next kept
-    → Tries sum own (Closes kept) f e → t.manifest ≡ e.manifest → t.current.life ≡ next.life → HasLetGo s m.current.life t → RotationSurvives sum own s t
-turn_survives sum own s m n f e t next kept log is tries same at gone =
-    let manifest = same_manifest sum own s m n f next kept is in
-    let pages = same_pages sum own s m n f next kept is in
-    let lists = same_listing sum own s m n f next kept is in
+pub turn_survives : (sum own : List ℕ → ℕ) (d : List ℕ → List ℕ) (s m w n f e t : LogState) (next : OwnedState) (kept : Closed) → IsLog sum own s → Turning sum own d s m w n f next kept
+    → Tries sum own (Closes kept) f e → t.manifest ≡ e.manifest → t.current.life ≡ next.life → HasLetGo d s m.current.life t → RotationSurvives sum own d s t
+turn_survives sum own d s m w n f e t next kept log is tries same at gone =
+    let manifest = same_manifest sum own d s m w n f next kept is in
+    let pages = same_pages sum own d s m w n f next kept is in
+    let lists = same_listing sum own d s m w n f next kept is in
     let leaves : OnlyRecords sum own s.page_size [] t.current.life.present =
-    subst (λ (l : Life). OnlyRecords sum own s.page_size [] l.present) (sym at) (subst (λ P. OnlyRecords sum own P [] next.life.present) is.first.page_size is.has.leaves) in
-    turned_log sum own s m t kept log is.closed is.keeps gone (λ held. elim tries [
+    subst (λ (l : Life). OnlyRecords sum own s.page_size [] l.present) (sym at) (subst (λ P. OnlyRecords sum own P [] next.life.present) (ap (λ (l : LogState). l.page_size) is.lists ∙ is.first.page_size) is.has.leaves) in
+    turned_log sum own d s m t kept log is.closed is.keeps gone (λ held. elim tries [
       | inl none ↦
-          subst (λ (o : OwnedState). IfSome s.manifest.journal (λ w. HoldsClosed sum s.page_size kept (held (open_in s.listing))
-          → Through (LogTurned sum own s.page_size held (log_records own held s) (open_in s.listing) kept m.current.life.present t.current.life.present) s.manifest.life o.life))
+          subst (λ (o : OwnedState). IfSome s.manifest.journal (λ w. HoldsClosed sum d s.page_size kept (held (open_in s.listing))
+          → Through (LogTurned sum own d s.page_size held (log_records own held s) (open_in s.listing) m.current.life.present t.current.life.present) s.manifest.life o.life))
           (sym (same ∙ none ∙ manifest))
-          (still_by sum own held s kept m.current.life t.current.life.present s.manifest.journal log.manifest_pages is.closed log.manifest.1 log.lists)
+          (still_by sum own d held s kept m.current.life t.current.life.present s.manifest.journal log.manifest_pages is.closed log.manifest.1 log.lists)
       | inr tried ↦
-          turn_by sum own held s kept (entered_bytes (Closes kept) f) m.current.life t.current.life.present tried.listing s.manifest.journal t.manifest.life is.closed leaves tried.told
+          turn_by sum own d held s kept (entered_bytes (Closes kept) f) m.current.life t.current.life.present tried.listing s.manifest.journal t.manifest.life is.closed leaves tried.told
           (subst (λ l. listed_with s.page_size (Closes kept) l ≡ Some tried.listing) lists (subst (λ P. listed_with P (Closes kept) f.listing ≡ Some tried.listing) pages tried.follows))
           log.lists
           (subst (λ (o : OwnedState). IfSome s.manifest.journal (λ w. KeepsRecords sum own s.page_size (records_now own s.manifest ++ entered_bytes (Closes kept) f ∷ []) s.manifest.life o.life)) (sym same)
@@ -167,13 +168,13 @@ turn_survives sum own s m n f e t next kept log is tries same at gone =
     ])
 
 -- the folder was asked for nothing more after the closed segment's blob went back
-pub let_go : (sum own : List ℕ → ℕ) (s m n f t : LogState) (next : OwnedState) (kept : Closed) → Turning sum own s m n f next kept → t.asked ≡ f.asked → HasLetGo s m.current.life t
-let_go sum own s m n f t next kept is asked =
-    record { after = []; asked = asked ∙ asked_is sum own s m n f next kept is ∙ sym (append-nil (asked_turning s m.current.life)) }
+pub let_go : (sum own : List ℕ → ℕ) (d : List ℕ → List ℕ) (s m w n f t : LogState) (next : OwnedState) (kept : Closed) → Turning sum own d s m w n f next kept → t.asked ≡ f.asked → HasLetGo d s m.current.life t
+let_go sum own d s m w n f t next kept is asked =
+    record { after = []; asked = asked ∙ asked_is sum own d s m w n f next kept is ∙ sym (append-nil (asked_turning d s m.current.life)) }
 
 -- a copy was to be kept then
-pub let_go_kept : (sum own : List ℕ → ℕ) (s m n f t : LogState) (next : OwnedState) (kept : Closed) → Turning sum own s m n f next kept → IsKept f.asked t → HasLetGo s m.current.life t
-let_go_kept sum own s m n f t next kept is copied = record {
+pub let_go_kept : (sum own : List ℕ → ℕ) (d : List ℕ → List ℕ) (s m w n f t : LogState) (next : OwnedState) (kept : Closed) → Turning sum own d s m w n f next kept → IsKept f.asked t → HasLetGo d s m.current.life t
+let_go_kept sum own d s m w n f t next kept is copied = record {
   after = keeping_event (open_in t.listing) t.known t.manifest.life.present.readable copied.failed ∷ [];
-  asked = copied.asked ∙ ap (λ (es : List FolderEvent). es ++ keeping_event (open_in t.listing) t.known t.manifest.life.present.readable copied.failed ∷ []) (asked_is sum own s m n f next kept is);
+  asked = copied.asked ∙ ap (λ (es : List FolderEvent). es ++ keeping_event (open_in t.listing) t.known t.manifest.life.present.readable copied.failed ∷ []) (asked_is sum own d s m w n f next kept is);
 }

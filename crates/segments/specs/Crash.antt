@@ -8,15 +8,16 @@ use Rattle.crash.specs.Kept.{Through}
 use Rattle.page.specs.Page.{text}
 use Rattle.journal.specs.Frame.{IsPrefix, records}
 use Rattle.journal.specs.Journal.{Commits, CommitsAll, OnlyRecords}
+use Rattle.page_digests.specs.Seals.{HasSecondPreimage}
 use Rattle.segments.specs.declared.closed.Closed.{Closed}
 use Rattle.segments.specs.declared.call.FolderCall.TheVariants as calls
 use Rattle.segments.specs.declared.error.Error.{Error}
 use Rattle.segments.specs.declared.place.Place.{Place}
-use Rattle.segments.specs.Digests.{IsOf}
+use Rattle.segments.specs.Kept.{HoldsClosed, IsSealedBy}
 use Rattle.segments.specs.FolderEvents.{FolderEvent, opening_with}
 use Rattle.segments.specs.Manifest.{ListingState, listed_in, open_in}
 use Rattle.segments.specs.Owned.{HasJournal, content_now, owned_size, records_now}
-use Rattle.segments.specs.Log.{AppendHereGoes, HasTwinOf, HoldsClosed, IsKept, IsRotated}
+use Rattle.segments.specs.Log.{AppendHereGoes, IsKept, IsRotated}
 use Rattle.segments.specs.Log.{IsSameButCurrent, LogState}
 use Rattle.segments.specs.Log.{asked_turning, closed_records, events_for, listing_from}
 use Rattle.segments.specs.Log.{log_records}
@@ -82,69 +83,73 @@ abbrev pub CurrentSurvives : (sum own : List ℕ → ℕ) → List (List ℕ) �
 CurrentSurvives sum own more s t = IfSome s.manifest.journal (λ m. IfSome s.current.journal (λ w.
     (held : ℕ → List ℕ) → KeepsLog sum own held s more s.current.life t.current.life))
 
--- as the manifest gets the entry that segment k is closed, of which this was kept, and the next one
--- is open: whatever a crash leaves of the manifest's disk and of the disks of these two segments,
--- chance aside, all of these records come back, or what segment k held has a twin
-abbrev pub LogTurned : (sum own : List ℕ → ℕ) → ℕ → (held : ℕ → List ℕ) → List (List ℕ)
-    → (k : ℕ) → Closed → (d e : Disk) → Disk → Type 0
-LogTurned sum own P held all k kept d e m =
+-- as the manifest gets the entry that segment k is closed, and the next one is open: whatever a
+-- crash leaves of the manifest's disk and of the disks of these two segments, chance aside, all of
+-- these records come back, or a second preimage of what segment k held is at hand
+abbrev pub LogTurned : (sum own : List ℕ → ℕ) → (d : List ℕ → List ℕ) → ℕ
+    → (held : ℕ → List ℕ) → List (List ℕ) → (k : ℕ) → (last next : Disk) → Disk → Type 0
+LogTurned sum own d P held all k last next m =
     (manifest : List ℕ) → IsImage m manifest → IsChanceFree sum P m manifest
-    → (file : ℕ → List ℕ) → IsImage d (file k) → IsImage e (file (k + 1))
-    → IsChanceFree sum P e (file (k + 1))
-    → (records_left sum own P held file manifest ≡ Some all) ⊎ HasTwinOf sum P kept (held k)
+    → (file : ℕ → List ℕ) → IsImage last (file k) → IsImage next (file (k + 1))
+    → IsChanceFree sum P next (file (k + 1))
+    → (records_left sum own P held file manifest ≡ Some all) ⊎ HasSecondPreimage d P (held k)
 
 -- the folder took the blob of the closed segment back, at the end of this life, before the manifest
 -- got an entry; after that it was asked for this
-pub record HasLetGo (s : LogState) (last : Life) (t : LogState) : Type 0 where
+pub record HasLetGo (d : List ℕ → List ℕ) (s : LogState) (last : Life) (t : LogState)
+    : Type 0 where
   pub after : List FolderEvent
-  pub asked : t.asked ≡ asked_turning s last ++ after
+  pub asked : t.asked ≡ asked_turning d s last ++ after
 
 -- a rotation, at each moment: first the open segment is closed, and the folder takes its blob back;
 -- then the manifest gets its entry, and that leaves all records as they were. The next segment is
 -- the log's open one then
-pub record TurnKept (sum own : List ℕ → ℕ) (held : ℕ → List ℕ) (s t : LogState) : Type 0 where
+pub record TurnKept (sum own : List ℕ → ℕ) (d : List ℕ → List ℕ) (held : ℕ → List ℕ)
+    (s t : LogState) : Type 0 where
   pub last : Life
   pub kept : Closed
-  pub gone : HasLetGo s last t
+  pub gone : HasLetGo d s last t
   pub closing : KeepsLog sum own held s [] s.current.life last
-  pub of : IsOf last.present.readable kept
-  pub turning : HoldsClosed sum s.page_size kept (held (open_in s.listing))
-      → Through (LogTurned sum own s.page_size held (log_records own held s)
-      (open_in s.listing) kept last.present t.current.life.present) s.manifest.life t.manifest.life
+  pub of : IsSealedBy d s.page_size (content_now s.current) kept
+  pub turning : HoldsClosed sum d s.page_size kept (held (open_in s.listing))
+      → Through (LogTurned sum own d s.page_size held (log_records own held s)
+      (open_in s.listing) last.present t.current.life.present)
+      s.manifest.life t.manifest.life
 
 -- a rotation, at each moment: it ended before the manifest got the entry, or it is as `TurnKept`
 -- has it
-abbrev pub IsRotationKept : (sum own : List ℕ → ℕ) → (held : ℕ → List ℕ) → LogState → LogState
-    → Type 0
-IsRotationKept sum own held s t =
+abbrev pub IsRotationKept : (sum own : List ℕ → ℕ) → (d : List ℕ → List ℕ) → (held : ℕ → List ℕ)
+    → LogState → LogState → Type 0
+IsRotationKept sum own d held s t =
     ((t.manifest ≡ s.manifest) × KeepsLog sum own held s [] s.current.life t.current.life)
-    ⊎ TurnKept sum own held s t
+    ⊎ TurnKept sum own d held s t
 
 -- a rotation, whatever it answers
-abbrev pub RotationSurvives : (sum own : List ℕ → ℕ) → LogState → LogState → Type 0
-RotationSurvives sum own s t = IfSome s.manifest.journal (λ m. IfSome s.current.journal (λ w.
-    (held : ℕ → List ℕ) → IsRotationKept sum own held s t))
+abbrev pub RotationSurvives : (sum own : List ℕ → ℕ) → (d : List ℕ → List ℕ) → LogState → LogState
+    → Type 0
+RotationSurvives sum own d s t = IfSome s.manifest.journal (λ m. IfSome s.current.journal (λ w.
+    (held : ℕ → List ℕ) → IsRotationKept sum own d held s t))
 
 -- a rotation, and then an append to the next segment, with this answer: of the log in between holds
 -- all that is said of it
-pub record TurnedSurvives (sum own : List ℕ → ℕ) (bytes : List ℕ) (s t : LogState)
-    (result : Result Place Error) : Type 0 where
+pub record TurnedSurvives (sum own : List ℕ → ℕ) (d : List ℕ → List ℕ) (bytes : List ℕ)
+    (s t : LogState) (result : Result Place Error) : Type 0 where
   pub mid : LogState
-  pub turned : IsRotated sum own s mid
+  pub turned : IsRotated sum own d s mid
   pub here : AppendHereGoes sum own bytes mid t result
   pub rest : IsSameButCurrent mid t
-  pub turns : RotationSurvives sum own s mid
+  pub turns : RotationSurvives sum own d s mid
   pub appends : CurrentSurvives sum own (bytes ∷ []) mid t
 
 -- an append, with this answer: to the open segment, and nothing else was done; or a rotation that
 -- failed, by whose moments the log ended without an open segment; or a rotation, and then an append
 -- to the next segment
-abbrev pub AppendSurvives : (sum own : List ℕ → ℕ) → List ℕ → LogState → LogState
-    → Result Place Error → Type 0
-AppendSurvives sum own bytes s t result =
+abbrev pub AppendSurvives : (sum own : List ℕ → ℕ) → (d : List ℕ → List ℕ) → List ℕ
+    → LogState → LogState → Result Place Error → Type 0
+AppendSurvives sum own d bytes s t result =
     (IsSameButCurrent s t × CurrentSurvives sum own (bytes ∷ []) s t)
-    ⊎ ((t.current.journal ≡ None) × RotationSurvives sum own s t)
-    ⊎ TurnedSurvives sum own bytes s t result
+    ⊎ ((t.current.journal ≡ None) × RotationSurvives sum own d s t)
+    ⊎ TurnedSurvives sum own d bytes s t result
 
 -- ---- dropping
 

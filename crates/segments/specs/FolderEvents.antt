@@ -5,8 +5,8 @@ use Rattle.segments.specs.declared.call.FolderCall.{FolderCall}
 use Rattle.segments.specs.declared.call.FolderCall.TheVariants as calls
 
 -- a call, whether it failed, and bytes: those that an opened file gave, or those of the manifest as
--- a copy was to be kept or a segment was closed; none for another call. Where a segment was closed,
--- also the life of its blob
+-- a copy was to be kept or a segment was closed, or those that a list's file was to hold; none for
+-- another call. Where a segment was closed, also the life of its blob
 pub record FolderEvent : Type 0 where
   pub call : FolderCall
   pub failed : Bool
@@ -28,6 +28,16 @@ keeping_outcome segment len manifest (Err _) = keeping_event segment len manifes
 abbrev pub closing_event : (segment : ℕ) → Life → (manifest : List ℕ) → FolderEvent
 closing_event segment life manifest =
     record { call = calls.Closes segment; failed = false; given = manifest; closed = Some life }
+
+-- the list's file of a segment was to hold these bytes
+abbrev pub writing_event : (segment : ℕ) → List ℕ → Bool → FolderEvent
+writing_event segment bytes failed =
+    record { call = calls.WritesList segment; failed = failed; given = bytes; closed = None }
+
+-- such a call with the outcome that it answered
+abbrev pub writing_outcome : {T E : Type 0} → (segment : ℕ) → List ℕ → Result T E → FolderEvent
+writing_outcome segment bytes (Ok _) = writing_event segment bytes false
+writing_outcome segment bytes (Err _) = writing_event segment bytes true
 
 -- a call that gives no bytes, with this outcome
 abbrev pub plain_event : FolderCall → Bool → FolderEvent

@@ -1,11 +1,14 @@
-pub mod Digests
+pub mod Kept
 pub mod Manifest
 pub mod FolderEvents
 pub mod FolderPast
 pub mod Folders
 pub mod Owned
+pub mod FrameReads
+pub mod PagedFrames
+pub mod PagedReads
+pub mod SegmentFiles
 pub mod Log
 pub mod Copies
 pub mod Crash
 pub mod Scan
-pub mod PagedFrames

@@ -11,38 +11,52 @@ use Rattle.writer_state.specs.WriterState.{WriterState}
 use Rattle.writer_state.specs.Sound.{content}
 use Rattle.journal.specs.Frame.{records, whole_frames}
 use Rattle.journal.specs.declared.frame.Found.{Found}
-use Rattle.journal.specs.Journal.{CommitsAll, IsFound, OnlyRecords, records_in}
+use Rattle.journal.specs.Journal.{CommitsAll, OnlyRecords, records_in}
 use Rattle.segments.specs.declared.call.FolderCall.TheVariants as calls
+use Rattle.page_digests.specs.Pages.{list_of, top_of}
+use Rattle.page_digests.specs.Seals.{AreLevelsOf, HasSecondPreimage}
+use Rattle.page_digests.specs.declared.levels.Levels.{Levels}
 use Rattle.segments.specs.declared.closed.Closed.{Closed}
+use Rattle.segments.specs.declared.closed.FileDigest.{FileDigest}
+use Rattle.segments.specs.declared.closed.Fingerprint.{Fingerprint}
+use Rattle.segments.specs.declared.closed.Fingerprint.TheVariants.{Whole, Paged}
 use Rattle.segments.specs.declared.entry.Entry.{Entry}
 use Rattle.segments.specs.declared.entry.Entry.TheVariants.{Starts, Closes}
 use Rattle.segments.specs.declared.error.Error.{Error}
 use Rattle.segments.specs.declared.place.Place.{Place}
 use Rattle.segments.specs.declared.error.Error.TheVariants as errors
-use Rattle.segments.specs.Digests.{HasTwin, IsOf, SameKept}
+use Rattle.segments.specs.Kept.{HasTwinOf, HoldsClosed, IsInFile, IsSealedBy}
+use Rattle.segments.specs.FrameReads.{EndsBehind, IsReadOf}
 use Rattle.segments.specs.FolderEvents.{FolderEvent, closing_event, keeping_event, opening_with}
-use Rattle.segments.specs.FolderEvents.{plain_event}
-use Rattle.segments.specs.Manifest.{ListingState, closed_at, entry_in, free_after, listed_in}
-use Rattle.segments.specs.Manifest.{listed_with, open_in, padded}
+use Rattle.segments.specs.FolderEvents.{plain_event, writing_event}
+use Rattle.segments.specs.Manifest.{ListingState, closed_at, closed_by, entry_in, free_after}
+use Rattle.segments.specs.Manifest.{listed_in, listed_with, open_in, padded}
 use Rattle.segments.specs.Owned.{HasJournal, IsOwned, IsShut, KeepsRecords, OwnedAppendGoes}
 use Rattle.segments.specs.Owned.{content_now}
-use Rattle.segments.specs.Owned.{OwnedCloseGoes}
+use Rattle.segments.specs.Owned.{OwnedSealGoes}
+use Rattle.segments.specs.PagedReads.{IsBeyondLimit, IsDamagedPaged, PagedSegmentState}
 use Rattle.segments.specs.Owned.{OwnedReadGoes, OwnedReadLeaves, OwnedState}
 use Rattle.segments.specs.Owned.{owned_size, records_now, without_journal}
 
--- a closed segment that was read into memory: what was kept of it, and its journal
+-- a closed segment that was read into memory: the digest of its file, and its journal
 pub record LoadedState : Type 0 where
-  pub kept : Closed
+  pub kept : FileDigest
   pub owned : OwnedState
 
+-- the closed segments that are read: the one that was read into memory last, and the one that was
+-- read by its pages last
+pub record ReadingState : Type 0 where
+  pub whole : Option LoadedState
+  pub paged : Option PagedSegmentState
+
 -- a log as contracts see it: the manifest, the open segment, what the manifest lists, what the
--- folder was asked for, the closed segment that was read last, and what is known of the open one
+-- folder was asked for, the closed segments that were read last, and what is known of the open one
 pub record LogState : Type 0 where
   pub manifest : OwnedState
   pub current : OwnedState
   pub listing : ListingState
   pub asked : List FolderEvent
-  pub loaded : Option LoadedState
+  pub reading : ReadingState
   pub page_size : ℕ
   -- from how many bytes on a segment is closed
   pub most : ℕ
@@ -53,23 +67,12 @@ pub record LogState : Type 0 where
 abbrev pub most_for : (segment_size : ℕ) → ℕ
 most_for segment_size = if segment_size == 0 then 1 else segment_size
 
--- a content is the whole frames of bytes of which this was kept
-pub record HoldsClosed (sum : List ℕ → ℕ) (P : ℕ) (kept : Closed) (held : List ℕ) : Type 0 where
-  pub bytes : List ℕ
-  pub of : IsOf bytes kept
-  pub holds : held ≡ whole_frames (text sum P bytes)
-
--- bytes of which this was kept, and whose whole frames are this content, have a twin
-pub record HasTwinOf (sum : List ℕ → ℕ) (P : ℕ) (kept : Closed) (content : List ℕ) : Type 0 where
-  pub holds : HoldsClosed sum P kept content
-  pub twin : HasTwin holds.bytes
-
 -- a closed segment in memory: there is a journal, and its content is that of the segment
 pub record IsLoaded (sum own : List ℕ → ℕ) (P : ℕ) (l : LoadedState) : Type 0 where
   pub page_size : l.owned.page_size ≡ P
   pub owned : IsOwned sum own l.owned
   pub there : HasJournal l.owned.journal (λ w. Unit {0})
-  pub holds : HoldsClosed sum P l.kept (content_now l.owned)
+  pub holds : IsInFile sum P l.kept (content_now l.owned)
 
 -- the records of the manifest list this, and all of the manifest is durable
 pub record Lists (sum own : List ℕ → ℕ) (P : ℕ) (listing : ListingState) (w : WriterState)
@@ -77,6 +80,11 @@ pub record Lists (sum own : List ℕ → ℕ) (P : ℕ) (listing : ListingState)
   pub told : listed_in P (records_in own w life) ≡ Some listing
   pub committed : CommitsAll sum own P (content w life.present.readable) life.present
   pub durable : IsDurable life.present
+
+-- the closed segments that are read have pages of this size
+pub record IsReading (sum own : List ℕ → ℕ) (P : ℕ) (r : ReadingState) : Type 0 where
+  pub whole : IfSome r.whole (λ l. IsLoaded sum own P l)
+  pub paged : IfSome r.paged (λ p. p.content.page_size ≡ P)
 
 -- a log between two calls
 pub record IsLog (sum own : List ℕ → ℕ) (s : LogState) : Type 0 where
@@ -86,14 +94,14 @@ pub record IsLog (sum own : List ℕ → ℕ) (s : LogState) : Type 0 where
   pub current_pages : s.current.page_size ≡ s.page_size
   pub lists : IfSome s.manifest.journal (λ w.
       Lists sum own s.page_size s.listing w s.manifest.life)
-  pub loaded : IfSome s.loaded (λ l. IsLoaded sum own s.page_size l)
+  pub reading : IsReading sum own s.page_size s.reading
 
 -- ---- an entry
 
 -- the log is the same, except for the manifest, what it lists, and its copy
 pub record IsSameButManifest (s t : LogState) : Type 0 where
   pub current : t.current ≡ s.current
-  pub loaded : t.loaded ≡ s.loaded
+  pub reading : t.reading ≡ s.reading
   pub page_size : t.page_size ≡ s.page_size
   pub most : t.most ≡ s.most
 
@@ -178,24 +186,30 @@ pub record IsSameButCurrent (s t : LogState) : Type 0 where
   pub manifest : t.manifest ≡ s.manifest
   pub listing : t.listing ≡ s.listing
   pub asked : t.asked ≡ s.asked
-  pub loaded : t.loaded ≡ s.loaded
+  pub reading : t.reading ≡ s.reading
   pub page_size : t.page_size ≡ s.page_size
   pub most : t.most ≡ s.most
   pub known : t.known ≡ s.known
 
 -- the open segment of a log was closed, at the end of this life of its blob: it has the records
--- that it had, all of it is durable, and this was kept of its bytes
-pub record WasClosed (sum own : List ℕ → ℕ) (s : LogState) (last : Life) (kept : Closed)
-    : Type 0 where
+-- that it had, all of it is durable, and the seal of its content was kept
+pub record WasClosed (sum own : List ℕ → ℕ) (d : List ℕ → List ℕ) (s : LogState) (last : Life)
+    (kept : Closed) : Type 0 where
   pub was_open : HasJournal s.current.journal (λ w. Unit {0})
   pub shut : IsShut sum own s.page_size (records_now own s.current) last
-  pub of : IsOf last.present.readable kept
+  pub of : IsSealedBy d s.page_size (content_now s.current) kept
   pub counts : kept.records ≡ length (records_now own s.current)
 
-abbrev pub CloseCurrentGoes : (sum own : List ℕ → ℕ) → LogState → LogState → Result Closed Error
-    → Type 0
-CloseCurrentGoes sum own s t (Ok kept) = WasClosed sum own s t.current.life kept
-CloseCurrentGoes sum own s t (Err e) = OwnedCloseGoes sum own s.current t.current (Err e)
+-- with it come the levels of its content
+pub record IsClosedAs (sum own : List ℕ → ℕ) (d : List ℕ → List ℕ) (s : LogState) (last : Life)
+    (kept : Closed) (l : Levels) : Type 0 where
+  pub closed : WasClosed sum own d s last kept
+  pub levels : AreLevelsOf d s.page_size (content_now s.current) l
+
+abbrev pub CloseCurrentGoes : (sum own : List ℕ → ℕ) → (d : List ℕ → List ℕ) → LogState → LogState
+    → Result (Closed × Levels) Error → Type 0
+CloseCurrentGoes sum own d s t (Ok r) = IsClosedAs sum own d s t.current.life r.0 r.1
+CloseCurrentGoes sum own d s t (Err e) = OwnedSealGoes d sum own s.current t.current (Err e)
 
 -- what a call of the open segment's journal leaves: what was committed is so at each moment since,
 -- and chance aside a crash at any of these moments leaves only the first of these records
@@ -270,11 +284,29 @@ OpenNextGoes sum own s t (Err e) = NextRefused s t e
 abbrev pub IsSameButAsked : LogState → LogState → Type 0
 IsSameButAsked s t = t ≡ record s { asked = t.asked }
 
--- what a folder was asked for by a rotation before the manifest gets its entry. The next file was
--- opened, and its name was durable. Then the folder took the blob of the closed segment back, which
--- had this life; the manifest was still as it had been
-abbrev pub asked_turning : LogState → (last : Life) → List FolderEvent
-asked_turning s last = (s.asked ++ events_for (open_in s.listing + 1) [])
+-- the list of the open segment was to be written, with its top
+abbrev pub listing_event : (d : List ℕ → List ℕ) → LogState → (failed : Bool) → FolderEvent
+listing_event d s failed =
+    let P = s.page_size in let content = content_now s.current in
+    writing_event (open_in s.listing) (list_of d P content ++ top_of d P content) failed
+
+-- the folder was to write these levels of the open segment
+abbrev pub WriteListGoes : Levels → LogState → LogState → Result (Unit {0}) Error → Type 0
+WriteListGoes l s t (Ok u) = t.asked
+    ≡ s.asked ++ writing_event (open_in s.listing) (l.list.items ++ l.top.items) false ∷ []
+WriteListGoes l s t (Err (errors.System e)) = t.asked
+    ≡ s.asked ++ writing_event (open_in s.listing) (l.list.items ++ l.top.items) true ∷ []
+WriteListGoes l s t (Err e) = ⊥
+
+-- what a folder was asked for by a rotation once the open segment was closed: its list was written
+abbrev pub asked_listing : (d : List ℕ → List ℕ) → LogState → List FolderEvent
+asked_listing d s = s.asked ++ listing_event d s false ∷ []
+
+-- what a folder was asked for by a rotation before the manifest gets its entry. The list was
+-- written; the next file was opened, and its name was durable. Then the folder took the blob of the
+-- closed segment back, which had this life; the manifest was still as it had been
+abbrev pub asked_turning : (d : List ℕ → List ℕ) → LogState → (last : Life) → List FolderEvent
+asked_turning d s last = (asked_listing d s ++ events_for (open_in s.listing + 1) [])
     ++ closing_event (open_in s.listing) last s.manifest.life.present.readable ∷ []
 
 -- the next segment took the place of the closed one, whose blob went back to the folder
@@ -286,17 +318,17 @@ pub record HasFollowed (next : OwnedState) (s t : LogState) : Type 0 where
 -- a log lists what it listed, and has the same settings
 pub record ListsTheSame (s t : LogState) : Type 0 where
   pub listing : t.listing ≡ s.listing
-  pub loaded : t.loaded ≡ s.loaded
+  pub reading : t.reading ≡ s.reading
   pub page_size : t.page_size ≡ s.page_size
   pub most : t.most ≡ s.most
   pub known : t.known ≡ s.known
 
--- a rotation: the open segment was closed, with all its records, and is listed by what is kept of
--- its bytes; the next one is open, has no record, and its name is durable
-pub record IsRotated (sum own : List ℕ → ℕ) (s t : LogState) : Type 0 where
+-- a rotation: the open segment was closed, with all its records, and is listed by the seal of its
+-- content; the next one is open, has no record, and its name is durable
+pub record IsRotated (sum own : List ℕ → ℕ) (d : List ℕ → List ℕ) (s t : LogState) : Type 0 where
   pub last : Life
   pub kept : Closed
-  pub closed : WasClosed sum own s last kept
+  pub closed : WasClosed sum own d s last kept
   pub listing : t.listing
       ≡ record { first = s.listing.first; closed = s.listing.closed ++ kept ∷ [] }
   pub entries : records_now own t.manifest
@@ -307,45 +339,64 @@ pub record IsRotated (sum own : List ℕ → ℕ) (s t : LogState) : Type 0 wher
   pub listed : HasJournal t.manifest.journal (λ w. Unit {0})
   pub there : HasJournal t.current.journal (λ w. Unit {0})
   pub none : records_now own t.current ≡ []
-  -- the next file, its name, the closed blob, and then the manifest with its entry
-  pub copied : IsKept (asked_turning s last) t
+  -- the list, the next file, its name, the closed blob, and then the manifest with its entry
+  pub copied : IsKept (asked_turning d s last) t
   pub known : t.known ≡ 0
-  pub loaded : t.loaded ≡ s.loaded
+  pub reading : t.reading ≡ s.reading
   pub page_size : t.page_size ≡ s.page_size
   pub most : t.most ≡ s.most
 
--- a rotation that failed as the open segment was committed: nothing else was done
-pub record IsNotClosed (sum own : List ℕ → ℕ) (s t : LogState) (e : Error) : Type 0 where
+-- a rotation that failed as the open segment was committed, or as its digests were made: nothing
+-- else was done
+pub record IsNotClosed (sum own : List ℕ → ℕ) (d : List ℕ → List ℕ) (s t : LogState) (e : Error)
+    : Type 0 where
   pub rest : IsSameButCurrent s t
-  pub refused : OwnedCloseGoes sum own s.current t.current (Err e)
+  pub refused : OwnedSealGoes d sum own s.current t.current (Err e)
 
--- a rotation that failed as the next segment was opened: all of the open one is durable, and the
+-- the folder refused to write the list of the open segment
+abbrev pub ListRefused : (d : List ℕ → List ℕ) → LogState → LogState → Error → Type 0
+ListRefused d s t (errors.System e) = t.asked ≡ s.asked ++ listing_event d s true ∷ []
+ListRefused d s t e = ⊥
+
+-- a rotation that failed as the list was written: all of the open segment is durable, and the
 -- manifest is as it was
-pub record IsNotFollowed (sum own : List ℕ → ℕ) (s t : LogState) (e : Error) : Type 0 where
+pub record IsNotWritten (sum own : List ℕ → ℕ) (d : List ℕ → List ℕ) (s t : LogState) (e : Error)
+    : Type 0 where
   pub shut : IsShut sum own s.page_size (records_now own s.current) t.current.life
   pub manifest : t.manifest ≡ s.manifest
   pub rest : ListsTheSame s t
-  pub refused : NextRefused s t e
+  pub refused : ListRefused d s t e
+
+-- a rotation that failed as the next segment was opened: all of the open one is durable, and the
+-- manifest is as it was
+pub record IsNotFollowed (sum own : List ℕ → ℕ) (d : List ℕ → List ℕ) (s t : LogState) (e : Error)
+    : Type 0 where
+  pub shut : IsShut sum own s.page_size (records_now own s.current) t.current.life
+  pub manifest : t.manifest ≡ s.manifest
+  pub rest : ListsTheSame s t
+  pub refused : NextRefused (record s { asked = asked_listing d s }) t e
 
 -- a rotation that failed as the manifest was to get its entry: all of the closed segment is
 -- durable. The manifest is as it was; or it has no journal, and whether it has the entry shows at
 -- an opening
-pub record IsNotListed (sum own : List ℕ → ℕ) (s t : LogState) (e : Error) : Type 0 where
+pub record IsNotListed (sum own : List ℕ → ℕ) (d : List ℕ → List ℕ) (s t : LogState) (e : Error)
+    : Type 0 where
   pub last : Life
   pub kept : Closed
-  pub closed : WasClosed sum own s last kept
+  pub closed : WasClosed sum own d s last kept
   pub numbered : open_in s.listing ≢ 18446744073709551615
-  pub asked : t.asked ≡ asked_turning s last
+  pub asked : t.asked ≡ asked_turning d s last
   pub rest : ListsTheSame s t
   pub left : (t.manifest ≡ s.manifest) ⊎ (t.manifest.journal ≡ None)
   pub refused : EnterRefused (Closes kept) s e
 
 -- a rotation, by its answer: after an error the log has no open segment, and lists what it listed
-abbrev pub RotateGoes : (sum own : List ℕ → ℕ) → LogState → LogState → Result (Unit {0}) Error
-    → Type 0
-RotateGoes sum own s t (Ok u) = IsRotated sum own s t
-RotateGoes sum own s t (Err e) = (t.current.journal ≡ None)
-    × (IsNotClosed sum own s t e ⊎ IsNotFollowed sum own s t e ⊎ IsNotListed sum own s t e)
+abbrev pub RotateGoes : (sum own : List ℕ → ℕ) → (d : List ℕ → List ℕ) → LogState → LogState
+    → Result (Unit {0}) Error → Type 0
+RotateGoes sum own d s t (Ok u) = IsRotated sum own d s t
+RotateGoes sum own d s t (Err e) = (t.current.journal ≡ None)
+    × (IsNotClosed sum own d s t e ⊎ IsNotWritten sum own d s t e
+    ⊎ IsNotFollowed sum own d s t e ⊎ IsNotListed sum own d s t e)
 
 -- where the blob was durable, chance aside a crash leaves only the first of its records
 abbrev pub LeavesOpened : (sum own : List ℕ → ℕ) → ℕ → Life → OwnedState → Type 0
@@ -362,46 +413,47 @@ AppendHereGoes sum own bytes s t (Ok p) = (p.segment ≡ open_in s.listing)
 AppendHereGoes sum own bytes s t (Err e) = OwnedAppendGoes sum own bytes s.current t.current (Err e)
 
 -- a record was appended: to the open segment, or to the next one, after a rotation
-pub record IsAppendedTo (sum own : List ℕ → ℕ) (bytes : List ℕ) (s t : LogState) (p : Place)
-    : Type 0 where
+pub record IsAppendedTo (sum own : List ℕ → ℕ) (d : List ℕ → List ℕ) (bytes : List ℕ)
+    (s t : LogState) (p : Place) : Type 0 where
   pub mid : LogState
   pub before : ((mid ≡ s) × (owned_size s.current.journal < s.most))
-      ⊎ (IsRotated sum own s mid × (s.most ≤ owned_size s.current.journal))
+      ⊎ (IsRotated sum own d s mid × (s.most ≤ owned_size s.current.journal))
   pub here : AppendHereGoes sum own bytes mid t (Ok p)
   pub rest : IsSameButCurrent mid t
 
 -- a rotation went well, and then the append to the next segment was refused
-pub record IsRefusedAfter (sum own : List ℕ → ℕ) (bytes : List ℕ) (s t : LogState) (e : Error)
-    : Type 0 where
+pub record IsRefusedAfter (sum own : List ℕ → ℕ) (d : List ℕ → List ℕ) (bytes : List ℕ)
+    (s t : LogState) (e : Error) : Type 0 where
   pub mid : LogState
-  pub turned : IsRotated sum own s mid
+  pub turned : IsRotated sum own d s mid
   pub rest : IsSameButCurrent mid t
   pub refused : OwnedAppendGoes sum own bytes mid.current t.current (Err e)
 
 -- an append is refused: the append to the open segment, and nothing else was done; or, where the
 -- log is to be rotated first, the rotation, or the append to the next segment
-abbrev pub AppendRefused : (sum own : List ℕ → ℕ) → List ℕ → LogState → LogState → Error → Type 0
-AppendRefused sum own bytes s t e =
+abbrev pub AppendRefused : (sum own : List ℕ → ℕ) → (d : List ℕ → List ℕ) → List ℕ
+    → LogState → LogState → Error → Type 0
+AppendRefused sum own d bytes s t e =
     ((owned_size s.current.journal < s.most) × IsSameButCurrent s t
     × OwnedAppendGoes sum own bytes s.current t.current (Err e))
     ⊎ ((s.most ≤ owned_size s.current.journal)
-    × (RotateGoes sum own s t (Err e) ⊎ IsRefusedAfter sum own bytes s t e))
+    × (RotateGoes sum own d s t (Err e) ⊎ IsRefusedAfter sum own d bytes s t e))
 
 -- an append, by its answer: after an error the log has no open segment
-abbrev pub LogAppendGoes : (sum own : List ℕ → ℕ) → List ℕ → LogState → LogState
-    → Result Place Error → Type 0
-LogAppendGoes sum own bytes s t (Ok p) = IsAppendedTo sum own bytes s t p
-LogAppendGoes sum own bytes s t (Err e) =
-    (t.current.journal ≡ None) × AppendRefused sum own bytes s t e
+abbrev pub LogAppendGoes : (sum own : List ℕ → ℕ) → (d : List ℕ → List ℕ) → List ℕ
+    → LogState → LogState → Result Place Error → Type 0
+LogAppendGoes sum own d bytes s t (Ok p) = IsAppendedTo sum own d bytes s t p
+LogAppendGoes sum own d bytes s t (Err e) =
+    (t.current.journal ≡ None) × AppendRefused sum own d bytes s t e
 
 -- ---- the records, by what closed segments held
 
 -- each closed segment held a content of which this was kept
-abbrev pub TellHeld : (sum : List ℕ → ℕ) → ℕ → (held : ℕ → List ℕ) → (first : ℕ) → List Closed
-    → Type 0
-TellHeld sum P held first [] = Unit {0}
-TellHeld sum P held first (c ∷ cs) =
-    HoldsClosed sum P c (held first) × TellHeld sum P held (suc first) cs
+abbrev pub TellHeld : (sum : List ℕ → ℕ) → (d : List ℕ → List ℕ) → ℕ → (held : ℕ → List ℕ)
+    → (first : ℕ) → List Closed → Type 0
+TellHeld sum d P held first [] = Unit {0}
+TellHeld sum d P held first (c ∷ cs) =
+    HoldsClosed sum d P c (held first) × TellHeld sum d P held (suc first) cs
 
 -- the records of closed segments that held these, joined
 abbrev pub closed_records : (own : List ℕ → ℕ) → (held : ℕ → List ℕ) → (first : ℕ) → List Closed
@@ -420,29 +472,31 @@ abbrev pub IsClosedIn : ListingState → ℕ → Type 0
 IsClosedIn l segment = (kept : Closed) × (closed_at l segment ≡ Some kept)
 
 -- this segment is closed, and of what it held a twin was found
-abbrev pub HasTwinAt : (sum : List ℕ → ℕ) → ℕ → (held : ℕ → List ℕ) → ListingState → ℕ → Type 0
-HasTwinAt sum P held l segment = (kept : Closed) × (closed_at l segment ≡ Some kept)
-    × HasTwinOf sum P kept (held segment)
+abbrev pub HasTwinAt : (sum : List ℕ → ℕ) → (d : List ℕ → List ℕ) → ℕ → (held : ℕ → List ℕ)
+    → ListingState → ℕ → Type 0
+HasTwinAt sum d P held l segment = (kept : Closed) × (closed_at l segment ≡ Some kept)
+    × HasTwinOf sum d P kept (held segment)
 
 -- of what a closed segment held a twin was found
-abbrev pub HasTwinIn : (sum : List ℕ → ℕ) → ℕ → (held : ℕ → List ℕ) → ListingState → Type 0
-HasTwinIn sum P held l = (segment : ℕ) × HasTwinAt sum P held l segment
+abbrev pub HasTwinIn : (sum : List ℕ → ℕ) → (d : List ℕ → List ℕ) → ℕ → (held : ℕ → List ℕ)
+    → ListingState → Type 0
+HasTwinIn sum d P held l = (segment : ℕ) × HasTwinAt sum d P held l segment
+
+-- a second preimage is at hand of what the open segment is said to have held
+abbrev pub HasOpenTwin : (d : List ℕ → List ℕ) → (held : ℕ → List ℕ) → LogState → Type 0
+HasOpenTwin d held s = HasSecondPreimage d s.page_size (held (open_in s.listing))
 
 -- whatever the closed segments held, so long as it fits what was kept of them: the log has the
--- records that it had, and then these; or what the segment held that was the open one, and is
--- closed now, has a twin
-abbrev pub HasMore : (sum own : List ℕ → ℕ) → List (List ℕ) → LogState → LogState → Type 0
-HasMore sum own more s t = (held : ℕ → List ℕ)
-    → TellHeld sum t.page_size held t.listing.first t.listing.closed
+-- records that it had, and then these; or a second preimage is at hand of what the segment held
+-- that was the open one, and is closed now
+abbrev pub HasMore : (sum own : List ℕ → ℕ) → (d : List ℕ → List ℕ) → List (List ℕ)
+    → LogState → LogState → Type 0
+HasMore sum own d more s t = (held : ℕ → List ℕ)
+    → TellHeld sum d t.page_size held t.listing.first t.listing.closed
     → (log_records own held t ≡ log_records own held s ++ more)
-    ⊎ HasTwinAt sum t.page_size held t.listing (open_in s.listing)
+    ⊎ HasOpenTwin d held s
 
 -- ---- reading
-
--- a read of the frame at an offset of a content
-abbrev pub IsReadOf : (own : List ℕ → ℕ) → List ℕ → ℕ → Option Found → Type 0
-IsReadOf own held offset None = length held ≤ offset
-IsReadOf own held offset (Some f) = IsFound own held offset f.bytes f.end
 
 -- the content of the open segment, where it has a journal
 abbrev pub IsCurrentContent : LogState → List ℕ → Type 0
@@ -454,18 +508,13 @@ abbrev pub IsReadOfOpen : (own : List ℕ → ℕ) → LogState → ℕ → Opti
 IsReadOfOpen own s offset found =
     (content : List ℕ) × IsCurrentContent s content × IsReadOf own content offset found
 
--- a frame that is found ends behind its offset
-abbrev pub EndsBehind : ℕ → Option Found → Type 0
-EndsBehind offset None = Unit {0}
-EndsBehind offset (Some f) = offset < f.end
-
 -- a read of the frame at an offset of a closed segment of which this was kept: whatever content the
 -- segment held, the read is of that, or the content has a twin
-pub record IsReadOfClosed (sum own : List ℕ → ℕ) (P : ℕ) (kept : Closed) (offset : ℕ)
-    (found : Option Found) : Type 0 where
+pub record IsReadOfClosed (sum own : List ℕ → ℕ) (d : List ℕ → List ℕ) (P : ℕ) (kept : Closed)
+    (offset : ℕ) (found : Option Found) : Type 0 where
   pub forward : EndsBehind offset found
-  pub reads : (content : List ℕ) → HoldsClosed sum P kept content
-      → IsReadOf own content offset found ⊎ HasTwinOf sum P kept content
+  pub reads : (content : List ℕ) → HoldsClosed sum d P kept content
+      → IsReadOf own content offset found ⊎ HasTwinOf sum d P kept content
 
 -- a segment is closed
 abbrev pub IsListed : LogState → ℕ → Type 0
@@ -478,30 +527,49 @@ ReadFails own s t p e = ((p.segment ≡ open_in s.listing)
     × OwnedReadGoes own p.offset s.current t.current (Err (errors.Layer e)))
     ⊎ IsListed s p.segment
 
+-- a segment is closed, and of its fingerprint this holds
+abbrev pub IsKeptAs : ListingState → ℕ → (Fingerprint → Type 0) → Type 0
+IsKeptAs l segment Is =
+    (kept : Closed) × (closed_at l segment ≡ Some kept) × Is kept.fingerprint
+
+-- a segment of this fingerprint is damaged, as a read at an offset of it shows. Of one that is
+-- known by its whole file nothing more is said
+abbrev pub IsDamagedBy : (d : List ℕ → List ℕ) → ℕ → (offset : ℕ) → Fingerprint → Type 0
+IsDamagedBy d P offset (Whole kept) = Unit {0}
+IsDamagedBy d P offset (Paged kept) = IsDamagedPaged d P kept.seal offset
+
+-- a content of this fingerprint has more bytes than a content can have that is read by its pages
+abbrev pub IsBeyondPages : Fingerprint → Type 0
+IsBeyondPages (Whole kept) = ⊥
+IsBeyondPages (Paged kept) = IsBeyondLimit kept.seal
+
 -- a read of a segment is refused: there is none of this number; or it is closed, and its file
--- doesn't hold what it held, or the folder refuses the file; or it is the open one, and a call
--- before failed; or the device or memory failed
-abbrev pub LogReadRefused : (own : List ℕ → ℕ) → LogState → LogState → Place → Error → Type 0
-LogReadRefused own s t p (errors.NoSegment n) = (n ≡ p.segment)
+-- doesn't hold what it held, or the folder refuses a file, or the manifest can't be right about its
+-- length; or it is the open one, and a call before failed; or the device or memory failed
+abbrev pub LogReadRefused : (own : List ℕ → ℕ) → (d : List ℕ → List ℕ) → LogState → LogState
+    → Place → Error → Type 0
+LogReadRefused own d s t p (errors.NoSegment n) = (n ≡ p.segment)
     × (p.segment ≢ open_in s.listing) × (closed_at s.listing p.segment ≡ None)
-LogReadRefused own s t p (errors.Damaged n) = (n ≡ p.segment) × IsListed s p.segment
-LogReadRefused own s t p (errors.System e) = IsListed s p.segment
-LogReadRefused own s t p errors.Closed =
+LogReadRefused own d s t p (errors.Damaged n) = (n ≡ p.segment)
+    × IsKeptAs s.listing p.segment (IsDamagedBy d s.page_size p.offset)
+LogReadRefused own d s t p (errors.System e) = IsListed s p.segment
+LogReadRefused own d s t p errors.Manifest = IsKeptAs s.listing p.segment IsBeyondPages
+LogReadRefused own d s t p errors.Closed =
     (p.segment ≡ open_in s.listing) × (s.current.journal ≡ None)
-LogReadRefused own s t p (errors.Layer e) = ReadFails own s t p e
-LogReadRefused own s t p e = ⊥
+LogReadRefused own d s t p (errors.Layer e) = ReadFails own s t p e
+LogReadRefused own d s t p e = ⊥
 
 -- a read at a place, by its answer: of the open segment, or of a closed one
-abbrev pub LogReadGoes : (sum own : List ℕ → ℕ) → LogState → LogState → Place
-    → Result (Option Found) Error → Type 0
-LogReadGoes sum own s t p (Ok found) =
+abbrev pub LogReadGoes : (sum own : List ℕ → ℕ) → (d : List ℕ → List ℕ) → LogState → LogState
+    → Place → Result (Option Found) Error → Type 0
+LogReadGoes sum own d s t p (Ok found) =
     ((p.segment ≡ open_in s.listing) × IsReadOfOpen own s p.offset found)
     ⊎ ((kept : Closed) × (closed_at s.listing p.segment ≡ Some kept)
-    × IsReadOfClosed sum own s.page_size kept p.offset found)
-LogReadGoes sum own s t p (Err e) = LogReadRefused own s t p e
+    × IsReadOfClosed sum own d s.page_size kept p.offset found)
+LogReadGoes sum own d s t p (Err e) = LogReadRefused own d s t p e
 
--- what a read leaves: all of the log, except the closed segment in memory; the open segment was
--- only read
+-- what a read leaves: all of the log, except for the closed segments that were read last; the open
+-- segment was only read
 pub record LeavesReading (sum own : List ℕ → ℕ) (s t : LogState) : Type 0 where
   pub manifest : t.manifest ≡ s.manifest
   pub listing : t.listing ≡ s.listing
@@ -513,33 +581,30 @@ pub record LeavesReading (sum own : List ℕ → ℕ) (s t : LogState) : Type 0 
   pub holds : content_now t.current ≡ content_now s.current
   pub journal : t.current.journal ≡ s.current.journal
 
--- a closed segment was read at an offset
-abbrev pub HeldReadGoes : (sum own : List ℕ → ℕ) → ℕ → Closed → ℕ
+-- a closed segment that is in memory was read at an offset
+abbrev pub HeldReadGoes : (sum own : List ℕ → ℕ) → (d : List ℕ → List ℕ) → ℕ → FileDigest → ℕ
     → Result (Option Found) Error → Type 0
-HeldReadGoes sum own P kept offset (Ok found) = IsReadOfClosed sum own P kept offset found
-HeldReadGoes sum own P kept offset (Err (errors.Layer e)) = Unit {0}
-HeldReadGoes sum own P kept offset (Err _) = ⊥
+HeldReadGoes sum own d P kept offset (Ok found) =
+    (records : ℕ) → IsReadOfClosed sum own d P (closed_by records (Whole kept)) offset found
+HeldReadGoes sum own d P kept offset (Err (errors.Layer e)) = Unit {0}
+HeldReadGoes sum own d P kept offset (Err _) = ⊥
 
--- a closed segment is in memory
-pub record HasLoaded (sum own : List ℕ → ℕ) (s : LogState) (number : ℕ) (l : LoadedState)
+-- a closed segment that has this digest is in memory
+pub record HasLoaded (sum own : List ℕ → ℕ) (s : LogState) (kept : FileDigest) (l : LoadedState)
     : Type 0 where
-  pub kept : Closed
-  pub listed : closed_at s.listing number ≡ Some kept
-  pub same : SameKept l.kept kept
+  pub same : l.kept ≡ kept
   pub loaded : IsLoaded sum own s.page_size l
 
-abbrev pub TakeLoadedGoes : (sum own : List ℕ → ℕ) → LogState → ℕ
+abbrev pub TakeLoadedGoes : (sum own : List ℕ → ℕ) → LogState → ℕ → FileDigest
     → Result LoadedState Error → Type 0
-TakeLoadedGoes sum own s number (Ok l) = HasLoaded sum own s number l
-TakeLoadedGoes sum own s number (Err (errors.NoSegment n)) =
-    (n ≡ number) × (closed_at s.listing number ≡ None)
-TakeLoadedGoes sum own s number (Err (errors.Damaged n)) = (n ≡ number) × IsListed s number
-TakeLoadedGoes sum own s number (Err (errors.System e)) = IsListed s number
-TakeLoadedGoes sum own s number (Err (errors.Layer e)) = IsListed s number
-TakeLoadedGoes sum own s number (Err e) = ⊥
+TakeLoadedGoes sum own s number kept (Ok l) = HasLoaded sum own s kept l
+TakeLoadedGoes sum own s number kept (Err (errors.Damaged n)) = n ≡ number
+TakeLoadedGoes sum own s number kept (Err (errors.System e)) = Unit {0}
+TakeLoadedGoes sum own s number kept (Err (errors.Layer e)) = Unit {0}
+TakeLoadedGoes sum own s number kept (Err e) = ⊥
 
--- the log is the same, except for the closed segment in memory
-pub record IsSameButLoaded (s t : LogState) : Type 0 where
+-- the log is the same, except for the closed segments that were read last
+pub record IsSameButReading (s t : LogState) : Type 0 where
   pub manifest : t.manifest ≡ s.manifest
   pub current : t.current ≡ s.current
   pub listing : t.listing ≡ s.listing
@@ -630,7 +695,7 @@ pub record IsClosedOff (s t : LogState) : Type 0 where
   pub current : t.current ≡ without_journal s.current
   pub listing : t.listing ≡ s.listing
   pub asked : t.asked ≡ s.asked
-  pub loaded : t.loaded ≡ s.loaded
+  pub reading : t.reading ≡ s.reading
   pub page_size : t.page_size ≡ s.page_size
   pub most : t.most ≡ s.most
   pub known : t.known ≡ s.known

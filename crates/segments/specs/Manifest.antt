@@ -5,42 +5,74 @@ use Rattle.std.specs.Prelude.{slice_get, nat_lt, Bool, true, false, Result, Ok, 
 use Rattle.std.specs.List.{list_all}
 use Rattle.std.specs.Int.{w16, w64, to_be_bytes, from_be_bytes}
 use Rattle.segments.specs.declared.closed.Closed.{Closed}
+use Rattle.segments.specs.declared.closed.Fingerprint.{Fingerprint}
+use Rattle.segments.specs.declared.closed.Fingerprint.TheVariants.{Whole, Paged}
 use Rattle.segments.specs.declared.entry.Entry.{Entry}
 use Rattle.segments.specs.declared.entry.Entry.TheVariants.{Starts, Closes}
+
+-- what is kept of a segment that has so many records, and this fingerprint
+abbrev pub closed_by : (records : ℕ) → Fingerprint → Closed
+closed_by records fingerprint = record { records = records; fingerprint = fingerprint }
+
+-- an entry that closes a segment as bytes, by what is kept of its content
+abbrev pub closing_bytes : (records : ℕ) → Fingerprint → List ℕ
+closing_bytes records (Whole kept) =
+    1 ∷ to_be_bytes w64 records ++ to_be_bytes w64 kept.len ++ kept.digest
+closing_bytes records (Paged kept) =
+    2 ∷ to_be_bytes w64 records ++ to_be_bytes w64 kept.seal.len ++ kept.number ∷ kept.seal.root
 
 -- an entry as bytes
 abbrev pub entry_bytes : Entry → List ℕ
 entry_bytes (Starts first page_size) = 0 ∷ to_be_bytes w64 first ++ to_be_bytes w16 page_size
-entry_bytes (Closes c) = 1 ∷ to_be_bytes w64 c.records ++ to_be_bytes w64 c.len ++ c.digest
+entry_bytes (Closes c) = closing_bytes c.records c.fingerprint
 
 -- how many logical bytes of the last page are free, of a manifest that has so many
 abbrev pub free_after : (page_size size : ℕ) → ℕ
 free_after page_size size = (page_size - size % page_size) % page_size
 
--- how many zeros stand behind an entry that closes a segment, in a manifest that had so many
--- logical bytes. The frame of the entry has 56. If less than 18 would be free behind it, which the
--- frame of a drop's entry has, the zeros go on into the next page. A page of 18 bytes or fewer has
--- no such room
-abbrev pub padding : (page_size size : ℕ) → ℕ
-padding page_size size =
-    let free = free_after page_size (size % page_size + 56) in
+-- how many bytes the frame of an entry has that closes a segment, without zeros behind it
+abbrev pub closing_len : Fingerprint → ℕ
+closing_len (Whole kept) = 56
+closing_len (Paged kept) = 57
+
+-- how many zeros stand behind an entry that closes a segment, whose frame has so many bytes, in a
+-- manifest that had so many logical bytes. If less than 18 would be free behind it, which the frame
+-- of a drop's entry has, the zeros go on into the next page. A page of 18 bytes or fewer has no
+-- such room
+abbrev pub padding : (page_size size closing : ℕ) → ℕ
+padding page_size size closing =
+    let free = free_after page_size (size % page_size + closing) in
     if nat_lt free 18 && nat_lt 18 page_size then free + 1 else 0
 
 -- an entry as the bytes that a manifest gets that had so many logical bytes
 abbrev pub padded : (page_size size : ℕ) → Entry → List ℕ
 padded page_size size (Starts first pages) = entry_bytes (Starts first pages)
-padded page_size size (Closes c) = entry_bytes (Closes c) ++ replicate (padding page_size size) 0
+padded page_size size (Closes c) = entry_bytes (Closes c)
+    ++ replicate (padding page_size size (closing_len c.fingerprint)) 0
 
--- the entry that closes a segment in 49 bytes, behind which zeros may stand; none if others stand
--- there
-abbrev pub closing_in : List ℕ → Option Entry
-closing_in bytes =
+-- the entry that closes a segment in 49 bytes, by its whole file; zeros may stand behind it. None
+-- if others stand there
+abbrev pub whole_in : List ℕ → Option Entry
+whole_in bytes =
     if list_all (λ b. b == 0) (drop 49 bytes) then
-    Some (Closes (record {
-      records = from_be_bytes w64 (drop 1 bytes);
+    Some (Closes (closed_by (from_be_bytes w64 (drop 1 bytes)) (Whole (record {
       len = from_be_bytes w64 (drop 9 bytes);
       digest = take 32 (drop 17 bytes);
-    }))
+    }))))
+    else None
+
+-- the entry that closes a segment in 50 bytes, by its pages; zeros may stand behind it. None if
+-- others stand there
+abbrev pub paged_in : List ℕ → Option Entry
+paged_in bytes =
+    if list_all (λ b. b == 0) (drop 50 bytes) then
+    Some (Closes (closed_by (from_be_bytes w64 (drop 1 bytes)) (Paged (record {
+      number = slice_index bytes 17;
+      seal = record {
+        len = from_be_bytes w64 (drop 9 bytes);
+        root = take 32 (drop 18 bytes);
+      };
+    }))))
     else None
 
 -- the entry that some bytes are, by the first of them and by how many there are; none for others
@@ -48,7 +80,8 @@ unfoldable pub entry_in : List ℕ → Option Entry
 entry_in bytes =
     if (length bytes == 11) && (slice_index bytes 0 == 0) then
     Some (Starts (from_be_bytes w64 (drop 1 bytes)) (from_be_bytes w16 (drop 9 bytes)))
-    else if nat_lt 48 (length bytes) && (slice_index bytes 0 == 1) then closing_in bytes
+    else if nat_lt 48 (length bytes) && (slice_index bytes 0 == 1) then whole_in bytes
+    else if nat_lt 49 (length bytes) && (slice_index bytes 0 == 2) then paged_in bytes
     else None
 
 -- the closed segments that weren't dropped, one after the other, and the number of the first

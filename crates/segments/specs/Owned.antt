@@ -1,5 +1,5 @@
 -- A blob with a journal on it, and a cache of its own.
-use Rattle.std.specs.Prelude.{◌≡◌, ◌+◌, ℕ, List, [], ◌∷◌, ◌++◌, length, Option, Some, None}
+use Rattle.std.specs.Prelude.{◌≡◌, ◌⊎◌, ◌+◌, ℕ, List, [], ◌∷◌, ◌++◌, length, Option, Some, None}
 use Rattle.std.specs.Prelude.{IfSome}
 use Rattle.std.specs.Prelude.{Result, Ok, Err, Vec}
 use Rattle.std.specs.declared.alloc.Global.{Global}
@@ -15,7 +15,10 @@ use Rattle.journal.specs.Journal.{AppendRecordGoes, CommitGoes, IsJournal, ReadR
 use Rattle.journal.specs.Journal.{StartCommitGoes, WaitForCommitGoes}
 use Rattle.journal.specs.Frame.{records}
 use Rattle.journal.specs.Journal.{CommitsAll, KeepsCommitted, LeavesRecords}
-use Rattle.journal.specs.Journal.{records_in}
+use Rattle.journal.specs.Journal.{ReadContentGoes, RecordReadRefused, records_in}
+use Rattle.page_digests.specs.Pages.{list_of}
+use Rattle.page_digests.specs.Seals.{AreLevelsOf, EachIsByte, TellsApart}
+use Rattle.page_digests.specs.declared.levels.Levels.{Levels}
 use Rattle.page.specs.Page.{text}
 use Rattle.paged.specs.Reads.{size_of}
 use Rattle.paged.specs.Recovery.{IsDurable}
@@ -152,15 +155,58 @@ pub record IsShut (sum own : List ℕ → ℕ) (P : ℕ) (all : List (List ℕ))
   pub durable : IsDurable life.present
   pub tells : records own (text sum P life.present.readable) ≡ all
 
--- a closing, by its answer
-abbrev pub OwnedCloseGoes : (sum own : List ℕ → ℕ) → OwnedState → OwnedState
+-- a read of bytes within the content of a journal into a buffer, by its answer
+abbrev pub OwnedContentGoes : (offset : ℕ) → (before after : List ℕ) → OwnedState → OwnedState
     → Result (Unit {0}) Error → Type 0
-OwnedCloseGoes sum own s t (Ok _) = HasJournal s.journal (λ w.
-    IsShut sum own s.page_size (records_in own w s.life) t.life)
-OwnedCloseGoes sum own s t (Err (errors.Layer e)) = HasJournal s.journal (λ w.
-    CommitGoes sum own w t.cache s.life t.life (Err e))
-OwnedCloseGoes sum own s t (Err errors.Closed) = (s.journal ≡ None) × (t ≡ s)
-OwnedCloseGoes sum own s t (Err _) = ⊥
+OwnedContentGoes offset before after s t (Ok u) = HasJournal s.journal (λ w.
+    ReadContentGoes (content w s.life.present.readable) offset before after s.life t.life (Ok u))
+OwnedContentGoes offset before after s t (Err (errors.Layer e)) = HasJournal s.journal (λ w.
+    ReadContentGoes (content w s.life.present.readable) offset before after s.life t.life (Err e))
+OwnedContentGoes offset before after s t (Err errors.Closed) = (s.journal ≡ None) × (t ≡ s)
+OwnedContentGoes offset before after s t (Err _) = ⊥
+
+-- the digests of the pages of a journal's content can't be made: there is no journal; or one of the
+-- pages couldn't be read, or memory was refused
+abbrev pub DigestsFail : OwnedState → OwnedState → Error → Type 0
+DigestsFail s t (errors.Layer e) =
+    HasJournal s.journal (λ w. (mid : Life) × RecordReadRefused mid t.life e)
+DigestsFail s t errors.Closed = s.journal ≡ None
+DigestsFail s t _ = ⊥
+
+-- the digests of the pages of a journal's content, by the answer; then its content is of bytes
+abbrev pub ListGoes : (d : List ℕ → List ℕ) → OwnedState → OwnedState → {A : Type 0}
+    → Result (Vec ℕ A) Error → Type 0
+ListGoes d s t (Ok list) = HasJournal s.journal (λ w. Unit {0})
+    × (list.items ≡ list_of d s.page_size (content_now s)) × EachIsByte (content_now s)
+ListGoes d s t (Err e) = DigestsFail s t e
+
+-- the levels of a journal's content, by the answer
+abbrev pub LevelsGo : (d : List ℕ → List ℕ) → OwnedState → OwnedState → Result Levels Error
+    → Type 0
+LevelsGo d s t (Ok levels) = AreLevelsOf d s.page_size (content_now s) levels
+    × TellsApart d s.page_size (content_now s) levels.root
+LevelsGo d s t (Err e) = DigestsFail s t e
+
+-- all records of a journal were committed, and all of the blob is durable; then a page of its
+-- content couldn't be read, or memory was refused as the digests of its pages were made
+pub record IsUndigested (sum own : List ℕ → ℕ) (P : ℕ) (w : WriterState) (old new : Life)
+    (e : layer.Error) : Type 0 where
+  pub shut : IsShut sum own P (records_in own w old) new
+  pub cause : (mid : Life) × RecordReadRefused mid new e
+
+-- a journal is sealed, by the answer: all its records were committed, and it is closed; the answer
+-- is the levels of its content. An error is that of the commit, or one of the digests
+abbrev pub OwnedSealGoes : (d : List ℕ → List ℕ) → (sum own : List ℕ → ℕ) → OwnedState
+    → OwnedState → Result Levels Error → Type 0
+OwnedSealGoes d sum own s t (Ok levels) =
+    HasJournal s.journal (λ w. IsShut sum own s.page_size (records_in own w s.life) t.life)
+    × AreLevelsOf d s.page_size (content_now s) levels
+    × TellsApart d s.page_size (content_now s) levels.root
+OwnedSealGoes d sum own s t (Err (errors.Layer e)) = HasJournal s.journal (λ w.
+    CommitGoes sum own w t.cache s.life t.life (Err e)
+    ⊎ IsUndigested sum own s.page_size w s.life t.life e)
+OwnedSealGoes d sum own s t (Err errors.Closed) = (s.journal ≡ None) × (t ≡ s)
+OwnedSealGoes d sum own s t (Err _) = ⊥
 
 -- what was committed is so at each moment since, and chance aside (no checksum collides) a crash at
 -- any of these moments leaves only the first of the records

@@ -10,7 +10,7 @@ use Rattle.page_digests.specs.Reads.{pages_touched}
 use Rattle.page_digests.specs.Seals.{HasSecondPreimage, IsSealOf, IsVerified}
 use Rattle.page_digests.specs.declared.error.Error.{Error}
 use Rattle.page_digests.specs.declared.seal.Seal.{Seal}
-use Rattle.segments.specs.Log.{EndsBehind, IsReadOf}
+use Rattle.segments.specs.FrameReads.{EndsBehind, IsReadOf}
 
 -- how many pages of the list have bytes of the digests of the pages that a range touches
 abbrev pub list_pages_touched : (P offset len : ℕ) → ℕ

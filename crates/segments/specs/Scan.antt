@@ -48,28 +48,31 @@ ComesFirst own s p = (held : ℕ → List ℕ) → records_from own held s p ≡
 
 -- whatever the closed segments held, so long as it fits what was kept of them: there are just these
 -- records from the one place to the other, or what a closed segment held has a twin
-abbrev pub StandBy : (sum own : List ℕ → ℕ) → ℕ → ListingState → (content : List ℕ)
+abbrev pub StandBy : (sum own : List ℕ → ℕ) → (d : List ℕ → List ℕ) → ℕ → ListingState
+    → (content : List ℕ)
     → List (List ℕ) → (from to : Place) → Type 0
-StandBy sum own P l content these from to =
-    (held : ℕ → List ℕ) → TellHeld sum P held l.first l.closed
+StandBy sum own d P l content these from to =
+    (held : ℕ → List ℕ) → TellHeld sum d P held l.first l.closed
     → (records_at own held l content from
-    ≡ these ++ records_at own held l content to) ⊎ HasTwinIn sum P held l
+    ≡ these ++ records_at own held l content to) ⊎ HasTwinIn sum d P held l
 
 -- in a log there are just these records from the one place to the other, as `StandBy` has it
-abbrev pub StandBetween : (sum own : List ℕ → ℕ) → LogState → List (List ℕ) → (from to : Place)
+abbrev pub StandBetween : (sum own : List ℕ → ℕ) → (d : List ℕ → List ℕ) → LogState → List (List ℕ)
+    → (from to : Place)
     → Type 0
-StandBetween sum own s these from to =
-    StandBy sum own s.page_size s.listing (content_now s.current) these from to
+StandBetween sum own d s these from to =
+    StandBy sum own d s.page_size s.listing (content_now s.current) these from to
 
 -- there is no record from this place on
 abbrev pub IsEnd : (own : List ℕ → ℕ) → LogState → Place → Type 0
 IsEnd own s p = (held : ℕ → List ℕ) → records_from own held s p ≡ []
 
 -- a record was found: none stands before it, and it alone before the place behind it
-abbrev pub IsNextAt : (sum own : List ℕ → ℕ) → LogState → (from at behind : Place) → List ℕ
+abbrev pub IsNextAt : (sum own : List ℕ → ℕ) → (d : List ℕ → List ℕ) → LogState
+    → (from at behind : Place) → List ℕ
     → Type 0
-IsNextAt sum own s from at behind bytes = StandBetween sum own s [] from at
-    × StandBetween sum own s (bytes ∷ []) at behind
+IsNextAt sum own d s from at behind bytes = StandBetween sum own d s [] from at
+    × StandBetween sum own d s (bytes ∷ []) at behind
 
 -- how far the end is, at most; each step forward makes this number smaller
 abbrev pub far_from : LogState → Place → ℕ
@@ -82,27 +85,30 @@ pub record IsBehind (s : LogState) (from to : Place) : Type 0 where
 
 -- one frame further, by what is found: a record, and the place behind it; or no record, and where
 -- to go on; or the end
-abbrev pub StepGoes : (sum own : List ℕ → ℕ) → LogState → LogState → Place → Result Step Error
+abbrev pub StepGoes : (sum own : List ℕ → ℕ) → (d : List ℕ → List ℕ) → LogState → LogState → Place
+    → Result Step Error
     → Type 0
-StepGoes sum own s t at (Ok (Record bytes behind)) = StandBetween sum own s (bytes ∷ []) at behind
-StepGoes sum own s t at (Ok (Passed to)) = StandBetween sum own s [] at to × IsBehind s at to
-StepGoes sum own s t at (Ok End) = IsEnd own s at
-StepGoes sum own s t at (Err e) = LogReadRefused own s t at e
+StepGoes sum own d s t at (Ok (Record bytes behind)) =
+    StandBetween sum own d s (bytes ∷ []) at behind
+StepGoes sum own d s t at (Ok (Passed to)) = StandBetween sum own d s [] at to × IsBehind s at to
+StepGoes sum own d s t at (Ok End) = IsEnd own s at
+StepGoes sum own d s t at (Err e) = LogReadRefused own d s t at e
 
 -- a segment from a place on can't be read, and no record stands before it. Up to there, segments
 -- were only read
-pub record IsRefusedFrom (sum own : List ℕ → ℕ) (s t : LogState) (p : Place) (e : Error)
-    : Type 0 where
+pub record IsRefusedFrom (sum own : List ℕ → ℕ) (d : List ℕ → List ℕ) (s t : LogState) (p : Place)
+    (e : Error) : Type 0 where
   pub at : Place
   pub mid : LogState
   pub further : p.segment ≤ at.segment
-  pub none : StandBetween sum own s [] p at
+  pub none : StandBetween sum own d s [] p at
   pub reads : LeavesReading sum own s mid
-  pub refused : LogReadRefused own mid t at e
+  pub refused : LogReadRefused own d mid t at e
 
 -- a read of the next record, by its answer; one that is refused leaves the place where it was
-abbrev pub NextGoes : (sum own : List ℕ → ℕ) → LogState → LogState → (old new : Place)
+abbrev pub NextGoes : (sum own : List ℕ → ℕ) → (d : List ℕ → List ℕ) → LogState → LogState
+    → (old new : Place)
     → Result (Option (Place × List ℕ)) Error → Type 0
-NextGoes sum own s t old new (Ok None) = StandBetween sum own s [] old new × IsEnd own s new
-NextGoes sum own s t old new (Ok (Some r)) = IsNextAt sum own s old r.0 new r.1
-NextGoes sum own s t old new (Err e) = (new ≡ old) × IsRefusedFrom sum own s t old e
+NextGoes sum own d s t old new (Ok None) = StandBetween sum own d s [] old new × IsEnd own s new
+NextGoes sum own d s t old new (Ok (Some r)) = IsNextAt sum own d s old r.0 new r.1
+NextGoes sum own d s t old new (Err e) = (new ≡ old) × IsRefusedFrom sum own d s t old e

@@ -2,6 +2,7 @@
 ghost use Rattle.std.specs.Prelude.{◌≡◌, ◌≤◌, ◌++◌, ◌∷◌, [], length, IfOk};
 ghost use Rattle.segments.specs.Log.{AppendHereGoes, CurrentKeeps, HasMore, IsLog};
 ghost use Rattle.segments.specs.Log.{IsSameButCurrent};
+ghost use Rattle.segments.specs.Kept.{AreOfDigest};
 ghost use Rattle.segments.specs.Log.{LogAppendGoes};
 ghost use Rattle.segments.specs.Crash.{AppendSurvives, CurrentSurvives};
 ghost use Rattle.segments.specs.Owned.{OwnedCommitGoes, OwnedStartGoes, OwnedWaitGoes};
@@ -11,10 +12,11 @@ use crate::error::Error;
 use crate::folder::Folder;
 use crate::log::SegmentedLog;
 use crate::place::Place;
+use digest::Digest;
 use disk::{Blob, StartedSync};
 use page::Sum;
 
-impl<F: Folder<B> + Drop, B: Blob + Drop, H: Sum, R: Sum> SegmentedLog<F, B, H, R> {
+impl<F: Folder<B> + Drop, B: Blob + Drop, H: Sum, R: Sum, D: Digest> SegmentedLog<F, B, H, R, D> {
     /// Appends a record, of at most [`MOST_BYTES`](journal::MOST_BYTES) bytes, and answers where it
     /// stands. The record is committed by the next [`commit`](SegmentedLog::commit). Where the open
     /// segment has [`segment_size`](crate::log::Options::segment_size) bytes or more, the log is
@@ -27,11 +29,15 @@ impl<F: Folder<B> + Drop, B: Blob + Drop, H: Sum, R: Sum> SegmentedLog<F, B, H, 
     pub fn append(&mut self, bytes: &[u8]) -> Result<Place, Error>
         requires log { IsLog H.sum_of R.sum_of self.old }
         requires short { length bytes.now ≤ 65535 }
-        ensures goes { LogAppendGoes H.sum_of R.sum_of bytes.now self.old self.new result }
+        ensures goes { let d = D.digest_of in
+            LogAppendGoes H.sum_of R.sum_of d bytes.now self.old self.new result }
         ensures ready { IsLog H.sum_of R.sum_of self.new }
         ensures adds { IfOk result (λ p.
-            HasMore H.sum_of R.sum_of (bytes.now ∷ []) self.old self.new) }
-        ensures survives { AppendSurvives H.sum_of R.sum_of bytes.now self.old self.new result }
+            HasMore H.sum_of R.sum_of D.digest_of (bytes.now ∷ []) self.old self.new) }
+        ensures survives { let d = D.digest_of in
+            AppendSurvives H.sum_of R.sum_of d bytes.now self.old self.new result }
+        ensures digest { let n = D.NUMBER in AreOfDigest n self.old.listing.closed
+            → AreOfDigest n self.new.listing.closed }
     {
         if self.current.size() < self.options.segment_size {
             return self.append_here(bytes);

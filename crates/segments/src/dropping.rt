@@ -1,6 +1,7 @@
 // Dropping the oldest segments.
 ghost use Rattle.std.specs.Prelude.{OnOk};
 ghost use Rattle.segments.specs.Log.{AsksNoSync, AsksOfOlder, AsksWell, EndsRemoval, IsLog};
+ghost use Rattle.segments.specs.Kept.{AreOfDigest};
 ghost use Rattle.segments.specs.Log.{LogDropGoes, StartFromGoes};
 ghost use Rattle.segments.specs.Log.{StartOrCloseGoes};
 ghost use Rattle.segments.specs.Log.{Tries};
@@ -11,11 +12,12 @@ use crate::entry::Entry;
 use crate::error::Error;
 use crate::folder::{Asked, Folder};
 use crate::log::SegmentedLog;
+use digest::Digest;
 use disk::Blob;
 use page::Sum;
 use std::io;
 
-impl<F: Folder<B> + Drop, B: Blob + Drop, H: Sum, R: Sum> SegmentedLog<F, B, H, R> {
+impl<F: Folder<B> + Drop, B: Blob + Drop, H: Sum, R: Sum, D: Digest> SegmentedLog<F, B, H, R, D> {
     /// Drops the segments before this one, if there are such, and removes their files, the oldest
     /// first. The drop is durable in the manifest before that, so a crash may leave some of the
     /// files, and no call reads them any more. A later drop removes them too, even one that drops
@@ -35,6 +37,8 @@ impl<F: Folder<B> + Drop, B: Blob + Drop, H: Sum, R: Sum> SegmentedLog<F, B, H, 
         ensures ready { IsLog H.sum_of R.sum_of self.new }
         ensures drops { DropSurvives H.sum_of R.sum_of segment self.old self.new }
         ensures removes { RemovesUnlisted H.sum_of R.sum_of self.old self.new }
+        ensures digest { let n = D.NUMBER in AreOfDigest n self.old.listing.closed
+            → AreOfDigest n self.new.listing.closed }
     {
         if self.current.is_closed() || self.manifest.is_closed() {
             return Err(Error::Closed);

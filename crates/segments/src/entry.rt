@@ -1,16 +1,20 @@
 // The records of a manifest.
-ghost use Rattle.std.specs.Prelude.{◌≡◌, ◌≤◌, ◌<◌, ◌+◌, ◌++◌, length, drop, IfOk, IsOkUnless};
+ghost use Rattle.std.specs.Prelude.{◌≡◌, ◌≤◌, ◌<◌, ◌+◌, ◌++◌, length, take, drop, IfOk};
+ghost use Rattle.std.specs.Prelude.{IsOkUnless};
 ghost use Rattle.std.specs.Prelude.{Some, replicate};
 ghost use Rattle.std.specs.List.{list_all};
 ghost use Rattle.std.specs.Prelude.{◌==◌};
 ghost use Rattle.std.specs.Int.{w64, from_be_bytes};
 ghost use Rattle.std.specs.Int.NonZero.{non_zero_u16_get};
-ghost use Rattle.segments.specs.Manifest.{closing_in, entry_bytes, entry_in, padded, padding};
+ghost use Rattle.segments.specs.Manifest.{closed_by, closing_len, entry_bytes, entry_in, padded};
+ghost use Rattle.segments.specs.Manifest.{paged_in, padding, whole_in};
 ghost use Rattle.segments.specs.Log.{known_with};
+ghost use Rattle.segments.specs.declared.closed.Fingerprint.TheVariants.{Whole, Paged};
 ghost use Rattle.segments.specs.declared.entry.Entry.TheVariants.{Starts, Closes};
 
-use crate::closed::Closed;
+use crate::closed::{Closed, FileDigest, Fingerprint, PagedSeal};
 use disk::Error;
+use page_digests::Seal;
 use std::alloc::Global;
 use std::num::NonZeroU16;
 
@@ -46,9 +50,6 @@ pub fn number_at(bytes: &[u8], at: usize) -> u64
     u64::from_be_bytes(number)
 }
 
-// How many logical bytes the frame of an entry has that closes a segment, without zeros behind it.
-const CLOSING: u64 = 56;
-
 // How many logical bytes the frame of an entry has that says which segment is the first one.
 const STARTING: u64 = 18;
 
@@ -71,25 +72,38 @@ pub fn bytes_of(
     match *entry {
         Entry::Starts(first, pages) => starts(alloc, first, pages),
         Entry::Closes(closed) => {
-            let zeros = padding(page_size, size);
-            closes(
-                alloc,
-                closed.records,
-                closed.len,
-                &closed.digest,
-                zeros as usize,
-            )
+            let zeros = padding(page_size, size, closing_len(&closed.fingerprint));
+            match closed.fingerprint {
+                Fingerprint::Whole(kept) => {
+                    closes_whole(alloc, closed.records, kept, zeros as usize)
+                }
+                Fingerprint::Paged(kept) => {
+                    closes_paged(alloc, closed.records, kept, zeros as usize)
+                }
+            }
         }
     }
 }
 
-// How many zeros stand behind an entry that closes a segment.
-fn padding(page_size: NonZeroU16, size: u64) -> u64
-    ensures is { result ≡ padding (non_zero_u16_get page_size) size }
+// How many logical bytes the frame of an entry has that closes a segment, without zeros behind it.
+fn closing_len(fingerprint: &Fingerprint) -> u64
+    ensures is { result ≡ closing_len fingerprint.now }
+    ensures short { result ≤ 57 }
+{
+    match fingerprint {
+        Fingerprint::Whole(_) => 56,
+        Fingerprint::Paged(_) => 57,
+    }
+}
+
+// How many zeros stand behind an entry that closes a segment, whose frame has so many bytes.
+fn padding(page_size: NonZeroU16, size: u64, closing: u64) -> u64
+    requires { closing ≤ 57 }
+    ensures is { result ≡ padding (non_zero_u16_get page_size) size closing }
     ensures short { result ≤ 18 }
 {
     let page_size = page_size.get() as u64;
-    let used = (size % page_size + CLOSING) % page_size;
+    let used = (size % page_size + closing) % page_size;
     let free = (page_size - used) % page_size;
     if free < STARTING && STARTING < page_size {
         free + 1
@@ -112,28 +126,88 @@ fn starts(alloc: Global, first: u64, page_size: u16) -> Result<Vec<u8>, Error>
     Ok(bytes)
 }
 
-fn closes(
+// The entry of a segment that is known by its whole file.
+fn closes_whole(
     alloc: Global,
     records: u64,
-    len: u64,
-    digest: &[u8],
+    kept: FileDigest,
     zeros: usize,
 ) -> Result<Vec<u8>, Error>
-    requires size { length digest.now ≡ 32 }
     requires few { zeros ≤ 18 }
-    ensures bytes { IfOk result (λ bytes. bytes.items
-        ≡ entry_bytes (Closes (record { records = records; len = len; digest = digest.now }))
-        ++ replicate zeros 0) }
-    ensures told { IfOk result (λ bytes. entry_in bytes.items
-        ≡ Some (Closes (record { records = records; len = len; digest = digest.now }))) }
+    ensures bytes { let closed = closed_by records (Whole kept) in
+        IfOk result (λ bytes. bytes.items ≡ entry_bytes (Closes closed) ++ replicate zeros 0) }
+    ensures told { let closed = closed_by records (Whole kept) in
+        IfOk result (λ bytes. entry_in bytes.items ≡ Some (Closes closed)) }
     ensures short { IfOk result (λ bytes. length bytes.items ≤ 65535) }
     ensures err { IsOkUnless result Error.OutOfMemory }
 {
+    match whole_bytes(alloc, records, kept, zeros) {
+        Ok(bytes) => Ok(bytes),
+        Err(error) => Err(error),
+    }
+}
+
+// Its bytes.
+fn whole_bytes(
+    alloc: Global,
+    records: u64,
+    kept: FileDigest,
+    zeros: usize,
+) -> Result<Vec<u8>, Error>
+    requires few { zeros ≤ 18 }
+    ensures bytes { let closed = closed_by records (Whole kept) in
+        IfOk result (λ bytes. bytes.items ≡ entry_bytes (Closes closed) ++ replicate zeros 0) }
+    ensures sized { length kept.digest ≡ 32 }
+    ensures short { IfOk result (λ bytes. length bytes.items ≤ 65535) }
+    ensures err { IsOkUnless result Error.OutOfMemory }
+{
+    let digest = kept.digest;
     let mut bytes = Vec::new(alloc);
     bytes.push(1)?;
     bytes.extend_from_slice(&records.to_be_bytes())?;
-    bytes.extend_from_slice(&len.to_be_bytes())?;
-    bytes.extend_from_slice(digest)?;
+    bytes.extend_from_slice(&kept.len.to_be_bytes())?;
+    bytes.extend_from_slice(&digest)?;
+    bytes.resize(bytes.len() + zeros, 0)?;
+    Ok(bytes)
+}
+
+// The entry of a segment that is known by its pages.
+fn closes_paged(
+    alloc: Global,
+    records: u64,
+    kept: PagedSeal,
+    zeros: usize,
+) -> Result<Vec<u8>, Error>
+    requires few { zeros ≤ 18 }
+    ensures bytes { let closed = closed_by records (Paged kept) in
+        IfOk result (λ bytes. bytes.items ≡ entry_bytes (Closes closed) ++ replicate zeros 0) }
+    ensures told { let closed = closed_by records (Paged kept) in
+        IfOk result (λ bytes. entry_in bytes.items ≡ Some (Closes closed)) }
+    ensures short { IfOk result (λ bytes. length bytes.items ≤ 65535) }
+    ensures err { IsOkUnless result Error.OutOfMemory }
+{
+    match paged_bytes(alloc, records, kept, zeros) {
+        Ok(bytes) => Ok(bytes),
+        Err(error) => Err(error),
+    }
+}
+
+// Its bytes.
+fn paged_bytes(alloc: Global, records: u64, kept: PagedSeal, zeros: usize) -> Result<Vec<u8>, Error>
+    requires few { zeros ≤ 18 }
+    ensures bytes { let closed = closed_by records (Paged kept) in
+        IfOk result (λ bytes. bytes.items ≡ entry_bytes (Closes closed) ++ replicate zeros 0) }
+    ensures sized { length kept.seal.root ≡ 32 }
+    ensures short { IfOk result (λ bytes. length bytes.items ≤ 65535) }
+    ensures err { IsOkUnless result Error.OutOfMemory }
+{
+    let root = kept.seal.root;
+    let mut bytes = Vec::new(alloc);
+    bytes.push(2)?;
+    bytes.extend_from_slice(&records.to_be_bytes())?;
+    bytes.extend_from_slice(&kept.seal.len.to_be_bytes())?;
+    bytes.push(kept.number)?;
+    bytes.extend_from_slice(&root)?;
     bytes.resize(bytes.len() + zeros, 0)?;
     Ok(bytes)
 }
@@ -145,21 +219,55 @@ fn are_zeros(bytes: &[u8]) -> bool
     bytes.iter().all(|byte| *byte == 0)
 }
 
-// The entry that closes a segment in these bytes. Whatever stands behind it must be zeros.
-fn closing_of(bytes: &[u8]) -> Option<Entry>
-    requires { 48 < length bytes.now }
-    ensures { result ≡ closing_in bytes.now }
+// The 32 bytes that stand at an offset.
+fn digest_at(bytes: &[u8], at: usize) -> [u8; 32]
+    requires { at + 32 ≤ length bytes.now }
+    ensures { result ≡ take 32 (drop at bytes.now) }
 {
-    if are_zeros(&bytes[49..]) {
-        let mut digest = [0; 32];
-        digest.copy_from_slice(&bytes[17..49]);
-        return Some(Entry::Closes(Closed {
-            records: number_at(bytes, 1),
+    let mut digest = [0; 32];
+    digest.copy_from_slice(&bytes[at..at + 32]);
+    digest
+}
+
+// The entry that closes a segment in these bytes, which is known by its whole file. Whatever stands
+// behind it must be zeros.
+fn whole_in(bytes: &[u8]) -> Option<Entry>
+    requires { 48 < length bytes.now }
+    ensures { result ≡ whole_in bytes.now }
+{
+    if !are_zeros(&bytes[49..]) {
+        return None;
+    }
+    let digest = digest_at(bytes, 17);
+    Some(Entry::Closes(Closed {
+        records: number_at(bytes, 1),
+        fingerprint: Fingerprint::Whole(FileDigest {
             len: number_at(bytes, 9),
             digest,
-        }));
+        }),
+    }))
+}
+
+// The same of a segment that is known by its pages.
+fn paged_in(bytes: &[u8]) -> Option<Entry>
+    requires { 49 < length bytes.now }
+    ensures { result ≡ paged_in bytes.now }
+{
+    if !are_zeros(&bytes[50..]) {
+        return None;
     }
-    None
+    let root = digest_at(bytes, 18);
+    let seal = Seal {
+        len: number_at(bytes, 9),
+        root,
+    };
+    Some(Entry::Closes(Closed {
+        records: number_at(bytes, 1),
+        fingerprint: Fingerprint::Paged(PagedSeal {
+            number: bytes[17],
+            seal,
+        }),
+    }))
 }
 
 /// The entry that these bytes are, if they are one.
@@ -172,7 +280,10 @@ pub fn entry_of(bytes: &[u8]) -> Option<Entry>
         return Some(Entry::Starts(number_at(bytes, 1), page_size));
     }
     if bytes.len() > 48 && bytes[0] == 1 {
-        return closing_of(bytes);
+        return whole_in(bytes);
+    }
+    if bytes.len() > 49 && bytes[0] == 2 {
+        return paged_in(bytes);
     }
     None
 }

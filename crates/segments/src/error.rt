@@ -25,8 +25,9 @@ pub enum Error {
     /// before they are opened again.
     #[error("a sync failed: {0}")]
     Unsynced(io::Error),
-    /// The file of this closed segment doesn't hold what it held when it was closed. Bring it back
-    /// from a copy; the other segments can be read.
+    /// The file of this closed segment doesn't hold what it held when it was closed, where it was
+    /// read. Bring it back from a copy; the other segments can be read, and the other pages of this
+    /// one.
     #[error("segment {0} doesn't hold what it held when it was closed: bring it back from a copy")]
     Damaged(u64),
     /// The file of this segment is there and has bytes, and the manifest knows nothing of it.
@@ -45,9 +46,14 @@ pub enum Error {
     /// changed: bring the manifest back, or build it anew.
     #[error("the manifest is older than its copy, which has segment {0} as the open one")]
     Outdated(u64),
-    /// A record of the manifest is none that this crate writes, or its pages have another size.
+    /// A record of the manifest is none that this crate writes, or its pages have another size; or,
+    /// of a read, the manifest lists a segment of 1 PiB or more.
     #[error("the manifest can't be read: is the page size right?")]
     Manifest,
+    /// The manifest lists a segment that was closed with the digest of this number, and the log was
+    /// to be opened with another one. Nothing was changed: open it with that digest.
+    #[error("a segment was closed with digest {0}: open the log with that digest")]
+    AnotherDigest(u8),
     /// The segment was dropped, or there is none with this number yet.
     #[error("there is no segment {0}")]
     NoSegment(u64),

@@ -12,15 +12,16 @@ use crate::names::Names;
 use crate::past::FolderPast;
 use disk::VecBlob;
 use file::{FileBlob, OpenError};
+use page_digests::{FileSource, Levels};
 use std::fs::File;
 use std::io::ErrorKind;
 use std::marker::Model;
 use std::snapshot::Snapshot;
 use std::{fs, io};
 
-/// A folder of the system, in which a log's files stand: `manifest`, and for each segment its
-/// number with twenty digits and `.segment`. The folder must be there; the files are made as they
-/// are needed.
+/// A folder of the system, in which a log's files stand: `manifest`, for each segment its number
+/// with twenty digits and `.segment`, and for each closed one the same with `.digests`: its list.
+/// The folder must be there; the files are made as they are needed.
 #[derive(Drop)]
 pub struct FileFolder {
     names: Names,
@@ -55,9 +56,21 @@ impl FileFolder {
         file::open(self.names.rt(), path.as_str())
     }
 
-    fn remove_file(&self, segment: u64) -> io::Result<()> {
-        let path = self.names.path_of(Asked::Segment(segment))?;
-        fs::remove_file(self.names.rt(), path.as_str())
+    // The list goes first: a list whose segment is gone would stay for good.
+    fn remove_files(&self, segment: u64) -> io::Result<()> {
+        let rt = self.names.rt();
+        match fs::remove_file(rt, self.names.list_path(segment)?.as_str()) {
+            Err(error) if error.kind() != ErrorKind::NotFound => return Err(error),
+            _ => {}
+        }
+        fs::remove_file(rt, self.names.path_of(Asked::Segment(segment))?.as_str())
+    }
+
+    fn write_levels(&self, segment: u64, levels: &Levels) -> io::Result<()> {
+        let rt = self.names.rt();
+        let mut bytes = Vec::from_slice(rt.alloc(), &levels.list)?;
+        bytes.extend_from_slice(&levels.top)?;
+        file::keep(rt, self.names.list_path(segment)?.as_str(), &bytes)
     }
 
     fn sync_names(&self) -> io::Result<()> {
@@ -96,6 +109,8 @@ impl FileFolder {
 }
 
 impl Folder<FileBlob> for FileFolder {
+    type Source = FileSource;
+
     ghost asked = { λ f. f };
 
     fn open(&mut self, file: Asked) -> Result<FileBlob, OpenError> {
@@ -120,6 +135,21 @@ impl Folder<FileBlob> for FileFolder {
         file::read(self.names.rt(), self.names.path_of(file)?.as_str())
     }
 
+    fn source(&mut self, segment: u64) -> io::Result<FileSource> {
+        let path = self.names.path_of(Asked::Segment(segment))?;
+        self.names.source(path.as_str())
+    }
+
+    fn list_source(&mut self, segment: u64) -> io::Result<FileSource> {
+        self.names.source(self.names.list_path(segment)?.as_str())
+    }
+
+    fn write_list(&mut self, segment: u64, levels: &Levels) -> io::Result<()> {
+        let written = self.write_levels(segment, levels);
+        self.past = FolderPast::wrote(&self.past, segment, levels, written.is_err());
+        written
+    }
+
     fn has(&mut self, file: Asked) -> io::Result<bool> {
         self.names.has(file)
     }
@@ -133,7 +163,7 @@ impl Folder<FileBlob> for FileFolder {
     }
 
     fn remove(&mut self, segment: u64) -> io::Result<()> {
-        let removed = self.remove_file(segment);
+        let removed = self.remove_files(segment);
         self.note(FolderCall::Removes(segment), removed.is_err());
         removed
     }

@@ -4,13 +4,14 @@ ghost use Rattle.disk.specs.History.{life_of, begun};
 ghost use Rattle.paged.specs.Recovery.{IsDurable};
 ghost use Rattle.segments.specs.Folders.{call_for};
 ghost use Rattle.segments.specs.FolderEvents.{FolderEvent, closing_event, folder_outcome};
-ghost use Rattle.segments.specs.FolderEvents.{keeping_outcome, opening_outcome};
+ghost use Rattle.segments.specs.FolderEvents.{keeping_outcome, opening_outcome, writing_outcome};
 ghost use Rattle.segments.specs.declared.call.FolderCall.TheVariants as calls;
 
 use crate::call::FolderCall;
 use crate::known::Known;
 use disk::{Blob, VecBlob};
 use file::OpenError;
+use page_digests::{Levels, Source};
 use std::io;
 
 /// A file of a log.
@@ -37,6 +38,9 @@ impl Asked {
 /// What the files of a log stand in, each of which is opened as a blob of the type `B`. No clause
 /// says what a file gives: each says just what the folder was asked for.
 pub trait Folder<B: Blob> {
+    /// A file of which ranges are read.
+    type Source: Source + Drop;
+
     /// The calls so far that change the folder or make it durable, how each went, and the bytes
     /// that each opened file gave.
     ghost asked: { Self → List FolderEvent };
@@ -72,6 +76,21 @@ pub trait Folder<B: Blob> {
             life ≡ begun life.present.readable []) }
         ensures asked { asked self.new ≡ asked self.old };
 
+    /// The file of a closed segment, of which ranges are to be read. `NotFound` where it is
+    /// missing.
+    fn source(&mut self, segment: u64) -> io::Result<Self::Source>
+        ensures asked { asked self.new ≡ asked self.old };
+
+    /// The same of the file of its list.
+    fn list_source(&mut self, segment: u64) -> io::Result<Self::Source>
+        ensures asked { asked self.new ≡ asked self.old };
+
+    /// Makes the file of a segment's list hold the list and then the top, and makes that durable.
+    /// After an error it may hold anything.
+    fn write_list(&mut self, segment: u64, levels: &Levels) -> io::Result<()>
+        ensures asked { let bytes = levels.now.list.items ++ levels.now.top.items in
+            asked self.new ≡ asked self.old ++ writing_outcome segment bytes result ∷ [] };
+
     /// Whether a file is there.
     fn has(&mut self, file: Asked) -> io::Result<bool>
         ensures asked { asked self.new ≡ asked self.old };
@@ -84,7 +103,7 @@ pub trait Folder<B: Blob> {
     fn last_with_bytes(&mut self) -> io::Result<Option<u64>>
         ensures asked { asked self.new ≡ asked self.old };
 
-    /// Removes the file of a segment.
+    /// Removes the file of a segment's list, if it is there, and then the file of the segment.
     fn remove(&mut self, segment: u64) -> io::Result<()>
         ensures asked { asked self.new
             ≡ asked self.old ++ folder_outcome (calls.Removes segment) result ∷ [] };

@@ -12,6 +12,7 @@ use crate::names::Names;
 use crate::past::FolderPast;
 use disk::VecBlob;
 use file::OpenError;
+use page_digests::{FileSource, Levels};
 use std::io;
 use std::marker::Model;
 use std::snapshot::Snapshot;
@@ -78,6 +79,8 @@ impl FolderCopy {
 }
 
 impl Folder<VecBlob> for FolderCopy {
+    type Source = FileSource;
+
     ghost asked = { λ f. f };
 
     fn open(&mut self, file: Asked) -> Result<VecBlob, OpenError> {
@@ -100,6 +103,21 @@ impl Folder<VecBlob> for FolderCopy {
 
     fn read(&mut self, file: Asked) -> io::Result<VecBlob> {
         file::read(self.names.rt(), self.names.path_of(file)?.as_str())
+    }
+
+    fn source(&mut self, segment: u64) -> io::Result<FileSource> {
+        let path = self.names.path_of(Asked::Segment(segment))?;
+        self.names.source(path.as_str())
+    }
+
+    fn list_source(&mut self, segment: u64) -> io::Result<FileSource> {
+        self.names.source(self.names.list_path(segment)?.as_str())
+    }
+
+    /// Always refused with `PermissionDenied`: the folder isn't changed.
+    fn write_list(&mut self, segment: u64, levels: &Levels) -> io::Result<()> {
+        self.past = FolderPast::wrote(&self.past, segment, levels, true);
+        Err(io::Error::from(io::ErrorKind::PermissionDenied))
     }
 
     fn has(&mut self, file: Asked) -> io::Result<bool> {

@@ -1,7 +1,8 @@
 //! Logs in segments, which are numbered files. The last one is open, in memory, with all that is
-//! promised of a journal. For each closed segment, a manifest keeps its length and its SHA-256. So,
-//! unless two different strings have one SHA-256, a read of a closed segment gives what it held
-//! when it was closed, or is refused.
+//! promised of a journal. For each closed segment, a manifest keeps the length of its content and a
+//! root, by which the digests of its pages are known. So, unless a second string is at hand that has
+//! the digest of one that was written, a read of a closed segment gives what it held when it was
+//! closed, or is refused.
 #![tactic(auto)]
 
 mod appending;
@@ -21,14 +22,17 @@ mod names;
 mod opening;
 mod owned;
 mod paged_frames;
+mod paged_reading;
+mod paged_segment;
 mod past;
 mod place;
 mod reading;
 mod rotation;
 mod scanning;
+mod segment_file;
 
 pub use call::FolderCall;
-pub use closed::Closed;
+pub use closed::{Closed, FileDigest, Fingerprint, PagedSeal};
 pub use entry::{Entry, bytes_of, entry_of};
 pub use error::Error;
 pub use file_folder::FileFolder;

@@ -1,11 +1,13 @@
 // What a manifest lists.
-ghost use Rattle.std.specs.Prelude.{◌≡◌, ◌<◌, ◌+◌, ◌^◌, length, IfOk, Some};
+ghost use Rattle.std.specs.Prelude.{◌≡◌, ◌<◌, ◌+◌, ◌^◌, length, IfOk, Some, None};
+ghost use Rattle.segments.specs.Kept.{AreOfDigest};
 ghost use Rattle.segments.specs.Manifest.{closed_at, closed_count, fitting, listed_in, listed_with};
 ghost use Rattle.segments.specs.Manifest.{none_closed, open_in, TakesIn};
 
-use crate::closed::Closed;
+use crate::closed::{Closed, Fingerprint};
 use crate::entry::{Entry, entry_of};
 use crate::error::Error;
+use digest::Digest;
 use disk::IoBuf;
 use std::alloc::Global;
 use std::marker::Model;
@@ -74,6 +76,20 @@ impl Listing {
         Some(count)
     }
 
+    /// The number of a digest, other than this one, by which a closed segment is known.
+    pub fn other_digest(&self, number: u8) -> Option<u8>
+        ensures none { result ≡ None → AreOfDigest number self.now.closed }
+    {
+        for closed in &self.closed {
+            if let Fingerprint::Paged(kept) = closed.fingerprint {
+                if kept.number != number {
+                    return Some(kept.number);
+                }
+            }
+        }
+        None
+    }
+
     /// Makes room for one closed segment more.
     pub fn reserve(&mut self) -> Result<(), disk::Error>
         ensures { self.new ≡ self.old }
@@ -122,9 +138,26 @@ impl Listing {
     }
 }
 
-/// What the records of a manifest list, of a log with pages of so many logical bytes. `Manifest`
-/// where a record is no entry, or can't follow those before it.
-pub fn listing_of(alloc: Global, records: &[IoBuf], page_size: u16) -> Result<Listing, Error>
+/// What the records of a manifest list, of a log with pages of so many logical bytes that is opened
+/// with this digest. `Manifest` where a record is no entry, or can't follow those before it.
+/// `AnotherDigest` where a segment was closed with another digest.
+pub fn listing_of<D: Digest>(
+    alloc: Global,
+    records: &[IoBuf],
+    page_size: u16,
+) -> Result<Listing, Error>
+    ensures lists { IfOk result (λ l. listed_in page_size records.now ≡ Some l) }
+    ensures digest { IfOk result (λ l. AreOfDigest D.NUMBER l.closed) }
+{
+    let listing = listed(alloc, records, page_size)?;
+    match listing.other_digest(D::NUMBER) {
+        Some(number) => Err(Error::AnotherDigest(number)),
+        None => Ok(listing),
+    }
+}
+
+// What the records of a manifest list.
+fn listed(alloc: Global, records: &[IoBuf], page_size: u16) -> Result<Listing, Error>
     ensures { IfOk result (λ l. listed_in page_size records.now ≡ Some l) }
 {
     let mut listing = Listing::new(alloc);

@@ -13,6 +13,8 @@ use crate::known::Known;
 use crate::listing::Listing;
 use crate::loaded::Loaded;
 use crate::owned::OwnedJournal;
+use crate::paged_segment::PagedSegment;
+use digest::Digest;
 use disk::Blob;
 use page::Sum;
 use std::alloc::Global;
@@ -27,7 +29,8 @@ pub struct Options {
     pub page_size: NonZeroU16,
     /// How many bytes are buffered before pages are written.
     pub capacity: usize,
-    /// How many pages the cache of an open segment has, and that of a closed one that is read.
+    /// How many pages the cache of an open segment has, and that of a closed one that is read into
+    /// memory.
     pub pages: NonZeroUsize,
     /// How many bytes an opening reads at once.
     pub buffer_size: NonZeroUsize,
@@ -37,14 +40,17 @@ pub struct Options {
 }
 
 /// A log of records in segments, in a folder.
-pub struct SegmentedLog<F: Folder<B>, B: Blob, H: Sum, R: Sum> {
+pub struct SegmentedLog<F: Folder<B>, B: Blob, H: Sum, R: Sum, D: Digest> {
     pub(crate) alloc: Global,
     pub(crate) options: Options,
     pub(crate) folder: F,
     pub(crate) manifest: OwnedJournal<B, H, R>,
     pub(crate) current: OwnedJournal<B, H, R>,
     pub(crate) listing: Listing,
+    // The closed segment that was read into memory last.
     pub(crate) loaded: Option<Loaded<H, R>>,
+    // The closed segment that was read by its pages last.
+    pub(crate) paged: Option<PagedSegment<F::Source, D>>,
     // How many logical bytes of the open segment were durable as the log was opened or rotated.
     pub(crate) known: u64,
     // Why the copy of the manifest couldn't be kept last.
@@ -53,7 +59,8 @@ pub struct SegmentedLog<F: Folder<B>, B: Blob, H: Sum, R: Sum> {
 
 // By hand, so that an owner lets one go by one call: of a derived drop, a proof follows each field
 // at each exit.
-impl<F: Folder<B> + Drop, B: Blob + Drop, H: Sum, R: Sum> Drop for SegmentedLog<F, B, H, R> {
+impl<F: Folder<B> + Drop, B: Blob + Drop, H: Sum, R: Sum, D: Digest> Drop
+    for SegmentedLog<F, B, H, R, D> {
     fn drop(self) {
         let SegmentedLog {
             alloc: _,
@@ -63,13 +70,14 @@ impl<F: Folder<B> + Drop, B: Blob + Drop, H: Sum, R: Sum> Drop for SegmentedLog<
             current: _,
             listing: _,
             loaded: _,
+            paged: _,
             known: _,
             unkept: _,
         } = self;
     }
 }
 
-impl<F: Folder<B>, B: Blob, H: Sum, R: Sum> Model for SegmentedLog<F, B, H, R> {
+impl<F: Folder<B>, B: Blob, H: Sum, R: Sum, D: Digest> Model for SegmentedLog<F, B, H, R, D> {
     ghost use Rattle.std.specs.Int.NonZero.{non_zero_u16_get};
     ghost use Rattle.segments.specs.Log.{LogState};
 
@@ -80,14 +88,14 @@ impl<F: Folder<B>, B: Blob, H: Sum, R: Sum> Model for SegmentedLog<F, B, H, R> {
       current = l.current;
       listing = l.listing;
       asked = F.asked l.folder;
-      loaded = l.loaded;
+      reading = record { whole = l.loaded; paged = l.paged };
       page_size = non_zero_u16_get l.options.page_size;
       most = l.options.segment_size;
       known = l.known;
     } };
 }
 
-impl<F: Folder<B> + Drop, B: Blob + Drop, H: Sum, R: Sum> SegmentedLog<F, B, H, R> {
+impl<F: Folder<B> + Drop, B: Blob + Drop, H: Sum, R: Sum, D: Digest> SegmentedLog<F, B, H, R, D> {
     /// The number of the first segment that wasn't dropped.
     pub fn first_segment(&self) -> u64
         ensures { result ≡ self.now.listing.first }

@@ -1,14 +1,18 @@
 // The files of a log in a folder of the system, by their names.
 use crate::folder::Asked;
-use std::fs::DirEntry;
+use page_digests::FileSource;
+use std::fs::{DirEntry, File};
 use std::io::ErrorKind;
 use std::{fs, io};
 
 // What stands after the number in the name of a segment's file.
 const ENDING: &str = ".segment";
 
-/// The files of a log in a folder of the system: `manifest`, and for each segment its number with
-/// twenty digits and `.segment`.
+// The same of the file of its list.
+const LIST_ENDING: &str = ".digests";
+
+/// The files of a log in a folder of the system: `manifest`, for each segment its number with
+/// twenty digits and `.segment`, and for each closed one the same with `.digests`: its list.
 #[derive(Drop)]
 pub struct Names {
     rt: HostRuntime,
@@ -44,6 +48,18 @@ impl Names {
             }
         };
         Ok(name)
+    }
+
+    /// The path of the file of a segment's list.
+    pub fn list_path(&self, segment: u64) -> io::Result<String> {
+        let path = self.path.as_str();
+        let name = format!(in self.rt.alloc(); "{path}/{segment:020}{LIST_ENDING}")?;
+        Ok(name)
+    }
+
+    /// A file of which ranges are read.
+    pub fn source(&self, path: &str) -> io::Result<FileSource> {
+        Ok(FileSource::new(File::open(&self.rt, path)?))
     }
 
     /// The path of the manifest's copy.

@@ -6,6 +6,7 @@ ghost use Rattle.segments.specs.FolderEvents.{FolderEvent};
 ghost use Rattle.segments.specs.Log.{AreParts, AsksForSegment, HasOpened, HasCurrent, HasManifest};
 ghost use Rattle.segments.specs.Log.{IsLog, LeavesOpened, most_for};
 ghost use Rattle.segments.specs.Crash.{HasOpenedFiles, IsOpenedLog};
+ghost use Rattle.segments.specs.Kept.{AreOfDigest};
 
 use crate::entry::{Entry, bytes_of};
 use crate::error::Error;
@@ -14,13 +15,14 @@ use crate::folder_copy::FolderCopy;
 use crate::listing::{Listing, listing_of};
 use crate::log::{Options, SegmentedLog};
 use crate::owned::OwnedJournal;
+use digest::Digest;
 use disk::{Blob, IoBuf, VecBlob};
 use file::OpenError;
 use page::Sum;
 use std::alloc::Global;
 use std::io::ErrorKind;
 
-impl<F: Folder<B> + Drop, B: Blob + Drop, H: Sum, R: Sum> SegmentedLog<F, B, H, R> {
+impl<F: Folder<B> + Drop, B: Blob + Drop, H: Sum, R: Sum, D: Digest> SegmentedLog<F, B, H, R, D> {
     /// Opens the log of a folder, and begins one where the folder has none.
     ///
     /// Before anything is changed, a copy of the manifest is read and compared with the files that
@@ -28,10 +30,11 @@ impl<F: Folder<B> + Drop, B: Blob + Drop, H: Sum, R: Sum> SegmentedLog<F, B, H, 
     /// `Unlisted` where a segment after the open one has bytes, or where a segment has bytes and
     /// there is no manifest: the manifest may be an old one, or be lost. `Outdated` where a copy of
     /// the manifest knows a later segment. `Missing` where the open segment isn't there, and
-    /// `Short` where it has fewer bytes than it had as it was opened last. `System` where the
-    /// system refuses a file, `Unsynced` where it can't sync a file or the folder, and `Layer` where
-    /// the device or memory failed. After an error the blobs are gone, so no clause says what their
-    /// files hold: each recovery of a journal on the way keeps what was committed (`leaves` of
+    /// `Short` where it has fewer bytes than it had as it was opened last. `AnotherDigest` where a
+    /// segment was closed with another digest than `D`. `System` where the system refuses a file,
+    /// `Unsynced` where it can't sync a file or the folder, and `Layer` where the device or memory
+    /// failed. After an error the blobs are gone, so no clause says what their files hold: each
+    /// recovery of a journal on the way keeps what was committed (`leaves` of
     /// [`journal::Journal::recover`]).
     #[tactic(auto, using(crate::proofs::Beginning::parts_open))]
     pub fn open(alloc: Global, folder: F, options: Options) -> Result<Self, Error>
@@ -41,13 +44,14 @@ impl<F: Folder<B> + Drop, B: Blob + Drop, H: Sum, R: Sum> SegmentedLog<F, B, H, 
         ensures page_size { IfOk result (λ log.
             log.page_size ≡ non_zero_u16_get options.page_size) }
         ensures most { IfOk result (λ log. log.most ≡ most_for options.segment_size) }
+        ensures digest { IfOk result (λ log. AreOfDigest D.NUMBER log.listing.closed) }
     {
         let options = Options {
             segment_size: options.segment_size.max(1),
             ..options
         };
         let mut folder = folder;
-        match open_parts::<F, B, H, R>(alloc, &mut folder, options) {
+        match open_parts::<F, B, H, R, D>(alloc, &mut folder, options) {
             Ok(parts) => {
                 let Parts {
                     manifest,
@@ -64,6 +68,7 @@ impl<F: Folder<B> + Drop, B: Blob + Drop, H: Sum, R: Sum> SegmentedLog<F, B, H, 
                     current,
                     listing,
                     loaded: None,
+                    paged: None,
                     known,
                     unkept: None,
                 };
@@ -85,6 +90,8 @@ impl<F: Folder<B> + Drop, B: Blob + Drop, H: Sum, R: Sum> SegmentedLog<F, B, H, 
             → IfOk result (λ u. IsOpenedLog H.sum_of R.sum_of before self.new) }
         ensures page_size { self.new.page_size ≡ self.old.page_size }
         ensures most { self.new.most ≡ self.old.most }
+        ensures digest { let n = D.NUMBER in AreOfDigest n self.old.listing.closed
+            → IfOk result (λ u. AreOfDigest n self.new.listing.closed) }
     {
         if !is_new {
             self.keep();
@@ -106,7 +113,7 @@ struct Parts<B: Blob, H: Sum, R: Sum> {
 }
 
 // The manifest and the open segment of a folder.
-fn open_parts<F: Folder<B>, B: Blob + Drop, H: Sum, R: Sum>(
+fn open_parts<F: Folder<B>, B: Blob + Drop, H: Sum, R: Sum, D: Digest>(
     alloc: Global,
     folder: &mut F,
     options: Options,
@@ -114,9 +121,10 @@ fn open_parts<F: Folder<B>, B: Blob + Drop, H: Sum, R: Sum>(
     ensures are { let P = non_zero_u16_get options.page_size in
         IfOk result (λ p. AreParts H.sum_of R.sum_of P p.manifest p.current p.listing
         (F.asked folder.old) (F.asked folder.new)) }
+    ensures digest { IfOk result (λ p. AreOfDigest D.NUMBER p.listing.closed) }
 {
-    let number = open_number::<F, B, H, R>(alloc, folder, options)?;
-    let (manifest, listing, is_new) = open_manifest::<F, B, H, R>(alloc, folder, options)?;
+    let number = open_number::<F, B, H, R, D>(alloc, folder, options)?;
+    let (manifest, listing, is_new) = open_manifest::<F, B, H, R, D>(alloc, folder, options)?;
     if listing.open() != number {
         return Err(Error::Manifest);
     }
@@ -132,7 +140,7 @@ fn open_parts<F: Folder<B>, B: Blob + Drop, H: Sum, R: Sum>(
 }
 
 // The manifest of a folder, what it lists, and whether it has no entry yet.
-fn open_manifest<F: Folder<B>, B: Blob + Drop, H: Sum, R: Sum>(
+fn open_manifest<F: Folder<B>, B: Blob + Drop, H: Sum, R: Sum, D: Digest>(
     alloc: Global,
     folder: &mut F,
     options: Options,
@@ -140,10 +148,11 @@ fn open_manifest<F: Folder<B>, B: Blob + Drop, H: Sum, R: Sum>(
     ensures has { let P = non_zero_u16_get options.page_size in
         let old = F.asked folder.old in let new = F.asked folder.new in
         IfOk result (λ r. HasManifest H.sum_of R.sum_of P r.0 r.1 old new) }
+    ensures digest { IfOk result (λ r. AreOfDigest D.NUMBER r.1.closed) }
 {
     let blob = folder.open(Asked::Manifest)?;
     let (mut manifest, entries) = recover::<F, B, H, R>(alloc, options, blob)?;
-    match listing_of(alloc, &entries, options.page_size.get()) {
+    match listing_of::<D>(alloc, &entries, options.page_size.get()) {
         Ok(listing) => match manifest.commit() {
             Ok(()) => Ok((manifest, listing, entries.is_empty())),
             Err(error) => Err(error_of::<F, B>(error, manifest.blob())),
@@ -171,7 +180,7 @@ fn open_current<F: Folder<B>, B: Blob + Drop, H: Sum, R: Sum>(
 }
 
 // The number of the open segment, by a copy of the manifest. It changes nothing.
-fn open_number<F: Folder<B>, B: Blob + Drop, H: Sum, R: Sum>(
+fn open_number<F: Folder<B>, B: Blob + Drop, H: Sum, R: Sum, D: Digest>(
     alloc: Global,
     folder: &mut F,
     options: Options,
@@ -180,7 +189,7 @@ fn open_number<F: Folder<B>, B: Blob + Drop, H: Sum, R: Sum>(
 {
     let last = folder.last_with_bytes()?;
     let is_used = last.is_some();
-    let Some(number) = listed_open::<F, B, H, R>(alloc, folder, options, is_used)? else {
+    let Some(number) = listed_open::<F, B, H, R, D>(alloc, folder, options, is_used)? else {
         return match last {
             Some(number) => Err(Error::Unlisted(number)),
             None => is_known::<F, B, H, R>(alloc, folder, options, 0),
@@ -228,7 +237,7 @@ fn is_known<F: Folder<B>, B: Blob + Drop, H: Sum, R: Sum>(
 // The number of the open segment, by a copy of the manifest; `None` where that is missing, or has
 // no entry yet. `Manifest` where it has bytes that are none of a manifest that was begun, or where
 // it has no entry and segments have bytes.
-fn listed_open<F: Folder<B>, B: Blob + Drop, H: Sum, R: Sum>(
+fn listed_open<F: Folder<B>, B: Blob + Drop, H: Sum, R: Sum, D: Digest>(
     alloc: Global,
     folder: &mut F,
     options: Options,
@@ -251,7 +260,7 @@ fn listed_open<F: Folder<B>, B: Blob + Drop, H: Sum, R: Sum>(
             Err(Error::Manifest)
         };
     }
-    let listing = listing_of(alloc, &entries, options.page_size.get())?;
+    let listing = listing_of::<D>(alloc, &entries, options.page_size.get())?;
     Ok(Some(listing.open()))
 }
 

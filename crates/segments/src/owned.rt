@@ -1,20 +1,22 @@
 // A blob with a journal on it, and a cache of its own.
-ghost use Rattle.std.specs.Prelude.{◌≡◌, ◌≤◌, ◌∷◌, ◌++◌, [], length, is_none, None, IfOk};
+ghost use Rattle.std.specs.Prelude.{◌≡◌, ◌≤◌, ◌+◌, ◌∷◌, ◌++◌, [], length, is_none, None, IfOk};
 ghost use Rattle.std.specs.Int.NonZero.{non_zero_u16_get};
 ghost use Rattle.segments.specs.Owned.{IsOwned, OwnedAddGoes, OwnedAddKeeps, OwnedAppendGoes};
 ghost use Rattle.segments.specs.Owned.{OwnedCommitGoes, OwnedLeaves};
 ghost use Rattle.segments.specs.Owned.{OwnedStartGoes, OwnedWaitGoes};
-ghost use Rattle.segments.specs.Owned.{OwnedCloseGoes, OwnedKeeps, OwnedReadLeaves, OwnedReadGoes};
-ghost use Rattle.segments.specs.Owned.{OwnedRecoverGoes};
+ghost use Rattle.segments.specs.Owned.{OwnedKeeps, OwnedReadLeaves, OwnedReadGoes, OwnedSealGoes};
+ghost use Rattle.segments.specs.Owned.{LevelsGo, ListGoes, OwnedContentGoes, OwnedRecoverGoes};
 ghost use Rattle.segments.specs.Owned.{owned_size, records_now, without_journal};
-ghost use Rattle.disk.specs.Disk.{IsImage};
 ghost use Rattle.journal.specs.Calls.{JournalRecoveryLeaves};
+ghost use Rattle.page_digests.specs.Seals.{EachIsByte};
 
 use crate::error::Error;
 use cache::CacheRef;
+use digest::Digest;
 use disk::{Blob, IoBuf, StartedSync};
 use journal::{Found, Journal};
 use page::Sum;
+use page_digests::{Digesting, Levels, levels_of_list};
 use std::alloc::Global;
 use std::marker::Model;
 use std::num::{NonZeroU16, NonZeroUsize};
@@ -267,19 +269,76 @@ impl<B: Blob + Drop, H: Sum, R: Sum> OwnedJournal<B, H, R> {
         }
     }
 
-    /// Commits all records, and closes the journal. All of the blob is durable then.
-    #[tactic(auto, using(crate::proofs::Closing::close_goes))]
-    pub fn close(&mut self) -> Result<(), Error>
+    /// Commits all records, closes the journal, and answers the levels of its content. All of the
+    /// blob is durable then. After an error there is no journal either.
+    pub fn seal<D: Digest>(&mut self, alloc: Global) -> Result<Levels, Error>
         requires owned { IsOwned H.sum_of R.sum_of self.old }
-        ensures goes { OwnedCloseGoes H.sum_of R.sum_of self.old self.new result }
+        ensures goes { let d = D.digest_of in
+            OwnedSealGoes d H.sum_of R.sum_of self.old self.new result }
         ensures ready { IsOwned H.sum_of R.sum_of self.new }
         ensures kept { OwnedKeeps H.sum_of R.sum_of self.old self.new }
         ensures none { self.new.journal ≡ None }
         ensures page_size { self.new.page_size ≡ self.old.page_size }
     {
-        let closed = self.commit();
+        self.commit()?;
+        let levels = self.levels::<D>(alloc);
         self.forget();
-        closed
+        levels
+    }
+
+    // The levels of the content.
+    fn levels<D: Digest>(&mut self, alloc: Global) -> Result<Levels, Error>
+        requires owned { IsOwned H.sum_of R.sum_of self.old }
+        ensures goes { LevelsGo D.digest_of self.old self.new result }
+        ensures ready { IsOwned H.sum_of R.sum_of self.new }
+        ensures leaves { OwnedReadLeaves H.sum_of R.sum_of self.old self.new }
+    {
+        let list = self.list::<D>(alloc)?;
+        Ok(levels_of_list::<D>(alloc, list, self.page_size)?)
+    }
+
+    // The digests of the content's pages.
+    fn list<D: Digest>(&mut self, alloc: Global) -> Result<Vec<u8>, Error>
+        requires owned { IsOwned H.sum_of R.sum_of self.old }
+        ensures goes { ListGoes D.digest_of self.old self.new result }
+        ensures ready { IsOwned H.sum_of R.sum_of self.new }
+        ensures leaves { OwnedReadLeaves H.sum_of R.sum_of self.old self.new }
+    {
+        let Some(journal) = &self.journal else {
+            return Err(Error::Closed);
+        };
+        let size = journal.size();
+        let page_size = self.page_size.get() as u64;
+        let full = size / page_size;
+        let mut digesting = Digesting::<D>::new(alloc);
+        let mut page = Vec::new(alloc);
+        page.resize(page_size as usize, 0)?;
+        for n in 0..full {
+            self.read_content(&mut page, n * page_size)?;
+            are_bytes(&page);
+            digesting.take_page(&page)?;
+        }
+        page.truncate((size - full * page_size) as usize);
+        self.read_content(&mut page, full * page_size)?;
+        are_bytes(&page);
+        Ok(digesting.finish(&page)?)
+    }
+
+    // Fills a buffer with bytes of the content.
+    fn read_content(&mut self, bytes: &mut [u8], offset: u64) -> Result<(), Error>
+        requires owned { IsOwned H.sum_of R.sum_of self.old }
+        requires within { offset + length bytes.old ≤ owned_size self.old.journal }
+        ensures goes { OwnedContentGoes offset bytes.old bytes.new self.old self.new result }
+        ensures ready { IsOwned H.sum_of R.sum_of self.new }
+        ensures leaves { OwnedReadLeaves H.sum_of R.sum_of self.old self.new }
+    {
+        let Some(journal) = &self.journal else {
+            return Err(Error::Closed);
+        };
+        match journal.read_content(&mut self.blob, &mut self.cache, bytes, offset) {
+            Ok(()) => Ok(()),
+            Err(error) => Err(Error::Layer(error)),
+        }
     }
 
     /// Whether there is no journal.
@@ -291,9 +350,7 @@ impl<B: Blob + Drop, H: Sum, R: Sum> OwnedJournal<B, H, R> {
 
     /// Lets the journal go. What wasn't committed may be lost.
     pub fn forget(&mut self)
-        requires owned { IsOwned H.sum_of R.sum_of self.old }
         ensures lets { self.new ≡ without_journal self.old }
-        ensures image { IsImage self.old.life.present self.old.life.present.readable }
     {
         self.journal = None;
     }
@@ -307,4 +364,11 @@ impl<B: Blob + Drop, H: Sum, R: Sum> OwnedJournal<B, H, R> {
             None => 0,
         }
     }
+}
+
+// Does nothing: its clause says what a proof takes from the type.
+fn are_bytes(bytes: &[u8])
+    ensures { EachIsByte bytes.now }
+{
+    let _ = bytes;
 }

@@ -1,11 +1,12 @@
 // What a folder was asked for, as ghost data: nothing of it is left at run time.
 ghost use Rattle.std.specs.Prelude.{◌≡◌, [], ◌∷◌, ◌++◌};
 ghost use Rattle.segments.specs.FolderEvents.{closing_event, keeping_event, plain_event};
-ghost use Rattle.segments.specs.FolderEvents.{opening_with};
+ghost use Rattle.segments.specs.FolderEvents.{opening_with, writing_event};
 
 use crate::call::FolderCall;
 use crate::known::Known;
 use disk::Blob;
+use page_digests::Levels;
 use std::marker::Model;
 use std::snapshot::Snapshot;
 
@@ -27,6 +28,7 @@ enum Last<B: Blob> {
     Opened(Snapshot<Snapshot<FolderPast<B>>>, FolderCall, Snapshot<B>),
     Kept(Snapshot<Snapshot<FolderPast<B>>>, u64, u64, Snapshot<B>, bool),
     Closed(Snapshot<Snapshot<FolderPast<B>>>, u64, Snapshot<B>, Snapshot<B>),
+    Wrote(Snapshot<Snapshot<FolderPast<B>>>, u64, Snapshot<Levels>, bool),
 }
 
 impl<B: Blob> Model for FolderPast<B> {
@@ -88,6 +90,23 @@ impl<B: Blob> FolderPast<B> {
         let before = Snapshot::of(before);
         let past = FolderPast {
             last: Last::Closed(before, segment, Snapshot::of(blob), Snapshot::of(manifest)),
+        };
+        Snapshot::of(&past)
+    }
+
+    /// This past and one call more that was to write the list of a segment and its top.
+    pub fn wrote(
+        before: &Snapshot<Self>,
+        segment: u64,
+        levels: &Levels,
+        failed: bool,
+    ) -> Snapshot<Self>
+        ensures { let bytes = levels.now.list.items ++ levels.now.top.items in
+            result.value ≡ before.now.value ++ writing_event segment bytes failed ∷ [] }
+    {
+        let before = Snapshot::of(before);
+        let past = FolderPast {
+            last: Last::Wrote(before, segment, Snapshot::of(levels), failed),
         };
         Snapshot::of(&past)
     }

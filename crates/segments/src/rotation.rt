@@ -1,42 +1,50 @@
 // Closing the open segment, and opening the next one.
-ghost use Rattle.std.specs.Prelude.{◌≡◌, None};
+ghost use Rattle.std.specs.Prelude.{◌≡◌, None, IfOk};
 ghost use Rattle.paged.specs.Recovery.{IsDurable};
 ghost use Rattle.segments.specs.Log.{CloseCurrentGoes, CurrentKeeps, HasFollowed, IsLog};
 ghost use Rattle.segments.specs.Log.{IsSameButAsked, IsSameButCurrent, OpenNextGoes, RotateGoes};
+ghost use Rattle.segments.specs.Log.{WriteListGoes};
+ghost use Rattle.segments.specs.Kept.{AreOfDigest, IsOfDigest};
 ghost use Rattle.segments.specs.Crash.{RotationSurvives};
 ghost use Rattle.segments.specs.Owned.{IsOwned, records_now};
 
-use crate::closed::Closed;
+use crate::closed::{Closed, Fingerprint, PagedSeal};
 use crate::entry::Entry;
 use crate::error::Error;
 use crate::folder::Folder;
 use crate::log::SegmentedLog;
 use crate::opening::{open_segment, recover};
 use crate::owned::OwnedJournal;
+use digest::Digest;
 use disk::Blob;
 use page::Sum;
+use page_digests::{Levels, Seal};
 use std::mem;
 
-impl<F: Folder<B> + Drop, B: Blob + Drop, H: Sum, R: Sum> SegmentedLog<F, B, H, R> {
+impl<F: Folder<B> + Drop, B: Blob + Drop, H: Sum, R: Sum, D: Digest> SegmentedLog<F, B, H, R, D> {
     /// Closes the open segment, whatever its size, and opens the next one.
     ///
-    /// All records are committed first. Then the length and the digest of the segment's bytes are
-    /// computed, the next segment's file is made, its name is made durable, and the folder takes
-    /// the blob of the closed segment back. Last, the closed segment is listed in the manifest. So
-    /// a crash while the manifest is written leaves the log before that or after it, and both have
+    /// All records are committed first. Then the digests of the content's pages are computed, and
+    /// those of the list that these are; list and top are written into a file, and that is synced.
+    /// The next segment's file is made, its name is made durable, and the folder takes the blob of
+    /// the closed segment back. Last, the manifest lists the closed segment with its root. So a
+    /// crash while the manifest is written leaves the log before that or after it, and both have
     /// the same records. Behind that entry there is room for the entry of a drop.
     ///
     /// `Closed` where a call before failed, `Layer` where the device or memory failed, `System`
-    /// where the folder refused the next file, `Unsynced` where a sync of it or of its name failed,
-    /// `Unlisted` where the next file has bytes, which stay, and `NumbersExhausted` where no number
-    /// is left. After an error the log is closed.
+    /// where the folder refused the list's file or the next one, `Unsynced` where a sync of the
+    /// next file or of its name failed, `Unlisted` where the next file has bytes, which stay, and
+    /// `NumbersExhausted` where no number is left. After an error the log is closed.
     pub fn rotate(&mut self) -> Result<(), Error>
         requires log { IsLog H.sum_of R.sum_of self.old }
-        ensures goes { RotateGoes H.sum_of R.sum_of self.old self.new result }
+        ensures goes { RotateGoes H.sum_of R.sum_of D.digest_of self.old self.new result }
         ensures ready { IsLog H.sum_of R.sum_of self.new }
-        ensures turns { RotationSurvives H.sum_of R.sum_of self.old self.new }
+        ensures turns { RotationSurvives H.sum_of R.sum_of D.digest_of self.old self.new }
+        ensures digest { let n = D.NUMBER in AreOfDigest n self.old.listing.closed
+            → AreOfDigest n self.new.listing.closed }
     {
-        let closed = self.close_current()?;
+        let (closed, levels) = self.close_current()?;
+        self.write_list(&levels)?;
         let next = self.open_next()?;
         self.follow_with(next);
         match self.enter(&Entry::Closes(closed)) {
@@ -45,6 +53,20 @@ impl<F: Folder<B> + Drop, B: Blob + Drop, H: Sum, R: Sum> SegmentedLog<F, B, H, 
                 self.current.forget();
                 Err(error)
             }
+        }
+    }
+
+    // Has the folder write the list of the open segment.
+    fn write_list(&mut self, levels: &Levels) -> Result<(), Error>
+        requires log { IsLog H.sum_of R.sum_of self.old }
+        ensures goes { WriteListGoes levels.now self.old self.new result }
+        ensures ready { IsLog H.sum_of R.sum_of self.new }
+        ensures rest { IsSameButAsked self.old self.new }
+    {
+        let number = self.listing.open();
+        match self.folder.write_list(number, levels) {
+            Ok(()) => Ok(()),
+            Err(error) => Err(Error::System(error)),
         }
     }
 
@@ -84,18 +106,29 @@ impl<F: Folder<B> + Drop, B: Blob + Drop, H: Sum, R: Sum> SegmentedLog<F, B, H, 
         }
     }
 
-    // Commits all of the open segment, closes it, and answers what is to be kept of it.
-    fn close_current(&mut self) -> Result<Closed, Error>
+    // Commits all of the open segment, closes it, and answers what is to be kept of it, and the
+    // levels of its content.
+    fn close_current(&mut self) -> Result<(Closed, Levels), Error>
         requires log { IsLog H.sum_of R.sum_of self.old }
-        ensures goes { CloseCurrentGoes H.sum_of R.sum_of self.old self.new result }
+        ensures goes { CloseCurrentGoes H.sum_of R.sum_of D.digest_of self.old self.new result }
         ensures ready { IsLog H.sum_of R.sum_of self.new }
         ensures rest { IsSameButCurrent self.old self.new }
         ensures keeps { let all = records_now R.sum_of self.old.current in
             CurrentKeeps H.sum_of R.sum_of all self.old self.new }
         ensures none { self.new.current.journal ≡ None }
+        ensures digest { IfOk result (λ r. IsOfDigest D.NUMBER r.0.fingerprint) }
     {
         let records = self.current.records();
-        self.current.close()?;
-        Ok(Closed::of(F::bytes(self.current.blob()), records))
+        let len = self.current.size();
+        let levels = self.current.seal::<D>(self.alloc)?;
+        let root = levels.root;
+        let closed = Closed {
+            records,
+            fingerprint: Fingerprint::Paged(PagedSeal {
+                number: D::NUMBER,
+                seal: Seal { len, root },
+            }),
+        };
+        Ok((closed, levels))
     }
 }

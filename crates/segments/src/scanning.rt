@@ -8,6 +8,7 @@ use crate::error::Error;
 use crate::folder::Folder;
 use crate::log::SegmentedLog;
 use crate::place::Place;
+use digest::Digest;
 use disk::{Blob, IoBuf};
 use page::Sum;
 
@@ -22,7 +23,7 @@ enum Step {
     End,
 }
 
-impl<F: Folder<B> + Drop, B: Blob + Drop, H: Sum, R: Sum> SegmentedLog<F, B, H, R> {
+impl<F: Folder<B> + Drop, B: Blob + Drop, H: Sum, R: Sum, D: Digest> SegmentedLog<F, B, H, R, D> {
     /// The place of the first record, from which [`next`](SegmentedLog::next) goes over all.
     #[tactic(auto, using(crate::proofs::Stepping::comes_first))]
     pub fn start(&self) -> Place
@@ -44,7 +45,8 @@ impl<F: Folder<B> + Drop, B: Blob + Drop, H: Sum, R: Sum> SegmentedLog<F, B, H, 
     /// that the call can be made again.
     pub fn next(&mut self, place: &mut Place) -> Result<Option<(Place, IoBuf)>, Error>
         requires log { IsLog H.sum_of R.sum_of self.old }
-        ensures goes { NextGoes H.sum_of R.sum_of self.old self.new place.old place.new result }
+        ensures goes { let d = D.digest_of in
+            NextGoes H.sum_of R.sum_of d self.old self.new place.old place.new result }
         ensures ready { IsLog H.sum_of R.sum_of self.new }
         ensures leaves { LeavesReading H.sum_of R.sum_of self.old self.new }
     {
@@ -68,7 +70,7 @@ impl<F: Folder<B> + Drop, B: Blob + Drop, H: Sum, R: Sum> SegmentedLog<F, B, H, 
     fn step(&mut self, segment: u64, offset: u64) -> Result<Step, Error>
         requires log { IsLog H.sum_of R.sum_of self.old }
         ensures goes { let at = place_at segment offset in
-            StepGoes H.sum_of R.sum_of self.old self.new at result }
+            StepGoes H.sum_of R.sum_of D.digest_of self.old self.new at result }
         ensures ready { IsLog H.sum_of R.sum_of self.new }
         ensures leaves { LeavesReading H.sum_of R.sum_of self.old self.new }
     {
@@ -89,9 +91,9 @@ impl<F: Folder<B> + Drop, B: Blob + Drop, H: Sum, R: Sum> SegmentedLog<F, B, H, 
     // the open one by the end.
     fn step_after(&self, segment: u64, offset: u64) -> Step
         requires none { let at = place_at segment offset in
-            LogReadGoes H.sum_of R.sum_of self.now self.now at (Ok None) }
+            LogReadGoes H.sum_of R.sum_of D.digest_of self.now self.now at (Ok None) }
         ensures { let at = place_at segment offset in
-            StepGoes H.sum_of R.sum_of self.now self.now at (Ok result) }
+            StepGoes H.sum_of R.sum_of D.digest_of self.now self.now at (Ok result) }
     {
         if segment == self.listing.open() {
             return Step::End;

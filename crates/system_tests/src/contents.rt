@@ -242,6 +242,38 @@ fn what_is_whole_is_read(rt: HostRuntime) -> Result<(), Fail> {
     Ok(())
 }
 
+// What a read of 30 bytes from byte 50 on appends to some bytes.
+fn appended(
+    rt: &HostRuntime,
+    paged: &mut PagedContent<Memory, PolyDigest>,
+    front: &[u8],
+) -> Result<Vec<u8>, Fail> {
+    let mut bytes = Vec::from_slice(rt.alloc(), front)?;
+    if paged.len() < 80 {
+        return Err("short".into());
+    }
+    match paged.read_into(&mut bytes, 50, 30) {
+        Ok(()) => Ok(bytes),
+        Err(error) => Err(kind(error).into()),
+    }
+}
+
+#[test]
+fn a_range_is_appended(rt: HostRuntime) -> Result<(), Fail> {
+    let written = write_content(&rt, 40, 123, 7)?;
+    let mut paged = open(
+        &rt,
+        written.seal,
+        written.page_size,
+        written.file,
+        written.list_file,
+    )?;
+    let bytes = appended(&rt, &mut paged, b"front")?;
+    assert_eq!(rt; bytes.get(..5), Some(b"front".as_slice()));
+    assert_eq!(rt; bytes.get(5..), written.content.get(50..80));
+    Ok(())
+}
+
 // What is done to a content's files.
 #[derive(Clone, Copy)]
 enum Damage {

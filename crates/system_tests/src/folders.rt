@@ -4,17 +4,26 @@ ghost use Rattle.std.specs.Prelude.{IfOk};
 ghost use Rattle.crc32c.specs.Crc.{crc32c};
 ghost use Rattle.segments.specs.Log.{IsLog};
 
+use cache::CacheRef;
 use crc32c::Crc32c;
+use digest::{PolyDigest, ShaDigest};
 use disk::{Blob, IoBuf, VecBlob};
 use file::FileBlob;
-use segments::{Error, FileFolder, Folder, FolderCopy, Options, Place, SegmentedLog};
+use journal::Journal;
+use segments::{
+    Closed, Entry, Error, FileDigest, FileFolder, Fingerprint, Folder, FolderCopy, Options, Place,
+    SegmentedLog, bytes_of,
+};
 use std::fs::OpenOptions;
 use std::num::{NonZeroU16, NonZeroUsize};
 use std::os::unix::fs::FileExt;
 use std::test::Fail;
 use std::{fs, io};
 
-type Log = SegmentedLog<FileFolder, FileBlob, Crc32c, Crc32c>;
+type Log = SegmentedLog<FileFolder, FileBlob, Crc32c, Crc32c, ShaDigest>;
+
+// The same log, opened with another digest.
+type OtherLog = SegmentedLog<FileFolder, FileBlob, Crc32c, Crc32c, PolyDigest>;
 
 // Segments that are closed from 50 bytes on.
 fn options(page_size: u16) -> Options {
@@ -111,7 +120,7 @@ fn come_back(log: &mut Log) -> Result<bool, Error>
 
 // Whether the next record stands at a place, and has these bytes.
 fn comes_next<F: Folder<B> + Drop, B: Blob + Drop>(
-    log: &mut SegmentedLog<F, B, Crc32c, Crc32c>,
+    log: &mut SegmentedLog<F, B, Crc32c, Crc32c, ShaDigest>,
     place: &mut Place,
     at: Place,
     bytes: &[u8],
@@ -128,7 +137,7 @@ fn comes_next<F: Folder<B> + Drop, B: Blob + Drop>(
 
 // Whether no record comes next.
 fn ends<F: Folder<B> + Drop, B: Blob + Drop>(
-    log: &mut SegmentedLog<F, B, Crc32c, Crc32c>,
+    log: &mut SegmentedLog<F, B, Crc32c, Crc32c, ShaDigest>,
     place: &mut Place,
 ) -> Result<bool, Error>
     requires { IsLog crc32c crc32c log.old }
@@ -142,7 +151,7 @@ fn ends<F: Folder<B> + Drop, B: Blob + Drop>(
 
 // Whether the three records come one after the other, and no other does.
 fn goes_over<F: Folder<B> + Drop, B: Blob + Drop>(
-    log: &mut SegmentedLog<F, B, Crc32c, Crc32c>,
+    log: &mut SegmentedLog<F, B, Crc32c, Crc32c, ShaDigest>,
 ) -> Result<bool, Error>
     requires { IsLog crc32c crc32c log.old }
 {
@@ -161,7 +170,7 @@ fn goes_over<F: Folder<B> + Drop, B: Blob + Drop>(
 // Whether a copy of the folder has the three records.
 fn is_copied(rt: &HostRuntime, path: &str) -> io::Result<bool> {
     let folder = FolderCopy::new(rt, path)?;
-    match SegmentedLog::<FolderCopy, VecBlob, Crc32c, Crc32c>::open(
+    match SegmentedLog::<FolderCopy, VecBlob, Crc32c, Crc32c, ShaDigest>::open(
         rt.alloc(),
         folder,
         options(84),
@@ -192,7 +201,7 @@ fn is_one_refused(rt: &HostRuntime, log: &mut Log, words: &str) -> Result<bool, 
     Ok(is_refused(rt, log, first, words)? && holds(log, third, b"the third of records")?)
 }
 
-// What is done to the file of a closed segment.
+// What is done to the file of a closed segment, or to that of its list.
 #[derive(Clone, Copy)]
 enum Harm {
     Changed,
@@ -210,45 +219,55 @@ const HARMS: [Harm; 5] = [
     Harm::Removed,
 ];
 
-fn do_harm(rt: &HostRuntime, harm: Harm) -> io::Result<()> {
-    let [old, last] = SEGMENTS;
-    let kept = fs::read(rt, old)?;
+fn do_harm(rt: &HostRuntime, path: &str, harm: Harm) -> io::Result<()> {
+    let [_, last] = SEGMENTS;
+    let kept = fs::read(rt, path)?;
     match harm {
-        Harm::Changed => change(rt, old),
+        Harm::Changed => change(rt, path),
         Harm::Cut => {
             let cut = kept.get(1..).unwrap_or_default();
-            fs::write(rt, old, cut)
+            fs::write(rt, path, cut)
         }
         Harm::Grown => OpenOptions::new()
             .write(true)
-            .open(rt, old)?
+            .open(rt, path)?
             .write_all_at(b"x".as_slice(), kept.len() as u64),
         Harm::Exchanged => {
-            fs::copy(rt, last, old)?;
+            fs::copy(rt, last, path)?;
             Ok(())
         }
-        Harm::Removed => fs::remove_file(rt, old),
+        Harm::Removed => fs::remove_file(rt, path),
     }
 }
 
-// Whether the first segment is refused after this harm was done to its file, and all records come
-// back once the file is restored.
+// Whether the first segment is refused after this harm was done to its file, unless that is harmless,
+// and all records come back once the file is restored.
 fn is_harm_told(rt: &HostRuntime, path: &str, how: Harm) -> io::Result<bool> {
     let [old, _] = SEGMENTS;
     let kept = fs::read(rt, old)?;
-    do_harm(rt, how)?;
-    let words = match how {
-        Harm::Removed => GONE,
-        _ => DAMAGED,
+    do_harm(rt, old, how)?;
+    let what = match how {
+        Harm::Removed => What::IsOneRefused(GONE),
+        Harm::Grown => What::ComesBack,
+        _ => What::IsOneRefused(DAMAGED),
     };
-    let is_told = is_so(rt, path, What::IsOneRefused(words));
+    let is_told = is_so(rt, path, what);
     fs::write(rt, old, kept.as_slice())?;
     Ok(is_told && is_so(rt, path, What::ComesBack))
 }
 
+// Whether all records come back after this harm was done to the list of the first segment.
+fn is_list_spared(rt: &HostRuntime, path: &str, how: Harm) -> io::Result<bool> {
+    let kept = fs::read(rt, LIST)?;
+    do_harm(rt, LIST, how)?;
+    let comes_back = is_so(rt, path, What::ComesBack);
+    fs::write(rt, LIST, kept.as_slice())?;
+    Ok(comes_back)
+}
+
 fn is_each_harm_told(rt: &HostRuntime, path: &str) -> io::Result<bool> {
     for how in HARMS {
-        if !is_harm_told(rt, path, how)? {
+        if !is_harm_told(rt, path, how)? || !is_list_spared(rt, path, how)? {
             return Ok(false);
         }
     }
@@ -310,6 +329,9 @@ const SEGMENTS: [&str; 2] = [
     "log-kept/00000000000000000001.segment",
 ];
 
+// The list of the first one: one digest, and the digest of that.
+const LIST: &str = "log-kept/00000000000000000000.digests";
+
 const MISSING: &str = "segment 1 is missing, though the manifest says that it is the open one";
 
 const MANIFEST: &str = "the manifest can't be read: is the page size right?";
@@ -317,15 +339,71 @@ const MANIFEST: &str = "the manifest can't be read: is the page size right?";
 const UNLISTED: &str =
     "the manifest doesn't know segment 1, which has bytes: bring the manifest back";
 
-// Whether a log comes back, a changed segment is refused, and a dropped one is gone.
+const OTHER: &str = "a segment was closed with digest 1: open the log with that digest";
+
+// Whether the log can't be opened with another digest, in these words.
+fn is_shut_to_other(rt: &HostRuntime, path: &str, words: &str) -> io::Result<bool> {
+    match OtherLog::open(rt.alloc(), FileFolder::new(rt, path)?, options(84)) {
+        Ok(_) => Ok(false),
+        Err(error) => Ok(error.to_string(rt.alloc())?.as_str() == words),
+    }
+}
+
+// Gives the log a manifest of versions before 0.11, by which its first segment is known by its whole
+// file.
+fn make_older(rt: &HostRuntime) -> Result<(), Error> {
+    let [old, _] = SEGMENTS;
+    let closed = Closed {
+        records: 2,
+        fingerprint: Fingerprint::Whole(FileDigest::of(&fs::read(rt, old)?)),
+    };
+    let (alloc, page_size) = (rt.alloc(), options(84).page_size);
+    fs::remove_file(rt, "log-kept/manifest")?;
+    let mut blob = file::open(rt, "log-kept/manifest")?;
+    let mut cache = CacheRef::new(alloc, page_size, NonZeroUsize::MIN)?;
+    let size = blob.len();
+    let (journal, _) = Journal::<FileBlob, Crc32c, Crc32c>::recover(
+        alloc,
+        &mut blob,
+        size,
+        168,
+        &mut cache,
+        NonZeroUsize::MIN,
+    )?;
+    let starts = bytes_of(alloc, page_size, 0, &Entry::Starts(0, page_size.get()))?;
+    let (journal, _) = journal.append_record(&mut blob, &mut cache, &starts)?;
+    let closes = bytes_of(alloc, page_size, journal.size(), &Entry::Closes(closed))?;
+    let (journal, _) = journal.append_record(&mut blob, &mut cache, &closes)?;
+    let _journal = journal.commit(&mut blob, &mut cache)?;
+    Ok(())
+}
+
+// Whether all records come back by such a manifest, and the first segment is refused once its file
+// has one byte more.
+fn is_older_read(rt: &HostRuntime, path: &str) -> Result<bool, Error> {
+    let [old, _] = SEGMENTS;
+    let kept = fs::read(rt, old)?;
+    make_older(rt)?;
+    let comes_back = is_so(rt, path, What::ComesBack) && is_so(rt, path, What::IsGoneOver);
+    do_harm(rt, old, Harm::Grown)?;
+    let is_told = is_so(rt, path, What::IsOneRefused(DAMAGED));
+    fs::write(rt, old, kept.as_slice())?;
+    Ok(comes_back && is_told && is_so(rt, path, What::ComesBack))
+}
+
+// Whether a log comes back, a changed segment is refused, and a dropped one is gone, and its list.
 fn goes_through(rt: &HostRuntime, path: &str) -> io::Result<bool> {
     let [old, _] = SEGMENTS;
     let is_kept = is_so(rt, path, What::IsWritten)
         && is_so(rt, path, What::ComesBack)
         && is_so(rt, path, What::IsGoneOver)
-        && is_copied(rt, path)?;
-    let is_told = is_each_harm_told(rt, path)? && is_so(rt, path, What::IsOneDropped);
-    Ok(is_kept && is_told && !fs::exists(rt, old)?)
+        && is_copied(rt, path)?
+        && is_shut_to_other(rt, path, OTHER)?
+        && fs::read(rt, LIST)?.len() == 64;
+    let is_told = is_each_harm_told(rt, path)?
+        && is_older_read(rt, path).unwrap_or(false)
+        && is_so(rt, path, What::IsOneDropped);
+    Ok(is_kept && is_told && !fs::exists(rt, old)? && !fs::exists(rt, LIST)?)
 }
 
 // Whether the log isn't opened with no manifest, with another page size, and with no open segment.

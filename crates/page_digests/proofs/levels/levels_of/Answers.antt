@@ -1,4 +1,4 @@
-use Rattle.std.proofs.Common.{◌≡◌, ◌∙◌, ap}
+use Rattle.std.proofs.Common.{◌≡◌, ◌∙◌, ap, arith}
 use Rattle.std.specs.Int.NonZero.{non_zero_u16_get}
 use Rattle.page_digests.specs.Pages.{list_of}
 use Rattle.page_digests.proofs.Twins.{levels_tell, levels_whole}
@@ -13,4 +13,4 @@ pub returns-clause-levels : goal.returns-clause-levels
 returns-clause-levels g c = levels_whole g.D.Digest.digest_of _ c.args.content.now _ _ (is_list g c) c.levels_of_list.ensures.over
 
 pub returns-clause-apart : goal.returns-clause-apart
-returns-clause-apart g c = levels_tell g.D.Digest.digest_of _ c.args.content.now _ _ (is_list g c) c.levels_of_list.ensures.apart
+returns-clause-apart g c = levels_tell g.D.Digest.digest_of _ c.args.content.now _ _ (λ i. grind (arith)) (is_list g c) c.levels_of_list.ensures.each

@@ -7,7 +7,7 @@ pub loop-i-preserved : goal.loop-i-preserved
 loop-i-preserved g c =
     pages_grow g.D.Digest.digest_of c.args.page_size c.args.len (g.F.Source.reads c.args.file.now) (g.F.Source.reads c.loop-i.file) (g.F.Source.reads c.read_bytes.new.file) c.loop-i.i
     c.loop-i.invariant.0 c.read_bytes.new.bytes.items c.loop-i.list.items c.extend_from_slice.new.self.items c.requires.positive
-    (omega (arith, c.loop-i-test.true, c.div_ceil-i-end.ensures)) c.loop-i.invariant.1 c.loop-i.invariant.2 c.in_ok-read_bytes.ensures.0 (c.in_ok-read_bytes.ensures.1 ∙ c.page_len.ensures)
+    (omega (arith, c.loop-i-test.true, c.div_ceil-i-end.ensures)) c.loop-i.invariant.1 c.in_ok-read_bytes.ensures.2 c.loop-i.invariant.2 c.in_ok-read_bytes.ensures.0 (c.in_ok-read_bytes.ensures.1 ∙ c.page_len.ensures)
     (c.in_ok-extend_from_slice.ensures.items ∙ ap (λ l. c.loop-i.list.items ++ l) (c.digest.ensures ∙ ap g.D.Digest.digest_of c.deref.ensures.value))
 
 pub returns-in_err-read_bytes : goal.returns-in_err-read_bytes

@@ -19,5 +19,5 @@ returns-in-Ok-true-clause-content g c =
       cached_list = ap (λ (s : ListState). s.cached) c.new.ensures;
       reads = refl;
       top = rw c.new.ensures (top_read g.D.Digest.digest_of g.met.D.Digest.sized _ c.args.seal c.list_len-whole.result c.list_len-len.result c.read_compared.new.bytes.items _ _
-          whole len c.in-Ok-true.ensures.0 c.in-Ok-true.ensures.1 (c.in-Ok-true.ensures.2.0 c.in-Ok-true.field-0-test));
+          whole len c.in-Ok-true.ensures.0 c.in-Ok-true.ensures.1 c.in-Ok-true.ensures.2 (c.in-Ok-true.ensures.3.0 c.in-Ok-true.field-0-test));
     }

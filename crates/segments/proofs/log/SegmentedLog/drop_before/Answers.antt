@@ -3,6 +3,7 @@ use Rattle.std.proofs.Common.{arith, rules}
 use Rattle.segments.specs.declared.error.Error.TheVariants as errors
 use Rattle.segments.proofs.DropSurvival.{drop_still}
 use Rattle.segments.proofs.DropSurvival.{drop_tries}
+use Rattle.segments.proofs.OfDigest.{drop_of}
 use Rattle.segments.proofs.Removing.{drop_removes}
 use Rattle.segments.proofs.log.SegmentedLog.drop_before.Goals as goal
 
@@ -54,3 +55,15 @@ returns-clause-ready g c = search rules
 pub returns-clause-removes : goal.returns-clause-removes
 returns-clause-removes g c =
     drop_removes g.H.Sum.sum_of g.R.Sum.sum_of c.args.segment c.args.self.now _ _ (returns-clause-goes g c) (returns-clause-ready g c)
+
+pub returns-then-is_closed-clause-digest : goal.returns-then-is_closed-clause-digest
+returns-then-is_closed-clause-digest g c = λ are. drop_of _ c.args.segment c.args.self.now _ (Err errors.Closed) (returns-then-is_closed-clause-goes g c) are
+
+pub returns-then-open-segment-clause-digest : goal.returns-then-open-segment-clause-digest
+returns-then-open-segment-clause-digest g c = λ are. drop_of _ c.args.segment c.args.self.now _ (Err (errors.NoSegment c.args.segment)) (returns-then-open-segment-clause-goes g c) are
+
+pub returns-in_err-start_or_close-clause-digest : goal.returns-in_err-start_or_close-clause-digest
+returns-in_err-start_or_close-clause-digest g c = λ are. drop_of _ c.args.segment c.args.self.now _ c.from_residual.result (returns-in_err-start_or_close-clause-goes g c) are
+
+pub returns-clause-digest : goal.returns-clause-digest
+returns-clause-digest g c = λ are. drop_of _ c.args.segment c.args.self.now _ _ (returns-clause-goes g c) are

@@ -4,8 +4,18 @@ use Rattle.segments.specs.Log.{IsLog, LogState}
 use Rattle.std.specs.Int.NonZero.{non_zero_u16_get}
 use Rattle.segments.specs.Manifest.{listed_with, padded}
 use Rattle.segments.specs.Owned.{OwnedAddGoes, OwnedAddKeeps}
-use Rattle.segments.proofs.Entering.{enter_failed, enter_ready, entry_tried}
+use Rattle.segments.proofs.Entering.{enter_failed, enter_ready, entered_goes, entry_tried}
 use Rattle.segments.proofs.log.SegmentedLog.enter.Goals as goal
+
+pub returns-in-Ok-clause-goes : goal.returns-in-Ok-clause-goes
+returns-in-Ok-clause-goes g c =
+    let sum = g.H.Sum.sum_of in
+    let own = g.R.Sum.sum_of in
+    entered_goes sum own c.args.entry.now c.in_ok-bytes.bytes.items _ c.args.self.now c.keep.new.self c.in-Some.listing c.add.new.self _ c.self.view_is
+    (c.in_ok-bytes.ensures.bytes ∙ ap (λ n. padded (non_zero_u16_get c.self.inside.options.page_size) n c.args.entry.now) c.size-size.ensures)
+    (subst (λ P. listed_with P c.args.entry.now c.self.inside.listing ≡ Some c.in-Some.listing) c.get.ensures.value (sym c.in_ok-listing.ensures ∙ c.in-Some.is))
+    (subst (λ bytes. OwnedAddGoes sum own bytes c.self.inside.manifest c.add.new.self (Ok tt)) c.deref.ensures.value c.in-Ok.ensures.goes)
+    c.known_with-self-inside.ensures c.keep.ensures.has
 
 pub returns-in-Ok-clause-ready : goal.returns-in-Ok-clause-ready
 returns-in-Ok-clause-ready g c =

@@ -1,4 +1,4 @@
-use Rattle.std.specs.Prelude.{◌∷◌, [], Ok}
+use Rattle.std.specs.Prelude.{◌∷◌, [], List, ℕ, Ok}
 use Rattle.std.proofs.Common.{refl, inl, subst, arith}
 use Rattle.segments.specs.declared.scanning.Step.{Step}
 use Rattle.segments.specs.Scan.{StepGoes}
@@ -17,7 +17,7 @@ loop-bytes-init g c = record {
 
 pub returns-in_err-bytes-clause-goes : goal.returns-in_err-bytes-clause-goes
 returns-in_err-bytes-clause-goes g c =
-    next_refused g.H.Sum.sum_of g.R.Sum.sum_of c.args.self.now c.loop-bytes.self c.step.new.self c.args.place.now c.loop-bytes.at c.loop-bytes.place c.in_err-bytes.field-0.0 c.from_residual.result
+    next_refused g.H.Sum.sum_of g.R.Sum.sum_of g.D.Digest.digest_of c.args.self.now c.loop-bytes.self c.step.new.self c.args.place.now c.loop-bytes.at c.loop-bytes.place c.in_err-bytes.field-0.0 c.from_residual.result
     c.loop-bytes.invariant.leaves c.loop-bytes.invariant.further c.loop-bytes.invariant.so_far c.loop-bytes.invariant.same c.from_residual.ensures.1 c.in_err-bytes.ensures.goes
 
 pub returns-in_err-bytes-clause-leaves : goal.returns-in_err-bytes-clause-leaves
@@ -28,9 +28,10 @@ pub returns-in-Record-clause-goes : goal.returns-in-Record-clause-goes
 returns-in-Record-clause-goes g c =
     let sum = g.H.Sum.sum_of in
     let own = g.R.Sum.sum_of in
-    let goes = subst (λ (s : Step). StepGoes sum own c.loop-bytes.self c.step.new.self c.loop-bytes.at (Ok s)) c.in-Record.is c.in_ok-bytes.ensures.goes in (
+    let d : List ℕ → List ℕ = g.D.Digest.digest_of in
+    let goes = subst (λ (s : Step). StepGoes sum own d c.loop-bytes.self c.step.new.self c.loop-bytes.at (Ok s)) c.in-Record.is c.in_ok-bytes.ensures.goes in (
       c.loop-bytes.invariant.so_far,
-      between_back sum own c.args.self.now c.loop-bytes.self (c.in-Record.bytes ∷ []) c.loop-bytes.at c.in-Record.behind c.loop-bytes.invariant.leaves goes,
+      between_back sum own d c.args.self.now c.loop-bytes.self (c.in-Record.bytes ∷ []) c.loop-bytes.at c.in-Record.behind c.loop-bytes.invariant.leaves goes,
     )
 
 pub returns-in-Record-clause-leaves : goal.returns-in-Record-clause-leaves
@@ -41,21 +42,23 @@ pub loop-bytes-smaller : goal.loop-bytes-smaller
 loop-bytes-smaller g c =
     let sum = g.H.Sum.sum_of in
     let own = g.R.Sum.sum_of in
-    let goes = subst (λ (s : Step). StepGoes sum own c.loop-bytes.self c.step.new.self c.loop-bytes.at (Ok s)) c.in-Passed.is c.in_ok-bytes.ensures.goes in
+    let d : List ℕ → List ℕ = g.D.Digest.digest_of in
+    let goes = subst (λ (s : Step). StepGoes sum own d c.loop-bytes.self c.step.new.self c.loop-bytes.at (Ok s)) c.in-Passed.is c.in_ok-bytes.ensures.goes in
     (behind_back sum own c.args.self.now c.loop-bytes.self c.loop-bytes.at c.in-Passed.to c.loop-bytes.invariant.leaves goes.1).nearer
 
 pub loop-bytes-preserved : goal.loop-bytes-preserved
 loop-bytes-preserved g c =
     let sum = g.H.Sum.sum_of in
     let own = g.R.Sum.sum_of in
+    let d : List ℕ → List ℕ = g.D.Digest.digest_of in
     let before = c.loop-bytes.invariant in
-    let goes = subst (λ (s : Step). StepGoes sum own c.loop-bytes.self c.step.new.self c.loop-bytes.at (Ok s)) c.in-Passed.is c.in_ok-bytes.ensures.goes in
+    let goes = subst (λ (s : Step). StepGoes sum own d c.loop-bytes.self c.step.new.self c.loop-bytes.at (Ok s)) c.in-Passed.is c.in_ok-bytes.ensures.goes in
     let further = goes.1.segment in
     record {
       ready = c.step.ensures.ready;
       leaves = leaves_joins sum own c.args.self.now c.loop-bytes.self c.step.new.self before.leaves c.step.ensures.leaves;
-      so_far = between_joins sum own c.args.self.now [] c.args.place.now c.loop-bytes.at c.in-Passed.to before.so_far
-          (between_back sum own c.args.self.now c.loop-bytes.self [] c.loop-bytes.at c.in-Passed.to before.leaves goes.0);
+      so_far = between_joins sum own d c.args.self.now [] c.args.place.now c.loop-bytes.at c.in-Passed.to before.so_far
+          (between_back sum own d c.args.self.now c.loop-bytes.self [] c.loop-bytes.at c.in-Passed.to before.leaves goes.0);
       further = omega (arith, before.further, further);
       same = before.same;
     }
@@ -64,7 +67,8 @@ pub returns-in-End-clause-goes : goal.returns-in-End-clause-goes
 returns-in-End-clause-goes g c =
     let sum = g.H.Sum.sum_of in
     let own = g.R.Sum.sum_of in
-    let goes = subst (λ (s : Step). StepGoes sum own c.loop-bytes.self c.step.new.self c.loop-bytes.at (Ok s)) c.in-End.is c.in_ok-bytes.ensures.goes in
+    let d : List ℕ → List ℕ = g.D.Digest.digest_of in
+    let goes = subst (λ (s : Step). StepGoes sum own d c.loop-bytes.self c.step.new.self c.loop-bytes.at (Ok s)) c.in-End.is c.in_ok-bytes.ensures.goes in
     (c.loop-bytes.invariant.so_far, end_back sum own c.args.self.now c.loop-bytes.self c.loop-bytes.at c.loop-bytes.invariant.leaves goes)
 
 pub returns-in-End-clause-leaves : goal.returns-in-End-clause-leaves

@@ -7,7 +7,7 @@ abbrev pub invariant-loop-bytes : goal.invariant-loop-bytes
 invariant-loop-bytes g l = record {
   ready : IsLog g.H.Sum.sum_of g.R.Sum.sum_of l.self;
   leaves : LeavesReading g.H.Sum.sum_of g.R.Sum.sum_of l.fn.self l.self;
-  so_far : StandBetween g.H.Sum.sum_of g.R.Sum.sum_of l.fn.self [] l.fn.place l.at;
+  so_far : StandBetween g.H.Sum.sum_of g.R.Sum.sum_of g.D.Digest.digest_of l.fn.self [] l.fn.place l.at;
   further : l.fn.place.segment ≤ l.at.segment;
   same : l.place ≡ l.fn.place;
 }
