@@ -17,7 +17,8 @@ pub enum Error {
     /// The layer below refused the call: the device, the memory or the blob's size.
     #[error("{0}")]
     Layer(disk::Error),
-    /// The folder refused the call, or a file in it; the system says why. It wasn't a sync.
+    /// The folder refused the call, or a file in it; the system says why. It wasn't a sync, unless
+    /// it was the one of the list that is written as a segment is closed: no record is in it.
     #[error("{0}")]
     System(io::Error),
     /// A sync of the folder failed, or one of a file as it was opened. Nobody knows what of that is
