@@ -49,6 +49,7 @@ enum Verb {
     Read,
     Records,
     Rotate,
+    DigestAhead,
     DropBefore,
     Fail,
     Full,
@@ -65,7 +66,7 @@ enum Verb {
     TornOpen,
 }
 
-const STEPS: [Form<Verb>; 23] = [
+const STEPS: [Form<Verb>; 24] = [
     (b"open", &[], Verb::Open),
     (b"close", &[], Verb::Close),
     (b"append", &[Bytes], Verb::Append),
@@ -75,6 +76,7 @@ const STEPS: [Form<Verb>; 23] = [
     (b"read", &[Number, Number], Verb::Read),
     (b"records", &[], Verb::Records),
     (b"rotate", &[], Verb::Rotate),
+    (b"digest-ahead", &[Number], Verb::DigestAhead),
     (b"drop-before", &[Number], Verb::DropBefore),
     (b"fail", &[Number], Verb::Fail),
     (b"full", &[], Verb::Full),
@@ -373,6 +375,7 @@ impl<H: Sum> Logs<H> {
             }
             Verb::Records => say_records(records_of::<H>(alloc, log), said),
             Verb::Rotate => say_log_done(log.rotate(), said),
+            Verb::DigestAhead => say_log_done(log.digest_ahead(first), said),
             Verb::DropBefore => say_log_done(log.drop_before(first), said),
             _ => Err(unreadable()),
         }

@@ -23,6 +23,7 @@ pub mod CopiesTold
 pub mod Loading
 pub mod PagedReading
 pub mod Digested
+pub mod Ahead
 pub mod Sealing
 pub mod Refusing
 pub mod DropSurvival
@@ -38,6 +39,7 @@ pub mod ManifestExamples
 pub mod KeptExamples
 pub mod OwnedExamples
 pub mod SealingExamples
+pub mod AheadExamples
 pub mod LogExamples
 pub mod CrashExamples
 pub mod ScanExamples

@@ -8,6 +8,7 @@
 mod appending;
 mod call;
 mod closed;
+mod digesting_ahead;
 mod dropping;
 mod entry;
 mod error;
