@@ -8,6 +8,7 @@ use Rattle.page_digests.specs.declared.error.Error.{Error}
 use Rattle.page_digests.specs.declared.error.Error.TheVariants.{Damaged}
 use Rattle.page_digests.specs.PagedBytes.{BytesAnswers, BytesGoes, BytesPageFails, BytesState, IsKnown, IsOpenedBytes, IsPagedBytes, IsPageOf, IsPageRefused, IsPageWrong, IsSameBytes, ReadsBytesOn, RootFails}
 use Rattle.page_digests.specs.Pages.{content_page, digest_at, range_at}
+use Rattle.page_digests.specs.Seals.{HasPagePreimage}
 use Rattle.page_digests.specs.Sources.{gave, refused}
 use Rattle.page_digests.proofs.BytesReads.{cached_known}
 use Rattle.page_digests.proofs.PageExamples.{first, sized_first}
@@ -56,7 +57,7 @@ abc_is_known = cached_known first sized_first three_read 0 they_are_known_by_it 
 pub xbc_is_not_known : IsKnown first 32 3 its_digest (range_at 0 3) (codes "xbc") → ⊥
 xbc_is_not_known is = by_case (is abc refl refl)
   where
-    by_case : (codes "xbc" ≡ range_at 0 3 abc) ⊎ _ → ⊥
+    by_case : (codes "xbc" ≡ range_at 0 3 abc) ⊎ HasPagePreimage first 32 abc → ⊥
     by_case (inl same) = omega (arith, ap (λ (l : List ℕ). get_or l 0 0) same)
     by_case (inr twin) = no_page_twin abc twin
 

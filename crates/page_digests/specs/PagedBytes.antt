@@ -1,6 +1,7 @@
 -- Bytes in a file, of which the digests of their pages are known.
 use Rattle.std.specs.Prelude.{◌≡◌, ◌≢◌, ◌⊎◌, ◌<◌, ◌≤◌, ◌+◌, ◌*◌, ◌/◌, ◌%◌, ◌^◌, ◌++◌, ℕ, List}
-use Rattle.std.specs.Prelude.{[], ◌∷◌, length, take, Option, Some, None, IfSome, Result, Ok, Err, OnOk}
+use Rattle.std.specs.Prelude.{[], ◌∷◌, length, take, Option, Some, None, IfSome, Result, Ok, Err}
+use Rattle.std.specs.Prelude.{OnOk}
 use Rattle.page_digests.specs.Pages.{digest_at, list_len, list_of, page_len, range_at}
 use Rattle.page_digests.specs.Reads.{IsReadOn, IsTouched, pages_touched}
 use Rattle.page_digests.specs.Seals.{EachIsByte, HasPagePreimage}
