@@ -30,6 +30,8 @@ pub mod Appends
 pub mod Padding
 pub mod OfDigest
 pub mod PagedFrames
+pub mod Begins
+pub mod Pushes
 pub mod Removing
 pub mod RotationExamples
 pub mod TurnExamples
@@ -45,3 +47,4 @@ pub mod InnerExamples
 pub mod OpeningExamples
 pub mod PagedFrameExamples
 pub mod ReadingExamples
+pub mod MarkExamples

@@ -7,6 +7,8 @@ pub mod Owned
 pub mod FrameReads
 pub mod PagedFrames
 pub mod PagedReads
+pub mod Marks
+pub mod Marking
 pub mod SegmentFiles
 pub mod Log
 pub mod Copies

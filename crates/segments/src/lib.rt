@@ -18,6 +18,8 @@ mod known;
 mod listing;
 mod loaded;
 mod log;
+mod mark;
+mod marking;
 mod names;
 mod opening;
 mod owned;
