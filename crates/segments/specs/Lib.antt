@@ -9,6 +9,7 @@ pub mod PagedFrames
 pub mod PagedReads
 pub mod Marks
 pub mod Marking
+pub mod MarkReads
 pub mod SegmentFiles
 pub mod Log
 pub mod Copies
