@@ -20,7 +20,7 @@ use Rattle.page_digests.specs.Buffers.{ComparesGoes}
 use Rattle.page_digests.specs.Seals.{EachIsByte, IsVerified}
 use Rattle.page_digests.specs.Sources.{EndsWithRead, SourceRead, gave, refused}
 use Rattle.page_digests.proofs.Costs.{last-in, touched_more}
-use Rattle.page_digests.proofs.ListReads.{one_more, one_read, read_after}
+use Rattle.page_digests.proofs.BytesReads.{one_more, one_read, read_after}
 use Rattle.page_digests.proofs.Paging.{page_within}
 use Rattle.page_digests.proofs.Pieces.{none_verified, piece_verified, ranges_joined}
 use Rattle.page_digests.proofs.RangeCosts.{asks_still, content_on, fails, gives, list_on, on_any}

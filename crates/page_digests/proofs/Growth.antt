@@ -44,7 +44,7 @@ page_taken d page s t pages list P content is paged within =
     }
 
 -- how many pages: whole ones alone
-count_whole : (P len n : ℕ) → 0 < P → len ≡ n * P → div_ceil len P ≡ n
+pub count_whole : (P len n : ℕ) → 0 < P → len ≡ n * P → div_ceil len P ≡ n
 count_whole P len n positive is =
     let both = div_ceil_times len P positive in
     let least : len ≤ div_ceil len P * P = both.0 in
@@ -58,7 +58,7 @@ count_whole P len n positive is =
     omega arith
 
 -- and a last one that is shorter
-count_part : (P len n : ℕ) → 0 < P → n * P < len → len < n * P + P → div_ceil len P ≡ suc n
+pub count_part : (P len n : ℕ) → 0 < P → n * P < len → len < n * P + P → div_ceil len P ≡ suc n
 count_part P len n positive more less =
     let both = div_ceil_times len P positive in
     let least : len ≤ div_ceil len P * P = both.0 in

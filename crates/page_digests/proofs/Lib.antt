@@ -6,6 +6,7 @@ pub mod Payloads
 pub mod Filled
 pub mod Verified
 pub mod Pieces
+pub mod BytesReads
 pub mod ListReads
 pub mod ContentReads
 pub mod Rebuilt
@@ -17,3 +18,4 @@ pub mod GrowingExamples
 pub mod ReadExamples
 pub mod ContentExamples
 pub mod RebuildExamples
+pub mod PagedBytesExamples

@@ -27,7 +27,7 @@ range_more : (bytes : List ℕ) (offset done n : ℕ) → take done (drop offset
 range_more bytes offset done n =
     sym (take-add done n (drop offset bytes) ∙ ap (λ (l : List ℕ). take done (drop offset bytes) ++ take n l) (drop-drop done offset bytes))
 
-joined : (P : ℕ) (bytes : List ℕ) (offset done n i skip : ℕ) (out page : List ℕ) → skip + n ≤ P → i * P + skip ≡ offset + done
+pub joined : (P : ℕ) (bytes : List ℕ) (offset done n i skip : ℕ) (out page : List ℕ) → skip + n ≤ P → i * P + skip ≡ offset + done
     → out ≡ range_at offset done bytes → page ≡ content_page P i bytes → out ++ take n (drop skip page) ≡ range_at offset (done + n) bytes
 joined P bytes offset done n i skip out page fits at outs is =
     let begin : out ≡ take done (drop offset bytes) = outs ∙ sym (as_range bytes offset done) in
@@ -36,9 +36,12 @@ joined P bytes offset done n i skip out page fits at outs is =
     ap (λ (l : List ℕ). l ++ take n (drop skip page)) begin ∙ ap (λ (l : List ℕ). take done (drop offset bytes) ++ l) piece
     ∙ range_more bytes offset done n ∙ as_range bytes offset (done + n)
 
+pub range_at-none : (bytes : List ℕ) (offset : ℕ) → [] ≡ range_at offset 0 bytes
+range_at-none bytes offset = as_range bytes offset 0
+
 -- no byte yet
 pub none_verified : (d : List ℕ → List ℕ) (P : ℕ) (seal : Seal) (of : List ℕ → List ℕ) (offset : ℕ) → IsVerified d P seal (λ content. range_at offset 0 (of content)) []
-none_verified d P seal of offset content is = inl (as_range (of content) offset 0)
+none_verified d P seal of offset content is = inl (range_at-none (of content) offset)
 
 -- a piece more, of a page that is verified
 pub more_verified : (d : List ℕ → List ℕ) (P : ℕ) (seal : Seal) (of : List ℕ → List ℕ) (offset done n i skip : ℕ) (out page : List ℕ) → skip + n ≤ P → i * P + skip ≡ offset + done

@@ -99,7 +99,7 @@ it_has_no_twin = none_has_a_twin abc refl
 
 -- ---- roots
 
-its_digest_is_bytes : EachIsByte its_digest
+pub its_digest_is_bytes : EachIsByte its_digest
 its_digest_is_bytes = bytes_joined abc (replicate 29 0) abc_is_bytes (zeros 29)
   where
     zeros : (n : ℕ) → EachIsByte (replicate n 0)

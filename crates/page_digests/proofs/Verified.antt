@@ -56,19 +56,6 @@ part_wrong d P seal of digest bytes verified differ content is =
       | inl its ↦ inl (λ same. differ (same ∙ sym its))
     ]
 
--- a page of the list
-pub list_page_verified : (d : List ℕ → List ℕ) → ((b : List ℕ) → length (d b) ≡ 32) → (P : ℕ) (seal : Seal) (digest bytes : List ℕ) (j : ℕ) → EachIsByte bytes → j * P < list_len P seal.len
-    → length bytes ≡ page_len P (list_len P seal.len) j → IsVerified d P seal (λ content. d (content_page P j (list_of d P content))) digest → d bytes ≡ digest
-    → IsVerified d P seal (λ content. content_page P j (list_of d P content)) bytes
-list_page_verified d sized P seal digest bytes j small within len verified same =
-    part_verified d P seal (λ content. content_page P j (list_of d P content)) digest bytes small
-    (λ content is. len ∙ ap (λ (n : ℕ). page_len P n j) (its content is) ∙ sym (length-page_at P j (list_of d P content)))
-    (λ content is other twin. inr (inl (j, other, subst (λ (n : ℕ). j * P < n) (its content is) within, twin)))
-    verified same
-  where
-    its : (content : List ℕ) → IsSealOf d P content seal → list_len P seal.len ≡ length (list_of d P content)
-    its content is = ap (list_len P) is.len ∙ sym (length-list_of d sized P content)
-
 -- a page of the content
 pub page_verified : (d : List ℕ → List ℕ) (P : ℕ) (seal : Seal) (digest bytes : List ℕ) (i : ℕ) → EachIsByte bytes → i * P < seal.len
     → length bytes ≡ page_len P seal.len i → IsVerified d P seal (λ content. d (content_page P i content)) digest → d bytes ≡ digest

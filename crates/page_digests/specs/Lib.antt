@@ -7,5 +7,6 @@ pub mod Reads
 pub mod Contents
 pub mod Rebuilds
 pub mod Buffers
+pub mod PagedBytes
 pub mod Lists
 pub mod Steps

@@ -1,24 +1,28 @@
-use Rattle.std.proofs.Common.{◌≤◌, ◌+◌, ◌*◌, arith, refl}
+use Rattle.std.proofs.Common.{◌<◌, ◌≤◌, ◌+◌, ◌*◌, ℕ, subst, sym, refl}
+use Rattle.std.specs.Prelude.{Ok, Err}
 use Rattle.std.proofs.lemmas.Result.{err_from_is_err_and}
+use Rattle.page_digests.specs.Lists.{DigestGoes, ListState, list_over}
 use Rattle.page_digests.specs.Pages.{list_len}
-use Rattle.page_digests.proofs.ListReads.{copy_begins, copy_more, digest_copied, digest_failed, digest_within}
+use Rattle.page_digests.proofs.ListReads.{digest_lost, digest_read, digest_within}
 use Rattle.page_digests.proofs.list.PagedList.digest.Goals as goal
 
-pub copy_piece-requires-clause-within : goal.copy_piece-requires-clause-within
-copy_piece-requires-clause-within g c =
-    let there : c.args.i * 32 + 32 ≤ list_len c.args.self.now.page_size c.args.self.now.seal.len = digest_within _ _ c.args.i c.requires.positive c.requires.within in
-    rw (c.loop-done.invariant.same.page_size, c.loop-done.invariant.same.seal) (omega arith)
+pub read-requires : goal.read-requires
+read-requires g c =
+    subst (λ (n : ℕ). c.args.i * 32 + 32 ≤ n) (sym c.self.invariant.len)
+    (subst (λ (s : ListState). c.args.i * 32 + 32 ≤ list_len s.page_size s.seal.len) (sym c.self.view_is)
+    (digest_within c.args.self.now.page_size c.args.self.now.seal.len c.args.i c.requires.positive c.requires.within))
 
-pub loop-done-init : goal.loop-done-init
-loop-done-init g c = copy_begins g.D.Digest.digest_of c.args.i c.args.self.now _ refl
-
-pub loop-done-preserved : goal.loop-done-preserved
-loop-done-preserved g c = copy_more g.D.Digest.digest_of c.args.i c.args.self.now c.loop-done.self c.copy_piece.new.self c.loop-done.done c.in_ok-done.field-0 c.loop-done.digest c.copy_piece.new.digest c.requires.positive c.loop-done.invariant c.in_ok-done.ensures
-
-pub returns-in_err-done : goal.returns-in_err-done
-returns-in_err-done g c =
+pub returns-in_err-read : goal.returns-in_err-read
+returns-in_err-read g c =
     let p = err_from_is_err_and c.from_residual.result c.from_residual.ensures.1 in
-    rw (p.1, p.2) (digest_failed g.D.Digest.digest_of c.args.i c.args.self.now c.loop-done.self c.copy_piece.new.self c.loop-done.done c.loop-done.digest c.copy_piece.new.digest c.in_err-done.field-0.0 c.requires.positive c.loop-done-test.true c.loop-done.invariant c.in_err-done.ensures)
+    let within : c.args.i * c.self.inside.list.page_size < c.self.inside.seal.len =
+    subst (λ (s : ListState). c.args.i * s.page_size < s.seal.len) (sym c.self.view_is) c.requires.within in
+    rw (p.1, p.2) (subst (λ (s : ListState). DigestGoes g.D.Digest.digest_of c.args.i s (list_over c.self.inside.seal c.read.new.self) (Err c.in_err-read.field-0.0)) c.self.view_is
+    (digest_lost g.D.Digest.digest_of g.met.D.Digest.sized c.self.inside.seal c.self.inside.list c.self.invariant c.args.i c.read.new.self _ c.read.new.bytes c.in_err-read.field-0.0 refl within c.in_err-read.ensures))
 
 pub returns : goal.returns
-returns g c = digest_copied g.D.Digest.digest_of g.met.D.Digest.sized c.args.i c.args.self.now c.loop-done.self c.loop-done.done c.loop-done.digest c.requires.positive c.requires.within c.loop-done-test.false c.loop-done.invariant
+returns g c =
+    let within : c.args.i * c.self.inside.list.page_size < c.self.inside.seal.len =
+    subst (λ (s : ListState). c.args.i * s.page_size < s.seal.len) (sym c.self.view_is) c.requires.within in
+    subst (λ (s : ListState). DigestGoes g.D.Digest.digest_of c.args.i s (list_over c.self.inside.seal c.read.new.self) (Ok c.read.new.bytes)) c.self.view_is
+    (digest_read g.D.Digest.digest_of g.met.D.Digest.sized c.self.inside.seal c.self.inside.list c.self.invariant c.args.i c.read.new.self _ c.read.new.bytes refl within c.in_ok-read.ensures)
