@@ -6,12 +6,15 @@ ghost use Rattle.page_digests.specs.Contents.{IsOpenedContent, unread};
 ghost use Rattle.page_digests.specs.Steps.{LoadGoes, PieceGoes, RangeAppendGoes};
 ghost use Rattle.page_digests.specs.Contents.{PagedReadGoes, PagedReadIntoGoes, SoundGoes};
 ghost use Rattle.page_digests.specs.Reads.{TopFails};
+ghost use Rattle.page_digests.specs.Rebuilds.{RebuildGoes};
 ghost use Rattle.page_digests.specs.Pages.{pages_of_len, top_len};
 
 use crate::error::Error;
+use crate::levels::Levels;
 use crate::list::PagedList;
 use crate::pages::{BETWEEN, LEN_LIMIT, list_len, page_len};
 use crate::reading::read_compared;
+use crate::rebuilding::rebuild_by;
 use crate::seal::Seal;
 use crate::source::Source;
 use crate::unopened::Unopened;
@@ -122,6 +125,30 @@ impl<F: Source + Drop, D: Digest> PagedContent<F, D> {
             cached: None,
             page: Vec::new(alloc),
         }
+    }
+
+    /// Builds the levels again from the content's file, as
+    /// [`rebuild_levels`](crate::rebuild_levels) does. The list that is read stays the same until
+    /// [`use_list`](PagedContent::use_list) puts another one in its place.
+    pub fn rebuild(&mut self, alloc: Global) -> Result<Levels, Error>
+        ensures goes { RebuildGoes D.digest_of self.old.page_size self.old.seal self.old.reads
+            self.new.reads result }
+        ensures rest { self.new ≡ record self.old { reads = self.new.reads } }
+        ensures root { IfOk result (λ l. D.digest_of l.top.items ≡ self.old.seal.root) }
+        ensures top { let P = self.old.page_size in
+            IfOk result (λ l. length l.top.items ≡ top_len P self.old.seal.len) }
+    {
+        rebuild_by::<F, D>(alloc, &mut self.file, &self.seal, self.page_size)
+    }
+
+    /// Reads the list from another file from now on, whose top is known. This reads nothing.
+    pub fn use_list(&mut self, alloc: Global, list_file: F, top: Vec<u8>)
+        requires root { D.digest_of top.items ≡ self.old.seal.root }
+        requires len { length top.items ≡ top_len self.old.page_size self.old.seal.len }
+        ensures { self.new
+            ≡ record self.old { cached_list = None; list_reads = F.reads list_file } }
+    {
+        self.list = PagedList::new(alloc, list_file, self.seal, self.page_size, top);
     }
 
     /// What is kept of the content.

@@ -43,6 +43,27 @@ pub fn rebuild_levels<F: Source, D: Digest>(
     }
 }
 
+// The same, where the page size is a number that fits 16 bits.
+pub(crate) fn rebuild_by<F: Source, D: Digest>(
+    alloc: Global,
+    file: &mut F,
+    seal: &Seal,
+    page_size: usize,
+) -> Result<Levels, Error>
+    requires limit { seal.now.len < LEN_LIMIT }
+    requires positive { 0 < page_size }
+    requires small { page_size < 2 ^ 16 }
+    ensures goes { RebuildGoes D.digest_of page_size seal.now (F.reads file.old) (F.reads file.new)
+        result }
+    ensures root { IfOk result (λ l. D.digest_of l.top.items ≡ seal.now.root) }
+    ensures top { IfOk result (λ l. length l.top.items ≡ top_len page_size seal.now.len) }
+{
+    let Some(page_size) = NonZeroU16::new(page_size as u16) else {
+        unreachable!();
+    };
+    rebuild_levels::<F, D>(alloc, file, seal, page_size)
+}
+
 // The list of a content of `len` bytes, each page of which is read.
 fn read_list<F: Source, D: Digest>(
     alloc: Global,
