@@ -32,7 +32,7 @@ ABOVE = ["file", "items", "journal", "segments", "session", "scripts", "protocol
 RECEIVERS = {
     "Writer": {"writer", "recovery"}, "Sealed": {"snapshot", "sealed"}, "View": {"view", "view()"}, "Replay": {"replay"},
     "Items": {"items"}, "ItemsSnapshot": {"snapshot"}, "ItemsReplay": {"replay"}, "CacheRef": {"cache"},
-    "Session": {"session"}, "Journal": {"journal"}, "Reader": {"reader"}, "SegmentedLog": {"log"}, "Hand": {"hand"},
+    "Session": {"session"}, "Journal": {"journal"}, "Reader": {"reader"}, "SegmentedLog": {"log"}, "ClosedSegment": {"old"}, "Hand": {"hand"},
     "Buffer": {"tip"}, "IoBufs": {"bufs"}, "IoBuf": {"buf"}, "Checksum": {"footer"}, "Survey": {"survey"},
     "Mirror": {"mirror"}, "VecBlob": {"blob"}, "MemBlob": {"blob"},
 }

@@ -6,7 +6,7 @@ use crate::files::{Files, Name, say_file_calls, say_name};
 use crate::forms::Argument::{Bytes, Flags, Number, Word};
 use crate::forms::{Arguments, Form, read_step};
 use crate::line::Row;
-use crate::memory_folder::{MemoryFile, MemoryFolder, Shared, lent};
+use crate::memory_folder::{MemoryFile, MemoryFolder, MemorySource, Shared, lent};
 use crate::subject::Subject;
 use crate::words::{buffer_size, flags, number, page_size, say_bytes, unreadable};
 use digest::ShaDigest;
@@ -14,7 +14,7 @@ use disk::IoBuf;
 use journal::Found;
 use page::Sum;
 use scripts::Hex;
-use segments::{Error, Options, Place, SegmentedLog};
+use segments::{ClosedSegment, Error, Options, Place, SegmentedLog};
 use std::alloc::Global;
 use std::cell::RefCell;
 use std::io;
@@ -23,6 +23,8 @@ use std::marker::Model;
 use std::rc::Rc;
 
 type Log<H> = SegmentedLog<MemoryFolder, MemoryFile, H, H, ShaDigest>;
+
+type OldSegment<H> = ClosedSegment<MemorySource, H, H, ShaDigest>;
 
 /// Reads how a log is kept from the words of a `start` line: the logical bytes of a page, those
 /// that are buffered, and from how many on a segment is closed. Each opening reads a page at once,
@@ -48,6 +50,9 @@ enum Verb {
     Wait,
     Read,
     Records,
+    Many,
+    Reader,
+    ReaderRead,
     Rotate,
     DropBefore,
     Fail,
@@ -65,7 +70,7 @@ enum Verb {
     TornOpen,
 }
 
-const STEPS: [Form<Verb>; 23] = [
+const STEPS: [Form<Verb>; 26] = [
     (b"open", &[], Verb::Open),
     (b"close", &[], Verb::Close),
     (b"append", &[Bytes], Verb::Append),
@@ -74,6 +79,9 @@ const STEPS: [Form<Verb>; 23] = [
     (b"wait", &[], Verb::Wait),
     (b"read", &[Number, Number], Verb::Read),
     (b"records", &[], Verb::Records),
+    (b"many", &[Number, Number, Number], Verb::Many),
+    (b"reader", &[Number], Verb::Reader),
+    (b"reader-read", &[Number], Verb::ReaderRead),
     (b"rotate", &[], Verb::Rotate),
     (b"drop-before", &[Number], Verb::DropBefore),
     (b"fail", &[Number], Verb::Fail),
@@ -124,12 +132,14 @@ fn kept_bytes(alloc: Global, kept: Kept) -> io::Result<Vec<bool>> {
     Ok(flags)
 }
 
-/// The files of a folder, and the log in them, if one is open.
+/// The files of a folder, and the log in them, if one is open; and a reader of a closed segment, if
+/// one was opened.
 #[derive(Drop)]
 pub struct Logs<H: Sum> {
     options: Options,
     files: Shared,
     log: Option<Log<H>>,
+    reader: Option<OldSegment<H>>,
 }
 
 impl<H: Sum> Model for Logs<H> {
@@ -234,6 +244,25 @@ fn say_records(records: Result<Vec<IoBuf>, Error>, said: &mut Vec<u8>) -> io::Re
     }
 }
 
+// Writes each record with its place, and the place behind them.
+fn say_many(
+    found: Result<Vec<(Place, IoBuf)>, Error>,
+    behind: Place,
+    said: &mut Vec<u8>,
+) -> io::Result<()> {
+    match found {
+        Ok(found) => {
+            write!(said, "many")?;
+            for (place, record) in &found {
+                let (segment, offset) = (place.segment, place.offset);
+                write!(said, " {segment} {offset} {}", Hex(record.as_ref()))?;
+            }
+            write!(said, " end {} {}", behind.segment, behind.offset)
+        }
+        Err(error) => say_log_error(&error, said),
+    }
+}
+
 // Writes the files with their sizes: the manifest, its copy, the segments, and then the lists.
 fn say_files(files: &Files, said: &mut Vec<u8>) -> io::Result<()> {
     write!(said, "files")?;
@@ -326,6 +355,7 @@ impl<H: Sum> Logs<H> {
                 options,
                 files,
                 log: None,
+                reader: None,
             },
         )?)
     }
@@ -372,9 +402,32 @@ impl<H: Sum> Logs<H> {
                 say_found(log.read(place), said)
             }
             Verb::Records => say_records(records_of::<H>(alloc, log), said),
+            Verb::Many => {
+                let mut place = Place {
+                    segment: first,
+                    offset: second,
+                };
+                let found = log.next_many(&mut place, words.length(2));
+                say_many(found, place, said)
+            }
+            Verb::Reader => match log.closed_reader(first) {
+                Ok(reader) => {
+                    self.reader = Some(reader);
+                    write!(said, "ok")
+                }
+                Err(error) => say_log_error(&error, said),
+            },
             Verb::Rotate => say_log_done(log.rotate(), said),
             Verb::DropBefore => say_log_done(log.drop_before(first), said),
             _ => Err(unreadable()),
+        }
+    }
+
+    // Reads by the reader that was opened last, whether the log is open or not.
+    fn read_by(&mut self, offset: u64, said: &mut Vec<u8>) -> io::Result<()> {
+        match &mut self.reader {
+            Some(old) => say_found(old.read(offset), said),
+            None => write!(said, "closed"),
         }
     }
 
@@ -545,6 +598,7 @@ impl<H: Sum> Subject for Logs<H> {
                 self.crash(alloc, &words)?;
                 write!(said, "ok")
             }
+            Verb::ReaderRead => self.read_by(words.number(0), said),
             Verb::Files => say_files(&*lent(&self.files)?, said),
             Verb::Dump => {
                 match lent(&self.files)?.bytes(file_of(words.piece(0))?) {

@@ -9,7 +9,7 @@ use Rattle.segments.specs.declared.call.FolderCall.TheVariants as calls
 use Rattle.segments.specs.FolderEvents.{FolderEvent, opening_with}
 use Rattle.segments.specs.Manifest.{ListingState, listed_in, open_in}
 use Rattle.segments.specs.Owned.{HasJournal, OwnedState, content_now, owned_size, records_now}
-use Rattle.segments.specs.Log.{AreParts, HasKept, events_for, IsStartedFrom, LogState, StartFromGoes, closed_records, listing_from, log_records}
+use Rattle.segments.specs.Log.{AreParts, HasKept, events_for, IsStartedFrom, LogState, ReadingState, StartFromGoes, closed_records, listing_from, log_records}
 use Rattle.segments.specs.Crash.{AsksForLog, HasOpenedFiles, IsOpenedLog, records_by, records_left}
 
 from_first : (first : ℕ) (l : ListingState) → first ≡ l.first → listing_from first l ≡ l
@@ -58,11 +58,11 @@ begin_opened sum own first before view s t (Ok u) same log is started =
 begin_opened sum own first before view s t (Err e) same log is started = tt
 
 -- a log over the manifest and the segment that were opened
-pub parts_open : (sum own : List ℕ → ℕ) (P most known : ℕ) (before after : List FolderEvent) (manifest current : OwnedState) (l : ListingState) → AreParts sum own P manifest current l before after → known ≡ owned_size current.journal
-    → HasOpenedFiles sum own before after
-    (record { manifest = manifest; current = current; listing = l; asked = after; reading = record { whole = None; paged = None }; page_size = P; most = most; known = known })
-parts_open sum own P most known before after manifest current l parts all =
-    let s : LogState = record { manifest = manifest; current = current; listing = l; asked = after; reading = record { whole = None; paged = None }; page_size = P; most = most; known = known } in
+pub parts_open : (sum own : List ℕ → ℕ) (P most known : ℕ) (before after : List FolderEvent) (manifest current : OwnedState) (l : ListingState) (reading : ReadingState) → AreParts sum own P manifest current l before after
+    → known ≡ owned_size current.journal → HasOpenedFiles sum own before after
+    (record { manifest = manifest; current = current; listing = l; asked = after; reading = reading; page_size = P; most = most; known = known })
+parts_open sum own P most known before after manifest current l reading parts all =
+    let s : LogState = record { manifest = manifest; current = current; listing = l; asked = after; reading = reading; page_size = P; most = most; known = known } in
     let first = opening_with calls.OpensManifest parts.lists.bytes in
     let events = events_for (open_in l) parts.stands.bytes in
     record {

@@ -44,7 +44,7 @@ module _ (cache : CacheState) (life : Life) (w : WriterState) (kept : Closed) wh
   owned = record { cache = cache; life = life; journal = Some w; page_size = 4; records = 0 }
 
   abbrev log : LogState
-  log = record { manifest = owned; current = owned; listing = record { first = 0; closed = kept ∷ [] }; asked = []; reading = record { whole = None; paged = None }; page_size = 4; most = 100; known = 3 }
+  log = record { manifest = owned; current = owned; listing = record { first = 0; closed = kept ∷ [] }; asked = []; reading = record { whole = None; paged = [] }; page_size = 4; most = 100; known = 3 }
 
   -- the manifest couldn't be written, and the log was closed
   abbrev shut : LogState

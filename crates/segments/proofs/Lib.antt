@@ -22,6 +22,10 @@ pub mod Keeping
 pub mod CopiesTold
 pub mod Loading
 pub mod PagedReading
+pub mod SegmentReads
+pub mod Recents
+pub mod SegmentReaders
+pub mod Following
 pub mod Digested
 pub mod Sealing
 pub mod Refusing
@@ -45,3 +49,7 @@ pub mod InnerExamples
 pub mod OpeningExamples
 pub mod PagedFrameExamples
 pub mod ReadingExamples
+pub mod SegmentReadExamples
+pub mod RecentExamples
+pub mod ReaderExamples
+pub mod ManyExamples

@@ -23,6 +23,8 @@ use Rattle.segments.specs.Kept.{IsOf, IsTwin}
 use Rattle.segments.specs.FolderEvents.{FolderEvent, plain_event}
 use Rattle.segments.specs.Manifest.{ListingState, closed_by, none_closed}
 use Rattle.segments.specs.Owned.{IsOwned, OwnedAppendGoes, OwnedState, without_journal}
+use Rattle.std.proofs.lemmas.List.Elements.{All-nil}
+use Rattle.segments.proofs.Recents.{HasPages}
 use Rattle.segments.specs.Log.{AppendHereGoes, AreDone, AsksNoSync, AsksWell, CurrentKeeps, EndsRemoval, EndsSynced, EndsUnsynced, HasKept, IsBeyond, IsClosedLog, IsClosedOff, IsCurrentContent, IsDropped, IsKept, IsListed, IsLog, IsReadOfOpen, IsRefusedDrop, IsSameButAsked, IsSameButCurrent, IsSameButManifest, IsStartedFrom, IsUnsyncedDrop, LeavesReading, Lists, LogAppendGoes, LogState, NoneSyncs, ReadingState, StartsAt, TellHeld, closed_records, listing_from, log_records}
 use Rattle.segments.specs.FrameReads.{EndsBehind, IsReadOf}
 use Rattle.segments.specs.Kept.{HasTwinOf, HoldsClosed}
@@ -31,7 +33,7 @@ use Rattle.segments.proofs.OwnedExamples.{another_record, nothing_was_done}
 
 -- no closed segment was read yet
 abbrev pub none_read : ReadingState
-none_read = record { whole = None; paged = None }
+none_read = record { whole = None; paged = [] }
 
 -- a log of an empty manifest
 abbrev pub small : LogState
@@ -95,7 +97,7 @@ a_log manifest current = record {
   manifest_pages = refl;
   current_pages = refl;
   lists = it_lists_none;
-  reading = record { whole = tt; paged = tt };
+  reading = record { whole = tt; paged = All-nil (HasPages 18) };
 }
 
 -- its listing has a segment that the manifest doesn't have

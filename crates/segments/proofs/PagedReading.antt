@@ -1,8 +1,9 @@
 -- Closed segments that are read by their pages.
-use Rattle.std.specs.Prelude.{◌≡◌, ◌≤◌, ◌^◌, ℕ, List, Some, Option, Ok, Err}
-use Rattle.std.proofs.Common.{refl, sym, subst, inl, inr}
+use Rattle.std.specs.Prelude.{◌≡◌, ◌⊎◌, ◌≤◌, ◌^◌, ℕ, List, Some, Option, Result, Ok, Err}
+use Rattle.std.proofs.Common.{refl, sym, ◌∙◌, subst, inl, inr}
 use Rattle.journal.specs.declared.frame.Found.{Found}
 use Rattle.page_digests.specs.Contents.{PagedState}
+use Rattle.page_digests.specs.Rebuilds.{RebuildGoes}
 use Rattle.page_digests.specs.Seals.{HasSecondPreimage, IsSealOf}
 use Rattle.page_digests.specs.declared.error.Error as pages
 use Rattle.page_digests.specs.declared.error.Error.TheVariants as causes
@@ -16,8 +17,8 @@ use Rattle.segments.specs.declared.place.Place.{Place}
 use Rattle.segments.specs.Kept.{HasFingerprint, HasTwinBy}
 use Rattle.segments.specs.Log.{IsDamagedBy, IsKeptAs, IsListed, IsReadOfClosed, IsBeyondPages, LogReadGoes, LogReadRefused, LogState}
 use Rattle.segments.specs.Manifest.{ListingState, closed_at}
-use Rattle.segments.specs.PagedFrames.{PagedFrameGoes, ReadsPagedFrame}
-use Rattle.segments.specs.PagedReads.{HasDamagedFile, HasSeal, IsBeyondLimit, IsDamage, IsDamagedPaged, IsToldAs, OpensPaged, RebuildsPaged}
+use Rattle.segments.specs.PagedFrames.{ReadsPagedFrame}
+use Rattle.segments.specs.PagedReads.{HasDamagedFile, HasFailedFrame, HasFailedRebuild, HasSeal, IsBeyondLimit, IsDamage, IsDamagedPaged, IsPagedOf, IsToldAs, OpensPaged, PagedSegmentState, RebuildsPaged, SegmentReadAnswers, SegmentReadGoes}
 
 -- ---- by its seal
 
@@ -50,7 +51,7 @@ too_long sum own d s t p seal (kept, listed, is) long = (kept, listed, long_by s
 
 -- ---- a frame was read
 
-paged_closed : (sum own : List ℕ → ℕ) (d : List ℕ → List ℕ) (P : ℕ) (seal : Seal) (kept : Closed) (offset : ℕ) (found : Option Found) → HasSeal seal kept.fingerprint
+pub paged_closed : (sum own : List ℕ → ℕ) (d : List ℕ → List ℕ) (P : ℕ) (seal : Seal) (kept : Closed) (offset : ℕ) (found : Option Found) → HasSeal seal kept.fingerprint
     → ReadsPagedFrame d own P seal offset found → IsReadOfClosed sum own d P kept offset found
 paged_closed sum own d P seal kept offset found is reads = record {
   forward = reads.forward;
@@ -60,15 +61,10 @@ paged_closed sum own d P seal kept offset found is reads = record {
   ];
 }
 
-of_seal : (d : List ℕ → List ℕ) (own : List ℕ → ℕ) (P : ℕ) (seal : Seal) (offset : ℕ) (found : Option Found) (c : PagedState) → c.seal ≡ seal → c.page_size ≡ P
-    → ReadsPagedFrame d own c.page_size c.seal offset found → ReadsPagedFrame d own P seal offset found
-of_seal d own P seal offset found c same size reads =
-    subst (λ k. ReadsPagedFrame d own k seal offset found) size (subst (λ s. ReadsPagedFrame d own c.page_size s offset found) same reads)
-
-pub reads_paged : (sum own : List ℕ → ℕ) (d : List ℕ → List ℕ) (s t : LogState) (p : Place) (seal : Seal) (old after : PagedState) (found : Option Found)
-    → IsKeptAs s.listing p.segment (HasSeal seal) → old.seal ≡ seal → old.page_size ≡ s.page_size → PagedFrameGoes d own p.offset old after (Ok found) → LogReadGoes sum own d s t p (Ok found)
-reads_paged sum own d s t p seal old after found (kept, listed, is) of size goes =
-    inr (kept, listed, paged_closed sum own d s.page_size seal kept p.offset found is (of_seal d own s.page_size seal p.offset found old of size goes.answers.1))
+pub reads_paged : (sum own : List ℕ → ℕ) (d : List ℕ → List ℕ) (s t : LogState) (p : Place) (seal : Seal) (found : Option Found)
+    → IsKeptAs s.listing p.segment (HasSeal seal) → ReadsPagedFrame d own s.page_size seal p.offset found → LogReadGoes sum own d s t p (Ok found)
+reads_paged sum own d s t p seal found (kept, listed, is) reads =
+    inr (kept, listed, paged_closed sum own d s.page_size seal kept p.offset found is reads)
 
 -- ---- it couldn't be read
 
@@ -89,40 +85,46 @@ told_so sum own d s t p seal (causes.System x) e listed damaged (inr told) =
 told_so sum own d s t p seal causes.OutOfMemory e listed damaged told =
     subst (λ e. LogReadRefused own d s t p e) (sym told) (inr (listed_so s p.segment (HasSeal seal) listed))
 
--- a frame of it can't be read
-pub fails_paged : (sum own : List ℕ → ℕ) (d : List ℕ → List ℕ) (s t : LogState) (p : Place) (seal : Seal) (old after : PagedState) (cause : pages.Error) (e : Error)
-    → IsKeptAs s.listing p.segment (HasSeal seal) → old.seal ≡ seal → old.page_size ≡ s.page_size → PagedFrameGoes d own p.offset old after (Err cause) → IsToldAs p.segment cause e
-    → LogReadGoes sum own d s t p (Err e)
-fails_paged sum own d s t p seal old after cause e listed of size goes told =
-    told_so sum own d s t p seal cause e listed (λ damage. inl (record {
-      old = old;
-      new = after;
-      of = of;
-      page_size = size;
-      error = cause;
-      fails = goes.answers;
-      damage = damage;
-    })) told
+-- damage of a frame, or of the file
+damage_of : (d : List ℕ → List ℕ) (P : ℕ) (seal : Seal) (offset : ℕ) (s t : PagedState) (cause : pages.Error) → s.seal ≡ seal → s.page_size ≡ P
+    → HasFailedFrame d offset s t cause ⊎ HasFailedRebuild d s t cause → IsDamage cause → IsDamagedPaged d P seal offset
+damage_of d P seal offset s t cause of size (inl frame) damage =
+    inl (record { old = frame.old; new = t; of = frame.of ∙ of; page_size = frame.page_size ∙ size; error = cause; fails = frame.fails; damage = damage })
+damage_of d P seal offset s t cause of size (inr file) damage = inr (record {
+  old = file.before;
+  new = file.after;
+  error = cause;
+  fails = subst (λ n. RebuildGoes d n seal file.before file.after (Err cause)) size (subst (λ l. RebuildGoes d s.page_size l file.before file.after (Err cause)) of file.fails);
+  damage = damage;
+})
 
--- its levels can't be built again
-rebuild_damage : (d : List ℕ → List ℕ) (P : ℕ) (seal : Seal) (cause : pages.Error) → RebuildsPaged d P seal (Err cause) → IsDamage cause → HasDamagedFile d P seal
-rebuild_damage d P seal cause (old, new, goes) damage = record { old = old; new = new; error = cause; fails = goes; damage = damage }
+-- ---- a segment was read
 
-pub fails_rebuilt : (sum own : List ℕ → ℕ) (d : List ℕ → List ℕ) (s t : LogState) (p : Place) (seal : Seal) (cause : pages.Error) (e : Error)
-    → IsKeptAs s.listing p.segment (HasSeal seal) → RebuildsPaged d s.page_size seal (Err cause) → IsToldAs p.segment cause e
-    → LogReadGoes sum own d s t p (Err e)
-fails_rebuilt sum own d s t p seal cause e listed goes told =
-    told_so sum own d s t p seal cause e listed (λ damage. inr (rebuild_damage d s.page_size seal cause goes damage)) told
+answers_for : (sum own : List ℕ → ℕ) (d : List ℕ → List ℕ) (s t : LogState) (p : Place) (seal : Seal) (r q : PagedSegmentState) (result : Result (Option Found) Error)
+    → IsKeptAs s.listing p.segment (HasSeal seal) → IsPagedOf s.page_size p.segment seal r → SegmentReadAnswers d own p.offset r q result → LogReadGoes sum own d s t p result
+answers_for sum own d s t p seal r q (Ok found) listed of reads =
+    reads_paged sum own d s t p seal found listed
+    (subst (λ n. ReadsPagedFrame d own n seal p.offset found) of.page_size (subst (λ l. ReadsPagedFrame d own r.content.page_size l p.offset found) of.of reads))
+answers_for sum own d s t p seal r q (Err e) listed of is =
+    told_so sum own d s t p seal is.cause e listed (λ damage. damage_of d s.page_size seal p.offset r.content q.content is.cause of.of of.page_size is.fails damage)
+    (subst (λ n. IsToldAs n is.cause e) of.number is.told)
+
+pub segment_read : (sum own : List ℕ → ℕ) (d : List ℕ → List ℕ) (s t : LogState) (p : Place) (seal : Seal) (r q : PagedSegmentState) (result : Result (Option Found) Error)
+    → IsKeptAs s.listing p.segment (HasSeal seal) → IsPagedOf s.page_size p.segment seal r → SegmentReadGoes d own p.offset r q result → LogReadGoes sum own d s t p result
+segment_read sum own d s t p seal r q result listed of goes = answers_for sum own d s t p seal r q result listed of goes.answers
 
 -- ---- it is opened
 
+rebuild_damage : (d : List ℕ → List ℕ) (P : ℕ) (seal : Seal) (number : ℕ) (cause : pages.Error) → RebuildsPaged d P seal number (Err cause) → IsDamage cause → HasDamagedFile d P seal
+rebuild_damage d P seal number cause (old, new, goes) damage = record { old = old; new = new; error = cause; fails = goes; damage = damage }
+
 -- an error of its levels is told
-pub opens_not : (d : List ℕ → List ℕ) (P : ℕ) (seal : Seal) (number : ℕ) (cause : pages.Error) (e : Error) → RebuildsPaged d P seal (Err cause) → IsToldAs number cause e
+pub opens_not : (d : List ℕ → List ℕ) (P : ℕ) (seal : Seal) (number : ℕ) (cause : pages.Error) (e : Error) → RebuildsPaged d P seal number (Err cause) → IsToldAs number cause e
     → OpensPaged d P seal number (Err e)
 opens_not d P seal number causes.Damaged e goes told =
-    subst (λ e. OpensPaged d P seal number (Err e)) (sym told) (refl, rebuild_damage d P seal causes.Damaged goes tt)
+    subst (λ e. OpensPaged d P seal number (Err e)) (sym told) (refl, rebuild_damage d P seal number causes.Damaged goes tt)
 opens_not d P seal number (causes.System x) e goes (inl told) =
-    subst (λ e. OpensPaged d P seal number (Err e)) (sym told.1) (refl, rebuild_damage d P seal (causes.System x) goes told.0)
+    subst (λ e. OpensPaged d P seal number (Err e)) (sym told.1) (refl, rebuild_damage d P seal number (causes.System x) goes told.0)
 opens_not d P seal number (causes.System x) e goes (inr told) = subst (λ e. OpensPaged d P seal number (Err e)) (sym told.1) tt
 opens_not d P seal number causes.OutOfMemory e goes told = subst (λ e. OpensPaged d P seal number (Err e)) (sym told) refl
 

@@ -3,6 +3,7 @@
 -- it, and one that is known by its pages held "abc", as `PagedFrameExamples` has it.
 use Rattle.std.specs.Prelude.{◌≡◌, ◌⊎◌, ◌≤◌, ◌^◌, ℕ, List, [], ◌∷◌, length, false, true, Option, Some, None, Ok, Err}
 use Rattle.std.proofs.Common.{refl, sym, subst, ap, inl, inr, arith, ◌∙◌, lit≤}
+use Rattle.std.proofs.lemmas.List.Elements.{All-cons, All-head, All-nil}
 use Rattle.std.specs.IoError.{error_kind}
 use Rattle.std.specs.declared.io.Error.{Error as IoError}
 use Rattle.std.specs.declared.io.ErrorKind.TheVariants.{NotFound, UnexpectedEof}
@@ -14,7 +15,7 @@ use Rattle.page_digests.specs.Sources.{SourceRead, gave}
 use Rattle.page_digests.specs.declared.error.Error as pages
 use Rattle.page_digests.specs.declared.error.Error.TheVariants as causes
 use Rattle.page_digests.specs.declared.seal.Seal.{Seal}
-use Rattle.page_digests.proofs.ContentExamples.{damaged, opened, read}
+use Rattle.page_digests.proofs.ContentExamples.{damaged, opened}
 use Rattle.page_digests.proofs.PageExamples.{first}
 use Rattle.page_digests.proofs.RebuildExamples.{xyz_has_another_root}
 use Rattle.page_digests.proofs.SealExamples.{abc, it_has_no_twin, it_is_its_seal, its_seal, xyz}
@@ -33,8 +34,9 @@ use Rattle.segments.specs.SegmentFiles.{reads_from}
 use Rattle.segments.proofs.BytesExamples.{c_frame, c_page, with_c}
 use Rattle.segments.proofs.Loading.{file_read}
 use Rattle.segments.proofs.LogExamples.{a_record_is_read, both, by_file, by_pages, c_found, it_ends_where_it_begins, it_holds_c, none_is_read, small}
-use Rattle.segments.proofs.PagedFrameExamples.{it_is_read, its_frame, its_page_is_another}
+use Rattle.segments.proofs.PagedFrameExamples.{it_is_its_frame, its_frame, its_page_is_another}
 use Rattle.segments.proofs.PagedReading.{reads_paged}
+use Rattle.segments.proofs.Recents.{HasPages}
 
 -- ---- a file of which ranges are read
 
@@ -82,7 +84,7 @@ pub its_file_is_damaged : HasDamagedFile first 32 its_seal
 its_file_is_damaged = record { old = []; new = gave 0 xyz ∷ []; error = causes.Damaged; fails = xyz_has_another_root; damage = tt }
 
 -- a content of no byte whose root the digest of no byte is: no file of it can be damaged
-abbrev none_seal : (d : List ℕ → List ℕ) → Seal
+abbrev pub none_seal : (d : List ℕ → List ℕ) → Seal
 none_seal d = record { len = 0; root = d [] }
 
 no_page_is_there : (d : List ℕ → List ℕ) (old new : List SourceRead) (e : pages.Error) → RebuildGoes d 32 (none_seal d) old new (Err e) → IsDamage e → ⊥
@@ -165,22 +167,22 @@ damaged_by_nothing d is = nothing_shows_it d is
 
 -- its top was read, and nothing else
 abbrev pub in_pages : PagedSegmentState
-in_pages = record { content = opened; is_settled = false }
+in_pages = record { number = 7; content = opened; is_settled = false }
 
-pub it_is_of_its_seal : IsPagedOf 32 its_seal in_pages
-it_is_of_its_seal = record { of = refl; page_size = refl }
+pub it_is_of_its_seal : IsPagedOf 32 7 its_seal in_pages
+it_is_of_its_seal = record { number = refl; of = refl; page_size = refl }
 
-pub of_another_page_size : IsPagedOf 16 its_seal in_pages → ⊥
+pub of_another_page_size : IsPagedOf 16 7 its_seal in_pages → ⊥
 of_another_page_size is = let same : ◌≡◌ {A = ℕ} 32 16 = is.page_size in omega (arith, same)
 
-pub it_is_rebuilt : RebuildsPaged first 32 its_seal (Ok (record in_pages { is_settled = true }))
-it_is_rebuilt = record { of = refl; page_size = refl }
+pub it_is_rebuilt : RebuildsPaged first 32 its_seal 7 (Ok (record in_pages { is_settled = true }))
+it_is_rebuilt = record { number = refl; of = refl; page_size = refl }
 
-pub it_can_not_be : RebuildsPaged first 32 its_seal (Err causes.Damaged)
+pub it_can_not_be : RebuildsPaged first 32 its_seal 7 (Err causes.Damaged)
 it_can_not_be = ([], gave 0 xyz ∷ [], xyz_has_another_root)
 
 -- with the seal of another
-pub another_is_rebuilt : RebuildsPaged first 32 (record its_seal { len = 4 }) (Ok in_pages) → ⊥
+pub another_is_rebuilt : RebuildsPaged first 32 (record its_seal { len = 4 }) 7 (Ok in_pages) → ⊥
 another_is_rebuilt is = let four : ◌≡◌ {A = ℕ} 3 4 = ap (λ (s : Seal). s.len) is.of in omega (arith, four)
 
 pub it_opens : OpensPaged first 32 its_seal 7 (Ok in_pages)
@@ -212,11 +214,11 @@ of_another_size sum own kept is = let same : ◌≡◌ {A = ℕ} 18 16 = is.page
 pub it_was_given_up : (sum own : List ℕ → ℕ) (kept : FileDigest) → IsLoaded sum own 18 (record { kept = kept; owned = without_journal with_c }) → ⊥
 it_was_given_up sum own kept is = is.there
 
-pub one_of_each_is_read : (kept : FileDigest) → IsLoaded add_sum add_sum 32 (in_memory kept) → IsReading add_sum add_sum 32 (record { whole = Some (in_memory kept); paged = Some in_pages })
-one_of_each_is_read kept loaded = record { whole = loaded; paged = refl }
+pub one_of_each_is_read : (kept : FileDigest) → IsLoaded add_sum add_sum 32 (in_memory kept) → IsReading add_sum add_sum 32 (record { whole = Some (in_memory kept); paged = in_pages ∷ [] })
+one_of_each_is_read kept loaded = record { whole = loaded; paged = All-cons (HasPages 32) in_pages [] refl (All-nil (HasPages 32)) }
 
-pub with_other_pages : (sum own : List ℕ → ℕ) → IsReading sum own 18 (record { whole = None; paged = Some in_pages }) → ⊥
-with_other_pages sum own is = let same : ◌≡◌ {A = ℕ} 32 18 = is.paged in omega (arith, same)
+pub with_other_pages : (sum own : List ℕ → ℕ) → IsReading sum own 18 (record { whole = None; paged = in_pages ∷ [] }) → ⊥
+with_other_pages sum own is = let same : ◌≡◌ {A = ℕ} 32 18 = All-head (HasPages 18) in_pages [] is.paged in omega (arith, same)
 
 pub it_was_loaded : (kept : FileDigest) → IsLoaded add_sum add_sum 18 (in_memory kept) → HasLoaded add_sum add_sum small kept (in_memory kept)
 it_was_loaded kept loaded = record { same = refl; loaded = loaded }
@@ -234,7 +236,7 @@ it_is_not_taken sum own kept = refl
 pub another_is_not_taken : (sum own : List ℕ → ℕ) (kept : FileDigest) → TakeLoadedGoes sum own small 7 kept (Err (errors.Damaged 8)) → ⊥
 another_is_not_taken sum own kept is = let same : ◌≡◌ {A = ℕ} 8 7 = is in omega (arith, same)
 
-pub another_is_in_memory : (kept : FileDigest) → IsSameButReading small (record small { reading = record { whole = Some (in_memory kept); paged = Some in_pages } })
+pub another_is_in_memory : (kept : FileDigest) → IsSameButReading small (record small { reading = record { whole = Some (in_memory kept); paged = in_pages ∷ [] } })
 another_is_in_memory kept = record { manifest = refl; current = refl; listing = refl; asked = refl; page_size = refl; most = refl; known = refl }
 
 pub and_the_open_one_is_closed : IsSameButReading small (record small { current = without_journal with_c }) → ⊥
@@ -295,7 +297,7 @@ module _ (kept : FileDigest) where
   the_open_one (closed, listed, is) = absurd (cc listed)
 
   pub abc_is_read : (t : LogState) → LogReadGoes add_sum add_sum first log t (begin 0) (Ok (Some its_frame))
-  abc_is_read t = reads_paged add_sum add_sum first log t (begin 0) its_seal opened read (Some its_frame) it_is_kept refl refl (it_is_read add_sum)
+  abc_is_read t = reads_paged add_sum add_sum first log t (begin 0) its_seal (Some its_frame) it_is_kept (it_is_its_frame add_sum)
 
   pub abc_is_damaged : (t : LogState) → LogReadGoes add_sum add_sum first log t (begin 0) (Err (errors.Damaged 0))
   abc_is_damaged t = (refl, (by_pages sealed, refl, its_frame_shows_it))

@@ -129,7 +129,7 @@ owned cache life w = record { cache = cache; life = life; journal = Some w; page
 
 abbrev pub log : CacheState → Life → WriterState → LogState
 log cache life w =
-    record { manifest = owned cache life w; current = owned cache life w; listing = record { first = 3; closed = [] }; asked = []; reading = record { whole = None; paged = None }; page_size = 40; most = 20; known = 0 }
+    record { manifest = owned cache life w; current = owned cache life w; listing = record { first = 3; closed = [] }; asked = []; reading = record { whole = None; paged = [] }; page_size = 40; most = 20; known = 0 }
 
 -- the same, closed since a call before failed
 abbrev pub shut : CacheState → Life → WriterState → LogState

@@ -73,7 +73,7 @@ pub how_far : far_from small (place_at 0 8) ≡ 18446744073709551608
 how_far = refl
 
 pub it_is_behind : IsBehind small (place_at 0 0) (place_at 0 8)
-it_is_behind = record { segment = lit≤ tt; nearer = lit< tt }
+it_is_behind = record { segment = lit≤ tt; inside = lit≤ tt; nearer = lit< tt }
 
 -- the same place isn't behind itself
 pub it_is_the_same : IsBehind small (place_at 0 8) (place_at 0 8) → ⊥

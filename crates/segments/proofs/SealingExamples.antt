@@ -31,7 +31,7 @@ closed = without_journal with_c
 
 -- a log whose open segment has "c", and an empty manifest
 abbrev pub with_one : LogState
-with_one = record { manifest = with_none; current = with_c; listing = none_closed; asked = []; reading = record { whole = None; paged = None }; page_size = 18; most = 100; known = 0 }
+with_one = record { manifest = with_none; current = with_c; listing = none_closed; asked = []; reading = record { whole = None; paged = [] }; page_size = 18; most = 100; known = 0 }
 
 -- the same, whose open segment was closed
 abbrev pub none_open : List FolderEvent → LogState

@@ -19,7 +19,7 @@ use Rattle.segments.specs.Log.{HasTwinIn, IsCurrentContent, IsReadOfOpen, Leaves
 use Rattle.segments.specs.FrameReads.{EndsBehind, IsReadOf}
 use Rattle.segments.specs.Kept.{HoldsClosed}
 use Rattle.segments.proofs.Readings.{read_forward}
-use Rattle.segments.specs.Scan.{ComesFirst, IsBehind, IsEnd, NextGoes, StandBetween, StandBy, held_content, records_after, records_at}
+use Rattle.segments.specs.Scan.{ComesFirst, IsBehind, IsEnd, IsFrom, NextGoes, StandBetween, StandBy, held_content, records_after, records_at}
 
 -- ---- what is listed
 
@@ -207,6 +207,7 @@ step_found sum own d s t at f fits is =
       found_between sum own d s t at f is,
       record {
         segment = omega arith;
+        inside = inside;
         nearer = omega (arith, inside, fits, forward);
       },
     )
@@ -218,7 +219,7 @@ passed_by : (sum own : List ℕ → ℕ) (d : List ℕ → List ℕ) (s : LogSta
 passed_by sum own d s at kept fits listed is =
     let here = within s.listing at.segment kept listed in (
       closed_between sum own d s s at kept listed is,
-      record { segment = omega arith; nearer = omega (arith, fits, here.before) },
+      record { segment = omega arith; inside = omega (arith, here.before); nearer = omega (arith, fits, here.before) },
       here.before,
     )
 
@@ -262,12 +263,22 @@ end_back sum own s m p leaves is held =
 pub behind_back : (sum own : List ℕ → ℕ) (s m : LogState) (p q : Place) → LeavesReading sum own s m → IsBehind m p q → IsBehind s p q
 behind_back sum own s m p q leaves is = record {
   segment = is.segment;
+  inside = subst (λ (l : ListingState). q.segment ≤ open_in l) leaves.listing is.inside;
   nearer = subst (λ (l : ListingState). (open_in l + 1 - q.segment) * 18446744073709551616 - q.offset < (open_in l + 1 - p.segment) * 18446744073709551616 - p.offset) leaves.listing is.nearer;
+}
+
+-- a place behind one that is behind another
+pub behind_joins : (s : LogState) (p q r : Place) → IsFrom s p q → IsBehind s q r → IsBehind s p r
+behind_joins s p q r (inl same) second = subst (λ (k : Place). IsBehind s k r) same second
+behind_joins s p q r (inr first) second = record {
+  segment = omega (arith, first.segment, second.segment);
+  inside = second.inside;
+  nearer = omega (arith, first.nearer, second.nearer);
 }
 
 -- a step was refused: the records up to there were read
 pub next_refused : (sum own : List ℕ → ℕ) (d : List ℕ → List ℕ) (s m t : LogState) (from at place : Place) (e : Error) (result : Result (Option (Place × List ℕ)) Error) → LeavesReading sum own s m
-    → from.segment ≤ at.segment → StandBetween sum own d s [] from at → place ≡ from → IsErrAnd result (λ x. x ≡ e) → LogReadRefused own d m t at e
+    → IsFrom s from at → StandBetween sum own d s [] from at → place ≡ from → IsErrAnd result (λ x. x ≡ e) → LogReadRefused own d m t at e
     → NextGoes sum own d s t from place result
 next_refused sum own d s m t from at place e (Ok r) leaves further so_far same is refused = absurd is
 next_refused sum own d s m t from at place e (Err x) leaves further so_far same is refused =

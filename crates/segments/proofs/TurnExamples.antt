@@ -214,7 +214,7 @@ pub refused_from : (sum own : List ℕ → ℕ) (d : List ℕ → List ℕ) (cac
 refused_from sum own d cache life w = record {
   at = record { segment = 7; offset = 0 };
   mid = log cache life w;
-  further = omega arith;
+  further = inl refl;
   none = nothing_between sum own d (log cache life w) (record { segment = 7; offset = 0 });
   reads = leaves_start sum own (log cache life w);
   refused = no_segment_7 own d cache life w;

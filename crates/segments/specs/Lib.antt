@@ -7,8 +7,11 @@ pub mod Owned
 pub mod FrameReads
 pub mod PagedFrames
 pub mod PagedReads
+pub mod Recent
 pub mod SegmentFiles
 pub mod Log
+pub mod ClosedSegments
+pub mod Readers
 pub mod Copies
 pub mod Crash
 pub mod Scan

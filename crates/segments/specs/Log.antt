@@ -35,6 +35,7 @@ use Rattle.segments.specs.Owned.{HasJournal, IsOwned, IsShut, KeepsRecords, Owne
 use Rattle.segments.specs.Owned.{content_now}
 use Rattle.segments.specs.Owned.{OwnedSealGoes}
 use Rattle.segments.specs.PagedReads.{IsBeyondLimit, IsDamagedPaged, PagedSegmentState}
+use Rattle.segments.specs.Recent.{HavePages, kept_from}
 use Rattle.segments.specs.Owned.{OwnedReadGoes, OwnedReadLeaves, OwnedState}
 use Rattle.segments.specs.Owned.{owned_size, records_now, without_journal}
 
@@ -43,11 +44,11 @@ pub record LoadedState : Type 0 where
   pub kept : FileDigest
   pub owned : OwnedState
 
--- the closed segments that are read: the one that was read into memory last, and the one that was
--- read by its pages last
+-- the closed segments that are read: the one that was read into memory last, and those that were
+-- read by their pages last, the latest one at the end
 pub record ReadingState : Type 0 where
   pub whole : Option LoadedState
-  pub paged : Option PagedSegmentState
+  pub paged : List PagedSegmentState
 
 -- a log as contracts see it: the manifest, the open segment, what the manifest lists, what the
 -- folder was asked for, the closed segments that were read last, and what is known of the open one
@@ -84,7 +85,7 @@ pub record Lists (sum own : List ℕ → ℕ) (P : ℕ) (listing : ListingState)
 -- the closed segments that are read have pages of this size
 pub record IsReading (sum own : List ℕ → ℕ) (P : ℕ) (r : ReadingState) : Type 0 where
   pub whole : IfSome r.whole (λ l. IsLoaded sum own P l)
-  pub paged : IfSome r.paged (λ p. p.content.page_size ≡ P)
+  pub paged : HavePages P r.paged
 
 -- a log between two calls
 pub record IsLog (sum own : List ℕ → ℕ) (s : LogState) : Type 0 where
@@ -715,15 +716,24 @@ StartsAt segment s m = ((segment ≤ s.listing.first) × (m ≡ s))
 abbrev pub IsClosedLog : LogState → Type 0
 IsClosedLog s = (s.current.journal ≡ None) ⊎ (s.manifest.journal ≡ None)
 
+-- the log closed those segments that it kept open and that stand before its first one, and is the
+-- same, except for what the folder was asked for
+abbrev pub HasClosedOlder : LogState → LogState → Type 0
+HasClosedOlder s t = t ≡ record s {
+  asked = t.asked;
+  reading = record { whole = s.reading.whole; paged = kept_from s.listing.first s.reading.paged };
+}
+
 -- just the segments before this one were dropped of an open log, if there were such: the manifest
--- has that, a copy of it was to be kept, and only then, from the log `mid` on, the folder was asked
--- to remove files, all of them older than the first that stays
+-- has that, a copy of it was to be kept, and only then, from the log `mid` on, those that are kept
+-- open were closed, and the folder was asked to remove files, all of them older than the first that
+-- stays
 pub record IsDropping (segment : ℕ) (s mid t : LogState) : Type 0 where
   pub was_open : IsClosedLog s → ⊥
   pub within : segment ≤ open_in s.listing
   pub starts : StartsAt segment s mid
   pub there : HasJournal t.manifest.journal (λ w. Unit {0})
-  pub rest : IsSameButAsked mid t
+  pub rest : HasClosedOlder mid t
   pub removed : AsksOfOlder t.listing.first mid.asked t.asked
 
 -- a drop was done: no removal failed, and the names of the files are durable

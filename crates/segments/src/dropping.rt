@@ -19,7 +19,8 @@ use std::io;
 
 impl<F: Folder<B> + Drop, B: Blob + Drop, H: Sum, R: Sum, D: Digest> SegmentedLog<F, B, H, R, D> {
     /// Drops the segments before this one, if there are such, and removes their files, the oldest
-    /// first. The drop is durable in the manifest before that, so a crash may leave some of the
+    /// first. The log keeps none of these files open, so the system frees their bytes, except for
+    /// those that a [`ClosedSegment`](crate::ClosedSegment) reads. The drop is durable in the manifest before that, so a crash may leave some of the
     /// files, and no call reads them any more. A later drop removes them too, even one that drops
     /// nothing.
     ///
@@ -30,7 +31,7 @@ impl<F: Folder<B> + Drop, B: Blob + Drop, H: Sum, R: Sum, D: Digest> SegmentedLo
     /// call: the drop is durable, and some of the files may be left. It may be tried again.
     /// `Unsynced` where the files are gone, and the folder couldn't be synced after that: a crash
     /// may bring some of them back, which no call reads.
-    #[tactic(auto, using(crate::proofs::DropSurvival::drop_still, crate::proofs::DropSurvival::drop_tries))]
+    #[tactic(auto, using(crate::proofs::DropSurvival::drop_still, crate::proofs::DropSurvival::drop_tries, crate::proofs::Recents::pages_from))]
     pub fn drop_before(&mut self, segment: u64) -> Result<(), Error>
         requires log { IsLog H.sum_of R.sum_of self.old }
         ensures goes { LogDropGoes segment self.old self.new result }
@@ -50,6 +51,7 @@ impl<F: Folder<B> + Drop, B: Blob + Drop, H: Sum, R: Sum, D: Digest> SegmentedLo
             self.start_or_close(segment)?;
         }
         let first = self.listing.first();
+        self.recent.let_go_before(first);
         remove_before::<F, B>(&mut self.folder, first)
     }
 

@@ -13,7 +13,7 @@ use crate::known::Known;
 use crate::listing::Listing;
 use crate::loaded::Loaded;
 use crate::owned::OwnedJournal;
-use crate::paged_segment::PagedSegment;
+use crate::recent::Recent;
 use digest::Digest;
 use disk::Blob;
 use page::Sum;
@@ -49,8 +49,8 @@ pub struct SegmentedLog<F: Folder<B>, B: Blob, H: Sum, R: Sum, D: Digest> {
     pub(crate) listing: Listing,
     // The closed segment that was read into memory last.
     pub(crate) loaded: Option<Loaded<H, R>>,
-    // The closed segment that was read by its pages last.
-    pub(crate) paged: Option<PagedSegment<F::Source, D>>,
+    // The closed segments that were read by their pages last.
+    pub(crate) recent: Recent<F::Source, D>,
     // How many logical bytes of the open segment were durable as the log was opened or rotated.
     pub(crate) known: u64,
     // Why the copy of the manifest couldn't be kept last.
@@ -70,7 +70,7 @@ impl<F: Folder<B> + Drop, B: Blob + Drop, H: Sum, R: Sum, D: Digest> Drop
             current: _,
             listing: _,
             loaded: _,
-            paged: _,
+            recent: _,
             known: _,
             unkept: _,
         } = self;
@@ -88,7 +88,7 @@ impl<F: Folder<B>, B: Blob, H: Sum, R: Sum, D: Digest> Model for SegmentedLog<F,
       current = l.current;
       listing = l.listing;
       asked = F.asked l.folder;
-      reading = record { whole = l.loaded; paged = l.paged };
+      reading = record { whole = l.loaded; paged = l.recent };
       page_size = non_zero_u16_get l.options.page_size;
       most = l.options.segment_size;
       known = l.known;

@@ -15,6 +15,7 @@ use crate::folder_copy::FolderCopy;
 use crate::listing::{Listing, listing_of};
 use crate::log::{Options, SegmentedLog};
 use crate::owned::OwnedJournal;
+use crate::recent::Recent;
 use digest::Digest;
 use disk::{Blob, IoBuf, VecBlob};
 use file::OpenError;
@@ -51,6 +52,7 @@ impl<F: Folder<B> + Drop, B: Blob + Drop, H: Sum, R: Sum, D: Digest> SegmentedLo
             ..options
         };
         let mut folder = folder;
+        let recent = Recent::new(alloc)?;
         match open_parts::<F, B, H, R, D>(alloc, &mut folder, options) {
             Ok(parts) => {
                 let Parts {
@@ -68,7 +70,7 @@ impl<F: Folder<B> + Drop, B: Blob + Drop, H: Sum, R: Sum, D: Digest> SegmentedLo
                     current,
                     listing,
                     loaded: None,
-                    paged: None,
+                    recent,
                     known,
                     unkept: None,
                 };

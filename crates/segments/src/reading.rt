@@ -31,6 +31,15 @@ impl<F: Folder<B> + Drop, B: Blob + Drop, H: Sum, R: Sum, D: Digest> SegmentedLo
                 return Ok(loaded);
             }
         }
+        self.load(number, kept)
+    }
+
+    // Reads the closed segment of this number into memory. `Damaged` where its file hasn't the
+    // length and the digest that are listed.
+    pub(crate) fn load(&mut self, number: u64, kept: FileDigest) -> Result<Loaded<H, R>, Error>
+        ensures goes { TakeLoadedGoes H.sum_of R.sum_of self.old number kept result }
+        ensures same { self.new ≡ self.old }
+    {
         match self.folder.read(Asked::Segment(number)) {
             Ok(blob) => match Loaded::new(self.alloc, self.options, kept, blob) {
                 Ok(Some(loaded)) => Ok(loaded),

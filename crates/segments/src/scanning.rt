@@ -1,7 +1,7 @@
 // Going over the records.
-ghost use Rattle.std.specs.Prelude.{None, Ok};
+ghost use Rattle.std.specs.Prelude.{None, Ok, IfOk};
 ghost use Rattle.segments.specs.Log.{IsLog, LeavesReading};
-ghost use Rattle.segments.specs.Scan.{ComesFirst, NextGoes, StepGoes, place_at};
+ghost use Rattle.segments.specs.Scan.{ComesFirst, MovesPlace, NextGoes, StepGoes, place_at};
 ghost use Rattle.segments.specs.Log.{LogReadGoes};
 
 use crate::error::Error;
@@ -47,6 +47,7 @@ impl<F: Folder<B> + Drop, B: Blob + Drop, H: Sum, R: Sum, D: Digest> SegmentedLo
         requires log { IsLog H.sum_of R.sum_of self.old }
         ensures goes { let d = D.digest_of in
             NextGoes H.sum_of R.sum_of d self.old self.new place.old place.new result }
+        ensures moves { IfOk result (λ found. MovesPlace self.old place.old place.new found) }
         ensures ready { IsLog H.sum_of R.sum_of self.new }
         ensures leaves { LeavesReading H.sum_of R.sum_of self.old self.new }
     {

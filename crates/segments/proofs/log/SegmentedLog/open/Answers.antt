@@ -5,7 +5,7 @@ use Rattle.segments.proofs.log.SegmentedLog.open.Goals as goal
 
 pub returns-in-Ok-begin-clause-opens : goal.returns-in-Ok-begin-clause-opens
 returns-in-Ok-begin-clause-opens g c =
-    c.in-Ok-begin.ensures.opens (g.F.Folder.asked c.args.folder) (parts_open g.H.Sum.sum_of g.R.Sum.sum_of _ _ _ (g.F.Folder.asked c.args.folder) _ _ _ _ c.in-Ok.ensures.are c.size-known.ensures)
+    c.in-Ok-begin.ensures.opens (g.F.Folder.asked c.args.folder) (parts_open g.H.Sum.sum_of g.R.Sum.sum_of _ _ _ (g.F.Folder.asked c.args.folder) _ _ _ _ _ c.in-Ok.ensures.are c.size-known.ensures)
 
 pub returns-in-Err-begin-clause-log : goal.returns-in-Err-begin-clause-log
 returns-in-Err-begin-clause-log c = grind (arith, common_steps)

@@ -1,0 +1,124 @@
+-- Readers of closed segments.
+use Rattle.std.specs.Prelude.{◌≡◌, ◌≤◌, ◌^◌, ℕ, List, Some, None, Option, Result, Ok, Err}
+use Rattle.std.proofs.Common.{refl, sym, ◌∙◌, subst, inl, inr}
+use Rattle.journal.specs.declared.frame.Found.{Found}
+use Rattle.page_digests.specs.declared.seal.Seal.{Seal}
+use Rattle.segments.specs.declared.closed.Closed.{Closed}
+use Rattle.segments.specs.declared.closed.FileDigest.{FileDigest}
+use Rattle.segments.specs.declared.closed.Fingerprint.{Fingerprint}
+use Rattle.segments.specs.declared.closed.Fingerprint.TheVariants.{Whole, Paged}
+use Rattle.segments.specs.declared.closed.PagedSeal.{PagedSeal}
+use Rattle.segments.specs.declared.error.Error.{Error}
+use Rattle.segments.specs.declared.error.Error.TheVariants as errors
+use Rattle.segments.specs.ClosedSegments.{ClosedReadGoes, ClosedSegmentState, IsDamagedAtOpening, IsReaderOf, OpenReaderGoes, ReadFrom, FromMemory, FromPages, ReaderAnswers, ReaderFails}
+use Rattle.segments.specs.Log.{HasLoaded, HeldReadGoes, IsLoaded, IsReadOfClosed, LoadedState, LogState, TakeLoadedGoes}
+use Rattle.segments.specs.Manifest.{closed_at, closed_by}
+use Rattle.segments.specs.PagedFrames.{ReadsPagedFrame}
+use Rattle.segments.specs.PagedReads.{HasDamagedFile, HasSeal, IsPagedOf, OpensPaged, PagedSegmentState, SegmentReadAnswers, SegmentReadGoes}
+use Rattle.segments.proofs.PagedReading.{paged_closed}
+
+-- ---- a read by the pages
+
+pages_answer : (sum own : List ℕ → ℕ) (d : List ℕ → List ℕ) (offset number P : ℕ) (kept : Closed) (p q : PagedSegmentState) (result : Result (Option Found) Error)
+    → IsReaderOf sum own P number kept.fingerprint (FromPages p) → SegmentReadAnswers d own offset p q result
+    → ReaderAnswers sum own d offset (record { number = number; kept = kept; page_size = P; from = FromPages p }) (record { number = number; kept = kept; page_size = P; from = FromPages q }) result
+pages_answer sum own d offset number P kept p q (Ok found) is reads =
+    paged_closed sum own d P p.content.seal kept offset found is.1 (subst (λ n. ReadsPagedFrame d own n p.content.seal offset found) is.0.page_size reads)
+pages_answer sum own d offset number P kept p q (Err e) is fails = fails
+
+pub read_by_pages : (sum own : List ℕ → ℕ) (d : List ℕ → List ℕ) (offset : ℕ) (s : ClosedSegmentState) (p q : PagedSegmentState) (result : Result (Option Found) Error)
+    → s.from ≡ FromPages p → IsReaderOf sum own s.page_size s.number s.kept.fingerprint (FromPages p) → SegmentReadGoes d own offset p q result
+    → ClosedReadGoes sum own d offset s (record s { from = FromPages q }) result
+read_by_pages sum own d offset s p q result from is goes = record {
+  same = refl;
+  answers = subst (λ (f : ReadFrom). ReaderAnswers sum own d offset (record s { from = f }) (record s { from = FromPages q }) result) (sym from)
+      (pages_answer sum own d offset s.number s.page_size s.kept p q result is goes.answers);
+}
+
+pub still_by_pages : (sum own : List ℕ → ℕ) (d : List ℕ → List ℕ) (offset P number : ℕ) (f : Fingerprint) (p q : PagedSegmentState) (result : Result (Option Found) Error)
+    → IsReaderOf sum own P number f (FromPages p) → SegmentReadGoes d own offset p q result → IsReaderOf sum own P number f (FromPages q)
+still_by_pages sum own d offset P number f p q result is goes = (
+  record { number = goes.same.number ∙ is.0.number; of = refl; page_size = goes.same.page_size ∙ is.0.page_size },
+  subst (λ (seal : Seal). HasSeal seal f) (sym goes.same.of) is.1,
+)
+
+-- ---- a read in memory
+
+memory_answers : (sum own : List ℕ → ℕ) (d : List ℕ → List ℕ) (offset number P : ℕ) (kept : Closed) (l m : LoadedState) (result : Result (Option Found) Error)
+    → IsReaderOf sum own P number kept.fingerprint (FromMemory l) → HeldReadGoes sum own d l.owned.page_size l.kept offset result
+    → ReaderAnswers sum own d offset (record { number = number; kept = kept; page_size = P; from = FromMemory l }) (record { number = number; kept = kept; page_size = P; from = FromMemory m }) result
+memory_answers sum own d offset number P kept l m (Ok found) is goes =
+    subst (λ (f : Fingerprint). IsReadOfClosed sum own d P (closed_by kept.records f) offset found) (sym is.1)
+    (subst (λ n. IsReadOfClosed sum own d n (closed_by kept.records (Whole l.kept)) offset found) is.0.page_size (goes kept.records))
+memory_answers sum own d offset number P kept l m (Err (errors.Layer e)) is goes = tt
+memory_answers sum own d offset number P kept l m (Err errors.Closed) is goes = absurd goes
+memory_answers sum own d offset number P kept l m (Err (errors.System e)) is goes = absurd goes
+memory_answers sum own d offset number P kept l m (Err (errors.Unsynced e)) is goes = absurd goes
+memory_answers sum own d offset number P kept l m (Err (errors.Damaged n)) is goes = absurd goes
+memory_answers sum own d offset number P kept l m (Err (errors.Unlisted n)) is goes = absurd goes
+memory_answers sum own d offset number P kept l m (Err (errors.Missing n)) is goes = absurd goes
+memory_answers sum own d offset number P kept l m (Err (errors.Short n)) is goes = absurd goes
+memory_answers sum own d offset number P kept l m (Err (errors.AnotherDigest n)) is goes = absurd goes
+memory_answers sum own d offset number P kept l m (Err (errors.Outdated n)) is goes = absurd goes
+memory_answers sum own d offset number P kept l m (Err errors.Manifest) is goes = absurd goes
+memory_answers sum own d offset number P kept l m (Err (errors.NoSegment n)) is goes = absurd goes
+memory_answers sum own d offset number P kept l m (Err errors.NumbersExhausted) is goes = absurd goes
+
+pub read_in_memory : (sum own : List ℕ → ℕ) (d : List ℕ → List ℕ) (offset : ℕ) (s : ClosedSegmentState) (l m : LoadedState) (result : Result (Option Found) Error)
+    → s.from ≡ FromMemory l → IsReaderOf sum own s.page_size s.number s.kept.fingerprint (FromMemory l) → HeldReadGoes sum own d l.owned.page_size l.kept offset result
+    → ClosedReadGoes sum own d offset s (record s { from = FromMemory m }) result
+read_in_memory sum own d offset s l m result from is goes = record {
+  same = refl;
+  answers = subst (λ (f : ReadFrom). ReaderAnswers sum own d offset (record s { from = f }) (record s { from = FromMemory m }) result) (sym from)
+      (memory_answers sum own d offset s.number s.page_size s.kept l m result is goes);
+}
+
+-- ---- a reader is opened
+
+pub pages_opened : (sum own : List ℕ → ℕ) (d : List ℕ → List ℕ) (P number : ℕ) (kept : PagedSeal) (f : Fingerprint) (p : PagedSegmentState) → f ≡ Paged kept → OpensPaged d P kept.seal number (Ok p)
+    → IsReaderOf sum own P number f (FromPages p)
+pages_opened sum own d P number kept f p is of = (
+  record { number = of.number; of = refl; page_size = of.page_size },
+  subst (λ (g : Fingerprint). HasSeal p.content.seal g) (sym is) (sym of.of),
+)
+
+pub memory_opened : (sum own : List ℕ → ℕ) (P number : ℕ) (s : LogState) (kept : FileDigest) (f : Fingerprint) (l : LoadedState) → f ≡ Whole kept → s.page_size ≡ P → HasLoaded sum own s kept l
+    → IsReaderOf sum own P number f (FromMemory l)
+memory_opened sum own P number s kept f l is size has = (
+  subst (λ n. IsLoaded sum own n l) size has.loaded,
+  is ∙ subst (λ (k : FileDigest). Whole kept ≡ Whole k) (sym has.same) refl,
+)
+
+pub pages_not_opened : (d : List ℕ → List ℕ) (s : LogState) (segment : ℕ) (closed : Closed) (kept : PagedSeal) (e : Error) → closed_at s.listing segment ≡ Some closed → closed.fingerprint ≡ Paged kept
+    → OpensPaged d s.page_size kept.seal segment (Err e) → OpenReaderGoes d s segment (Err e)
+pages_not_opened d s segment closed kept (errors.Damaged n) listed is opens =
+    (opens.0, (closed, listed, subst (λ (f : Fingerprint). IsDamagedAtOpening d s.page_size f) (sym is) opens.1))
+pages_not_opened d s segment closed kept (errors.System e) listed is opens = (closed, listed)
+pages_not_opened d s segment closed kept (errors.Layer e) listed is opens = (closed, listed)
+pages_not_opened d s segment closed kept (errors.NoSegment n) listed is opens = absurd opens
+pages_not_opened d s segment closed kept (errors.Unsynced e) listed is opens = absurd opens
+pages_not_opened d s segment closed kept errors.Closed listed is opens = absurd opens
+pages_not_opened d s segment closed kept (errors.Unlisted n) listed is opens = absurd opens
+pages_not_opened d s segment closed kept (errors.Missing n) listed is opens = absurd opens
+pages_not_opened d s segment closed kept (errors.Short n) listed is opens = absurd opens
+pages_not_opened d s segment closed kept (errors.AnotherDigest n) listed is opens = absurd opens
+pages_not_opened d s segment closed kept (errors.Outdated n) listed is opens = absurd opens
+pages_not_opened d s segment closed kept errors.Manifest listed is opens = absurd opens
+pages_not_opened d s segment closed kept errors.NumbersExhausted listed is opens = absurd opens
+
+pub memory_not_opened : (sum own : List ℕ → ℕ) (d : List ℕ → List ℕ) (s : LogState) (segment : ℕ) (closed : Closed) (kept : FileDigest) (e : Error) → closed_at s.listing segment ≡ Some closed
+    → closed.fingerprint ≡ Whole kept → TakeLoadedGoes sum own s segment kept (Err e) → OpenReaderGoes d s segment (Err e)
+memory_not_opened sum own d s segment closed kept (errors.Damaged n) listed is opens =
+    (opens, (closed, listed, subst (λ (f : Fingerprint). IsDamagedAtOpening d s.page_size f) (sym is) tt))
+memory_not_opened sum own d s segment closed kept (errors.System e) listed is opens = (closed, listed)
+memory_not_opened sum own d s segment closed kept (errors.Layer e) listed is opens = (closed, listed)
+memory_not_opened sum own d s segment closed kept (errors.NoSegment n) listed is opens = absurd opens
+memory_not_opened sum own d s segment closed kept (errors.Unsynced e) listed is opens = absurd opens
+memory_not_opened sum own d s segment closed kept errors.Closed listed is opens = absurd opens
+memory_not_opened sum own d s segment closed kept (errors.Unlisted n) listed is opens = absurd opens
+memory_not_opened sum own d s segment closed kept (errors.Missing n) listed is opens = absurd opens
+memory_not_opened sum own d s segment closed kept (errors.Short n) listed is opens = absurd opens
+memory_not_opened sum own d s segment closed kept (errors.AnotherDigest n) listed is opens = absurd opens
+memory_not_opened sum own d s segment closed kept (errors.Outdated n) listed is opens = absurd opens
+memory_not_opened sum own d s segment closed kept errors.Manifest listed is opens = absurd opens
+memory_not_opened sum own d s segment closed kept errors.NumbersExhausted listed is opens = absurd opens

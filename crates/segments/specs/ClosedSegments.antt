@@ -1,0 +1,84 @@
+-- A closed segment that is read without its log.
+use Rattle.std.specs.Prelude.{◌≡◌, ℕ, List, Option, Some, None, Result, Ok, Err}
+use Rattle.journal.specs.declared.frame.Found.{Found}
+use Rattle.segments.specs.declared.closed.Closed.{Closed}
+use Rattle.segments.specs.declared.closed.Fingerprint.{Fingerprint}
+use Rattle.segments.specs.declared.closed.Fingerprint.TheVariants.{Whole, Paged}
+use Rattle.segments.specs.declared.error.Error.{Error}
+use Rattle.segments.specs.declared.error.Error.TheVariants as errors
+use Rattle.segments.specs.Log.{IsBeyondPages, IsKeptAs, IsListed, IsLoaded, IsReadOfClosed}
+use Rattle.segments.specs.Log.{LoadedState, LogState}
+use Rattle.segments.specs.Manifest.{closed_at}
+use Rattle.segments.specs.PagedReads.{HasDamagedFile, HasSeal, IsPagedOf, PagedSegmentState}
+use Rattle.segments.specs.PagedReads.{SegmentFails}
+
+-- what a closed segment is read from: memory, or its pages
+pub data ReadFrom : Type 0 where
+  FromMemory : LoadedState → ReadFrom
+  FromPages : PagedSegmentState → ReadFrom
+
+-- a reader of a closed segment: the segment's number, what was kept of it, the page size, and what
+-- it is read from
+pub record ClosedSegmentState : Type 0 where
+  pub number : ℕ
+  pub kept : Closed
+  pub page_size : ℕ
+  pub from : ReadFrom
+
+-- what a segment is read from has this number, this page size and this fingerprint
+abbrev pub IsReaderOf : (sum own : List ℕ → ℕ) → (P : ℕ) → (number : ℕ) → Fingerprint → ReadFrom
+    → Type 0
+IsReaderOf sum own P number f (FromMemory l) = IsLoaded sum own P l × (f ≡ Whole l.kept)
+IsReaderOf sum own P number f (FromPages p) =
+    IsPagedOf P number p.content.seal p × HasSeal p.content.seal f
+
+-- a reader reads the segment of which this was kept
+abbrev pub IsSegmentReader : (sum own : List ℕ → ℕ) → ClosedSegmentState → Type 0
+IsSegmentReader sum own s = IsReaderOf sum own s.page_size s.number s.kept.fingerprint s.from
+
+-- a frame can't be read: of the pages as `SegmentFails` has it; or memory was refused
+abbrev pub ReaderFails : (d : List ℕ → List ℕ) → (offset : ℕ) → (from to : ReadFrom) → Error
+    → Type 0
+ReaderFails d offset (FromPages p) (FromPages q) e = SegmentFails d offset p q e
+ReaderFails d offset (FromMemory l) (FromMemory m) (errors.Layer e) = Unit {0}
+ReaderFails d offset from to e = ⊥
+
+-- a read of the frame at an offset, by its answer
+abbrev pub ReaderAnswers : (sum own : List ℕ → ℕ) → (d : List ℕ → List ℕ) → (offset : ℕ)
+    → (s t : ClosedSegmentState) → Result (Option Found) Error → Type 0
+ReaderAnswers sum own d offset s t (Ok found) =
+    IsReadOfClosed sum own d s.page_size s.kept offset found
+ReaderAnswers sum own d offset s t (Err e) = ReaderFails d offset s.from t.from e
+
+-- a read leaves a reader of the same segment
+pub record ClosedReadGoes (sum own : List ℕ → ℕ) (d : List ℕ → List ℕ) (offset : ℕ)
+    (s t : ClosedSegmentState) (result : Result (Option Found) Error) : Type 0 where
+  pub same : t ≡ record s { from = t.from }
+  pub answers : ReaderAnswers sum own d offset s t result
+
+-- a closed segment of this fingerprint is damaged, as its opening shows. Of one that is known by its
+-- whole file nothing more is said
+abbrev pub IsDamagedAtOpening : (d : List ℕ → List ℕ) → ℕ → Fingerprint → Type 0
+IsDamagedAtOpening d P (Whole kept) = Unit {0}
+IsDamagedAtOpening d P (Paged kept) = HasDamagedFile d P kept.seal
+
+-- the reader of the segment of this number: it has what the log lists
+pub record IsReaderIn (s : LogState) (segment : ℕ) (r : ClosedSegmentState) : Type 0 where
+  pub number : r.number ≡ segment
+  pub listed : closed_at s.listing segment ≡ Some r.kept
+  pub page_size : r.page_size ≡ s.page_size
+
+-- a reader of a segment is to be opened, by the answer. It is refused if none is closed that has
+-- this number, or it isn't readable, or the folder refuses a file, or the manifest can't be right
+-- about its length, or the device or memory failed
+abbrev pub OpenReaderGoes : (d : List ℕ → List ℕ) → LogState → (segment : ℕ)
+    → Result ClosedSegmentState Error → Type 0
+OpenReaderGoes d s segment (Ok r) = IsReaderIn s segment r
+OpenReaderGoes d s segment (Err (errors.NoSegment n)) =
+    (n ≡ segment) × (closed_at s.listing segment ≡ None)
+OpenReaderGoes d s segment (Err (errors.Damaged n)) =
+    (n ≡ segment) × IsKeptAs s.listing segment (IsDamagedAtOpening d s.page_size)
+OpenReaderGoes d s segment (Err (errors.System e)) = IsListed s segment
+OpenReaderGoes d s segment (Err errors.Manifest) = IsKeptAs s.listing segment IsBeyondPages
+OpenReaderGoes d s segment (Err (errors.Layer e)) = IsListed s segment
+OpenReaderGoes d s segment (Err e) = ⊥
