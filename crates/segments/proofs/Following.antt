@@ -72,10 +72,10 @@ none_between sum own d s p held tells = inl refl
 pub record SoFar (sum own : List ℕ → ℕ) (d : List ℕ → List ℕ) (most room : ℕ) (s : LogState) (from behind : Place) (found : List (Place × List ℕ)) : Type 0 where
   pub each : AreNextAt sum own d s from behind found
   pub all : StandBetween sum own d s (map bytes_of found) from behind
-  pub room : found_bytes found + room ≡ most
+  pub left : found_bytes found + room ≡ most
 
 pub none_so_far : (sum own : List ℕ → ℕ) (d : List ℕ → List ℕ) (most : ℕ) (s : LogState) (from : Place) → SoFar sum own d most most s from from []
-none_so_far sum own d most s from = record { each = refl; all = none_between sum own d s from; room = zero-add most }
+none_so_far sum own d most s from = record { each = refl; all = none_between sum own d s from; left = zero-add most }
 
 -- one more fits
 pub one_more : (sum own : List ℕ → ℕ) (d : List ℕ → List ℕ) (most room : ℕ) (s m : LogState) (from behind at next : Place) (bytes : List ℕ) (found : List (Place × List ℕ))
@@ -87,7 +87,7 @@ one_more sum own d most room s m from behind at next bytes found leaves so_far i
     record {
       each = each_more sum own d s found from behind at next bytes so_far.each here (behind_back sum own s m behind next leaves further);
       all = all_more sum own d s found from behind at next bytes so_far.all here;
-      room = omega (arith, sum_is, so_far.room, fits);
+      left = omega (arith, sum_is, so_far.left, fits);
     }
 
 -- the next one is too much for those that were found
@@ -98,14 +98,18 @@ too_much sum own d most room s m t from behind at next bytes found leaves so_far
   behind = behind;
   each = so_far.each;
   all = so_far.all;
-  fits = inl (omega (arith, so_far.room));
-  ends = inr (refl, some, inr (inl (record {
-    at = at;
-    behind = next;
-    bytes = bytes;
-    next = next_back sum own d s m behind at next bytes leaves is;
-    more = omega (arith, so_far.room, long);
-  })));
+  fits = inl (omega (arith, so_far.left));
+  ends = inr (
+    refl,
+    some,
+    inr (inl (record {
+      at = at;
+      behind = next;
+      bytes = bytes;
+      next = next_back sum own d s m behind at next bytes leaves is;
+      more = omega (arith, so_far.left, long);
+    })),
+  );
 }
 
 cons_not_nil : (r : Place × List ℕ) → r ∷ [] ≢ []
@@ -123,7 +127,7 @@ one_alone sum own d most room s m t from behind at next bytes [] leaves so_far i
       each = each_more sum own d s [] from behind at next bytes so_far.each here (behind_back sum own s m behind next leaves further);
       all = all_more sum own d s [] from behind at next bytes so_far.all here;
       fits = inr refl;
-      ends = inr (refl, cons_not_nil (at, bytes), inl (omega (arith, sum_is, so_far.room, long)));
+      ends = inr (refl, cons_not_nil (at, bytes), inl (omega (arith, sum_is, so_far.left, long)));
     }
 one_alone sum own d most room s m t from behind at next bytes (f ∷ found) leaves so_far is further long none = cc none
 
@@ -137,7 +141,7 @@ no_more sum own d most room s m t from behind new found leaves so_far none furth
       behind = behind;
       each = so_far.each;
       all = subst (λ (these : List (List ℕ)). StandBetween sum own d s these from new) (append-nil (map bytes_of found)) (between_all sum own d s (map bytes_of found) [] from behind new so_far.all here);
-      fits = inl (omega (arith, so_far.room));
+      fits = inl (omega (arith, so_far.left));
       ends = inl (here, from_back sum own s m behind new leaves further, end_back sum own s m new leaves end);
     }
 
@@ -149,7 +153,7 @@ stopped sum own d most room s m t from behind e found leaves so_far is some = re
   behind = behind;
   each = so_far.each;
   all = so_far.all;
-  fits = inl (omega (arith, so_far.room));
+  fits = inl (omega (arith, so_far.left));
   ends = inr (refl, some, inr (inr (e, refused_back sum own d s m t behind e leaves is)));
 }
 

@@ -56,8 +56,8 @@ pub record ClosedReadGoes (sum own : List ℕ → ℕ) (d : List ℕ → List �
   pub same : t ≡ record s { from = t.from }
   pub answers : ReaderAnswers sum own d offset s t result
 
--- a closed segment of this fingerprint is damaged, as its opening shows. Of one that is known by its
--- whole file nothing more is said
+-- a closed segment of this fingerprint is damaged, as its opening shows. Of one that is known by
+-- its whole file nothing more is said
 abbrev pub IsDamagedAtOpening : (d : List ℕ → List ℕ) → ℕ → Fingerprint → Type 0
 IsDamagedAtOpening d P (Whole kept) = Unit {0}
 IsDamagedAtOpening d P (Paged kept) = HasDamagedFile d P kept.seal

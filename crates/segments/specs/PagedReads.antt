@@ -76,8 +76,8 @@ IsToldAs number (causes.System x) e = (FileEndsEarly x × (e ≡ errors.Damaged 
 IsToldAs number causes.OutOfMemory e = e ≡ errors.Layer layer.OutOfMemory
 
 -- the segment of this number is read, which has this seal, by pages of this size
-pub record IsPagedOf (P : ℕ) (number : ℕ) (seal : Seal) (p : PagedSegmentState) : Type 0 where
-  pub number : p.number ≡ number
+pub record IsPagedOf (P : ℕ) (n : ℕ) (seal : Seal) (p : PagedSegmentState) : Type 0 where
+  pub number : p.number ≡ n
   pub of : p.content.seal ≡ seal
   pub page_size : p.content.page_size ≡ P
 
@@ -140,8 +140,8 @@ pub record HasFailedRebuild (d : List ℕ → List ℕ) (s t : PagedState) (erro
   pub fails : RebuildGoes d s.page_size s.seal before after (Err error)
   pub until : ReadsGoOn after t.reads
 
--- a frame of a segment can't be read: its read failed, or the rebuild of the levels did, and this is
--- the log's error for the cause. Damage is answered only for a segment whose levels are settled
+-- a frame of a segment can't be read: its read failed, or the rebuild of the levels did, and this
+-- is the log's error for the cause. Damage is answered only for a segment whose levels are settled
 pub record SegmentFails (d : List ℕ → List ℕ) (offset : ℕ) (s t : PagedSegmentState) (e : Error)
     : Type 0 where
   pub cause : pages.Error

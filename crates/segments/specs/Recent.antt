@@ -1,5 +1,5 @@
 -- The closed segments that a log keeps open: those that were read last.
-use Rattle.std.specs.Prelude.{◌≡◌, ◌-◌, ◌++◌, ◌∷◌, [], ℕ, List, length, drop, filter}
+use Rattle.std.specs.Prelude.{◌≡◌, ◌+◌, ◌-◌, ◌++◌, ◌∷◌, [], ℕ, List, length, drop, filter}
 use Rattle.std.specs.Prelude.{nat_le, Option, Some, None}
 use Rattle.std.specs.List.{All}
 use Rattle.page_digests.specs.declared.seal.Seal.{Seal}
@@ -10,13 +10,13 @@ abbrev pub HavePages : (P : ℕ) → List PagedSegmentState → Type 0
 HavePages P recent = All (λ p. p.content.page_size ≡ P) recent
 
 -- a segment was taken out of those that are kept: it has this number and this seal
-pub record IsTaken (number : ℕ) (seal : Seal) (old new : List PagedSegmentState)
+pub record IsTaken (n : ℕ) (seal : Seal) (old new : List PagedSegmentState)
     (p : PagedSegmentState) : Type 0 where
   pub before : List PagedSegmentState
   pub after : List PagedSegmentState
   pub there : old ≡ before ++ p ∷ after
   pub left : new ≡ before ++ after
-  pub number : p.number ≡ number
+  pub number : p.number ≡ n
   pub of : p.content.seal ≡ seal
 
 -- a segment is to be taken out of those that are kept, by the answer

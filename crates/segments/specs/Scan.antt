@@ -122,8 +122,8 @@ NextGoes sum own d s t old new (Ok None) = StandBetween sum own d s [] old new �
 NextGoes sum own d s t old new (Ok (Some r)) = IsNextAt sum own d s old r.0 new r.1
 NextGoes sum own d s t old new (Err e) = (new ≡ old) × IsRefusedFrom sum own d s t old e
 
--- where a read of the next record leaves the place: behind the place that was lent, or there, at the
--- end of the log
+-- where a read of the next record leaves the place: behind the place that was lent, or there, at
+-- the end of the log
 abbrev pub MovesPlace : {T : Type 0} → LogState → (old new : Place) → Option T → Type 0
 MovesPlace s old new (Some r) = IsBehind s old new
 MovesPlace s old new None = IsFrom s old new
@@ -153,10 +153,10 @@ pub record IsTooMuch (sum own : List ℕ → ℕ) (d : List ℕ → List ℕ) (m
   pub next : IsNextAt sum own d s p at behind bytes
   pub more : most < before + length bytes
 
--- the records from the one place on, one behind another, and no other stands between that place and
--- the new one. They have `most` bytes at most, or one stands alone. The new place is the end of the
--- log; or it is the one behind the last record, of which there is one at least. Then these have more
--- than `most` bytes already, or the next one is too much, or it can't be read
+-- the records from the one place on, one behind another, and no other stands between that place
+-- and the new one. They have `most` bytes at most, or one stands alone. The new place is the end of
+-- the log; or it is the one behind the last record, of which there is one at least. Then these have
+-- more than `most` bytes already, or the next one is too much, or it can't be read
 pub record HasMany (sum own : List ℕ → ℕ) (d : List ℕ → List ℕ) (most : ℕ) (s t : LogState)
     (old new : Place) (found : List (Place × List ℕ)) : Type 0 where
   pub behind : Place

@@ -18,8 +18,8 @@ impl<F: Folder<B> + Drop, B: Blob + Drop, H: Sum, R: Sum, D: Digest> SegmentedLo
     /// [`ClosedSegment`]. Each call opens the segment's files anew.
     ///
     /// `NoSegment` where the segment was dropped, isn't closed yet, or was never there. `Damaged`
-    /// where the list can't be used, and the segment's file doesn't hold what it held; or where the
-    /// segment was closed by a version before 0.11, and its file isn't as it was. `System` where the
+    /// where the list can't be used, and the segment's file doesn't hold what it held; or where a
+    /// version before 0.11 closed the segment, and its file isn't as it was. `System` where the
     /// system refuses a file. `Manifest` where the manifest lists the segment with 1 PiB or more,
     /// which no segment has. `Layer` where the device or memory failed. The log is as it was,
     /// whatever the answer.

@@ -19,10 +19,10 @@ use std::io;
 
 impl<F: Folder<B> + Drop, B: Blob + Drop, H: Sum, R: Sum, D: Digest> SegmentedLog<F, B, H, R, D> {
     /// Drops the segments before this one, if there are such, and removes their files, the oldest
-    /// first. The log keeps none of these files open, so the system frees their bytes, except for
-    /// those that a [`ClosedSegment`](crate::ClosedSegment) reads. The drop is durable in the manifest before that, so a crash may leave some of the
+    /// first. The drop is durable in the manifest before that, so a crash may leave some of the
     /// files, and no call reads them any more. A later drop removes them too, even one that drops
-    /// nothing.
+    /// nothing. The log keeps none of these files open, so the system frees their bytes, except for
+    /// those that a [`ClosedSegment`](crate::ClosedSegment) reads.
     ///
     /// `Closed` where a call before failed, and `NoSegment` where there is no such segment yet: the
     /// open one is never dropped. Nothing is done then. `Layer` where the device or memory failed

@@ -15,8 +15,7 @@ returns-in-Some-bytes-clause-goes g c =
     let at = place_at c.args.segment c.args.offset in
     let f = c.in-Some.found in
     let read = subst (λ (o : Option Found). LogReadGoes sum own d c.args.self.now c.read.new.self at (Ok o)) c.in-Some.is c.in_ok-found.ensures.goes in
-    let found = step_found sum own d c.args.self.now c.read.new.self at f (omega (arith, c.ranges.offset)) read in
-    (
+    let found = step_found sum own d c.args.self.now c.read.new.self at f (omega (arith, c.ranges.offset)) read in (
       subst (λ (b : List ℕ). StandBetween sum own d c.args.self.now (b ∷ []) at (place_at c.args.segment f.end)) (sym c.in-Some-bytes.bytes-is)
           (subst (λ (o : Option (List ℕ)). StandBetween sum own d c.args.self.now (listed o) at (place_at c.args.segment f.end)) c.in-Some-bytes.is found.0),
       found.1,
