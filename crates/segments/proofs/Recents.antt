@@ -15,6 +15,9 @@ pages_kept P most p recent have of =
     let n = length recent + 1 - most in
     All-append (HasPages P) (drop n recent) (p ∷ []) (All-drop (HasPages P) n recent have) (All-cons (HasPages P) p [] of (All-nil (HasPages P)))
 
+pub pages_none : (P : ℕ) (recent : List PagedSegmentState) → recent ≡ [] → HavePages P recent
+pages_none P recent none = subst (λ l. HavePages P l) (sym none) (All-nil (HasPages P))
+
 pub pages_from : (P first : ℕ) (recent : List PagedSegmentState) → HavePages P recent → HavePages P (kept_from first recent)
 pages_from P first recent have = All-filter (λ (p : PagedSegmentState). nat_le first p.number) (HasPages P) recent have
 

@@ -4,6 +4,7 @@ use Rattle.segments.specs.declared.error.Error.TheVariants as errors
 use Rattle.segments.proofs.DropSurvival.{drop_still}
 use Rattle.segments.proofs.DropSurvival.{drop_tries}
 use Rattle.segments.proofs.OfDigest.{drop_of}
+use Rattle.segments.proofs.Recents.{pages_from}
 use Rattle.segments.proofs.Removing.{drop_removes}
 use Rattle.segments.proofs.log.SegmentedLog.drop_before.Goals as goal
 
@@ -50,7 +51,7 @@ pub returns-clause-goes : goal.returns-clause-goes
 returns-clause-goes g c = search rules
 
 pub returns-clause-ready : goal.returns-clause-ready
-returns-clause-ready g c = search rules
+returns-clause-ready g c = search (rules, pages_from)
 
 pub returns-clause-removes : goal.returns-clause-removes
 returns-clause-removes g c =
