@@ -54,6 +54,7 @@ enum Verb {
     Reader,
     ReaderRead,
     Rotate,
+    DigestAhead,
     DropBefore,
     Fail,
     Full,
@@ -70,7 +71,7 @@ enum Verb {
     TornOpen,
 }
 
-const STEPS: [Form<Verb>; 26] = [
+const STEPS: [Form<Verb>; 27] = [
     (b"open", &[], Verb::Open),
     (b"close", &[], Verb::Close),
     (b"append", &[Bytes], Verb::Append),
@@ -83,6 +84,7 @@ const STEPS: [Form<Verb>; 26] = [
     (b"reader", &[Number], Verb::Reader),
     (b"reader-read", &[Number], Verb::ReaderRead),
     (b"rotate", &[], Verb::Rotate),
+    (b"digest-ahead", &[Number], Verb::DigestAhead),
     (b"drop-before", &[Number], Verb::DropBefore),
     (b"fail", &[Number], Verb::Fail),
     (b"full", &[], Verb::Full),
@@ -418,6 +420,7 @@ impl<H: Sum> Logs<H> {
                 Err(error) => say_log_error(&error, said),
             },
             Verb::Rotate => say_log_done(log.rotate(), said),
+            Verb::DigestAhead => say_log_done(log.digest_ahead(first), said),
             Verb::DropBefore => say_log_done(log.drop_before(first), said),
             _ => Err(unreadable()),
         }

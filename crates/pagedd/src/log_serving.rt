@@ -148,6 +148,7 @@ fn serve_streams<F: Folder<B> + Drop, B: Blob + Cause + Drop, H: Sum, D: Digest>
     let mut client = Client {
         version: Version::Two,
         read_only: request.read_only,
+        page_size: request.shape.page_size,
         lost: None,
     };
     let hello = hello_of(request, given_up, log.len().unwrap_or(u64::MAX));

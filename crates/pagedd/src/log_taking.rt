@@ -13,12 +13,15 @@ use protocol::{Cause, Stop, Version};
 use segments::{Asked, Error, Folder, Place, SegmentedLog};
 use std::alloc::Global;
 use std::io::Write;
+use std::num::NonZeroU16;
 
 /// The client to whom a log is served, and how.
 #[derive(Drop)]
 pub struct Client {
     pub version: Version,
     pub read_only: bool,
+    /// How many logical bytes a page of the log has.
+    pub page_size: NonZeroU16,
     /// The first error that closed the log, if one did.
     pub lost: Option<Error>,
 }
@@ -163,9 +166,27 @@ fn take_append<F: Folder<B> + Drop, B: Blob + Cause + Drop, H: Sum, D: Digest, W
         return refuse(alloc, client, out, NO_RECORDS);
     }
     match log.append(bytes) {
-        Ok(place) => write_answer(out, &[place.segment, place.offset], &[]),
+        Ok(place) => {
+            digest_ahead::<F, B, H, D>(client, log, bytes.len());
+            write_answer(out, &[place.segment, place.offset], &[])
+        }
         Err(error) => refuse_closed(alloc, client, out, error, 0, failure_of(log)),
     }
+}
+
+// Digests pages of the open segment after so many bytes were appended, so that its rotation is
+// short: twice as many pages as they filled, and one, so that it also catches up after an opening.
+// An error here is none of the request's: the log is as it was, and the rotation reads the pages.
+fn digest_ahead<F: Folder<B> + Drop, B: Blob + Cause + Drop, H: Sum, D: Digest>(
+    client: &Client,
+    log: &mut SegmentedLog<F, B, H, H, D>,
+    appended: usize,
+)
+    requires log { IsLog H.sum_of H.sum_of log.old }
+    ensures log { IsLog H.sum_of H.sum_of log.new }
+{
+    let filled = appended as u64 / client.page_size.get() as u64;
+    let _ = log.digest_ahead(filled.saturating_mul(2).saturating_add(1));
 }
 
 // Appends records, and commits where `syncs` asks. Nothing is appended where the fields are no
@@ -195,7 +216,10 @@ fn take_records<F: Folder<B> + Drop, B: Blob + Cause + Drop, H: Sum, D: Digest, 
         ended => ended,
     };
     match ended {
-        Ok(()) => write_places(out, places.as_slice()),
+        Ok(()) => {
+            digest_ahead::<F, B, H, D>(client, log, fields.len());
+            write_places(out, places.as_slice())
+        }
         Err(error) => refuse_closed(alloc, client, out, error, taken, failure_of(log)),
     }
 }

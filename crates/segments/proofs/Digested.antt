@@ -67,15 +67,15 @@ rest_short P size positive =
     omega (arith, all, less)
 
 -- the content is digested up to a page that was read
-pub page_digested : (sum own : List ℕ → ℕ) (d : List ℕ → List ℕ) (P n : ℕ) (s a b : OwnedState) (before after : List ℕ) (x y : DigestingState) (u : Unit {0})
-    → IsOwned sum own s → OwnedReadLeaves sum own s a → OwnedContentGoes (n * P) before after a b (Ok u) → length before ≡ P → n * P + P ≤ owned_size s.journal
+pub page_digested : (sum own : List ℕ → ℕ) (d : List ℕ → List ℕ) (P n : ℕ) (s t : OwnedState) (before after : List ℕ) (x y : DigestingState) (u : Unit {0})
+    → IsOwned sum own s → OwnedContentGoes (n * P) before after s t (Ok u) → length before ≡ P → n * P + P ≤ owned_size s.journal
     → x.pages ≡ n → IsDigested d P (content_now s) x → DigestsPage d after x y
     → IsDigested d P (content_now s) y
-page_digested sum own d P n s a b before after x y u owned leaves read len fits pages digested taken =
+page_digested sum own d P n s t before after x y u owned read len fits pages digested taken =
     let held = content_now s in
     let page : after ≡ content_page P x.pages held =
-    (read_is (n * P) before after a b u read).0 ∙ ap (λ (k : ℕ). take k (drop (n * P) (content_now a))) len
-    ∙ ap (λ (bytes : List ℕ). take P (drop (n * P) bytes)) (content_kept sum own s a leaves) ∙ ap (λ (k : ℕ). take P (drop (k * P) held)) (sym pages) in
+    (read_is (n * P) before after s t u read).0 ∙ ap (λ (k : ℕ). take k (drop (n * P) held)) len
+    ∙ ap (λ (k : ℕ). take P (drop (k * P) held)) (sym pages) in
     let sized = size_now sum own s owned in
     let within : n * P + P ≤ length held = omega (arith, fits, sized) in
     taken P held digested page (subst (λ (k : ℕ). k * P + P ≤ length held) (sym pages) within)
@@ -107,12 +107,12 @@ no_bytes_yet P held =
     subst (λ (k : ℕ). EachIsByte (take k held)) (sym none) (λ i. lit< tt)
 
 -- the bytes before a page and those of the page
-pub bytes_grow : (P n : ℕ) (s a b : OwnedState) (before after : List ℕ) (u : Unit {0}) → content_now a ≡ content_now s → OwnedContentGoes (n * P) before after a b (Ok u) → length before ≡ P
+pub bytes_grow : (P n : ℕ) (s t : OwnedState) (before after : List ℕ) (u : Unit {0}) → OwnedContentGoes (n * P) before after s t (Ok u) → length before ≡ P
     → EachIsByte after → EachIsByte (take (n * P) (content_now s)) → EachIsByte (take ((n + 1) * P) (content_now s))
-bytes_grow P n s a b before after u kept read len small so_far =
+bytes_grow P n s t before after u read len small so_far =
     let held = content_now s in
     let page : after ≡ take P (drop (n * P) held) =
-    (read_is (n * P) before after a b u read).0 ∙ ap (λ (k : ℕ). take k (drop (n * P) (content_now a))) len ∙ ap (λ (bytes : List ℕ). take P (drop (n * P) bytes)) kept in
+    (read_is (n * P) before after s t u read).0 ∙ ap (λ (k : ℕ). take k (drop (n * P) held)) len in
     let one : n + 1 ≡ suc n = omega arith in
     let step : (n + 1) * P ≡ n * P + P = ap (λ (k : ℕ). k * P) one ∙ suc-mul n P in
     subst (λ (k : ℕ). EachIsByte (take k held)) (sym step)

@@ -27,6 +27,7 @@ pub mod Recents
 pub mod SegmentReaders
 pub mod Following
 pub mod Digested
+pub mod Ahead
 pub mod Sealing
 pub mod Refusing
 pub mod DropSurvival
@@ -42,6 +43,7 @@ pub mod ManifestExamples
 pub mod KeptExamples
 pub mod OwnedExamples
 pub mod SealingExamples
+pub mod AheadExamples
 pub mod LogExamples
 pub mod CrashExamples
 pub mod ScanExamples

@@ -4,6 +4,7 @@ pub mod FolderEvents
 pub mod FolderPast
 pub mod Folders
 pub mod Owned
+pub mod Ahead
 pub mod FrameReads
 pub mod PagedFrames
 pub mod PagedReads

@@ -10,6 +10,7 @@ mod call;
 mod closed;
 mod closed_reading;
 mod closed_segment;
+mod digesting_ahead;
 mod dropping;
 mod entry;
 mod error;

@@ -9,6 +9,7 @@ use crate::folder_copy::FolderCopy;
 use crate::log::Options;
 use crate::opening::recover;
 use crate::owned::OwnedJournal;
+use digest::Digest;
 use disk::VecBlob;
 use journal::Found;
 use page::Sum;
@@ -17,12 +18,12 @@ use std::marker::Model;
 
 /// A closed segment that was read into memory: its file has the digest that was kept.
 #[derive(Drop)]
-pub struct Loaded<H: Sum, R: Sum> {
+pub struct Loaded<H: Sum, R: Sum, D: Digest> {
     kept: FileDigest,
-    owned: OwnedJournal<VecBlob, H, R>,
+    owned: OwnedJournal<VecBlob, H, R, D>,
 }
 
-impl<H: Sum, R: Sum> Model for Loaded<H, R> {
+impl<H: Sum, R: Sum, D: Digest> Model for Loaded<H, R, D> {
     ghost use Rattle.segments.specs.Log.{LoadedState};
 
     ghost Value = { LoadedState };
@@ -30,7 +31,7 @@ impl<H: Sum, R: Sum> Model for Loaded<H, R> {
     ghost view = { λ l. record { kept = l.kept; owned = l.owned } };
 }
 
-impl<H: Sum, R: Sum> Loaded<H, R> {
+impl<H: Sum, R: Sum, D: Digest> Loaded<H, R, D> {
     /// A segment that was read, whose file had this digest. `None` where its bytes have another
     /// length or another digest.
     #[tactic(auto, using(crate::proofs::Loading::loaded_of))]
@@ -47,7 +48,7 @@ impl<H: Sum, R: Sum> Loaded<H, R> {
         if !kept.is_of(blob.bytes()) {
             return Ok(None);
         }
-        match recover::<FolderCopy, VecBlob, H, R>(alloc, options, blob) {
+        match recover::<FolderCopy, VecBlob, H, R, D>(alloc, options, blob) {
             Ok((owned, _)) => Ok(Some(Loaded { kept, owned })),
             Err(error) => Err(error),
         }

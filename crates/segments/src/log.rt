@@ -44,11 +44,11 @@ pub struct SegmentedLog<F: Folder<B>, B: Blob, H: Sum, R: Sum, D: Digest> {
     pub(crate) alloc: Global,
     pub(crate) options: Options,
     pub(crate) folder: F,
-    pub(crate) manifest: OwnedJournal<B, H, R>,
-    pub(crate) current: OwnedJournal<B, H, R>,
+    pub(crate) manifest: OwnedJournal<B, H, R, D>,
+    pub(crate) current: OwnedJournal<B, H, R, D>,
     pub(crate) listing: Listing,
     // The closed segment that was read into memory last.
-    pub(crate) loaded: Option<Loaded<H, R>>,
+    pub(crate) loaded: Option<Loaded<H, R, D>>,
     // The closed segments that were read by their pages last.
     pub(crate) recent: Recent<F::Source, D>,
     // How many logical bytes of the open segment were durable as the log was opened or rotated.

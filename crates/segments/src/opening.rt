@@ -106,9 +106,9 @@ impl<F: Folder<B> + Drop, B: Blob + Drop, H: Sum, R: Sum, D: Digest> SegmentedLo
 
 // What a log is opened with.
 #[derive(Drop)]
-struct Parts<B: Blob, H: Sum, R: Sum> {
-    manifest: OwnedJournal<B, H, R>,
-    current: OwnedJournal<B, H, R>,
+struct Parts<B: Blob, H: Sum, R: Sum, D: Digest> {
+    manifest: OwnedJournal<B, H, R, D>,
+    current: OwnedJournal<B, H, R, D>,
     listing: Listing,
     // Whether the manifest has no entry yet.
     is_new: bool,
@@ -119,7 +119,7 @@ fn open_parts<F: Folder<B>, B: Blob + Drop, H: Sum, R: Sum, D: Digest>(
     alloc: Global,
     folder: &mut F,
     options: Options,
-) -> Result<Parts<B, H, R>, Error>
+) -> Result<Parts<B, H, R, D>, Error>
     ensures are { let P = non_zero_u16_get options.page_size in
         IfOk result (λ p. AreParts H.sum_of R.sum_of P p.manifest p.current p.listing
         (F.asked folder.old) (F.asked folder.new)) }
@@ -130,7 +130,7 @@ fn open_parts<F: Folder<B>, B: Blob + Drop, H: Sum, R: Sum, D: Digest>(
     if listing.open() != number {
         return Err(Error::Manifest);
     }
-    match open_current::<F, B, H, R>(alloc, folder, options, number) {
+    match open_current::<F, B, H, R, D>(alloc, folder, options, number) {
         Ok(current) => Ok(Parts {
             manifest,
             current,
@@ -146,14 +146,14 @@ fn open_manifest<F: Folder<B>, B: Blob + Drop, H: Sum, R: Sum, D: Digest>(
     alloc: Global,
     folder: &mut F,
     options: Options,
-) -> Result<(OwnedJournal<B, H, R>, Listing, bool), Error>
+) -> Result<(OwnedJournal<B, H, R, D>, Listing, bool), Error>
     ensures has { let P = non_zero_u16_get options.page_size in
         let old = F.asked folder.old in let new = F.asked folder.new in
         IfOk result (λ r. HasManifest H.sum_of R.sum_of P r.0 r.1 old new) }
     ensures digest { IfOk result (λ r. AreOfDigest D.NUMBER r.1.closed) }
 {
     let blob = folder.open(Asked::Manifest)?;
-    let (mut manifest, entries) = recover::<F, B, H, R>(alloc, options, blob)?;
+    let (mut manifest, entries) = recover::<F, B, H, R, D>(alloc, options, blob)?;
     match listing_of::<D>(alloc, &entries, options.page_size.get()) {
         Ok(listing) => match manifest.commit() {
             Ok(()) => Ok((manifest, listing, entries.is_empty())),
@@ -164,18 +164,18 @@ fn open_manifest<F: Folder<B>, B: Blob + Drop, H: Sum, R: Sum, D: Digest>(
 }
 
 // The open segment of a folder.
-fn open_current<F: Folder<B>, B: Blob + Drop, H: Sum, R: Sum>(
+fn open_current<F: Folder<B>, B: Blob + Drop, H: Sum, R: Sum, D: Digest>(
     alloc: Global,
     folder: &mut F,
     options: Options,
     number: u64,
-) -> Result<OwnedJournal<B, H, R>, Error>
+) -> Result<OwnedJournal<B, H, R, D>, Error>
     ensures has { let P = non_zero_u16_get options.page_size in
         let old = F.asked folder.old in let new = F.asked folder.new in
         IfOk result (λ o. HasCurrent H.sum_of R.sum_of P o number old new) }
 {
     let blob = open_segment::<F, B>(folder, number)?;
-    match recover::<F, B, H, R>(alloc, options, blob) {
+    match recover::<F, B, H, R, D>(alloc, options, blob) {
         Ok((current, _)) => Ok(current),
         Err(error) => Err(Error::Layer(error)),
     }
@@ -194,7 +194,7 @@ fn open_number<F: Folder<B>, B: Blob + Drop, H: Sum, R: Sum, D: Digest>(
     let Some(number) = listed_open::<F, B, H, R, D>(alloc, folder, options, is_used)? else {
         return match last {
             Some(number) => Err(Error::Unlisted(number)),
-            None => is_known::<F, B, H, R>(alloc, folder, options, 0),
+            None => is_known::<F, B, H, R, D>(alloc, folder, options, 0),
         };
     };
     if let Some(last) = last {
@@ -205,13 +205,13 @@ fn open_number<F: Folder<B>, B: Blob + Drop, H: Sum, R: Sum, D: Digest>(
     if !folder.has(Asked::Segment(number))? {
         return Err(Error::Missing(number));
     }
-    is_known::<F, B, H, R>(alloc, folder, options, number)
+    is_known::<F, B, H, R, D>(alloc, folder, options, number)
 }
 
 // Answers the number of the open segment again, unless what was known as a copy of the manifest was
 // kept last is against it: `Outdated` where a later one was open, and `Short` where this one had
 // more bytes, by a copy of its file. It changes nothing.
-fn is_known<F: Folder<B>, B: Blob + Drop, H: Sum, R: Sum>(
+fn is_known<F: Folder<B>, B: Blob + Drop, H: Sum, R: Sum, D: Digest>(
     alloc: Global,
     folder: &mut F,
     options: Options,
@@ -229,7 +229,7 @@ fn is_known<F: Folder<B>, B: Blob + Drop, H: Sum, R: Sum>(
         return Ok(number);
     }
     let copy = folder.read(Asked::Segment(number))?;
-    let (current, _) = recover::<FolderCopy, VecBlob, H, R>(alloc, options, copy)?;
+    let (current, _) = recover::<FolderCopy, VecBlob, H, R, D>(alloc, options, copy)?;
     if current.size() < known.len {
         return Err(Error::Short(number));
     }
@@ -253,10 +253,10 @@ fn listed_open<F: Folder<B>, B: Blob + Drop, H: Sum, R: Sum, D: Digest>(
         Err(error) => return Err(Error::System(error)),
     };
     let bytes = Vec::from_slice(alloc, copy.bytes())?;
-    let (_, entries) = recover::<FolderCopy, VecBlob, H, R>(alloc, options, copy)?;
+    let (_, entries) = recover::<FolderCopy, VecBlob, H, R, D>(alloc, options, copy)?;
     if entries.is_empty() {
         // With another page size the manifest's pages have no text, and so no entry.
-        return if bytes.is_empty() || !is_used && is_begun::<H, R>(alloc, options, &bytes)? {
+        return if bytes.is_empty() || !is_used && is_begun::<H, R, D>(alloc, options, &bytes)? {
             Ok(None)
         } else {
             Err(Error::Manifest)
@@ -268,8 +268,12 @@ fn listed_open<F: Folder<B>, B: Blob + Drop, H: Sum, R: Sum, D: Digest>(
 
 // Whether a crash may have left these bytes of a manifest's first write: each is zero, or the byte
 // that was to stand there. So they are no other file's, and no other page size's.
-fn is_begun<H: Sum, R: Sum>(alloc: Global, options: Options, bytes: &[u8]) -> Result<bool, Error> {
-    let (mut manifest, _) = recover::<FolderCopy, VecBlob, H, R>(
+fn is_begun<H: Sum, R: Sum, D: Digest>(
+    alloc: Global,
+    options: Options,
+    bytes: &[u8],
+) -> Result<bool, Error> {
+    let (mut manifest, _) = recover::<FolderCopy, VecBlob, H, R, D>(
         alloc,
         options,
         VecBlob::new(alloc),
@@ -299,11 +303,11 @@ pub fn open_segment<F: Folder<B>, B: Blob + Drop>(folder: &mut F, number: u64) -
 
 // A file, or a copy of one in memory, with the journal that was recovered on it, and the journal's
 // records. After a failed sync the error is `SyncFailed`.
-pub fn recover<F: Folder<B>, B: Blob + Drop, H: Sum, R: Sum>(
+pub fn recover<F: Folder<B>, B: Blob + Drop, H: Sum, R: Sum, D: Digest>(
     alloc: Global,
     options: Options,
     blob: B,
-) -> Result<(OwnedJournal<B, H, R>, Vec<IoBuf>), disk::Error>
+) -> Result<(OwnedJournal<B, H, R, D>, Vec<IoBuf>), disk::Error>
     ensures has { let P = non_zero_u16_get options.page_size in
         IfOk result (λ r. HasOpened H.sum_of R.sum_of P (B.life blob) r.0 r.1.items) }
     ensures leaves { let P = non_zero_u16_get options.page_size in

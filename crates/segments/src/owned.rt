@@ -1,12 +1,16 @@
 // A blob with a journal on it, and a cache of its own.
-ghost use Rattle.std.specs.Prelude.{◌≡◌, ◌≤◌, ◌+◌, ◌∷◌, ◌++◌, [], length, is_none, None, IfOk};
+ghost use Rattle.std.specs.Prelude.{◌≡◌, ◌≤◌, ◌+◌, ◌-◌, ◌*◌, ◌∷◌, ◌++◌, [], length};
+ghost use Rattle.std.specs.Prelude.{is_none, None, IfOk};
 ghost use Rattle.std.specs.Int.NonZero.{non_zero_u16_get};
 ghost use Rattle.segments.specs.Owned.{IsOwned, OwnedAddGoes, OwnedAddKeeps, OwnedAppendGoes};
 ghost use Rattle.segments.specs.Owned.{OwnedCommitGoes, OwnedLeaves};
 ghost use Rattle.segments.specs.Owned.{OwnedStartGoes, OwnedWaitGoes};
 ghost use Rattle.segments.specs.Owned.{OwnedKeeps, OwnedReadLeaves, OwnedReadGoes, OwnedSealGoes};
-ghost use Rattle.segments.specs.Owned.{LevelsGo, ListGoes, OwnedContentGoes, OwnedRecoverGoes};
+ghost use Rattle.segments.specs.Owned.{HasJournal, LevelsGo, ListGoes, OwnedContentGoes};
+ghost use Rattle.segments.specs.Owned.{OwnedRecoverGoes};
 ghost use Rattle.segments.specs.Owned.{owned_size, records_now, without_journal};
+ghost use Rattle.segments.specs.Ahead.{AheadGoes, HasDigests, content_calls};
+ghost use Rattle.paged.specs.Calls.{AsksAtMost};
 ghost use Rattle.journal.specs.Calls.{JournalRecoveryLeaves};
 ghost use Rattle.page_digests.specs.Seals.{EachIsByte};
 
@@ -19,21 +23,24 @@ use page::Sum;
 use page_digests::{Digesting, Levels, levels_of_list};
 use std::alloc::Global;
 use std::marker::Model;
+use std::mem;
 use std::num::{NonZeroU16, NonZeroUsize};
 
 /// A blob with a journal on it, and a cache of its own. If a call that takes the journal fails, the
 /// journal is gone: each later call that needs one answers `Closed`, until a recovery.
-pub struct OwnedJournal<B: Blob, H, R> {
+pub struct OwnedJournal<B: Blob, H, R, D: Digest> {
     pub blob: B,
     cache: CacheRef,
     journal: Option<Journal<B, H, R>>,
     page_size: NonZeroU16,
     records: u64,
+    // The digests so far of the first whole pages of the content.
+    digesting: Digesting<D>,
 }
 
 // By hand, so that an owner lets one go by one call: of a derived drop, a proof follows each field
 // at each exit.
-impl<B: Blob + Drop, H, R> Drop for OwnedJournal<B, H, R> {
+impl<B: Blob + Drop, H, R, D: Digest> Drop for OwnedJournal<B, H, R, D> {
     fn drop(self) {
         let OwnedJournal {
             blob: _,
@@ -41,13 +48,15 @@ impl<B: Blob + Drop, H, R> Drop for OwnedJournal<B, H, R> {
             journal: _,
             page_size: _,
             records: _,
+            digesting: _,
         } = self;
     }
 }
 
-impl<B: Blob, H, R> Model for OwnedJournal<B, H, R> {
+impl<B: Blob, H, R, D: Digest> Model for OwnedJournal<B, H, R, D> {
     ghost use Rattle.std.specs.Int.NonZero.{non_zero_u16_get};
     ghost use Rattle.segments.specs.Owned.{OwnedState};
+    ghost use Rattle.segments.specs.Ahead.{HasDigests};
 
     ghost Value = { OwnedState };
 
@@ -58,9 +67,17 @@ impl<B: Blob, H, R> Model for OwnedJournal<B, H, R> {
       page_size = non_zero_u16_get o.page_size;
       records = o.records;
     } };
+
+    ghost invariant = { λ o. HasDigests D.digest_of (record {
+      cache = o.cache;
+      life = B.life o.blob;
+      journal = o.journal;
+      page_size = non_zero_u16_get o.page_size;
+      records = o.records;
+    }) o.digesting };
 }
 
-impl<B: Blob + Drop, H: Sum, R: Sum> OwnedJournal<B, H, R> {
+impl<B: Blob + Drop, H: Sum, R: Sum, D: Digest> OwnedJournal<B, H, R, D> {
     /// A blob with no journal yet, and a cache of so many pages. The only error is `OutOfMemory`.
     pub fn new(
         alloc: Global,
@@ -81,6 +98,7 @@ impl<B: Blob + Drop, H: Sum, R: Sum> OwnedJournal<B, H, R> {
                 journal: None,
                 page_size,
                 records: 0,
+                digesting: Digesting::new(alloc),
             }),
             Err(error) => Err(error),
         }
@@ -103,6 +121,7 @@ impl<B: Blob + Drop, H: Sum, R: Sum> OwnedJournal<B, H, R> {
             journal: _,
             page_size: _,
             records: _,
+            digesting: _,
         } = self;
         blob
     }
@@ -116,6 +135,7 @@ impl<B: Blob + Drop, H: Sum, R: Sum> OwnedJournal<B, H, R> {
 
     /// Recovers the journal of the blob as it is, and answers its records. After an error there is
     /// no journal.
+    #[tactic(auto, using(crate::proofs::Ahead::none_ahead))]
     pub fn recover(
         &mut self,
         alloc: Global,
@@ -130,6 +150,7 @@ impl<B: Blob + Drop, H: Sum, R: Sum> OwnedJournal<B, H, R> {
             self.old.life self.new.life }
         ensures page_size { self.new.page_size ≡ self.old.page_size }
     {
+        self.digesting = Digesting::new(alloc);
         let size = self.blob.len();
         match Journal::recover(
             alloc,
@@ -271,7 +292,7 @@ impl<B: Blob + Drop, H: Sum, R: Sum> OwnedJournal<B, H, R> {
 
     /// Commits all records, closes the journal, and answers the levels of its content. All of the
     /// blob is durable then. After an error there is no journal either.
-    pub fn seal<D: Digest>(&mut self, alloc: Global) -> Result<Levels, Error>
+    pub fn seal(&mut self, alloc: Global) -> Result<Levels, Error>
         requires owned { IsOwned H.sum_of R.sum_of self.old }
         ensures goes { let d = D.digest_of in
             OwnedSealGoes d H.sum_of R.sum_of self.old self.new result }
@@ -281,24 +302,24 @@ impl<B: Blob + Drop, H: Sum, R: Sum> OwnedJournal<B, H, R> {
         ensures page_size { self.new.page_size ≡ self.old.page_size }
     {
         self.commit()?;
-        let levels = self.levels::<D>(alloc);
+        let levels = self.levels(alloc);
         self.forget();
         levels
     }
 
     // The levels of the content.
-    fn levels<D: Digest>(&mut self, alloc: Global) -> Result<Levels, Error>
+    fn levels(&mut self, alloc: Global) -> Result<Levels, Error>
         requires owned { IsOwned H.sum_of R.sum_of self.old }
         ensures goes { LevelsGo D.digest_of self.old self.new result }
         ensures ready { IsOwned H.sum_of R.sum_of self.new }
         ensures leaves { OwnedReadLeaves H.sum_of R.sum_of self.old self.new }
     {
-        let list = self.list::<D>(alloc)?;
+        let list = self.list(alloc)?;
         Ok(levels_of_list::<D>(alloc, list, self.page_size)?)
     }
 
     // The digests of the content's pages.
-    fn list<D: Digest>(&mut self, alloc: Global) -> Result<Vec<u8>, Error>
+    fn list(&mut self, alloc: Global) -> Result<Vec<u8>, Error>
         requires owned { IsOwned H.sum_of R.sum_of self.old }
         ensures goes { ListGoes D.digest_of self.old self.new result }
         ensures ready { IsOwned H.sum_of R.sum_of self.new }
@@ -310,18 +331,107 @@ impl<B: Blob + Drop, H: Sum, R: Sum> OwnedJournal<B, H, R> {
         let size = journal.size();
         let page_size = self.page_size.get() as u64;
         let full = size / page_size;
-        let mut digesting = Digesting::<D>::new(alloc);
+        let mut digesting = self.take_digesting(alloc);
+        self.digest_pages(alloc, &mut digesting, full)?;
+        let mut rest = Vec::new(alloc);
+        rest.resize((size - full * page_size) as usize, 0)?;
+        self.read_content(&mut rest, full * page_size)?;
+        are_bytes(&rest);
+        Ok(digesting.finish(&rest)?)
+    }
+
+    /// Digests the next whole pages of the content, at most `most` of them, so that
+    /// [`seal`](OwnedJournal::seal) has fewer to digest. An error leaves the journal, and what was
+    /// digested before it.
+    pub fn digest_ahead(&mut self, alloc: Global, most: u64) -> Result<(), Error>
+        requires owned { IsOwned H.sum_of R.sum_of self.old }
+        ensures goes { AheadGoes self.old self.new result }
+        ensures ready { IsOwned H.sum_of R.sum_of self.new }
+        ensures leaves { OwnedReadLeaves H.sum_of R.sum_of self.old self.new }
+        ensures costs { AsksAtMost most self.old.life self.new.life }
+    {
+        let Some(journal) = &self.journal else {
+            return Err(Error::Closed);
+        };
+        let full = journal.size() / self.page_size.get() as u64;
+        let mut digesting = self.take_digesting(alloc);
+        let end = full.min((digesting.pages() as u64).saturating_add(most));
+        let result = self.digest_pages(alloc, &mut digesting, end);
+        self.keep_digesting(digesting);
+        result
+    }
+
+    // Takes the digests so far, and leaves none.
+    #[tactic(auto, using(crate::proofs::Ahead::none_ahead))]
+    fn take_digesting(&mut self, alloc: Global) -> Digesting<D>
+        ensures same { self.new ≡ self.old }
+        ensures digested { HasDigests D.digest_of self.old result }
+    {
+        mem::replace(&mut self.digesting, Digesting::new(alloc))
+    }
+
+    // Keeps the digests so far.
+    fn keep_digesting(&mut self, digesting: Digesting<D>)
+        requires digested { HasDigests D.digest_of self.old digesting }
+        ensures same { self.new ≡ self.old }
+    {
+        self.digesting = digesting;
+    }
+
+    // Digests the content's next pages, all that begin before page `end`. After an error those are
+    // digested that were before it.
+    fn digest_pages(
+        &mut self,
+        alloc: Global,
+        digesting: &mut Digesting<D>,
+        end: u64,
+    ) -> Result<(), Error>
+        requires owned { IsOwned H.sum_of R.sum_of self.old }
+        requires there { HasJournal self.old.journal (λ w. Unit {0}) }
+        requires whole { end * self.old.page_size ≤ owned_size self.old.journal }
+        requires digested { HasDigests D.digest_of self.old digesting.old }
+        ensures goes { AheadGoes self.old self.new result }
+        ensures all { IfOk result (λ u. end ≤ digesting.new.pages) }
+        ensures digested { HasDigests D.digest_of self.new digesting.new }
+        ensures ready { IsOwned H.sum_of R.sum_of self.new }
+        ensures leaves { OwnedReadLeaves H.sum_of R.sum_of self.old self.new }
+        ensures costs { AsksAtMost (end - digesting.old.pages) self.old.life self.new.life }
+    {
         let mut page = Vec::new(alloc);
-        page.resize(page_size as usize, 0)?;
-        for n in 0..full {
-            self.read_content(&mut page, n * page_size)?;
-            are_bytes(&page);
-            digesting.take_page(&page)?;
+        page.resize(usize::from(self.page_size.get()), 0)?;
+        for n in digesting.pages() as u64..end {
+            self.digest_page(n, &mut page, digesting)?;
         }
-        page.truncate((size - full * page_size) as usize);
-        self.read_content(&mut page, full * page_size)?;
-        are_bytes(&page);
-        Ok(digesting.finish(&page)?)
+        Ok(())
+    }
+
+    // Digests page `n` of the content, the next one. `page` is a buffer for it.
+    fn digest_page(
+        &mut self,
+        n: u64,
+        page: &mut Vec<u8>,
+        digesting: &mut Digesting<D>,
+    ) -> Result<(), Error>
+        requires owned { IsOwned H.sum_of R.sum_of self.old }
+        requires buffer { length page.old.items ≡ self.old.page_size }
+        requires next { digesting.old.pages ≡ n }
+        requires whole { n * self.old.page_size + self.old.page_size
+            ≤ owned_size self.old.journal }
+        requires digested { HasDigests D.digest_of self.old digesting.old }
+        ensures goes { AheadGoes self.old self.new result }
+        ensures more { IfOk result (λ u. digesting.new.pages ≡ n + 1) }
+        ensures buffer { length page.new.items ≡ length page.old.items }
+        ensures digested { HasDigests D.digest_of self.new digesting.new }
+        ensures ready { IsOwned H.sum_of R.sum_of self.new }
+        ensures leaves { OwnedReadLeaves H.sum_of R.sum_of self.old self.new }
+        ensures costs { AsksAtMost 1 self.old.life self.new.life }
+    {
+        // The size is a `u64`: the proof takes from this that the page's offset is one.
+        let _ = self.size();
+        self.read_content(page, n * self.page_size.get() as u64)?;
+        are_bytes(page);
+        digesting.take_page(page)?;
+        Ok(())
     }
 
     // Fills a buffer with bytes of the content.
@@ -331,6 +441,8 @@ impl<B: Blob + Drop, H: Sum, R: Sum> OwnedJournal<B, H, R> {
         ensures goes { OwnedContentGoes offset bytes.old bytes.new self.old self.new result }
         ensures ready { IsOwned H.sum_of R.sum_of self.new }
         ensures leaves { OwnedReadLeaves H.sum_of R.sum_of self.old self.new }
+        ensures costs { let most = content_calls self.old.journal (offset, length bytes.old) in
+            AsksAtMost most self.old.life self.new.life }
     {
         let Some(journal) = &self.journal else {
             return Err(Error::Closed);

@@ -20,7 +20,7 @@ use page::Sum;
 impl<F: Folder<B> + Drop, B: Blob + Drop, H: Sum, R: Sum, D: Digest> SegmentedLog<F, B, H, R, D> {
     // Takes the closed segment of this number from memory, or else reads it. `Damaged` where its
     // file hasn't the length and the digest that are listed.
-    fn take_loaded(&mut self, number: u64, kept: FileDigest) -> Result<Loaded<H, R>, Error>
+    fn take_loaded(&mut self, number: u64, kept: FileDigest) -> Result<Loaded<H, R, D>, Error>
         requires log { IsLog H.sum_of R.sum_of self.old }
         ensures goes { TakeLoadedGoes H.sum_of R.sum_of self.old number kept result }
         ensures ready { IsLog H.sum_of R.sum_of self.new }

@@ -71,7 +71,7 @@ impl<F: Folder<B> + Drop, B: Blob + Drop, H: Sum, R: Sum, D: Digest> SegmentedLo
     }
 
     // Puts the next segment in the place of the open one, whose blob goes back to the folder.
-    fn follow_with(&mut self, next: OwnedJournal<B, H, R>)
+    fn follow_with(&mut self, next: OwnedJournal<B, H, R, D>)
         requires log { IsLog H.sum_of R.sum_of self.old }
         requires owned { IsOwned H.sum_of R.sum_of next }
         requires pages { next.page_size ≡ self.old.page_size }
@@ -86,7 +86,7 @@ impl<F: Folder<B> + Drop, B: Blob + Drop, H: Sum, R: Sum, D: Digest> SegmentedLo
     }
 
     // Opens the next segment. `Unlisted` where its file has bytes, which stay as they were.
-    fn open_next(&mut self) -> Result<OwnedJournal<B, H, R>, Error>
+    fn open_next(&mut self) -> Result<OwnedJournal<B, H, R, D>, Error>
         requires log { IsLog H.sum_of R.sum_of self.old }
         ensures goes { OpenNextGoes H.sum_of R.sum_of self.old self.new result }
         ensures ready { IsLog H.sum_of R.sum_of self.new }
@@ -100,7 +100,7 @@ impl<F: Folder<B> + Drop, B: Blob + Drop, H: Sum, R: Sum, D: Digest> SegmentedLo
         if blob.len() > 0 {
             return Err(Error::Unlisted(number + 1));
         }
-        match recover::<F, B, H, R>(self.alloc, self.options, blob) {
+        match recover::<F, B, H, R, D>(self.alloc, self.options, blob) {
             Ok((next, _)) => Ok(next),
             Err(error) => Err(Error::Layer(error)),
         }
@@ -120,7 +120,7 @@ impl<F: Folder<B> + Drop, B: Blob + Drop, H: Sum, R: Sum, D: Digest> SegmentedLo
     {
         let records = self.current.records();
         let len = self.current.size();
-        let levels = self.current.seal::<D>(self.alloc)?;
+        let levels = self.current.seal(self.alloc)?;
         let root = levels.root;
         let closed = Closed {
             records,

@@ -1,6 +1,8 @@
 use Rattle.std.proofs.Common.{sym, subst, ◌∙◌, arith}
+use Rattle.std.specs.Int.NonZero.{non_zero_u16_get}
 use Rattle.std.proofs.lemmas.Grind.{common_steps}
 use Rattle.segments.specs.Owned.{IsOwned}
+use Rattle.segments.proofs.Ahead.{ahead_grown, digests_taken}
 use Rattle.segments.proofs.Counts.{one_more_fits}
 use Rattle.segments.proofs.OwnedLaws.{owned_of}
 use Rattle.segments.proofs.owned.OwnedJournal.append.Goals as goal
@@ -15,3 +17,10 @@ overflow_add-self g c =
 
 pub returns-in-Ok-clause-ready : goal.returns-in-Ok-clause-ready
 returns-in-Ok-clause-ready g c = grind (arith, common_steps)
+
+pub invariant_of-self-in-Ok : goal.invariant_of-self-in-Ok
+invariant_of-self-in-Ok g c =
+    let d = g.D.Digest.digest_of in
+    let P = non_zero_u16_get c.self.inside.page_size in
+    let was = digests_taken d P (g.B.Blob.life c.self.inside.blob) c.self.inside.digesting c.self.inside.journal c.in-Some.journal c.self.invariant (sym c.take.ensures.value ∙ c.in-Some.is) in
+    ahead_grown d P _ _ _ c.self.inside.digesting was (c.in-Ok.ensures).goes.holds

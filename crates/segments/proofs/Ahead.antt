@@ -1,0 +1,310 @@
+-- Digests of the open segment's pages that are made ahead of its rotation.
+use Rattle.std.specs.Prelude.{◌≡◌, ◌<◌, ◌≤◌, ◌+◌, ◌-◌, ◌*◌, ◌/◌, ◌%◌, ◌++◌, ℕ, zero, suc, Bool, false, true, cond, List, [], ◌∷◌, length, take, Some, None, Option, IfSome, Result, Ok, Err}
+use Rattle.std.specs.List.{filter, range_with_len}
+use Rattle.std.specs.Result.{IsErrAnd}
+use Rattle.std.proofs.Common.{ap, sym, ◌∙◌, refl, subst, arith, inl, inr, div-add-mod', mod-lt, suc-mul}
+use Rattle.std.proofs.lemmas.Bool.{cases_Bool, false_from_ne_true}
+use Rattle.std.proofs.lemmas.List.{take-append-le}
+use Rattle.std.proofs.Math.Nat.{lt_of_mul-lt-mul_right}
+use Rattle.disk.specs.Disk.{Life}
+use Rattle.disk.specs.declared.error.Error as disk
+use Rattle.disk.specs.declared.error.Error.TheVariants as layer
+use Rattle.crash.specs.Looks.{Looked}
+use Rattle.writer_state.specs.WriterState.{WriterState}
+use Rattle.writer_state.specs.Sound.{content}
+use Rattle.paged_read.specs.Failures.{NoneFailed, none_failed_joins, none_failed_start}
+use Rattle.paged_read.specs.Ranges.{touches}
+use Rattle.paged_read.proofs.RangedPages.{touch_true}
+use Rattle.paged_read.proofs.Windows.{filter_none}
+use Rattle.paged.specs.Calls.{AsksAtMost}
+use Rattle.journal.specs.Calls.{RecordReadLeaves}
+use Rattle.journal.specs.Journal.{ReadContentGoes, RecordReadRefused}
+use Rattle.journal.proofs.Journals.{refused_later}
+use Rattle.page_digests.specs.Growing.{DigestingState, DigestsPage, FinishesList, IsDigested}
+use Rattle.page_digests.specs.Pages.{list_of}
+use Rattle.page_digests.specs.Seals.{EachIsByte}
+use Rattle.page_digests.proofs.Growth.{digested_still}
+use Rattle.segments.specs.declared.error.Error.{Error}
+use Rattle.segments.specs.declared.error.Error.TheVariants as errors
+use Rattle.segments.specs.Owned.{DigestsFail, HasJournal, IsOwned, IsOwnedJournal, OwnedContentGoes, OwnedReadLeaves, OwnedState, content_now, content_of, owned_size}
+use Rattle.segments.specs.Ahead.{AheadGoes, HasDigests, IsDigestedAhead, content_calls}
+use Rattle.segments.proofs.Joining.{looked_bytes}
+use Rattle.segments.proofs.Digested.{all_bytes, bytes_grow, content_kept, list_done, no_bytes_yet, none_digested, page_digested, size_now}
+
+-- ---- what is digested
+
+now_by : (d : List ℕ → List ℕ) (P : ℕ) (life : Life) (x : DigestingState) (j : Option WriterState) → HasJournal j (λ w. Unit {0})
+    → IfSome j (λ w. IsDigestedAhead d P (content w life.present.readable) x) → IsDigestedAhead d P (content_of j life) x
+now_by d P life x None there has = absurd there
+now_by d P life x (Some w) there has = has
+
+-- the content of the journal that is there is digested so far
+pub ahead_now : (d : List ℕ → List ℕ) (s : OwnedState) (x : DigestingState) → HasJournal s.journal (λ w. Unit {0}) → HasDigests d s x → IsDigestedAhead d s.page_size (content_now s) x
+ahead_now d s x there has = now_by d s.page_size s.life x s.journal there has
+
+of_by : (d : List ℕ → List ℕ) (P : ℕ) (life : Life) (x : DigestingState) (j : Option WriterState) → IsDigestedAhead d P (content_of j life) x
+    → IfSome j (λ w. IsDigestedAhead d P (content w life.present.readable) x)
+of_by d P life x None is = tt
+of_by d P life x (Some w) is = is
+
+pub ahead_of : (d : List ℕ → List ℕ) (s : OwnedState) (x : DigestingState) → IsDigestedAhead d s.page_size (content_now s) x → HasDigests d s x
+ahead_of d s x is = of_by d s.page_size s.life x s.journal is
+
+-- that of the journal that was taken
+pub digests_taken : (d : List ℕ → List ℕ) (P : ℕ) (life : Life) (x : DigestingState) (j : Option WriterState) (w : WriterState)
+    → IfSome j (λ w. IsDigestedAhead d P (content w life.present.readable) x) → j ≡ Some w → IsDigestedAhead d P (content w life.present.readable) x
+digests_taken d P life x j w has is = subst (λ (j : Option WriterState). IfSome j (λ w. IsDigestedAhead d P (content w life.present.readable) x)) is has
+
+-- nothing is digested yet
+pub none_ahead : (d : List ℕ → List ℕ) (s : OwnedState) (x : DigestingState) → ((P : ℕ) (content : List ℕ) → IsDigested d P content x) → HasDigests d s x
+none_ahead d s x is =
+    let P = s.page_size in
+    let held = content_now s in
+    ahead_of d s x (record {
+      digested = is P held;
+      bytes = subst (λ (n : ℕ). EachIsByte (take (n * P) held)) (sym (none_digested d x is)) (no_bytes_yet P held);
+    })
+
+-- there is no journal
+pub unneeded : (d : List ℕ → List ℕ) (s : OwnedState) (x : DigestingState) → s.journal ≡ None → HasDigests d s x
+unneeded d s x none = subst (λ (j : Option WriterState). IfSome j (λ w. IsDigestedAhead d s.page_size (content w s.life.present.readable) x)) (sym none) tt
+
+-- what is digested stays so as the content grows
+pub ahead_grown : (d : List ℕ → List ℕ) (P : ℕ) (held now more : List ℕ) (x : DigestingState) → IsDigestedAhead d P held x → now ≡ held ++ more → IsDigestedAhead d P now x
+ahead_grown d P held now more x ahead grown =
+    let within : x.pages * P ≤ length held = ahead.digested.within in
+    subst (λ (l : List ℕ). IsDigestedAhead d P l x) (sym grown) (record {
+      digested = digested_still d P held more x ahead.digested (omega arith);
+      bytes = subst EachIsByte (sym (take-append-le (x.pages * P) held more within)) ahead.bytes;
+    })
+
+-- and as it stays
+pub ahead_kept : (d : List ℕ → List ℕ) (P : ℕ) (held now : List ℕ) (x : DigestingState) → IsDigestedAhead d P held x → now ≡ held → IsDigestedAhead d P now x
+ahead_kept d P held now x ahead same = subst (λ (l : List ℕ). IsDigestedAhead d P l x) (sym same) ahead
+
+-- a read leaves it
+pub digests_looked : (d : List ℕ → List ℕ) (P : ℕ) (old new : Life) (x : DigestingState) (j : Option WriterState) → Looked old new
+    → IfSome j (λ w. IsDigestedAhead d P (content w old.present.readable) x) → IfSome j (λ w. IsDigestedAhead d P (content w new.present.readable) x)
+digests_looked d P old new x None looked has = tt
+digests_looked d P old new x (Some w) looked has =
+    ahead_kept d P (content w old.present.readable) (content w new.present.readable) x has (ap (λ (bytes : List ℕ). content w bytes) (looked_bytes old new looked))
+
+left_by : (sum own : List ℕ → ℕ) (d : List ℕ → List ℕ) (s t : OwnedState) (x : DigestingState) → OwnedReadLeaves sum own s t → HasJournal s.journal (λ w. Unit {0}) → HasDigests d s x → HasDigests d t x
+left_by sum own d s t x leaves there has =
+    ahead_of d t x (subst (λ (P : ℕ). IsDigestedAhead d P (content_now t) x) (sym leaves.page_size)
+    (ahead_kept d s.page_size (content_now s) (content_now t) x (ahead_now d s x there has) (content_kept sum own s t leaves)))
+
+none_by : (P : Type 0) (j : Option WriterState) → (j ≡ None → P) → (HasJournal j (λ w. Unit {0}) → P) → P
+none_by P None none some = none refl
+none_by P (Some w) none some = some tt
+
+pub ahead_left : (sum own : List ℕ → ℕ) (d : List ℕ → List ℕ) (s t : OwnedState) (x : DigestingState) → OwnedReadLeaves sum own s t → HasDigests d s x → HasDigests d t x
+ahead_left sum own d s t x leaves has =
+    none_by (HasDigests d t x) s.journal (λ none. unneeded d t x (leaves.journal ∙ none)) (λ there. left_by sum own d s t x leaves there has)
+
+-- ---- a page
+
+there_by : (offset : ℕ) (before after : List ℕ) (j : Option WriterState) (old new : Life) (u : Unit {0})
+    → HasJournal j (λ w. ReadContentGoes (content w old.present.readable) offset before after old new (Ok u)) → HasJournal j (λ w. Unit {0})
+there_by offset before after None old new u is = is
+there_by offset before after (Some w) old new u is = tt
+
+-- the next page was read and digested
+pub page_ahead : (sum own : List ℕ → ℕ) (d : List ℕ → List ℕ) (n : ℕ) (s t : OwnedState) (before after : List ℕ) (x y : DigestingState) (u : Unit {0})
+    → IsOwned sum own s → OwnedReadLeaves sum own s t → OwnedContentGoes (n * s.page_size) before after s t (Ok u) → length before ≡ s.page_size → n * s.page_size + s.page_size ≤ owned_size s.journal
+    → x.pages ≡ n → HasDigests d s x → y.pages ≡ x.pages + 1 → EachIsByte after → DigestsPage d after x y → HasDigests d t y
+page_ahead sum own d n s t before after x y u owned leaves read len fits next has more small taken =
+    let P = s.page_size in
+    let held = content_now s in
+    let was = ahead_now d s x (there_by (n * P) before after s.journal s.life t.life u read) has in
+    let so_far = subst (λ (k : ℕ). EachIsByte (take (k * P) held)) next was.bytes in
+    let count : n + 1 ≡ y.pages = omega (arith, next, more) in
+    ahead_of d t y (subst (λ (P : ℕ). IsDigestedAhead d P (content_now t) y) (sym leaves.page_size)
+    (ahead_kept d P held (content_now t) y (record {
+      digested = page_digested sum own d P n s t before after x y u owned read len fits next was.digested taken;
+      bytes = subst (λ (k : ℕ). EachIsByte (take (k * P) held)) count (bytes_grow P n s t before after u read len small so_far);
+    }) (content_kept sum own s t leaves)))
+
+-- all whole pages are digested
+pages_full : (sum own : List ℕ → ℕ) (d : List ℕ → List ℕ) (P : ℕ) (s : OwnedState) (x : DigestingState) → IsOwned sum own s → 0 < P → IsDigested d P (content_now s) x
+    → owned_size s.journal / P ≤ x.pages → x.pages ≡ owned_size s.journal / P
+pages_full sum own d P s x owned positive digested all =
+    let size = owned_size s.journal in
+    let sized : size ≡ length (content_now s) = size_now sum own s owned in
+    let within : x.pages * P ≤ length (content_now s) = digested.within in
+    let parts : size / P * P + size % P ≡ size = div-add-mod' size P in
+    let less : size % P < P = mod-lt size positive in
+    let next : suc (size / P) * P ≡ size / P * P + P = suc-mul (size / P) P in
+    let below : x.pages * P < suc (size / P) * P = omega (arith, sized, within, parts, less, next) in
+    let few : x.pages < suc (size / P) = lt_of_mul-lt-mul_right P below in
+    omega (arith, few, all)
+
+-- so, with the rest behind them, the list is that of the content, which is of bytes
+pub list_ahead : (sum own : List ℕ → ℕ) (d : List ℕ → List ℕ) (P n : ℕ) (s a b : OwnedState) (before after : List ℕ) (x : DigestingState) (list : List ℕ) (u : Unit {0})
+    → IsOwned sum own s → OwnedReadLeaves sum own s a → HasJournal s.journal (λ w. Unit {0}) → HasDigests d a x → P ≡ s.page_size → 0 < P → n ≡ owned_size s.journal / P → n ≤ x.pages
+    → OwnedContentGoes (n * P) before after a b (Ok u) → length before ≡ owned_size s.journal - n * P → EachIsByte after → FinishesList d after x list
+    → (list ≡ list_of d s.page_size (content_now s)) × EachIsByte (content_now s)
+list_ahead sum own d P n s a b before after x list u owned leaves there has pages positive full all read len small finishes =
+    let held = content_now s in
+    let kept : content_now a ≡ held = content_kept sum own s a leaves in
+    let there_too = subst (λ (j : Option WriterState). HasJournal j (λ w. Unit {0})) (sym leaves.journal) there in
+    let ahead : IsDigestedAhead d P held x = subst (λ (Q : ℕ). IsDigestedAhead d Q held x) (leaves.page_size ∙ sym pages)
+    (ahead_kept d a.page_size (content_now a) held x (ahead_now d a x there_too has) (sym kept)) in
+    let enough : owned_size s.journal / P ≤ x.pages = omega (arith, full, all) in
+    let count : x.pages ≡ n = pages_full sum own d P s x owned positive ahead.digested enough ∙ sym full in (
+      subst (λ (Q : ℕ). list ≡ list_of d Q held) pages (list_done sum own d P n s a b before after x list u owned leaves read positive full len count ahead.digested finishes),
+      all_bytes sum own P n s a b before after u owned kept read len small (subst (λ (k : ℕ). EachIsByte (take (k * P) held)) count ahead.bytes),
+    )
+
+-- ---- answers
+
+none_then : (j : Option WriterState) (old mid new : Life) → HasJournal j (λ w. NoneFailed old.present mid.present) → HasJournal j (λ w. NoneFailed mid.present new.present) → HasJournal j (λ w. NoneFailed old.present new.present)
+none_then None old mid new first second = first
+none_then (Some w) old mid new first second = none_failed_joins old.present mid.present new.present first second
+
+refused_then : (j : Option WriterState) (old mid new : Life) (e : disk.Error) → Looked old mid → HasJournal j (λ w. NoneFailed old.present mid.present) → HasJournal j (λ w. RecordReadRefused mid new e) → HasJournal j (λ w. RecordReadRefused old new e)
+refused_then None old mid new e looked first second = first
+refused_then (Some w) old mid new e looked first second = refused_later old mid new e looked first second
+
+-- what a read answers for a page
+pub read_answers : (offset : ℕ) (before after : List ℕ) (s t : OwnedState) (u : Unit {0}) → OwnedContentGoes offset before after s t (Ok u) → AheadGoes s t (Ok u)
+read_answers offset before after s t u is = by_case s.journal is where
+  by_case : (j : Option WriterState) → HasJournal j (λ w. ReadContentGoes (content w s.life.present.readable) offset before after s.life t.life (Ok u)) → HasJournal j (λ w. NoneFailed s.life.present t.life.present)
+  by_case None is = is
+  by_case (Some w) is = is.answers.1
+
+refused_by : (offset : ℕ) (before after : List ℕ) (j : Option WriterState) (old new : Life) (e : disk.Error) → HasJournal j (λ w. ReadContentGoes (content w old.present.readable) offset before after old new (Err e))
+    → HasJournal j (λ w. RecordReadRefused old new e)
+refused_by offset before after None old new e is = is
+refused_by offset before after (Some w) old new e is = is.answers
+
+-- and why it is refused
+pub read_refused : (offset : ℕ) (before after : List ℕ) (s t : OwnedState) (e : Error) → OwnedContentGoes offset before after s t (Err e) → AheadGoes s t (Err e)
+read_refused offset before after s t (errors.Layer e) is = refused_by offset before after s.journal s.life t.life e is
+read_refused offset before after s t errors.Closed is = is
+read_refused offset before after s t (errors.System e) is = is
+read_refused offset before after s t (errors.Unsynced e) is = is
+read_refused offset before after s t (errors.Damaged n) is = is
+read_refused offset before after s t (errors.Unlisted n) is = is
+read_refused offset before after s t (errors.Missing n) is = is
+read_refused offset before after s t (errors.Short n) is = is
+read_refused offset before after s t (errors.AnotherDigest n) is = is
+read_refused offset before after s t (errors.Outdated n) is = is
+read_refused offset before after s t errors.Manifest is = is
+read_refused offset before after s t (errors.NoSegment n) is = is
+read_refused offset before after s t errors.NumbersExhausted is = is
+
+memory_by : (j : Option WriterState) (old new : Life) → HasJournal j (λ w. NoneFailed old.present new.present) → HasJournal j (λ w. RecordReadRefused old new layer.OutOfMemory)
+memory_by None old new none = none
+memory_by (Some w) old new none = none
+
+-- memory was refused after reads that didn't fail
+pub memory_refused : (s t : OwnedState) → HasJournal s.journal (λ w. NoneFailed s.life.present t.life.present) → AheadGoes s t (Err (errors.Layer layer.OutOfMemory))
+memory_refused s t none = memory_by s.journal s.life t.life none
+
+start_by : (j : Option WriterState) (life : Life) → HasJournal j (λ w. Unit {0}) → HasJournal j (λ w. NoneFailed life.present life.present)
+start_by None life there = there
+start_by (Some w) life there = none_failed_start life.present
+
+-- before any read none failed
+pub none_read : (s : OwnedState) → HasJournal s.journal (λ w. Unit {0}) → HasJournal s.journal (λ w. NoneFailed s.life.present s.life.present)
+none_read s there = start_by s.journal s.life there
+
+-- one read more that didn't fail
+pub reads_on : (s a t : OwnedState) (u : Unit {0}) → a.journal ≡ s.journal → HasJournal s.journal (λ w. NoneFailed s.life.present a.life.present) → AheadGoes a t (Ok u) → HasJournal s.journal (λ w. NoneFailed s.life.present t.life.present)
+reads_on s a t u same none more =
+    none_then s.journal s.life a.life t.life none (subst (λ (j : Option WriterState). HasJournal j (λ w. NoneFailed a.life.present t.life.present)) same more)
+
+looked_of : (sum own : List ℕ → ℕ) (j : Option WriterState) (s a : OwnedState) → HasJournal j (λ w. NoneFailed s.life.present a.life.present) → IfSome j (λ w. RecordReadLeaves sum own w s.cache a.cache s.life a.life) → Looked s.life a.life
+looked_of sum own None s a none leaves = absurd none
+looked_of sum own (Some w) s a none leaves = leaves.looked
+
+no_journal : (P : WriterState → Type 0) (j : Option WriterState) → j ≡ None → HasJournal j P → ⊥
+no_journal P None none there = there
+no_journal P (Some w) none there = absurd (cc none)
+
+-- or one that was refused
+pub reads_end : (sum own : List ℕ → ℕ) (s a t : OwnedState) (e : Error) → OwnedReadLeaves sum own s a → HasJournal s.journal (λ w. NoneFailed s.life.present a.life.present) → AheadGoes a t (Err e) → AheadGoes s t (Err e)
+reads_end sum own s a t (errors.Layer e) leaves none fails =
+    refused_then s.journal s.life a.life t.life e (looked_of sum own s.journal s a none leaves.call) none
+    (subst (λ (j : Option WriterState). HasJournal j (λ w. RecordReadRefused a.life t.life e)) leaves.journal fails)
+reads_end sum own s a t errors.Closed leaves none fails = absurd (no_journal _ s.journal (sym leaves.journal ∙ fails.0) none)
+reads_end sum own s a t (errors.System e) leaves none fails = absurd fails
+reads_end sum own s a t (errors.Unsynced e) leaves none fails = absurd fails
+reads_end sum own s a t (errors.Damaged n) leaves none fails = absurd fails
+reads_end sum own s a t (errors.Unlisted n) leaves none fails = absurd fails
+reads_end sum own s a t (errors.Missing n) leaves none fails = absurd fails
+reads_end sum own s a t (errors.Short n) leaves none fails = absurd fails
+reads_end sum own s a t (errors.AnotherDigest n) leaves none fails = absurd fails
+reads_end sum own s a t (errors.Outdated n) leaves none fails = absurd fails
+reads_end sum own s a t errors.Manifest leaves none fails = absurd fails
+reads_end sum own s a t (errors.NoSegment n) leaves none fails = absurd fails
+reads_end sum own s a t errors.NumbersExhausted leaves none fails = absurd fails
+
+-- a call that ends by `?` answers its error
+pub ahead_refused : (s t : OwnedState) (e : Error) (result : Result (Unit {0}) Error) → IsErrAnd result (λ x. x ≡ e) → AheadGoes s t (Err e) → AheadGoes s t result
+ahead_refused s t e (Ok u) is fails = absurd is
+ahead_refused s t e (Err x) is fails = subst (λ (y : Error). AheadGoes s t (Err y)) (sym is) fails
+
+digests_by : (j : Option WriterState) (old new : Life) (e : disk.Error) → HasJournal j (λ w. RecordReadRefused old new e) → HasJournal j (λ w. (mid : Life) × RecordReadRefused mid new e)
+digests_by None old new e is = is
+digests_by (Some w) old new e is = (old, is)
+
+-- so the digests of all pages can't be made
+pub digests_fail : (s t : OwnedState) (e : Error) → AheadGoes s t (Err e) → DigestsFail s t e
+digests_fail s t (errors.Layer e) is = digests_by s.journal s.life t.life e is
+digests_fail s t errors.Closed is = is.0
+digests_fail s t (errors.System e) is = is
+digests_fail s t (errors.Unsynced e) is = is
+digests_fail s t (errors.Damaged n) is = is
+digests_fail s t (errors.Unlisted n) is = is
+digests_fail s t (errors.Missing n) is = is
+digests_fail s t (errors.Short n) is = is
+digests_fail s t (errors.AnotherDigest n) is = is
+digests_fail s t (errors.Outdated n) is = is
+digests_fail s t errors.Manifest is = is
+digests_fail s t (errors.NoSegment n) is = is
+digests_fail s t errors.NumbersExhausted is = is
+
+-- ---- device calls
+
+-- of numbers in a row at most one passes a test that only one number passes
+one_passes : (f : ℕ → Bool) (k first n : ℕ) → ((p : ℕ) → f p ≡ true → p ≡ k) → length (filter f (range_with_len first n)) ≤ 1
+one_passes f k first zero only = omega arith
+one_passes f k first (suc n) only = elim (cases_Bool (f first)) [
+  | inl yes ↦
+      let here : first ≡ k = only first yes in
+      let none = filter_none f (first + 1) n (λ p above below. false_from_ne_true (f p) (λ passes. let same = only p passes in omega (arith, same, here, above))) in
+      let all : filter f (range_with_len first (suc n)) ≡ first ∷ [] = ap (λ (b : Bool). cond b (first ∷ filter f (range_with_len (first + 1) n)) (filter f (range_with_len (first + 1) n))) yes ∙ ap (λ (l : List ℕ). first ∷ l) none in
+      let one : length (filter f (range_with_len first (suc n))) ≡ 1 = ap length all in
+      omega (arith, one)
+  | inr no ↦
+      let all : filter f (range_with_len first (suc n)) ≡ filter f (range_with_len (first + 1) n) = ap (λ (b : Bool). cond b (first ∷ filter f (range_with_len (first + 1) n)) (filter f (range_with_len (first + 1) n))) no in
+      let same = ap length all in
+      let few = one_passes f k (first + 1) n only in
+      omega (arith, same, few)
+]
+
+-- a whole page is the only one of its range
+its_page : (P n p : ℕ) → touches P (n * P, P) p ≡ true → p ≡ n
+its_page P n p met =
+    let parts = touch_true P (n * P) P p met in
+    let next : suc n * P ≡ n * P + P = suc-mul n P in
+    let one : p + 1 ≡ suc p = omega arith in
+    let after : (p + 1) * P ≡ suc p * P = ap (λ (k : ℕ). k * P) one in
+    let low : p < suc n = lt_of_mul-lt-mul_right P (omega (arith, parts.1, next)) in
+    let high : n < suc p = lt_of_mul-lt-mul_right P (omega (arith, parts.2, after)) in
+    omega (arith, low, high)
+
+calls_by : (sum own : List ℕ → ℕ) (s : OwnedState) (n : ℕ) (j : Option WriterState) → IfSome j (λ w. IsOwnedJournal sum own s w) → content_calls j (n * s.page_size, s.page_size) ≤ 1
+calls_by sum own s n None owned = omega arith
+calls_by sum own s n (Some w) owned =
+    subst (λ (P : ℕ). content_calls (Some w) (n * P, P) ≤ 1) owned.page_size
+    (one_passes (touches w.page_size (n * w.page_size, w.page_size)) n 0 w.full_pages (λ p met. its_page w.page_size n p met))
+
+-- a read of a whole page makes at most one device call
+pub one_call : (sum own : List ℕ → ℕ) (s t : OwnedState) (n len : ℕ) → IsOwned sum own s → len ≡ s.page_size → AsksAtMost (content_calls s.journal (n * s.page_size, len)) s.life t.life → AsksAtMost 1 s.life t.life
+one_call sum own s t n len owned size asks =
+    let one = calls_by sum own s n s.journal owned.1 in
+    let same : content_calls s.journal (n * s.page_size, len) ≡ content_calls s.journal (n * s.page_size, s.page_size) = ap (λ (k : ℕ). content_calls s.journal (n * s.page_size, k)) size in
+    omega (arith, one, same, asks)

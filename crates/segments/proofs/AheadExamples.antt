@@ -1,0 +1,96 @@
+-- Digests of the open segment's pages that are made ahead of its rotation: what each definition holds of, and what it
+-- refuses. The open segment has one record, "c", whose frame has 8 bytes: two pages of 4 bytes, or a part of one of 18.
+-- The digest of a string is its first 32 bytes, filled up with zeros.
+use Rattle.std.specs.Prelude.{◌≡◌, ◌*◌, ℕ, zero, suc, List, [], ◌∷◌, length, take, None, Some, Ok, Err}
+use Rattle.std.proofs.Common.{refl, ap, arith, lit<, lit≤}
+use Rattle.disk.specs.declared.error.Error.TheVariants.{OutOfMemory, WriteFailed}
+use Rattle.paged_read.specs.Failures.{none_failed_start}
+use Rattle.page_digests.specs.Growing.{DigestingState, IsDigested}
+use Rattle.page_digests.specs.Seals.{EachIsByte}
+use Rattle.page_digests.proofs.PageExamples.{first}
+use Rattle.writer_state.specs.WriterState.{WriterState}
+use Rattle.segments.specs.declared.error.Error.TheVariants as errors
+use Rattle.segments.specs.Ahead.{AheadGoes, HasDigests, IsDigestedAhead, content_calls}
+use Rattle.segments.specs.Owned.{OwnedState, without_journal}
+use Rattle.segments.proofs.BytesExamples.{c_frame, c_page, resting, with_c, writer}
+
+abbrev none_yet : DigestingState
+none_yet = record { pages = 0; list = [] }
+
+-- the first page of 4 bytes
+abbrev its_first : DigestingState
+its_first = record { pages = 1; list = first (0 ∷ 1 ∷ 99 ∷ 0 ∷ []) }
+
+-- a page that is counted and has no digest
+abbrev counted : DigestingState
+counted = record { pages = 1; list = [] }
+
+first_is_bytes : EachIsByte (take (1 * 4) c_frame)
+first_is_bytes zero = lit< tt
+first_is_bytes (suc zero) = lit< tt
+first_is_bytes (suc (suc zero)) = lit< tt
+first_is_bytes (suc (suc (suc zero))) = lit< tt
+first_is_bytes (suc (suc (suc (suc i)))) = lit< tt
+
+none_is_bytes : EachIsByte (take (0 * 18) c_frame)
+none_is_bytes i = lit< tt
+
+-- ---- what is digested
+
+pub its_first_page : IsDigestedAhead first 4 c_frame its_first
+its_first_page = record { digested = record { list = refl; within = lit≤ tt }; bytes = first_is_bytes }
+
+pub without_its_digest : IsDigestedAhead first 4 c_frame counted → ⊥
+without_its_digest is = omega (arith, ap length is.digested.list)
+
+-- a page holds bytes
+pub a_page_of_numbers : (x : DigestingState) → x.pages ≡ 1 → IsDigestedAhead first 1 (256 ∷ []) x → ⊥
+a_page_of_numbers x one is = omega (arith, rw one at is.bytes 0)
+
+-- its content has no whole page of 18 bytes
+pub none_is_whole : HasDigests first with_c none_yet
+none_is_whole = record { digested = record { list = refl; within = lit≤ tt }; bytes = none_is_bytes }
+
+pub a_part_is_counted : (list : List ℕ) → HasDigests first with_c (record { pages = 1; list = list }) → ⊥
+a_part_is_counted list has = omega (arith, has.digested.within)
+
+-- where there is no journal nothing is asked
+pub of_a_closed_one : (x : DigestingState) → HasDigests first (without_journal with_c) x
+of_a_closed_one x = tt
+
+-- ---- answers
+
+pub none_was_read : AheadGoes with_c with_c (Ok tt)
+none_was_read = none_failed_start (resting c_page)
+
+pub of_no_journal : (t : OwnedState) → AheadGoes (without_journal with_c) t (Ok tt) → ⊥
+of_no_journal t goes = goes
+
+pub no_memory : AheadGoes with_c with_c (Err (errors.Layer OutOfMemory))
+no_memory = none_failed_start (resting c_page)
+
+-- no write is made
+pub no_write : (t : OwnedState) → AheadGoes with_c t (Err (errors.Layer WriteFailed)) → ⊥
+no_write t goes = goes
+
+pub it_is_closed : AheadGoes (without_journal with_c) (without_journal with_c) (Err errors.Closed)
+it_is_closed = (refl, refl)
+
+-- one that is open isn't called closed
+pub it_is_open : (t : OwnedState) → AheadGoes with_c t (Err errors.Closed) → ⊥
+it_is_open t goes = absurd (cc goes.0)
+
+-- ---- device calls
+
+-- a journal of four whole pages of 4 bytes
+abbrev in_pages : WriterState
+in_pages = record (writer c_frame) { page_size = 4; full_pages = 4 }
+
+pub a_call_for_each_page : content_calls (Some in_pages) (3, 6) ≡ 3
+a_call_for_each_page = refl
+
+pub one_for_a_whole_page : content_calls (Some in_pages) (4, 4) ≡ 2 → ⊥
+one_for_a_whole_page two = let same : ◌≡◌ {A = ℕ} 1 2 = two in omega (arith, same)
+
+pub none_without_a_journal : content_calls None (0, 4) ≡ 0
+none_without_a_journal = refl
