@@ -2,7 +2,7 @@
 use Rattle.std.specs.Prelude.{◌≡◌, ◌<◌, ◌≤◌, ◌+◌, ◌-◌, ◌*◌, ◌/◌, ◌%◌, ◌++◌, ℕ, zero, suc, Bool, false, true, cond, List, [], ◌∷◌, length, take, Some, None, Option, IfSome, Result, Ok, Err}
 use Rattle.std.specs.List.{filter, range_with_len}
 use Rattle.std.specs.Result.{IsErrAnd}
-use Rattle.std.proofs.Common.{ap, sym, ◌∙◌, refl, subst, arith, inl, inr, div-add-mod', mod-lt, suc-mul}
+use Rattle.std.proofs.Common.{ap, sym, ◌∙◌, refl, subst, arith, inl, inr, div-add-mod', div-mul-le_self, mod-lt, mul-le-mul_right, suc-mul}
 use Rattle.std.proofs.lemmas.Bool.{cases_Bool, false_from_ne_true}
 use Rattle.std.proofs.lemmas.List.{take-append-le}
 use Rattle.std.proofs.Math.Nat.{lt_of_mul-lt-mul_right}
@@ -56,11 +56,11 @@ pub digests_taken : (d : List ℕ → List ℕ) (P : ℕ) (life : Life) (x : Dig
 digests_taken d P life x j w has is = subst (λ (j : Option WriterState). IfSome j (λ w. IsDigestedAhead d P (content w life.present.readable) x)) is has
 
 -- nothing is digested yet
-pub none_ahead : (d : List ℕ → List ℕ) (s : OwnedState) (x : DigestingState) → ((P : ℕ) (content : List ℕ) → IsDigested d P content x) → HasDigests d s x
-none_ahead d s x is =
-    let P = s.page_size in
-    let held = content_now s in
-    ahead_of d s x (record {
+pub digests_none : (d : List ℕ → List ℕ) (P : ℕ) (life : Life) (x : DigestingState) (j : Option WriterState) → ((P : ℕ) (content : List ℕ) → IsDigested d P content x)
+    → IfSome j (λ w. IsDigestedAhead d P (content w life.present.readable) x)
+digests_none d P life x j is =
+    let held = content_of j life in
+    of_by d P life x j (record {
       digested = is P held;
       bytes = subst (λ (n : ℕ). EachIsByte (take (n * P) held)) (sym (none_digested d x is)) (no_bytes_yet P held);
     })
@@ -155,6 +155,25 @@ list_ahead sum own d P n s a b before after x list u owned leaves there has page
       subst (λ (Q : ℕ). list ≡ list_of d Q held) pages (list_done sum own d P n s a b before after x list u owned leaves read positive full len count ahead.digested finishes),
       all_bytes sum own P n s a b before after u owned kept read len small (subst (λ (k : ℕ). EachIsByte (take (k * P) held)) count ahead.bytes),
     )
+
+-- whole pages lie within the content
+pub pages_room : (P size end : ℕ) → end ≤ size / P → end * P ≤ size
+pages_room P size end below =
+    let more : end * P ≤ size / P * P = mul-le-mul_right P below in
+    let top : size / P * P ≤ size = div-mul-le_self size P in
+    omega (arith, more, top)
+
+-- so does each of them, after reads too
+pub page_room : (sum own : List ℕ → ℕ) (s a : OwnedState) (n end : ℕ) → OwnedReadLeaves sum own s a → n < end → end * s.page_size ≤ owned_size s.journal
+    → n * a.page_size + a.page_size ≤ owned_size a.journal
+page_room sum own s a n end leaves below whole =
+    let P = s.page_size in
+    let step : suc n * P ≡ n * P + P = suc-mul n P in
+    let next : suc n ≤ end = omega (arith, below) in
+    let more : suc n * P ≤ end * P = mul-le-mul_right P next in
+    let fits : n * P + P ≤ owned_size s.journal = omega (arith, step, more, whole) in
+    subst (λ (j : Option WriterState). n * a.page_size + a.page_size ≤ owned_size j) (sym leaves.journal)
+    (subst (λ (Q : ℕ). n * Q + Q ≤ owned_size s.journal) (sym leaves.page_size) fits)
 
 -- ---- answers
 

@@ -135,7 +135,7 @@ impl<B: Blob + Drop, H: Sum, R: Sum, D: Digest> OwnedJournal<B, H, R, D> {
 
     /// Recovers the journal of the blob as it is, and answers its records. After an error there is
     /// no journal.
-    #[tactic(auto, using(crate::proofs::Ahead::none_ahead))]
+    #[tactic(auto, using(crate::proofs::Ahead::digests_none))]
     pub fn recover(
         &mut self,
         alloc: Global,
@@ -362,7 +362,6 @@ impl<B: Blob + Drop, H: Sum, R: Sum, D: Digest> OwnedJournal<B, H, R, D> {
     }
 
     // Takes the digests so far, and leaves none.
-    #[tactic(auto, using(crate::proofs::Ahead::none_ahead))]
     fn take_digesting(&mut self, alloc: Global) -> Digesting<D>
         ensures same { self.new ≡ self.old }
         ensures digested { HasDigests D.digest_of self.old result }
@@ -398,7 +397,7 @@ impl<B: Blob + Drop, H: Sum, R: Sum, D: Digest> OwnedJournal<B, H, R, D> {
         ensures costs { AsksAtMost (end - digesting.old.pages) self.old.life self.new.life }
     {
         let mut page = Vec::new(alloc);
-        page.resize(usize::from(self.page_size.get()), 0)?;
+        page.resize(self.page_size.get() as usize, 0)?;
         for n in digesting.pages() as u64..end {
             self.digest_page(n, &mut page, digesting)?;
         }

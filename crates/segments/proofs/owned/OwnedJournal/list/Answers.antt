@@ -1,0 +1,59 @@
+use Rattle.std.specs.Prelude.{◌≡◌, ◌+◌, ◌*◌, ◌-◌, ◌≤◌, ◌/◌, drop, length, take}
+use Rattle.std.proofs.Common.{ap, ◌∙◌, subst, arith, take_at}
+use Rattle.page_digests.specs.Growing.{FinishesList}
+use Rattle.page_digests.specs.Seals.{EachIsByte}
+use Rattle.segments.specs.Owned.{OwnedReadLeaves, OwnedState, owned_size}
+use Rattle.segments.proofs.Ahead.{list_ahead}
+use Rattle.segments.proofs.Digested.{read_is, size_there, there_is}
+use Rattle.segments.proofs.Joining.{owned_joins}
+use Rattle.segments.proofs.owned.OwnedJournal.list.Given.{Over}
+use Rattle.segments.proofs.owned.OwnedJournal.list.Goals as goal
+use Rattle.segments.proofs.owned.OwnedJournal.list.Goals.{After-digest_pages}
+
+-- the pages were read
+before : (g : Over) (c : After-digest_pages g) → OwnedReadLeaves g.H.Sum.sum_of g.R.Sum.sum_of c.args.self.now c.digest_pages.new.self
+before g c =
+    subst (λ (s : OwnedState). OwnedReadLeaves g.H.Sum.sum_of g.R.Sum.sum_of s c.digest_pages.new.self) c.take_digesting-digesting.ensures.same c.digest_pages.ensures.leaves
+
+pub returns-in_err-digest_pages-clause-leaves : goal.returns-in_err-digest_pages-clause-leaves
+returns-in_err-digest_pages-clause-leaves g c = before g (goal.at.returns-in_err-digest_pages-clause-leaves g c).After-digest_pages
+
+pub returns-in_err-resize-clause-leaves : goal.returns-in_err-resize-clause-leaves
+returns-in_err-resize-clause-leaves g c = before g (goal.at.returns-in_err-resize-clause-leaves g c).After-digest_pages
+
+pub returns-in_err-read_content-clause-leaves : goal.returns-in_err-read_content-clause-leaves
+returns-in_err-read_content-clause-leaves g c =
+    owned_joins g.H.Sum.sum_of g.R.Sum.sum_of c.args.self.now c.digest_pages.new.self c.read_content.new.self (before g (goal.at.returns-in_err-read_content-clause-leaves g c).After-digest_pages) c.read_content.ensures.leaves
+
+pub returns-in_err-finish-clause-leaves : goal.returns-in_err-finish-clause-leaves
+returns-in_err-finish-clause-leaves g c =
+    owned_joins g.H.Sum.sum_of g.R.Sum.sum_of c.args.self.now c.digest_pages.new.self c.read_content.new.self (before g (goal.at.returns-in_err-finish-clause-leaves g c).After-digest_pages) c.read_content.ensures.leaves
+
+pub returns-clause-leaves : goal.returns-clause-leaves
+returns-clause-leaves g c =
+    owned_joins g.H.Sum.sum_of g.R.Sum.sum_of c.args.self.now c.digest_pages.new.self c.read_content.new.self (before g (goal.at.returns-clause-leaves g c).After-digest_pages) c.read_content.ensures.leaves
+
+pub returns-clause-goes : goal.returns-clause-goes
+returns-clause-goes g c =
+    let sum = g.H.Sum.sum_of in
+    let own = g.R.Sum.sum_of in
+    let d = g.D.Digest.digest_of in
+    let P = c.get-page_size.result in
+    let s = c.args.self.now in
+    let a = c.digest_pages.new.self in
+    let b = c.read_content.new.self in
+    let N = c.size-size.result / P in
+    let leaves = before g (goal.at.returns-clause-goes g c).After-digest_pages in
+    let there = there_is _ s c.in-Some.journal c.self.view_is c.in-Some.is in
+    let size : c.size-size.result ≡ owned_size s.journal = size_there _ s c.in-Some.journal c.size-size.result c.self.view_is c.in-Some.is c.size-size.ensures in
+    let sized : P ≡ s.page_size = c.get-page_size.ensures.value ∙ ap (λ (o : OwnedState). o.page_size) c.self.view_is in
+    let full : N ≡ owned_size s.journal / P = ap (λ k. k / P) size in
+    let len : length c.deref_mut.result.now ≡ owned_size s.journal - N * P = omega (arith, c.deref_mut.ensures.len, c.in_ok-resize.ensures.len, size) in
+    let read = read_is (N * P) c.deref_mut.result.now c.read_content.new.bytes a b c.in_ok-read_content.field-0 c.in_ok-read_content.ensures.goes in
+    let filled : length c.read_content.new.bytes ≡ c.resize.new.self.len = omega (arith, read.1, c.deref_mut.ensures.len) in
+    let same = take_at c.read_content.new.bytes (drop (length c.read_content.new.bytes) c.resize.new.self.items) c.resize.new.self.len filled in
+    let parts = list_ahead sum own d P N s a b c.deref_mut.result.now c.read_content.new.bytes c.digest_pages.new.digesting c.in_ok-finish.field-0.items c.in_ok-read_content.field-0
+    c.requires.owned leaves there c.digest_pages.ensures.digested sized c.get-page_size.ensures.nonzero full c.in_ok-digest_pages.ensures.all c.in_ok-read_content.ensures.goes len
+    (subst EachIsByte (c.deref.ensures.value ∙ same) c.are_bytes.ensures)
+    (subst (λ rest. FinishesList d rest c.digest_pages.new.digesting c.in_ok-finish.field-0.items) (c.deref-2.ensures.value ∙ same) c.in_ok-finish.ensures) in
+    (there, parts.0, parts.1)
