@@ -32,7 +32,7 @@ pub struct ClosedSegment<S: Source + Drop, H: Sum, R: Sum, D: Digest> {
 #[derive(Drop)]
 enum SegmentBytes<S: Source + Drop, H: Sum, R: Sum, D: Digest> {
     // A segment that is known by its whole file, in memory.
-    InMemory(Loaded<H, R>),
+    InMemory(Loaded<H, R, D>),
     // A segment that is known by its pages.
     ByPages(PagedSegment<S, D>),
 }
@@ -61,7 +61,7 @@ impl<S: Source + Drop, H: Sum, R: Sum, D: Digest> ClosedSegment<S, H, R, D> {
         number: u64,
         closed: Closed,
         page_size: NonZeroU16,
-        loaded: Loaded<H, R>,
+        loaded: Loaded<H, R, D>,
     ) -> Self
         requires { let P = non_zero_u16_get page_size in IsSegmentReader H.sum_of R.sum_of (record {
           number = number;

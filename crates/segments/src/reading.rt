@@ -36,7 +36,7 @@ impl<F: Folder<B> + Drop, B: Blob + Drop, H: Sum, R: Sum, D: Digest> SegmentedLo
 
     // Reads the closed segment of this number into memory. `Damaged` where its file hasn't the
     // length and the digest that are listed.
-    pub(crate) fn load(&mut self, number: u64, kept: FileDigest) -> Result<Loaded<H, R>, Error>
+    pub(crate) fn load(&mut self, number: u64, kept: FileDigest) -> Result<Loaded<H, R, D>, Error>
         ensures goes { TakeLoadedGoes H.sum_of R.sum_of self.old number kept result }
         ensures same { self.new ≡ self.old }
     {
