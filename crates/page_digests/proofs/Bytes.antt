@@ -1,5 +1,5 @@
 -- Parts of bytes are bytes.
-use Rattle.std.proofs.Common.{◌≡◌, ◌<◌, ◌*◌, ◌++◌, ◌∷◌, [], ℕ, zero, suc, List, take, drop, length, subst, sym, lit<}
+use Rattle.std.proofs.Common.{◌*◌, ◌++◌, ◌∷◌, [], ℕ, zero, suc, List, take, drop, lit<}
 use Rattle.page_digests.specs.Pages.{content_page}
 use Rattle.page_digests.specs.Seals.{EachIsByte}
 

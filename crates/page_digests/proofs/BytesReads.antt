@@ -1,5 +1,5 @@
 -- Reads of bytes in a file, of which the digests of their pages are known.
-use Rattle.std.proofs.Common.{◌≡◌, ◌≢◌, ◌<◌, ◌≤◌, ◌*◌, ◌+◌, ◌-◌, ◌/◌, ◌%◌, ◌∙◌, ℕ, List, [], ◌∷◌, ◌++◌, length}
+use Rattle.std.proofs.Common.{◌≡◌, ◌<◌, ◌≤◌, ◌*◌, ◌+◌, ◌-◌, ◌/◌, ◌%◌, ◌∙◌, ℕ, List, [], ◌∷◌, ◌++◌, length}
 use Rattle.std.proofs.Common.{take, drop, ap, refl, sym, subst, inl, inr, arith, append-nil, append_assoc, length-append, true, false, true≢false}
 use Rattle.std.specs.Prelude.{Option, Some, None, IfSome, Ok, Err, slice_range}
 use Rattle.std.proofs.lemmas.List.{length-drop, length-take-le, take_all}
@@ -9,7 +9,7 @@ use Rattle.std.proofs.lemmas.Slice.{overwrites, take-put_mid}
 use borrow.Rule.Slice.PartMut.{put_mid}
 use Rattle.page_digests.specs.declared.error.Error.{Error}
 use Rattle.page_digests.specs.declared.error.Error.TheVariants.{Damaged, OutOfMemory, System}
-use Rattle.page_digests.specs.PagedBytes.{BytesGoes, BytesLoadGoes, BytesPageFails, BytesState, CopiesPiece, CopyGoes, IsCopying, IsKnown, IsPagedBytes, IsPageOf, IsPageRefused, IsPageWrong, IsSameBytes}
+use Rattle.page_digests.specs.PagedBytes.{BytesGoes, BytesLoadGoes, BytesPageFails, BytesState, CopiesPiece, CopyGoes, FetchGoes, IsCopying, IsKnown, IsPagedBytes, IsPageOf, IsPageRefused, IsPageWrong, IsSameBytes}
 use Rattle.page_digests.specs.Pages.{digest_at, content_page, page_len, range_at}
 use Rattle.page_digests.specs.Reads.{IsReadOn, IsTouched, pages_touched}
 use Rattle.page_digests.specs.Buffers.{ComparesGoes}
@@ -38,17 +38,16 @@ one_more old new last is =
     omega arith
 
 -- it is read
-pub load_read : (d : List ℕ → List ℕ) (u s : BytesState) (j n : ℕ) (digest page : List ℕ) (reads : List SourceRead) → u ≡ s → (s.cached ≡ Some j → ⊥)
+pub page_fetched : (d : List ℕ → List ℕ) (u s : BytesState) (j n : ℕ) (digest page : List ℕ) (reads : List SourceRead) → u ≡ s
     → ComparesGoes d (u.start + j * u.page_size) n digest u.reads reads page (Ok true)
-    → BytesLoadGoes d j s (record u { cached = Some j; page = page; reads = reads }) (Ok tt)
-load_read d u s j n digest page reads same fresh goes =
-    subst (λ (v : BytesState). (v.cached ≡ Some j → ⊥) → BytesLoadGoes d j v (record u { cached = Some j; page = page; reads = reads }) (Ok tt)) same
-    (λ none. record {
+    → FetchGoes d j s (record u { cached = Some j; page = page; reads = reads }) (Ok tt)
+page_fetched d u s j n digest page reads same goes =
+    subst (λ (v : BytesState). FetchGoes d j v (record u { cached = Some j; page = page; reads = reads }) (Ok tt)) same (record {
       same = record { start = refl; len = refl; page_size = refl; top = refl; reads = (_, goes.0) };
       calls = one_more u.reads reads _ goes.0;
-      held = λ is. absurd (none is);
+      held = refl;
       answers = refl;
-    }) fresh
+    })
 
 -- the one read of a call is its last
 pub one_read : (old new : List SourceRead) (last : SourceRead) → new ≡ old ++ last ∷ [] → EndsWithRead old new last
@@ -62,38 +61,42 @@ read_after old mid new more last since (rest, is) = (
 )
 
 -- it is wrong
-pub load_wrong : (d : List ℕ → List ℕ) (u s : BytesState) (j n : ℕ) (digest page : List ℕ) (reads : List SourceRead) → u ≡ s → (s.cached ≡ Some j → ⊥)
-    → n ≡ page_len u.page_size u.len j → digest ≡ digest_at j u.top → ComparesGoes d (u.start + j * u.page_size) n digest u.reads reads page (Ok false)
-    → BytesLoadGoes d j s (record u { cached = None; page = page; reads = reads }) (Err Damaged)
-load_wrong d u s j n digest page reads same fresh len its (read, long, small, compared) =
-    subst (λ (v : BytesState). (v.cached ≡ Some j → ⊥) → BytesLoadGoes d j v (record u { cached = None; page = page; reads = reads }) (Err Damaged)) same
-    (λ none. record {
+pub page_wrong : (d : List ℕ → List ℕ) (u s : BytesState) (j n : ℕ) (digest page : List ℕ) (reads : List SourceRead) → u ≡ s
+    → n ≡ page_len s.page_size s.len j → digest ≡ digest_at j s.top → ComparesGoes d (u.start + j * u.page_size) n digest u.reads reads page (Ok false)
+    → FetchGoes d j s (record u { cached = None; page = page; reads = reads }) (Err Damaged)
+page_wrong d u s j n digest page reads same len its goes =
+    subst (λ (v : BytesState). n ≡ page_len v.page_size v.len j → digest ≡ digest_at j v.top → FetchGoes d j v (record u { cached = None; page = page; reads = reads }) (Err Damaged)) same
+    (wrong goes) len its
+  where
+    wrong : ComparesGoes d (u.start + j * u.page_size) n digest u.reads reads page (Ok false) → n ≡ page_len u.page_size u.len j → digest ≡ digest_at j u.top
+        → FetchGoes d j u (record u { cached = None; page = page; reads = reads }) (Err Damaged)
+    wrong (read, long, small, compared) count is = record {
       same = record { start = refl; len = refl; page_size = refl; top = refl; reads = (_, read) };
       calls = one_more u.reads reads _ read;
-      held = λ held. absurd (none held);
-      answers = (page, one_read u.reads reads _ read, long ∙ len, λ e. true≢false (sym (compared.1 (e ∙ sym its))));
-    }) fresh
+      held = refl;
+      answers = (page, one_read u.reads reads _ read, long ∙ count, λ e. true≢false (sym (compared.1 (e ∙ sym is))));
+    }
 
 -- it can't be read
-pub load_failed : (d : List ℕ → List ℕ) (u s : BytesState) (j n : ℕ) (digest page : List ℕ) (reads : List SourceRead) (e : Error) → u ≡ s → (s.cached ≡ Some j → ⊥)
-    → n ≡ page_len u.page_size u.len j → ComparesGoes d (u.start + j * u.page_size) n digest u.reads reads page (Err e)
-    → BytesLoadGoes d j s (record u { cached = None; page = page; reads = reads }) (Err e)
-load_failed d u s j n digest page reads e same fresh len goes =
-    subst (λ (v : BytesState). (v.cached ≡ Some j → ⊥) → BytesLoadGoes d j v (record u { cached = None; page = page; reads = reads }) (Err e)) same (by_error e goes) fresh
+pub page_refused : (d : List ℕ → List ℕ) (u s : BytesState) (j n : ℕ) (digest page : List ℕ) (reads : List SourceRead) (e : Error) → u ≡ s
+    → n ≡ page_len s.page_size s.len j → ComparesGoes d (u.start + j * u.page_size) n digest u.reads reads page (Err e)
+    → FetchGoes d j s (record u { cached = None; page = page; reads = reads }) (Err e)
+page_refused d u s j n digest page reads e same len goes =
+    subst (λ (v : BytesState). n ≡ page_len v.page_size v.len j → FetchGoes d j v (record u { cached = None; page = page; reads = reads }) (Err e)) same (by_error e goes) len
   where
-    by_error : (e : Error) → ComparesGoes d (u.start + j * u.page_size) n digest u.reads reads page (Err e) → (u.cached ≡ Some j → ⊥)
-        → BytesLoadGoes d j u (record u { cached = None; page = page; reads = reads }) (Err e)
-    by_error Damaged none fresh = absurd none
-    by_error (System x) read fresh = record {
+    by_error : (e : Error) → ComparesGoes d (u.start + j * u.page_size) n digest u.reads reads page (Err e) → n ≡ page_len u.page_size u.len j
+        → FetchGoes d j u (record u { cached = None; page = page; reads = reads }) (Err e)
+    by_error Damaged none count = absurd none
+    by_error (System x) read count = record {
       same = record { start = refl; len = refl; page_size = refl; top = refl; reads = (_, read) };
       calls = one_more u.reads reads _ read;
-      held = λ held. absurd (fresh held);
-      answers = subst (λ (k : ℕ). EndsWithRead u.reads reads (refused (u.start + j * u.page_size) k)) len (one_read u.reads reads _ read);
+      held = refl;
+      answers = subst (λ (k : ℕ). EndsWithRead u.reads reads (refused (u.start + j * u.page_size) k)) count (one_read u.reads reads _ read);
     }
-    by_error OutOfMemory none fresh = record {
+    by_error OutOfMemory none count = record {
       same = record { start = refl; len = refl; page_size = refl; top = refl; reads = ([], none ∙ sym (append-nil u.reads)) };
       calls = let e : length reads ≡ length u.reads = ap length none in omega arith;
-      held = λ held. none;
+      held = refl;
       answers = tt;
     }
 

@@ -6,6 +6,8 @@ pub mod Payloads
 pub mod Filled
 pub mod Verified
 pub mod Pieces
+pub mod Holding
+pub mod Loading
 pub mod BytesReads
 pub mod ListReads
 pub mod ContentReads
@@ -19,3 +21,4 @@ pub mod ReadExamples
 pub mod ContentExamples
 pub mod RebuildExamples
 pub mod PagedBytesExamples
+pub mod HoldingExamples

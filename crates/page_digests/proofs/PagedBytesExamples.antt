@@ -1,6 +1,6 @@
 -- "abc" from byte 5 of a file on, by pages of 32 bytes: so one page, whose digest is the top, which
 -- stands at byte 8.
-use Rattle.std.proofs.Common.{◌≡◌, ◌⊎◌, ◌<◌, ◌≤◌, ◌+◌, ◌∷◌, ◌∙◌, [], ℕ, zero, suc, List, length, replicate, get_or}
+use Rattle.std.proofs.Common.{◌≡◌, ◌⊎◌, ◌≤◌, ◌+◌, ◌∷◌, ◌∙◌, [], ℕ, zero, suc, List, length, replicate, get_or}
 use Rattle.std.proofs.Common.{refl, ap, sym, inl, inr, arith, length-append, lit<, lit≤}
 use Rattle.std.specs.Prelude.{codes, Some, None, Ok}
 use Rattle.std.proofs.lemmas.List.{take_all}
@@ -16,10 +16,10 @@ use Rattle.page_digests.proofs.ReadExamples.{given_bytes}
 use Rattle.page_digests.proofs.SealExamples.{abc, abc_is_bytes, its_digest, its_digest_is_bytes, no_page_twin, xyz}
 
 abbrev pub three_bytes : BytesState
-three_bytes = record { start = 5; len = 3; page_size = 32; top = its_digest; cached = None; page = []; reads = [] }
+three_bytes = record { start = 5; len = 3; page_size = 32; top = its_digest; cached = None; page = []; held = []; reads = [] }
 
 abbrev pub three_read : BytesState
-three_read = record { start = 5; len = 3; page_size = 32; top = its_digest; cached = Some 0; page = abc; reads = gave 5 abc ∷ [] }
+three_read = record { start = 5; len = 3; page_size = 32; top = its_digest; cached = Some 0; page = abc; held = []; reads = gave 5 abc ∷ [] }
 
 pub the_only_digest : digest_at 0 its_digest ≡ its_digest
 the_only_digest = refl
@@ -38,7 +38,7 @@ pub a_top_for_one_page : IsPagedBytes first (record three_bytes { len = 33 }) �
 a_top_for_one_page is = let e : 32 ≡ 64 = is.top in omega arith
 
 pub they_are_opened : IsOpenedBytes first 5 3 32 its_digest [] (record three_bytes { reads = gave 8 its_digest ∷ [] })
-they_are_opened = record { start = refl; len = refl; page_size = refl; cached = refl; reads = refl; top = refl; bytes = its_digest_is_bytes; root = refl }
+they_are_opened = record { start = refl; len = refl; page_size = refl; cached = refl; held = refl; reads = refl; top = refl; bytes = its_digest_is_bytes; root = refl }
 
 -- the top is that of other bytes
 pub another_top : IsOpenedBytes first 5 3 32 (first xyz) [] (record three_bytes { reads = gave 8 its_digest ∷ [] }) → ⊥

@@ -7,6 +7,7 @@ pub mod Reads
 pub mod Contents
 pub mod Rebuilds
 pub mod Buffers
+pub mod HeldPages
 pub mod PagedBytes
 pub mod Lists
 pub mod Steps

@@ -1,7 +1,8 @@
 -- Bytes in a file, of which the digests of their pages are known.
 use Rattle.std.specs.Prelude.{◌≡◌, ◌≢◌, ◌⊎◌, ◌<◌, ◌≤◌, ◌+◌, ◌*◌, ◌/◌, ◌%◌, ◌^◌, ◌++◌, ℕ, List}
 use Rattle.std.specs.Prelude.{[], ◌∷◌, length, take, Option, Some, None, IfSome, Result, Ok, Err}
-use Rattle.std.specs.Prelude.{OnOk}
+use Rattle.std.specs.Prelude.{Bool, false, true, OnOk}
+use Rattle.page_digests.specs.HeldPages.{PageState, TakesPage, kept_page, staying}
 use Rattle.page_digests.specs.Pages.{digest_at, list_len, list_of, page_len, range_at}
 use Rattle.page_digests.specs.Reads.{IsReadOn, IsTouched, pages_touched}
 use Rattle.page_digests.specs.Seals.{EachIsByte, HasPagePreimage}
@@ -10,7 +11,8 @@ use Rattle.page_digests.specs.declared.error.Error.{Error}
 use Rattle.page_digests.specs.declared.error.Error.TheVariants.{Damaged, OutOfMemory, System}
 
 -- some bytes in a file: where they begin in it, how many there are, the page size, the digests of
--- their pages, joined, the page that was read last and its number, and the reads so far
+-- their pages, joined, the page that was used last and its number, the other pages that are held,
+-- and the reads so far
 pub record BytesState : Type 0 where
   pub start : ℕ
   pub len : ℕ
@@ -18,6 +20,7 @@ pub record BytesState : Type 0 where
   pub top : List ℕ
   pub cached : Option ℕ
   pub page : List ℕ
+  pub held : List PageState
   pub reads : List SourceRead
 
 -- these bytes have the length of page j, and digest j of the top
@@ -27,7 +30,7 @@ pub record IsPageOf (d : List ℕ → List ℕ) (s : BytesState) (j : ℕ) (byte
   pub are_bytes : EachIsByte bytes
   pub digest : d bytes ≡ digest_at j s.top
 
--- the top has as many digests as there are pages, and the page that was read last its digest in it
+-- the top has as many digests as there are pages, and the page that was used last its digest in it
 pub record IsPagedBytes (d : List ℕ → List ℕ) (s : BytesState) : Type 0 where
   pub positive : 0 < s.page_size
   pub small : s.page_size < 2 ^ 16
@@ -43,6 +46,7 @@ pub record IsOpenedBytes (d : List ℕ → List ℕ) (at count P : ℕ) (kept : 
   pub len : b.len ≡ count
   pub page_size : b.page_size ≡ P
   pub cached : b.cached ≡ None
+  pub held : b.held ≡ []
   pub reads : b.reads ≡ before ++ gave (at + count) b.top ∷ []
   pub top : length b.top ≡ list_len P count
   pub bytes : EachIsByte b.top
@@ -91,12 +95,78 @@ BytesPageFails d s j old new Damaged = IsPageWrong d s j old new
 BytesPageFails d s j old new (System e) = IsPageRefused s j old new
 BytesPageFails d s j old new OutOfMemory = Unit {0}
 
--- page j is read, unless it was read last, by the answer
+-- page j is read, by the answer
 abbrev pub BytesLoadAnswers : (List ℕ → List ℕ) → (j : ℕ) → (old new : BytesState)
     → Result (Unit {0}) Error → Type 0
 BytesLoadAnswers d j old new (Ok _) = new.cached ≡ Some j
 BytesLoadAnswers d j old new (Err e) = BytesPageFails d old j old.reads new.reads e
 
+pub record FetchGoes (d : List ℕ → List ℕ) (j : ℕ) (old new : BytesState)
+    (result : Result (Unit {0}) Error) : Type 0 where
+  pub same : IsSameBytes old new
+  pub calls : length new.reads ≤ length old.reads + 1
+  pub held : new.held ≡ old.held
+  pub answers : BytesLoadAnswers d j old new result
+
+-- ---- pages that are held
+
+-- the page that was used last is held beside the others, `most` in all, if there was one
+abbrev pub put_away : (most : ℕ) → (cached : Option ℕ) → BytesState → BytesState
+put_away most None s = s
+put_away most (Some j) s = record s {
+  cached = None;
+  page = [];
+  held = kept_page most (record { digest = digest_at j s.top; bytes = s.page }) s.held;
+}
+
+-- the page that was used last is put away, by the answer
+abbrev pub PutsAway : {E : Type 0} → (most : ℕ) → (old new : BytesState) → Result (Unit {0}) E
+    → Type 0
+PutsAway most old new (Ok _) = new ≡ put_away most old.cached old
+PutsAway most old new (Err e) = new ≡ record old {
+  cached = None;
+  page = [];
+  held = staying most old.held;
+}
+
+-- page j is the one that was used last, if it was taken out of those that are held
+abbrev pub turned_to : (j : ℕ) → (taken : Option PageState) → BytesState → BytesState
+turned_to j None s = s
+turned_to j (Some p) s = record s { cached = Some j; page = p.bytes }
+
+-- a page with this digest and so many bytes was taken out of those that are held, if there was one,
+-- and the page that was used last was put away
+pub record IsTurned (most : ℕ) (digest : List ℕ) (count : ℕ) (old : BytesState)
+    (taken : Option PageState) (rest : BytesState) : Type 0 where
+  pub others : List PageState
+  pub takes : TakesPage digest count old.held others taken
+  pub away : rest ≡ put_away most old.cached (record old { held = others })
+
+-- page j is taken out of those that are held, if it is held, by the answer
+abbrev pub TurnGoes : {E : Type 0} → (most j : ℕ) → (digest : List ℕ) → (count : ℕ)
+    → (old new : BytesState) → Result Bool E → Type 0
+TurnGoes most j digest count old new (Ok false) = IsTurned most digest count old None new
+TurnGoes most j digest count old new (Ok true) = (p : PageState) × (rest : BytesState)
+    × IsTurned most digest count old (Some p) rest × (new ≡ turned_to j (Some p) rest)
+TurnGoes most j digest count old new (Err e) =
+    new ≡ record old { cached = None; page = []; held = new.held }
+
+-- page j is loaded: nothing is read if it is held, and the page that was used last is put away
+pub record IsLoaded (most j : ℕ) (old new : BytesState) : Type 0 where
+  pub taken : Option PageState
+  pub rest : BytesState
+  pub turned : let P = old.page_size in
+      IsTurned most (digest_at j old.top) (page_len P old.len j) old taken rest
+  pub held : new.held ≡ rest.held
+  pub reads : IfSome taken (λ p. new.reads ≡ old.reads)
+
+-- which pages are held as page j is loaded, by the answer
+abbrev pub HoldsGoes : (most j : ℕ) → (old new : BytesState) → Result (Unit {0}) Error → Type 0
+HoldsGoes most j old new (Ok _) = (old.cached ≡ Some j → new ≡ old)
+    × ((old.cached ≡ Some j → ⊥) → IsLoaded most j old new)
+HoldsGoes most j old new (Err e) = Unit {0}
+
+-- page j is loaded: it is read, unless it is held
 pub record BytesLoadGoes (d : List ℕ → List ℕ) (j : ℕ) (old new : BytesState)
     (result : Result (Unit {0}) Error) : Type 0 where
   pub same : IsSameBytes old new

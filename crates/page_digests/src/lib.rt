@@ -6,6 +6,7 @@ mod catching;
 mod digesting;
 mod error;
 mod file_source;
+mod held_pages;
 mod levels;
 mod list;
 mod paged_bytes;

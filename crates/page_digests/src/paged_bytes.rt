@@ -2,32 +2,38 @@
 ghost use Rattle.std.specs.Prelude.{◌≡◌, ◌↔◌, ◌<◌, ◌≤◌, ◌+◌, ◌-◌, ◌*◌, ◌^◌, [], length, true};
 ghost use Rattle.std.specs.Prelude.{IfErr, IfOk};
 ghost use Rattle.std.specs.Int.NonZero.{non_zero_u16_get};
-ghost use Rattle.page_digests.specs.PagedBytes.{BytesGoes, BytesLoadGoes, CopyGoes, IsOpenedBytes};
-ghost use Rattle.page_digests.specs.PagedBytes.{IsPagedBytes, RootFails};
-ghost use Rattle.page_digests.specs.Pages.{list_len};
+ghost use Rattle.page_digests.specs.PagedBytes.{BytesGoes, BytesLoadGoes, CopyGoes, FetchGoes};
+ghost use Rattle.page_digests.specs.PagedBytes.{HoldsGoes, IsOpenedBytes, IsPagedBytes, PutsAway};
+ghost use Rattle.page_digests.specs.PagedBytes.{RootFails, TurnGoes};
+ghost use Rattle.page_digests.specs.Pages.{digest_at, list_len, page_len};
 
 use crate::error::Error;
+use crate::held_pages::{HELD, HeldPage, HeldPages};
 use crate::pages::{digest_at, list_len, page_len};
 use crate::reading::read_compared;
 use crate::source::Source;
 use digest::Digest;
-use std::alloc::Global;
-use std::marker::{Model, PhantomData};
+use std::alloc::{AllocError, Global};
+use std::marker::Model;
+use std::mem;
 use std::num::NonZeroU16;
 
 /// Bytes in a file of which nothing is believed, except for what their top proves: the digests of
-/// their pages, joined. Each page is compared with its digest before it is used. The page that was
-/// read last is held, so that the next read in it asks for nothing.
+/// their pages, joined. Each page is compared with its digest before it is used. The 129 pages that
+/// were used last are held, so that a read in them asks for nothing, and compares nothing.
 #[derive(Drop)]
 pub struct PagedBytes<F: Source, D: Digest> {
+    alloc: Global,
     file: F,
     start: usize,
     len: usize,
     page_size: usize,
     top: Vec<u8>,
+    // The page that was used last, and its number.
     cached: Option<usize>,
     page: Vec<u8>,
-    of: PhantomData<D>,
+    // The other pages that are held.
+    held: HeldPages<D>,
 }
 
 /// Why some bytes aren't opened, and their file.
@@ -51,6 +57,7 @@ impl<F: Source, D: Digest> Model for PagedBytes<F, D> {
       top = b.top.items;
       cached = b.cached;
       page = b.page.items;
+      held = b.held;
       reads = F.reads b.file;
     } };
 
@@ -61,6 +68,7 @@ impl<F: Source, D: Digest> Model for PagedBytes<F, D> {
       top = b.top.items;
       cached = b.cached;
       page = b.page.items;
+      held = b.held;
       reads = F.reads b.file;
     }) };
 }
@@ -83,6 +91,7 @@ impl<F: Source + Drop, D: Digest> PagedBytes<F, D> {
           top = top.items;
           cached = None;
           page = [];
+          held = [];
           reads = F.reads file;
         }) }
         ensures { result ≡ record {
@@ -92,10 +101,12 @@ impl<F: Source + Drop, D: Digest> PagedBytes<F, D> {
           top = top.items;
           cached = None;
           page = [];
+          held = [];
           reads = F.reads file;
         } }
     {
         PagedBytes {
+            alloc,
             file,
             start,
             len,
@@ -103,7 +114,7 @@ impl<F: Source + Drop, D: Digest> PagedBytes<F, D> {
             top,
             cached: None,
             page: Vec::new(alloc),
-            of: PhantomData,
+            held: HeldPages::new(alloc),
         }
     }
 
@@ -140,26 +151,70 @@ impl<F: Source + Drop, D: Digest> PagedBytes<F, D> {
         }
     }
 
-    // Whether page `number` was read last.
+    // Whether page `number` was used last.
     fn holds(&self, number: usize) -> bool
         ensures { (result ≡ true) ↔ (self.now.cached ≡ Some number) }
     {
         self.cached == Some(number)
     }
 
-    // Reads page `number`, unless it was read last.
+    // Has page `number` as the one that was used last, and reads it, unless it is held.
     fn load(&mut self, number: usize) -> Result<(), Error>
         requires { number * self.old.page_size < self.old.len }
-        ensures { BytesLoadGoes D.digest_of number self.old self.new result }
+        ensures loads { BytesLoadGoes D.digest_of number self.old self.new result }
+        ensures holds { HoldsGoes HELD number self.old self.new result }
     {
         if self.holds(number) {
             return Ok(());
         }
-        self.cached = None;
         let len = page_len(self.len, self.page_size, number);
         let digest = digest_at(&self.top, number);
+        if self.turn_to(number, len, &digest)? {
+            return Ok(());
+        }
+        self.fetch(number, len, &digest)
+    }
+
+    // Puts the page away that was used last, and takes page `number` in its place, which has this
+    // length and this digest, if it is held. Answers whether it is.
+    fn turn_to(&mut self, number: usize, len: usize, digest: &[u8; 32]) -> Result<bool, AllocError>
+        requires within { number * self.old.page_size < self.old.len }
+        requires len { len ≡ page_len self.old.page_size self.old.len number }
+        requires digest { digest.now ≡ digest_at number self.old.top }
+        ensures { TurnGoes HELD number digest.now len self.old self.new result }
+    {
+        let held = self.held.take(digest, len);
+        self.put_away()?;
+        let Some(page) = held else {
+            return Ok(false);
+        };
+        self.page = page.into_bytes();
+        self.cached = Some(number);
+        Ok(true)
+    }
+
+    // Holds the page that was used last beside the others, if one was.
+    fn put_away(&mut self) -> Result<(), AllocError>
+        ensures { PutsAway HELD self.old self.new result }
+    {
+        let Some(number) = self.cached.take() else {
+            return Ok(());
+        };
+        let digest = digest_at(&self.top, number);
+        let bytes = mem::replace(&mut self.page, Vec::new(self.alloc));
+        self.held.keep(HeldPage::new(digest, bytes))
+    }
+
+    // Reads page `number`, which has this length and this digest.
+    fn fetch(&mut self, number: usize, len: usize, digest: &[u8; 32]) -> Result<(), Error>
+        requires within { number * self.old.page_size < self.old.len }
+        requires len { len ≡ page_len self.old.page_size self.old.len number }
+        requires digest { digest.now ≡ digest_at number self.old.top }
+        ensures { FetchGoes D.digest_of number self.old self.new result }
+    {
+        self.cached = None;
         let offset = (self.start + number * self.page_size) as u64;
-        let is_sound = read_compared::<F, D>(&mut self.file, offset, len, &digest, &mut self.page)?;
+        let is_sound = read_compared::<F, D>(&mut self.file, offset, len, digest, &mut self.page)?;
         if !is_sound {
             return Err(Error::Damaged);
         }

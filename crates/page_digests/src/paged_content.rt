@@ -24,8 +24,8 @@ use std::marker::Model;
 use std::num::NonZeroU16;
 
 /// A content in a file, and its list in another. Each page of both is compared with its digest
-/// before it is used. The page of the content and the page of the list that were read last are
-/// held, so that the next read in them asks for nothing.
+/// before it is used. The page of the content that was read last is held, and the 129 pages of the
+/// list that were used last, so that a read in them asks for nothing.
 #[derive(Drop)]
 pub struct PagedContent<F: Source, D: Digest> {
     file: F,
