@@ -284,7 +284,7 @@ digests_by None old new e is = is
 digests_by (Some w) old new e is = (old, is)
 
 -- so the digests of all pages can't be made
-pub digests_fail : (s t : OwnedState) (e : Error) → AheadGoes s t (Err e) → DigestsFail s t e
+digests_fail : (s t : OwnedState) (e : Error) → AheadGoes s t (Err e) → DigestsFail s t e
 digests_fail s t (errors.Layer e) is = digests_by s.journal s.life t.life e is
 digests_fail s t errors.Closed is = is.0
 digests_fail s t (errors.System e) is = is
@@ -298,6 +298,10 @@ digests_fail s t (errors.Outdated n) is = is
 digests_fail s t errors.Manifest is = is
 digests_fail s t (errors.NoSegment n) is = is
 digests_fail s t errors.NumbersExhausted is = is
+
+-- as where the pages before it can't be
+pub pages_fail : (s a t : OwnedState) (e : Error) → a ≡ s → AheadGoes a t (Err e) → DigestsFail s t e
+pages_fail s a t e same is = digests_fail s t e (subst (λ (o : OwnedState). AheadGoes o t (Err e)) same is)
 
 -- ---- device calls
 
@@ -341,6 +345,12 @@ one_call sum own s t n len owned size asks =
     let one = calls_by sum own s n s.journal owned.1 in
     let same : content_calls s.journal (n * s.page_size, len) ≡ content_calls s.journal (n * s.page_size, s.page_size) = ap (λ (k : ℕ). content_calls s.journal (n * s.page_size, k)) size in
     omega (arith, one, same, asks)
+
+-- so does one with a buffer for it
+pub page_costs : (sum own : List ℕ → ℕ) (s t : OwnedState) (n P len : ℕ) → IsOwned sum own s → P ≡ s.page_size → len ≡ s.page_size → AsksAtMost (content_calls s.journal (n * P, len)) s.life t.life
+    → AsksAtMost 1 s.life t.life
+page_costs sum own s t n P len owned pages buffer asks =
+    one_call sum own s t n len owned buffer (subst (λ (k : ℕ). AsksAtMost (content_calls s.journal (n * k, len)) s.life t.life) pages asks)
 
 -- the read of a range in the journal that is there
 pub costs_there : (view s : OwnedState) (w : WriterState) (range : ℕ × ℕ) (t : Life) → view ≡ s → view.journal ≡ Some w → AsksAtMost (pages_met (tail_of w) range) view.life t

@@ -24,5 +24,5 @@ returns-clause-leaves g c =
 
 pub returns-clause-costs : goal.returns-clause-costs
 returns-clause-costs g c =
-    asks_few c.args.self.now c.take_digesting-digesting.new.self c.digest_pages-result.new.self c.keep_digesting.new.self c.min-end.result c.pages.result c.args.most
-    c.take_digesting-digesting.ensures.same c.keep_digesting.ensures.same (omega arith) c.digest_pages-result.ensures.costs
+    asks_few c.args.self.now c.take_digesting-digesting.new.self c.digest_pages-result.new.self c.keep_digesting.new.self c.min-end.result c.take_digesting-digesting.result.pages c.args.most
+    c.take_digesting-digesting.ensures.same c.keep_digesting.ensures.same (omega (arith, c.pages.ensures, c.min-end.ensures)) c.digest_pages-result.ensures.costs

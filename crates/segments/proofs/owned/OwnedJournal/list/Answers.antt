@@ -1,10 +1,9 @@
 use Rattle.std.specs.Prelude.{◌≡◌, ◌+◌, ◌*◌, ◌-◌, ◌≤◌, ◌/◌, drop, length, take}
-use Rattle.std.proofs.Common.{ap, sym, ◌∙◌, subst, arith, take_at}
+use Rattle.std.proofs.Common.{ap, ◌∙◌, subst, arith, take_at}
 use Rattle.page_digests.specs.Growing.{FinishesList}
 use Rattle.page_digests.specs.Seals.{EachIsByte}
-use Rattle.segments.specs.Ahead.{AheadGoes}
 use Rattle.segments.specs.Owned.{OwnedReadLeaves, OwnedState, owned_size}
-use Rattle.segments.proofs.Ahead.{digests_fail, list_ahead, whole_pages}
+use Rattle.segments.proofs.Ahead.{list_ahead, pages_fail, whole_pages}
 use Rattle.segments.proofs.Digested.{list_refused, memory_failed, read_failed, read_is, size_there, there_is}
 use Rattle.segments.proofs.Joining.{owned_joins}
 use Rattle.segments.proofs.owned.OwnedJournal.list.Given.{Over}
@@ -29,7 +28,7 @@ returns-in_err-digest_pages-clause-goes g c =
     let s = c.args.self.now in
     let a = c.digest_pages.new.self in
     list_refused g.D.Digest.digest_of s a _ c.from_residual.result c.from_residual.ensures.1
-    (digests_fail s a _ (subst (λ (o : OwnedState). AheadGoes o a _) c.take_digesting-digesting.ensures.same c.in_err-digest_pages.ensures.goes))
+    (pages_fail s c.take_digesting-digesting.new.self a _ c.take_digesting-digesting.ensures.same c.in_err-digest_pages.ensures.goes)
 
 pub returns-in_err-resize-clause-goes : goal.returns-in_err-resize-clause-goes
 returns-in_err-resize-clause-goes g c =
