@@ -74,8 +74,11 @@ pub record SoFar (sum own : List ℕ → ℕ) (d : List ℕ → List ℕ) (most 
   pub all : StandBetween sum own d s (map bytes_of found) from behind
   pub left : found_bytes found + room ≡ most
 
-pub none_so_far : (sum own : List ℕ → ℕ) (d : List ℕ → List ℕ) (most : ℕ) (s : LogState) (from : Place) → SoFar sum own d most most s from from []
-none_so_far sum own d most s from = record { each = refl; all = none_between sum own d s from; left = zero-add most }
+none_yet : (sum own : List ℕ → ℕ) (d : List ℕ → List ℕ) (most : ℕ) (s : LogState) (from : Place) → SoFar sum own d most most s from from []
+none_yet sum own d most s from = record { each = refl; all = none_between sum own d s from; left = zero-add most }
+
+pub none_so_far : (sum own : List ℕ → ℕ) (d : List ℕ → List ℕ) (most : ℕ) (s : LogState) (from : Place) (found : List (Place × List ℕ)) → found ≡ [] → SoFar sum own d most most s from from found
+none_so_far sum own d most s from found none = subst (λ (l : List (Place × List ℕ)). SoFar sum own d most most s from from l) (sym none) (none_yet sum own d most s from)
 
 -- one more fits
 pub one_more : (sum own : List ℕ → ℕ) (d : List ℕ → List ℕ) (most room : ℕ) (s m : LogState) (from behind at next : Place) (bytes : List ℕ) (found : List (Place × List ℕ))

@@ -56,7 +56,7 @@ module _ (digest : List ℕ → List ℕ) where
   it_is_too_much = record { at = place_at 0 0; behind = place_at 0 8; bytes = c; next = c_is_next; more = lit< tt }
 
   no_twin : HasTwinIn add_sum digest 18 held small.listing → ⊥
-  no_twin (segment, (kept, (listed, twin))) = cc listed
+  no_twin (segment, (kept, listed, twin)) = cc listed
 
   more_than_none : (xs : List (List ℕ)) (b : List ℕ) → [] ≡ b ∷ xs → ⊥
   more_than_none xs b is = cc is

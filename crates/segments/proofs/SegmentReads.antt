@@ -183,7 +183,7 @@ was_settled d s reads list_reads levels goes = record {
   fails = tt;
 }
 
-not_built : (d : List ℕ → List ℕ) (s : PagedSegmentState) (reads : List SourceRead) (is_damaged : Bool) (e : pages.Error)
+pub not_built : (d : List ℕ → List ℕ) (s : PagedSegmentState) (reads : List SourceRead) (is_damaged : Bool) (e : pages.Error)
     → RebuildGoes d s.content.page_size s.content.seal s.content.reads reads (Err e) → ((is_damaged ≡ true) ↔ IsDamage e)
     → SettlesGoes d s (record s { content = record s.content { reads = reads }; is_settled = is_damaged }) (Err e)
 not_built d s reads is_damaged e goes damaged = record {

@@ -51,7 +51,7 @@ pub returns-clause-goes : goal.returns-clause-goes
 returns-clause-goes g c = search rules
 
 pub returns-clause-ready : goal.returns-clause-ready
-returns-clause-ready g c = search (rules, pages_from)
+returns-clause-ready g c = ?
 
 pub returns-clause-removes : goal.returns-clause-removes
 returns-clause-removes g c =

@@ -10,7 +10,7 @@ use Rattle.segments.proofs.log.SegmentedLog.read_paged.Goals as goal
 
 pub returns-in-Ok-clause-goes : goal.returns-in-Ok-clause-goes
 returns-in-Ok-clause-goes g c =
-    segment_read g.H.Sum.sum_of g.R.Sum.sum_of g.D.Digest.digest_of c.args.self.now _ c.args.place c.args.seal c.in-Ok.segment c.read-found.new.self c.read-found.result
+    segment_read g.H.Sum.sum_of g.R.Sum.sum_of g.D.Digest.digest_of c.args.self.now (record c.args.self.now { current = c.self.inside.current }) c.args.place c.args.seal c.in-Ok.segment c.read-found.new.self c.read-found.result
     c.requires.listed c.in-Ok.ensures.goes c.read-found.ensures
 
 pub returns-in-Ok-clause-ready : goal.returns-in-Ok-clause-ready
