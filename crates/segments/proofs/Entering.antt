@@ -11,7 +11,7 @@ use Rattle.segments.specs.declared.error.Error.{Error}
 use Rattle.segments.specs.declared.error.Error.TheVariants as errors
 use Rattle.segments.specs.Manifest.{ListingState, entry_in, listed_in, listed_with}
 use Rattle.segments.specs.Owned.{HasJournal, IsAdded, IsOwned, IsOwnedJournal, KeepsJournal, KeepsRecords, OwnedAddGoes, OwnedAddKeeps, OwnedState, owned_size, records_now, records_of}
-use Rattle.segments.specs.Log.{HasKept, IsEntered, IsLog, IsNotEntered, Lists, LogState, Tries, entered_bytes, known_with}
+use Rattle.segments.specs.Log.{HasKept, IsEntered, IsLog, Lists, LogState, Tries, entered_bytes, known_with}
 use Rattle.segments.proofs.Listings.{listed_more}
 
 lists_by : (sum own : List ℕ → ℕ) (P : ℕ) (entry : Entry) (bytes : List ℕ) (l m : ListingState) (j k : Option WriterState) (old new : Life)
@@ -47,35 +47,6 @@ no_journal sum own bytes s t (errors.Outdated n) is = absurd is
 no_journal sum own bytes s t errors.Manifest is = absurd is
 no_journal sum own bytes s t (errors.NoSegment n) is = absurd is
 no_journal sum own bytes s t errors.NumbersExhausted is = absurd is
-
--- the listing is as it was
-pub not_entered : (sum own : List ℕ → ℕ) (entry : Entry) (bytes : List ℕ) (v s : LogState) (manifest : OwnedState) (e : Error) → v ≡ s → OwnedAddGoes sum own bytes v.manifest manifest (Err e)
-    → IsNotEntered entry s (record v { manifest = manifest }) e
-not_entered sum own entry bytes v s manifest (errors.Layer e) view is = record {
-  listing = ap (λ (l : LogState). l.listing) view;
-  asked = ap (λ (l : LogState). l.asked) view;
-  known = ap (λ (l : LogState). l.known) view;
-  left = inr (no_journal sum own bytes v.manifest manifest (errors.Layer e) is);
-  refused = tt;
-}
-not_entered sum own entry bytes v s manifest errors.Closed view is = record {
-  listing = ap (λ (l : LogState). l.listing) view;
-  asked = ap (λ (l : LogState). l.asked) view;
-  known = ap (λ (l : LogState). l.known) view;
-  left = inr (no_journal sum own bytes v.manifest manifest errors.Closed is);
-  refused = ap (λ (l : LogState). l.manifest.journal) (sym view) ∙ is.0;
-}
-not_entered sum own entry bytes v s manifest (errors.System e) view is = absurd is
-not_entered sum own entry bytes v s manifest (errors.Unsynced e) view is = absurd is
-not_entered sum own entry bytes v s manifest (errors.Damaged n) view is = absurd is
-not_entered sum own entry bytes v s manifest (errors.Unlisted n) view is = absurd is
-not_entered sum own entry bytes v s manifest (errors.Missing n) view is = absurd is
-not_entered sum own entry bytes v s manifest (errors.Short n) view is = absurd is
-not_entered sum own entry bytes v s manifest (errors.AnotherDigest n) view is = absurd is
-not_entered sum own entry bytes v s manifest (errors.Outdated n) view is = absurd is
-not_entered sum own entry bytes v s manifest errors.Manifest view is = absurd is
-not_entered sum own entry bytes v s manifest (errors.NoSegment n) view is = absurd is
-not_entered sum own entry bytes v s manifest errors.NumbersExhausted view is = absurd is
 
 -- the log stands with an entry more
 pub enter_ready : (sum own : List ℕ → ℕ) (entry : Entry) (bytes : List ℕ) (s : LogState) (m : ListingState) (manifest : OwnedState) (known : ℕ) (u : Unit {0})
