@@ -2,7 +2,7 @@
 use Rattle.std.specs.Prelude.{◌≡◌, ◌<◌, ◌≤◌, ◌+◌, ◌-◌, ◌*◌, ◌/◌, ◌%◌, ◌++◌, ℕ, zero, suc, Bool, false, true, cond, List, [], ◌∷◌, length, take, Some, None, Option, IfSome, Result, Ok, Err}
 use Rattle.std.specs.List.{filter, range_with_len}
 use Rattle.std.specs.Result.{IsErrAnd}
-use Rattle.std.proofs.Common.{ap, sym, ◌∙◌, refl, subst, arith, inl, inr, div-add-mod', div-mul-le_self, mod-lt, mul-le-mul_right, suc-mul}
+use Rattle.std.proofs.Common.{ap, sym, ◌∙◌, refl, subst, arith, inl, inr, div-add-mod', div-mul-le_self, length-append, mod-lt, mul-le-mul_right, suc-mul}
 use Rattle.std.proofs.lemmas.Bool.{cases_Bool, false_from_ne_true}
 use Rattle.std.proofs.lemmas.List.{take-append-le}
 use Rattle.std.proofs.Math.Nat.{lt_of_mul-lt-mul_right}
@@ -16,8 +16,10 @@ use Rattle.paged_read.specs.Failures.{NoneFailed, none_failed_joins, none_failed
 use Rattle.paged_read.specs.Ranges.{touches}
 use Rattle.paged_read.proofs.RangedPages.{touch_true}
 use Rattle.paged_read.proofs.Windows.{filter_none}
+use Rattle.paged.specs.Caches.{tail_of}
 use Rattle.paged.specs.Calls.{AsksAtMost}
 use Rattle.journal.specs.Calls.{RecordReadLeaves}
+use Rattle.journal.specs.Costs.{pages_met}
 use Rattle.journal.specs.Journal.{ReadContentGoes, RecordReadRefused}
 use Rattle.journal.proofs.Journals.{refused_later}
 use Rattle.page_digests.specs.Growing.{DigestingState, DigestsPage, FinishesList, IsDigested}
@@ -74,7 +76,7 @@ pub ahead_grown : (d : List ℕ → List ℕ) (P : ℕ) (held now more : List �
 ahead_grown d P held now more x ahead grown =
     let within : x.pages * P ≤ length held = ahead.digested.within in
     subst (λ (l : List ℕ). IsDigestedAhead d P l x) (sym grown) (record {
-      digested = digested_still d P held more x ahead.digested (omega arith);
+      digested = digested_still d P held more x ahead.digested (omega (arith, length-append held more));
       bytes = subst EachIsByte (sym (take-append-le (x.pages * P) held more within)) ahead.bytes;
     })
 
@@ -162,6 +164,18 @@ pages_room P size end below =
     let more : end * P ≤ size / P * P = mul-le-mul_right P below in
     let top : size / P * P ≤ size = div-mul-le_self size P in
     omega (arith, more, top)
+
+-- so they do in the journal that is there
+pub whole_pages : (s a : OwnedState) (P size end : ℕ) → a ≡ s → P ≡ s.page_size → size ≡ owned_size s.journal → end ≤ size / P → end * a.page_size ≤ owned_size a.journal
+whole_pages s a P size end same pages sized below =
+    subst (λ (o : OwnedState). end * o.page_size ≤ owned_size o.journal) (sym same)
+    (subst (λ (Q : ℕ). end * Q ≤ owned_size s.journal) pages (subst (λ (k : ℕ). end * P ≤ k) sized (pages_room P size end below)))
+
+-- a page's bytes are a range of the content
+pub page_within : (s : OwnedState) (n P len : ℕ) → P ≡ s.page_size → len ≡ s.page_size → n * s.page_size + s.page_size ≤ owned_size s.journal → n * P + len ≤ owned_size s.journal
+page_within s n P len pages buffer whole =
+    let at : n * P ≡ n * s.page_size = ap (λ (k : ℕ). n * k) pages in
+    omega (arith, at, buffer, whole)
 
 -- so does each of them, after reads too
 pub page_room : (sum own : List ℕ → ℕ) (s a : OwnedState) (n end : ℕ) → OwnedReadLeaves sum own s a → n < end → end * s.page_size ≤ owned_size s.journal
@@ -270,7 +284,7 @@ digests_by None old new e is = is
 digests_by (Some w) old new e is = (old, is)
 
 -- so the digests of all pages can't be made
-pub digests_fail : (s t : OwnedState) (e : Error) → AheadGoes s t (Err e) → DigestsFail s t e
+digests_fail : (s t : OwnedState) (e : Error) → AheadGoes s t (Err e) → DigestsFail s t e
 digests_fail s t (errors.Layer e) is = digests_by s.journal s.life t.life e is
 digests_fail s t errors.Closed is = is.0
 digests_fail s t (errors.System e) is = is
@@ -285,20 +299,24 @@ digests_fail s t errors.Manifest is = is
 digests_fail s t (errors.NoSegment n) is = is
 digests_fail s t errors.NumbersExhausted is = is
 
+-- as where the pages before it can't be
+pub pages_fail : (s a t : OwnedState) (e : Error) → a ≡ s → AheadGoes a t (Err e) → DigestsFail s t e
+pages_fail s a t e same is = digests_fail s t e (subst (λ (o : OwnedState). AheadGoes o t (Err e)) same is)
+
 -- ---- device calls
 
 -- of numbers in a row at most one passes a test that only one number passes
 one_passes : (f : ℕ → Bool) (k first n : ℕ) → ((p : ℕ) → f p ≡ true → p ≡ k) → length (filter f (range_with_len first n)) ≤ 1
 one_passes f k first zero only = omega arith
 one_passes f k first (suc n) only = elim (cases_Bool (f first)) [
-  | inl yes ↦
-      let here : first ≡ k = only first yes in
+  | inl met ↦
+      let here : first ≡ k = only first met in
       let none = filter_none f (first + 1) n (λ p above below. false_from_ne_true (f p) (λ passes. let same = only p passes in omega (arith, same, here, above))) in
-      let all : filter f (range_with_len first (suc n)) ≡ first ∷ [] = ap (λ (b : Bool). cond b (first ∷ filter f (range_with_len (first + 1) n)) (filter f (range_with_len (first + 1) n))) yes ∙ ap (λ (l : List ℕ). first ∷ l) none in
+      let all : filter f (range_with_len first (suc n)) ≡ first ∷ [] = ap (λ (b : Bool). cond b (first ∷ filter f (range_with_len (first + 1) n)) (filter f (range_with_len (first + 1) n))) met ∙ ap (λ (l : List ℕ). first ∷ l) none in
       let one : length (filter f (range_with_len first (suc n))) ≡ 1 = ap length all in
       omega (arith, one)
-  | inr no ↦
-      let all : filter f (range_with_len first (suc n)) ≡ filter f (range_with_len (first + 1) n) = ap (λ (b : Bool). cond b (first ∷ filter f (range_with_len (first + 1) n)) (filter f (range_with_len (first + 1) n))) no in
+  | inr unmet ↦
+      let all : filter f (range_with_len first (suc n)) ≡ filter f (range_with_len (first + 1) n) = ap (λ (b : Bool). cond b (first ∷ filter f (range_with_len (first + 1) n)) (filter f (range_with_len (first + 1) n))) unmet in
       let same = ap length all in
       let few = one_passes f k (first + 1) n only in
       omega (arith, same, few)
@@ -327,3 +345,21 @@ one_call sum own s t n len owned size asks =
     let one = calls_by sum own s n s.journal owned.1 in
     let same : content_calls s.journal (n * s.page_size, len) ≡ content_calls s.journal (n * s.page_size, s.page_size) = ap (λ (k : ℕ). content_calls s.journal (n * s.page_size, k)) size in
     omega (arith, one, same, asks)
+
+-- so does one with a buffer for it
+pub page_costs : (sum own : List ℕ → ℕ) (s t : OwnedState) (n P len : ℕ) → IsOwned sum own s → P ≡ s.page_size → len ≡ s.page_size → AsksAtMost (content_calls s.journal (n * P, len)) s.life t.life
+    → AsksAtMost 1 s.life t.life
+page_costs sum own s t n P len owned pages buffer asks =
+    one_call sum own s t n len owned buffer (subst (λ (k : ℕ). AsksAtMost (content_calls s.journal (n * k, len)) s.life t.life) pages asks)
+
+-- the read of a range in the journal that is there
+pub costs_there : (view s : OwnedState) (w : WriterState) (range : ℕ × ℕ) (t : Life) → view ≡ s → view.journal ≡ Some w → AsksAtMost (pages_met (tail_of w) range) view.life t
+    → AsksAtMost (content_calls s.journal range) s.life t
+costs_there view s w range t same is asks =
+    subst (λ (o : OwnedState). AsksAtMost (content_calls o.journal range) o.life t) same
+    (subst (λ (j : Option WriterState). AsksAtMost (content_calls j range) view.life t) (sym is) asks)
+
+-- pages up to an end that is at most so many pages on
+pub asks_few : (s a b t : OwnedState) (end pages most : ℕ) → a ≡ s → t ≡ b → end ≤ pages + most → AsksAtMost (end - pages) a.life b.life → AsksAtMost most s.life t.life
+asks_few s a b t end pages most same kept few asks =
+    subst (λ (o : OwnedState). AsksAtMost most s.life o.life) (sym kept) (subst (λ (o : OwnedState). AsksAtMost most o.life b.life) same (omega (arith, few, asks)))

@@ -11,7 +11,7 @@ use Rattle.segments.specs.declared.error.Error.{Error}
 use Rattle.segments.specs.declared.error.Error.TheVariants as errors
 use Rattle.segments.specs.Manifest.{ListingState, entry_in, listed_in, listed_with}
 use Rattle.segments.specs.Owned.{HasJournal, IsAdded, IsOwned, IsOwnedJournal, KeepsJournal, KeepsRecords, OwnedAddGoes, OwnedAddKeeps, OwnedState, owned_size, records_now, records_of}
-use Rattle.segments.specs.Log.{HasKept, IsEntered, IsLog, Lists, LogState, Tries, entered_bytes, known_with}
+use Rattle.segments.specs.Log.{EnterRefused, HasKept, IsEntered, IsLog, IsNotEntered, Lists, LogState, Tries, entered_bytes, known_with}
 use Rattle.segments.proofs.Listings.{listed_more}
 
 lists_by : (sum own : List ℕ → ℕ) (P : ℕ) (entry : Entry) (bytes : List ℕ) (l m : ListingState) (j k : Option WriterState) (old new : Life)
@@ -77,6 +77,33 @@ enter_failed sum own bytes s manifest e log owned pages is = record {
   lists = lists_if sum own s.page_size s.listing manifest.journal manifest.life (no_journal sum own bytes s.manifest manifest e is);
   reading = log.reading;
 }
+
+refused_by : (sum own : List ℕ → ℕ) (entry : Entry) (bytes : List ℕ) (s : LogState) (manifest : OwnedState) (e : Error) → OwnedAddGoes sum own bytes s.manifest manifest (Err e) → EnterRefused entry s e
+refused_by sum own entry bytes s manifest (errors.Layer e) is = tt
+refused_by sum own entry bytes s manifest errors.Closed is = is.0
+refused_by sum own entry bytes s manifest (errors.System e) is = absurd is
+refused_by sum own entry bytes s manifest (errors.Unsynced e) is = absurd is
+refused_by sum own entry bytes s manifest (errors.Damaged n) is = absurd is
+refused_by sum own entry bytes s manifest (errors.Unlisted n) is = absurd is
+refused_by sum own entry bytes s manifest (errors.Missing n) is = absurd is
+refused_by sum own entry bytes s manifest (errors.Short n) is = absurd is
+refused_by sum own entry bytes s manifest (errors.AnotherDigest n) is = absurd is
+refused_by sum own entry bytes s manifest (errors.Outdated n) is = absurd is
+refused_by sum own entry bytes s manifest errors.Manifest is = absurd is
+refused_by sum own entry bytes s manifest (errors.NoSegment n) is = absurd is
+refused_by sum own entry bytes s manifest errors.NumbersExhausted is = absurd is
+
+-- the entry is refused where the manifest's call failed
+pub not_entered : (sum own : List ℕ → ℕ) (entry : Entry) (bytes : List ℕ) (view s : LogState) (manifest : OwnedState) (e : Error) → view ≡ s
+    → OwnedAddGoes sum own bytes view.manifest manifest (Err e) → IsNotEntered entry s (record view { manifest = manifest }) e
+not_entered sum own entry bytes view s manifest e same is =
+    subst (λ (s : LogState). IsNotEntered entry s (record view { manifest = manifest }) e) same (record {
+      listing = refl;
+      asked = refl;
+      known = refl;
+      left = inr (no_journal sum own bytes view.manifest manifest e is);
+      refused = refused_by sum own entry bytes view manifest e is;
+    })
 
 keeps_none : (sum own : List ℕ → ℕ) (P : ℕ) (s : OwnedState) (more : List (List ℕ)) (j : Option WriterState) → IfSome j (λ w. IsOwnedJournal sum own s w) → s.page_size ≡ P
     → IfSome j (λ w. KeepsRecords sum own P (records_of own j s.life ++ more) s.life s.life)

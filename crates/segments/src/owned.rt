@@ -135,7 +135,6 @@ impl<B: Blob + Drop, H: Sum, R: Sum, D: Digest> OwnedJournal<B, H, R, D> {
 
     /// Recovers the journal of the blob as it is, and answers its records. After an error there is
     /// no journal.
-    #[tactic(auto, using(crate::proofs::Ahead::digests_none))]
     pub fn recover(
         &mut self,
         alloc: Global,

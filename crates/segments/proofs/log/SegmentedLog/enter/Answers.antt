@@ -4,7 +4,7 @@ use Rattle.segments.specs.Log.{IsLog, LogState}
 use Rattle.std.specs.Int.NonZero.{non_zero_u16_get}
 use Rattle.segments.specs.Manifest.{listed_with, padded}
 use Rattle.segments.specs.Owned.{OwnedAddGoes, OwnedAddKeeps}
-use Rattle.segments.proofs.Entering.{enter_failed, enter_ready, entered_goes, entry_tried}
+use Rattle.segments.proofs.Entering.{enter_failed, enter_ready, entered_goes, entry_tried, not_entered}
 use Rattle.segments.proofs.log.SegmentedLog.enter.Goals as goal
 
 pub returns-in-Ok-clause-goes : goal.returns-in-Ok-clause-goes
@@ -26,6 +26,13 @@ returns-in-Ok-clause-ready g c =
     c.in_ok-bytes.ensures.told
     (subst (λ P. listed_with P c.args.entry.now c.self.inside.listing ≡ Some c.in-Some.listing) c.get.ensures.value (sym c.in_ok-listing.ensures ∙ c.in-Some.is))
     (subst (λ bytes. OwnedAddGoes sum own bytes c.self.inside.manifest c.add.new.self (Ok tt)) c.deref.ensures.value c.in-Ok.ensures.goes))
+
+pub returns-clause-goes : goal.returns-clause-goes
+returns-clause-goes g c =
+    let sum = g.H.Sum.sum_of in
+    let own = g.R.Sum.sum_of in
+    not_entered sum own c.args.entry.now c.in_ok-bytes.bytes.items _ c.args.self.now c.add.new.self c.in-Err.error c.self.view_is
+    (subst (λ bytes. OwnedAddGoes sum own bytes c.self.inside.manifest c.add.new.self (Err c.in-Err.error)) c.deref.ensures.value c.in-Err.ensures.goes)
 
 pub returns-clause-ready : goal.returns-clause-ready
 returns-clause-ready g c =

@@ -19,8 +19,8 @@ loop-n-init g c = record {
   leaves = reads_start g.H.Sum.sum_of g.R.Sum.sum_of c.args.self.now c.requires.owned;
   none = none_read c.args.self.now c.requires.there;
   digested = c.requires.digested;
-  pages = sym c.pages.ensures;
-  asked = omega (arith, c.pages.ensures);
+  pages = sym c.pages-n.ensures;
+  asked = omega (arith, c.pages-n.ensures);
   buffer = grind (arith, common_steps, ap (λ (o : OwnedState). o.page_size) c.self.view_is);
 }
 
