@@ -39,18 +39,18 @@ impl<F: Folder<B> + Drop, B: Blob + Drop, H: Sum, R: Sum, D: Digest> SegmentedLo
         'records: loop {
             let mut at = behind;
             match self.next(&mut at) {
-                Ok(Some((start, bytes))) => {
-                    let len = bytes.len();
+                Ok(Some(next)) => {
+                    let len = next.1.len();
                     if room < len {
                         if !found.is_empty() {
                             *place = behind;
                             return Ok(found);
                         }
-                        found.push((start, bytes))?;
+                        found.push(next)?;
                         *place = at;
                         return Ok(found);
                     }
-                    found.push((start, bytes))?;
+                    found.push(next)?;
                     behind = at;
                     room -= len;
                 }

@@ -1,5 +1,6 @@
-use Rattle.std.proofs.Common.{arith}
+use Rattle.std.proofs.Common.{◌≡◌, ◌∙◌, arith, rules}
 use Rattle.std.proofs.lemmas.Grind.{common_steps}
+use Rattle.segments.specs.Log.{most_for}
 use Rattle.segments.proofs.Beginning.{parts_log, parts_open}
 use Rattle.segments.proofs.log.SegmentedLog.open.Goals as goal
 
@@ -18,7 +19,9 @@ returns-in-Err-begin-clause-page_size c = grind (arith, common_steps)
 
 pub begin-requires : goal.begin-requires
 begin-requires g c =
-    parts_log g.H.Sum.sum_of g.R.Sum.sum_of _ _ _ (g.F.Folder.asked c.args.folder) _ _ _ _ _ c.in-Ok.ensures.are c.in_ok-recent.ensures
+    record { log = parts_log g.H.Sum.sum_of g.R.Sum.sum_of _ _ _ (g.F.Folder.asked c.args.folder) _ _ _ _ _ c.in-Ok.ensures.are c.in_ok-recent.ensures }
 
 pub returns-in-Ok-begin-clause-most : goal.returns-in-Ok-begin-clause-most
-returns-in-Ok-begin-clause-most g c = ?
+returns-in-Ok-begin-clause-most g c =
+    let most : c.max.result ≡ most_for c.args.options.segment_size = search rules in
+    c.begin.ensures.most ∙ most
