@@ -1,6 +1,6 @@
 -- A log that begins.
-use Rattle.std.specs.Prelude.{◌≡◌, ◌-◌, ◌++◌, ℕ, List, [], ◌∷◌, drop, Option, Some, None, Result, Ok, Err, IfOk, IfSome}
-use Rattle.std.proofs.Common.{ap, sym, ◌∙◌, subst, arith, append_assoc}
+use Rattle.std.specs.Prelude.{◌≡◌, ◌-◌, ◌++◌, ℕ, List, [], ◌∷◌, drop, ◌==◌, max, Bool, true, false, if◌then◌else◌, Option, Some, None, Result, Ok, Err, IfOk, IfSome}
+use Rattle.std.proofs.Common.{ap, sym, ◌∙◌, refl, subst, arith, append_assoc, eq-eqb, eqb-true, true≢false}
 use Rattle.disk.specs.Disk.{Life}
 use Rattle.page.specs.Page.{text}
 use Rattle.writer_state.specs.WriterState.{WriterState}
@@ -11,7 +11,7 @@ use Rattle.segments.specs.declared.call.FolderCall.TheVariants as calls
 use Rattle.segments.specs.FolderEvents.{FolderEvent, opening_with}
 use Rattle.segments.specs.Manifest.{ListingState, listed_in, open_in}
 use Rattle.segments.specs.Owned.{HasJournal, OwnedState, content_now, owned_size, records_now}
-use Rattle.segments.specs.Log.{AreParts, HasKept, events_for, IsLog, IsStartedFrom, Lists, LogState, ReadingState, StartFromGoes, closed_records, listing_from, log_records}
+use Rattle.segments.specs.Log.{AreParts, HasKept, events_for, most_for, IsLog, IsStartedFrom, Lists, LogState, ReadingState, StartFromGoes, closed_records, listing_from, log_records}
 use Rattle.segments.specs.PagedReads.{PagedSegmentState}
 use Rattle.segments.specs.Crash.{AsksForLog, HasOpenedFiles, IsOpenedLog, records_by, records_left}
 use Rattle.segments.proofs.Recents.{pages_none}
@@ -117,3 +117,10 @@ parts_log sum own P most known before after manifest current l recent parts none
   lists = if_some sum own P l manifest.journal manifest.life parts.lists.lists;
   reading = record { whole = tt; paged = pages_none P recent none };
 }
+
+at_least : (n : ℕ) (b : Bool) → (n == 0) ≡ b → max n 1 ≡ (if b then 1 else n)
+at_least n true is = let none : n ≡ 0 = eqb-true n 0 is in omega (arith, none)
+at_least n false is = let some : n ≡ 0 → ⊥ = λ none. true≢false (sym (eq-eqb n 0 none) ∙ is) in omega (arith, some)
+
+pub most_is : (n : ℕ) → max n 1 ≡ most_for n
+most_is n = at_least n (n == 0) refl

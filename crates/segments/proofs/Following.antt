@@ -1,6 +1,6 @@
 -- Records that follow one another: many that were found, one after another.
 use Rattle.std.specs.Prelude.{◌≡◌, ◌≢◌, ◌⊎◌, ◌≤◌, ◌<◌, ◌+◌, ◌-◌, ◌++◌, ℕ, List, [], ◌∷◌, length, map, Bool, true, false, ◌==◌, Option, Some, None, Result, Ok, Err}
-use Rattle.std.proofs.Common.{ap, sym, ◌∙◌, refl, subst, inl, inr, append_assoc, append-nil, zero-add, arith}
+use Rattle.std.proofs.Common.{ap, sym, ◌∙◌, refl, subst, inl, inr, append_assoc, append-nil, zero-add, arith, eqb-true}
 use Rattle.std.proofs.lemmas.List.{map-append}
 use Rattle.std.proofs.lemmas.List.Sums.{sum_by_push}
 use Rattle.segments.specs.declared.error.Error.{Error}
@@ -74,8 +74,8 @@ some_found (f ∷ found) n b len is off same = cc same
 pub none_found : (found : List (Place × List ℕ)) (n : ℕ) (b : Bool) → n ≡ length found → b ≡ (n == 0) → b ≡ true → found ≡ []
 none_found [] n b len is on = refl
 none_found (f ∷ found) n b len is on =
-    let off : b ≡ false = is ∙ ap (λ k. k == 0) len in
-    absurd (cc (on, off))
+    let zero : n ≡ 0 = eqb-true n 0 (sym is ∙ on) in
+    absurd (omega (arith, len, zero))
 
 -- ---- no more
 

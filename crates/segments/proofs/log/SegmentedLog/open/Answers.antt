@@ -1,7 +1,6 @@
-use Rattle.std.proofs.Common.{◌≡◌, ◌∙◌, arith, rules}
+use Rattle.std.proofs.Common.{◌∙◌, arith}
 use Rattle.std.proofs.lemmas.Grind.{common_steps}
-use Rattle.segments.specs.Log.{most_for}
-use Rattle.segments.proofs.Beginning.{parts_log, parts_open}
+use Rattle.segments.proofs.Beginning.{most_is, parts_log, parts_open}
 use Rattle.segments.proofs.log.SegmentedLog.open.Goals as goal
 
 pub returns-in-Ok-begin-clause-opens : goal.returns-in-Ok-begin-clause-opens
@@ -23,5 +22,4 @@ begin-requires g c =
 
 pub returns-in-Ok-begin-clause-most : goal.returns-in-Ok-begin-clause-most
 returns-in-Ok-begin-clause-most g c =
-    let most : c.max.result ≡ most_for c.args.options.segment_size = search rules in
-    c.begin.ensures.most ∙ most
+    c.begin.ensures.most ∙ c.max.ensures ∙ most_is c.args.options.segment_size
