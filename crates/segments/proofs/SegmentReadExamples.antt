@@ -1,6 +1,6 @@
 -- A read of a closed segment by its pages: what each of these definitions holds of, and what it
 -- refuses, of the segment 7 that `ReadingExamples` has, which held "abc".
-use Rattle.std.specs.Prelude.{◌≡◌, ◌⊎◌, ◌<◌, ◌+◌, ◌++◌, ℕ, List, [], ◌∷◌, length, false, true, Option, Some, None, Result, Ok, Err}
+use Rattle.std.specs.Prelude.{◌≡◌, ◌⊎◌, ◌<◌, ◌++◌, ℕ, suc, List, [], ◌∷◌, length, false, true, Option, Some, None, Result, Ok, Err}
 use Rattle.std.proofs.Common.{refl, sym, subst, ap, inl, inr, arith, ◌∙◌, length-append, append-nil}
 use Rattle.page.specs.Sums.{add_sum}
 use Rattle.journal.specs.declared.frame.Found.{Found}
@@ -29,7 +29,7 @@ xyz_was_read_since = (gave 0 xyz ∷ [], refl)
 
 -- reads aren't taken back
 pub it_was_taken_back : ReadsGoOn (gave 0 xyz ∷ []) [] → ⊥
-it_was_taken_back (more, same) = let none : ◌≡◌ {A = ℕ} 0 (1 + length more) = ap length same in omega (arith, none)
+it_was_taken_back (more, same) = let none : ◌≡◌ {A = ℕ} 0 (suc (length more)) = ap length same in omega (arith, none)
 
 pub damage_settles : IsSettling {T = ℕ} (Err causes.Damaged)
 damage_settles = tt

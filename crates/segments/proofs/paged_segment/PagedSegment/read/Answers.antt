@@ -1,14 +1,12 @@
 use Rattle.std.specs.Prelude.{◌≡◌, true}
+use Rattle.std.proofs.Common.{rules}
 use Rattle.segments.specs.PagedReads.{IsDamage}
 use Rattle.segments.proofs.SegmentReads.{not_settled, part_read, part_since}
 use Rattle.segments.proofs.paged_segment.PagedSegment.read.Goals as goal
 use Rattle.segments.proofs.paged_segment.PagedSegment.read.Goals.{then-is_damage+else-not-self, else-is_damage}
 
 pub returns-in-Err : goal.returns-in-Err
-returns-in-Err g c =
-    let i = c.self.inside in
-    part_since g.D.Digest.digest_of g.R.Sum.sum_of c.args.offset i.number i.content c.frame_at.new.content i.is_settled c.args.self.now c.read_again.new.self c.read_again.result
-    c.self.view_is c.frame_at.ensures.same c.read_again.ensures
+returns-in-Err g c = search (rules, part_since)
 
 pub returns-in-Err-2 : goal.returns-in-Err-2
 returns-in-Err-2 g c =
