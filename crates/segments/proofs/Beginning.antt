@@ -1,7 +1,9 @@
 -- A log that begins.
-use Rattle.std.specs.Prelude.{◌≡◌, ◌-◌, ◌++◌, ℕ, List, [], ◌∷◌, drop, Some, None, Result, Ok, Err, IfOk}
-use Rattle.std.proofs.Common.{ap, sym, ◌∙◌, subst, arith, append_assoc}
+use Rattle.std.specs.Prelude.{◌≡◌, ◌-◌, ◌++◌, ℕ, List, [], ◌∷◌, drop, ◌==◌, max, Bool, true, false, if◌then◌else◌, Option, Some, None, Result, Ok, Err, IfOk, IfSome}
+use Rattle.std.proofs.Common.{ap, sym, ◌∙◌, refl, subst, arith, append_assoc, eq-eqb, eqb-true, true≢false}
+use Rattle.disk.specs.Disk.{Life}
 use Rattle.page.specs.Page.{text}
+use Rattle.writer_state.specs.WriterState.{WriterState}
 use Rattle.journal.specs.Frame.{records}
 use Rattle.journal.specs.Journal.{CommitsAll, OnlyRecords}
 use Rattle.segments.specs.declared.error.Error.{Error}
@@ -9,8 +11,10 @@ use Rattle.segments.specs.declared.call.FolderCall.TheVariants as calls
 use Rattle.segments.specs.FolderEvents.{FolderEvent, opening_with}
 use Rattle.segments.specs.Manifest.{ListingState, listed_in, open_in}
 use Rattle.segments.specs.Owned.{HasJournal, OwnedState, content_now, owned_size, records_now}
-use Rattle.segments.specs.Log.{AreParts, HasKept, events_for, IsStartedFrom, LogState, ReadingState, StartFromGoes, closed_records, listing_from, log_records}
+use Rattle.segments.specs.Log.{AreParts, HasKept, events_for, most_for, IsLog, IsStartedFrom, Lists, LogState, ReadingState, StartFromGoes, closed_records, listing_from, log_records}
+use Rattle.segments.specs.PagedReads.{PagedSegmentState}
 use Rattle.segments.specs.Crash.{AsksForLog, HasOpenedFiles, IsOpenedLog, records_by, records_left}
+use Rattle.segments.proofs.Recents.{pages_none}
 
 from_first : (first : ℕ) (l : ListingState) → first ≡ l.first → listing_from first l ≡ l
 from_first first l is =
@@ -96,3 +100,27 @@ same_files sum own before calls asked s files = record {
 pub begin_kept : (sum own : List ℕ → ℕ) (before : List FolderEvent) (s t : LogState) → HasOpenedFiles sum own before s.asked s → HasKept s t → IsOpenedLog sum own before t
 begin_kept sum own before s t files has =
     record { calls = s.asked; files = subst (λ t. HasOpenedFiles sum own before s.asked t) (sym has.rest) (same_files sum own before s.asked t.asked s files); kept = has.kept }
+
+if_some : (sum own : List ℕ → ℕ) (P : ℕ) (l : ListingState) (j : Option WriterState) (life : Life) → HasJournal j (λ w. Lists sum own P l w life) → IfSome j (λ w. Lists sum own P l w life)
+if_some sum own P l None life is = absurd is
+if_some sum own P l (Some w) life is = is
+
+-- it is a log
+pub parts_log : (sum own : List ℕ → ℕ) (P most known : ℕ) (before after : List FolderEvent) (manifest current : OwnedState) (l : ListingState) (recent : List PagedSegmentState)
+    → AreParts sum own P manifest current l before after → recent ≡ []
+    → IsLog sum own (record { manifest = manifest; current = current; listing = l; asked = after; reading = record { whole = None; paged = recent }; page_size = P; most = most; known = known })
+parts_log sum own P most known before after manifest current l recent parts none = record {
+  manifest = parts.lists.owned;
+  current = parts.stands.owned;
+  manifest_pages = parts.lists.page_size;
+  current_pages = parts.stands.page_size;
+  lists = if_some sum own P l manifest.journal manifest.life parts.lists.lists;
+  reading = record { whole = tt; paged = pages_none P recent none };
+}
+
+at_least : (n : ℕ) (b : Bool) → (n == 0) ≡ b → max n 1 ≡ (if b then 1 else n)
+at_least n true is = let none : n ≡ 0 = eqb-true n 0 is in omega (arith, none)
+at_least n false is = let some : n ≡ 0 → ⊥ = λ none. true≢false (sym (eq-eqb n 0 none) ∙ is) in omega (arith, some)
+
+pub most_is : (n : ℕ) → max n 1 ≡ most_for n
+most_is n = at_least n (n == 0) refl

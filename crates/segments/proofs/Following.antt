@@ -1,6 +1,6 @@
 -- Records that follow one another: many that were found, one after another.
-use Rattle.std.specs.Prelude.{◌≡◌, ◌≢◌, ◌⊎◌, ◌≤◌, ◌<◌, ◌+◌, ◌-◌, ◌++◌, ℕ, List, [], ◌∷◌, length, map, Option, Some, None, Result, Ok, Err}
-use Rattle.std.proofs.Common.{ap, sym, ◌∙◌, refl, subst, inl, inr, append_assoc, append-nil, zero-add, arith}
+use Rattle.std.specs.Prelude.{◌≡◌, ◌≢◌, ◌⊎◌, ◌≤◌, ◌<◌, ◌+◌, ◌-◌, ◌++◌, ℕ, List, [], ◌∷◌, length, map, Bool, true, false, ◌==◌, Option, Some, None, Result, Ok, Err}
+use Rattle.std.proofs.Common.{ap, sym, ◌∙◌, refl, subst, inl, inr, append_assoc, append-nil, zero-add, arith, eqb-true}
 use Rattle.std.proofs.lemmas.List.{map-append}
 use Rattle.std.proofs.lemmas.List.Sums.{sum_by_push}
 use Rattle.segments.specs.declared.error.Error.{Error}
@@ -63,6 +63,20 @@ each_more sum own d s (f ∷ found) p q at r bytes (behind, each) next further =
 pub bytes_more : (found : List (Place × List ℕ)) (at : Place) (bytes : List ℕ) → found_bytes (found ++ (at, bytes) ∷ []) ≡ found_bytes found + length bytes
 bytes_more found at bytes = sum_by_push (λ (r : Place × List ℕ). length r.1) found (at, bytes)
 
+-- ---- whether any was found
+
+pub some_found : (found : List (Place × List ℕ)) (n : ℕ) (b : Bool) → n ≡ length found → b ≡ (n == 0) → b ≡ false → found ≢ []
+some_found [] n b len is off same =
+    let on : b ≡ true = is ∙ ap (λ k. k == 0) len in
+    absurd (cc (on, off))
+some_found (f ∷ found) n b len is off same = cc same
+
+pub none_found : (found : List (Place × List ℕ)) (n : ℕ) (b : Bool) → n ≡ length found → b ≡ (n == 0) → b ≡ true → found ≡ []
+none_found [] n b len is on = refl
+none_found (f ∷ found) n b len is on =
+    let zero : n ≡ 0 = eqb-true n 0 (sym is ∙ on) in
+    absurd (omega (arith, len, zero))
+
 -- ---- no more
 
 none_between : (sum own : List ℕ → ℕ) (d : List ℕ → List ℕ) (s : LogState) (p : Place) → StandBetween sum own d s [] p p
@@ -74,14 +88,17 @@ pub record SoFar (sum own : List ℕ → ℕ) (d : List ℕ → List ℕ) (most 
   pub all : StandBetween sum own d s (map bytes_of found) from behind
   pub left : found_bytes found + room ≡ most
 
-pub none_so_far : (sum own : List ℕ → ℕ) (d : List ℕ → List ℕ) (most : ℕ) (s : LogState) (from : Place) → SoFar sum own d most most s from from []
-none_so_far sum own d most s from = record { each = refl; all = none_between sum own d s from; left = zero-add most }
+none_yet : (sum own : List ℕ → ℕ) (d : List ℕ → List ℕ) (most : ℕ) (s : LogState) (from : Place) → SoFar sum own d most most s from from []
+none_yet sum own d most s from = record { each = refl; all = none_between sum own d s from; left = zero-add most }
+
+pub none_so_far : (sum own : List ℕ → ℕ) (d : List ℕ → List ℕ) (most : ℕ) (s : LogState) (from : Place) (found : List (Place × List ℕ)) → found ≡ [] → SoFar sum own d most most s from from found
+none_so_far sum own d most s from found none = subst (λ (l : List (Place × List ℕ)). SoFar sum own d most most s from from l) (sym none) (none_yet sum own d most s from)
 
 -- one more fits
-pub one_more : (sum own : List ℕ → ℕ) (d : List ℕ → List ℕ) (most room : ℕ) (s m : LogState) (from behind at next : Place) (bytes : List ℕ) (found : List (Place × List ℕ))
-    → LeavesReading sum own s m → SoFar sum own d most room s from behind found → IsNextAt sum own d m behind at next bytes → IsBehind m behind next → length bytes ≤ room
-    → SoFar sum own d most (room - length bytes) s from next (found ++ (at, bytes) ∷ [])
-one_more sum own d most room s m from behind at next bytes found leaves so_far is further fits =
+pub one_more : (sum own : List ℕ → ℕ) (d : List ℕ → List ℕ) (most room : ℕ) (s m : LogState) (from behind next : Place) (r : Place × List ℕ) (found : List (Place × List ℕ))
+    → LeavesReading sum own s m → SoFar sum own d most room s from behind found → IsNextAt sum own d m behind r.0 next r.1 → IsBehind m behind next → length r.1 ≤ room
+    → SoFar sum own d most (room - length r.1) s from next (found ++ r ∷ [])
+one_more sum own d most room s m from behind next (at, bytes) found leaves so_far is further fits =
     let here = next_back sum own d s m behind at next bytes leaves is in
     let sum_is = bytes_more found at bytes in
     record {
@@ -91,10 +108,10 @@ one_more sum own d most room s m from behind at next bytes found leaves so_far i
     }
 
 -- the next one is too much for those that were found
-pub too_much : (sum own : List ℕ → ℕ) (d : List ℕ → List ℕ) (most room : ℕ) (s m t : LogState) (from behind at next : Place) (bytes : List ℕ) (found : List (Place × List ℕ))
-    → LeavesReading sum own s m → SoFar sum own d most room s from behind found → IsNextAt sum own d m behind at next bytes → room < length bytes → found ≢ []
+pub too_much : (sum own : List ℕ → ℕ) (d : List ℕ → List ℕ) (most room : ℕ) (s m t : LogState) (from behind next : Place) (r : Place × List ℕ) (found : List (Place × List ℕ))
+    → LeavesReading sum own s m → SoFar sum own d most room s from behind found → IsNextAt sum own d m behind r.0 next r.1 → room < length r.1 → found ≢ []
     → HasMany sum own d most s t from behind found
-too_much sum own d most room s m t from behind at next bytes found leaves so_far is long some = record {
+too_much sum own d most room s m t from behind next (at, bytes) found leaves so_far is long some = record {
   behind = behind;
   each = so_far.each;
   all = so_far.all;
@@ -116,10 +133,10 @@ cons_not_nil : (r : Place × List ℕ) → r ∷ [] ≢ []
 cons_not_nil r is = cc is
 
 -- the first one is longer than all that may come
-pub one_alone : (sum own : List ℕ → ℕ) (d : List ℕ → List ℕ) (most room : ℕ) (s m t : LogState) (from behind at next : Place) (bytes : List ℕ) (found : List (Place × List ℕ))
-    → LeavesReading sum own s m → SoFar sum own d most room s from behind found → IsNextAt sum own d m behind at next bytes → IsBehind m behind next → room < length bytes → found ≡ []
-    → HasMany sum own d most s t from next (found ++ (at, bytes) ∷ [])
-one_alone sum own d most room s m t from behind at next bytes [] leaves so_far is further long none =
+pub one_alone : (sum own : List ℕ → ℕ) (d : List ℕ → List ℕ) (most room : ℕ) (s m t : LogState) (from behind next : Place) (r : Place × List ℕ) (found : List (Place × List ℕ))
+    → LeavesReading sum own s m → SoFar sum own d most room s from behind found → IsNextAt sum own d m behind r.0 next r.1 → IsBehind m behind next → room < length r.1 → found ≡ []
+    → HasMany sum own d most s t from next (found ++ r ∷ [])
+one_alone sum own d most room s m t from behind next (at, bytes) [] leaves so_far is further long none =
     let here = next_back sum own d s m behind at next bytes leaves is in
     let sum_is = bytes_more [] at bytes in
     record {
@@ -129,7 +146,7 @@ one_alone sum own d most room s m t from behind at next bytes [] leaves so_far i
       fits = inr refl;
       ends = inr (refl, cons_not_nil (at, bytes), inl (omega (arith, sum_is, so_far.left, long)));
     }
-one_alone sum own d most room s m t from behind at next bytes (f ∷ found) leaves so_far is further long none = cc none
+one_alone sum own d most room s m t from behind next (at, bytes) (f ∷ found) leaves so_far is further long none = cc none
 
 -- the log ends
 pub no_more : (sum own : List ℕ → ℕ) (d : List ℕ → List ℕ) (most room : ℕ) (s m t : LogState) (from behind new : Place) (found : List (Place × List ℕ))

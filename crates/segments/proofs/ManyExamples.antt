@@ -1,11 +1,12 @@
 -- Many records at once: what each of these definitions holds of, and what it refuses, in the log of
 -- `LogExamples` whose one segment is open and has "c".
-use Rattle.std.specs.Prelude.{◌≡◌, ◌≢◌, ◌⊎◌, ◌≤◌, ◌<◌, ◌++◌, ℕ, List, [], ◌∷◌, length, map, Option, Some, None, Ok, Err, Vec}
+use Rattle.std.specs.Prelude.{◌≡◌, ◌≢◌, ◌⊎◌, ◌≤◌, ◌<◌, ◌++◌, ℕ, List, [], ◌∷◌, length, map, Bool, true, false, if◌then◌else◌, nat_lt, Option, Some, None, Ok, Err, Vec}
 use Rattle.std.specs.declared.alloc.Global.{Global}
 use Rattle.std.proofs.Common.{ap, sym, ◌∙◌, refl, subst, inl, inr, arith, lit<, lit≤}
 use Rattle.disk.specs.declared.error.Error.TheVariants as layer
 use Rattle.page.specs.Sums.{add_sum}
 use Rattle.journal.specs.Frame.{frames, is_record, record_len, record_of, records}
+use Rattle.segments.specs.declared.closed.Closed.{Closed}
 use Rattle.segments.specs.declared.error.Error.TheVariants as errors
 use Rattle.segments.specs.declared.place.Place.{Place}
 use Rattle.segments.specs.Log.{HasTwinIn, LogState}
@@ -55,8 +56,12 @@ module _ (digest : List ℕ → List ℕ) where
   pub it_is_too_much : IsTooMuch add_sum add_sum digest 5 small (place_at 0 0) 5
   it_is_too_much = record { at = place_at 0 0; behind = place_at 0 8; bytes = c; next = c_is_next; more = lit< tt }
 
+  none_listed : (b : Bool) (kept : Closed) → ◌≡◌ {A = Option Closed} (if b then None else None) (Some kept) → ⊥
+  none_listed true kept is = cc is
+  none_listed false kept is = cc is
+
   no_twin : HasTwinIn add_sum digest 18 held small.listing → ⊥
-  no_twin (segment, (kept, (listed, twin))) = cc listed
+  no_twin (segment, (kept, listed, twin)) = none_listed (nat_lt segment 0) kept listed
 
   more_than_none : (xs : List (List ℕ)) (b : List ℕ) → [] ≡ b ∷ xs → ⊥
   more_than_none xs b is = cc is

@@ -1,6 +1,6 @@
 -- The closed segments that a log keeps open have pages of its size.
-use Rattle.std.specs.Prelude.{◌≡◌, ◌<◌, ◌+◌, ◌-◌, ◌++◌, ◌∷◌, [], ℕ, List, length, drop, take, nat_le, slice_index_or, if◌then◌else◌, Result, Ok, Err, IsOk, is_ok}
-use Rattle.std.proofs.Common.{sym, ◌∙◌, ap, subst, arith}
+use Rattle.std.specs.Prelude.{◌≡◌, ◌<◌, ◌+◌, ◌-◌, ◌++◌, ◌∷◌, [], ℕ, zero, suc, List, length, drop, take, nat_le, slice_index_or}
+use Rattle.std.proofs.Common.{refl, sym, ◌∙◌, ap, subst, arith}
 use Rattle.std.proofs.lemmas.List.{drop_more, take-append-drop}
 use Rattle.std.proofs.lemmas.List.Elements.{All-append, All-cons, All-drop, All-filter, All-head, All-nil, All-tail}
 use Rattle.page_digests.specs.declared.seal.Seal.{Seal}
@@ -49,19 +49,33 @@ taken_at number seal old new k p within is left of_number of_seal = record {
 
 -- ---- one more is kept
 
-pushed : {T E : Type 0} (r : Result T E) (xs ys new : List PagedSegmentState) → IsOk r → new ≡ (if is_ok r then xs else ys) → new ≡ xs
-pushed (Ok t) xs ys new ok is = is
-pushed (Err e) xs ys new ok is = cc ok
-
 -- there was room
-pub kept_room : {T E : Type 0} (r : Result T E) (p : PagedSegmentState) (old new : List PagedSegmentState) → length old < 8 → IsOk r → new ≡ (if is_ok r then old ++ p ∷ [] else old) → new ≡ kept_after 8 p old
-kept_room r p old new few ok is =
-    let none : length old + 1 - 8 ≡ 0 = omega (arith, few) in
-    pushed r (old ++ p ∷ []) old new ok is ∙ ap (λ n. drop n old ++ p ∷ []) (sym none)
+pub kept_room : (p : PagedSegmentState) (own old new : List PagedSegmentState) → own ≡ old → length own < 8 → new ≡ own ++ p ∷ [] → new ≡ kept_after 8 p old
+kept_room p own old new view few is =
+    let none : length own + 1 - 8 ≡ 0 = omega (arith, few) in
+    is ∙ ap (λ n. drop n own ++ p ∷ []) (sym none) ∙ ap (λ l. kept_after 8 p l) view
 
 -- the first one was let go
-pub kept_full : {T E : Type 0} (r : Result T E) (p : PagedSegmentState) (old mid new : List PagedSegmentState) → length old ≡ 8 → mid ≡ take 0 old ++ drop (0 + 1) old → IsOk r
-    → new ≡ (if is_ok r then mid ++ p ∷ [] else mid) → new ≡ kept_after 8 p old
-kept_full r p old mid new full left ok is =
-    let one : length old + 1 - 8 ≡ 1 = omega (arith, full) in
-    pushed r (mid ++ p ∷ []) mid new ok is ∙ ap (λ (l : List PagedSegmentState). l ++ p ∷ []) left ∙ ap (λ n. drop n old ++ p ∷ []) (sym one)
+pub kept_full : (p : PagedSegmentState) (own old mid new : List PagedSegmentState) → own ≡ old → length own ≡ 8 → mid ≡ take 0 own ++ drop (0 + 1) own → new ≡ mid ++ p ∷ []
+    → new ≡ kept_after 8 p old
+kept_full p own old mid new view full left is =
+    let one : length own + 1 - 8 ≡ 1 = omega (arith, full) in
+    is ∙ ap (λ (l : List PagedSegmentState). l ++ p ∷ []) left ∙ ap (λ n. drop n own ++ p ∷ []) (sym one) ∙ ap (λ l. kept_after 8 p l) view
+
+-- ---- where one is kept
+
+same_at : (l : List PagedSegmentState) (k : ℕ) (p q : PagedSegmentState) → k < length l → slice_index_or l k p ≡ slice_index_or l k q
+same_at [] k p q within = absurd (omega (arith, within))
+same_at (x ∷ l) zero p q within = refl
+same_at (x ∷ l) (suc k) p q within = same_at l k p q (omega (arith, within))
+
+-- the one at a place has this number
+pub numbered_at : (l own : List PagedSegmentState) (k n : ℕ) (x : PagedSegmentState) → l ≡ own → k < length l → x ≡ slice_index_or l k x → x.number ≡ n → (p : PagedSegmentState) → (slice_index_or own k p).number ≡ n
+numbered_at l own k n x view within is number p =
+    ap (λ (m : List PagedSegmentState). (slice_index_or m k p).number) (sym view) ∙ ap (λ (y : PagedSegmentState). y.number) (same_at l k p x within ∙ sym is) ∙ number
+
+-- the one at a place has this seal
+pub sealed_at : (l own : List PagedSegmentState) (k : ℕ) (seal : Seal) (x : PagedSegmentState) → l ≡ own → k < length l → x ≡ slice_index_or l k x → x.content.seal ≡ seal
+    → (p : PagedSegmentState) → (slice_index_or own k p).content.seal ≡ seal
+sealed_at l own k seal x view within is of p =
+    ap (λ (m : List PagedSegmentState). (slice_index_or m k p).content.seal) (sym view) ∙ ap (λ (y : PagedSegmentState). y.content.seal) (same_at l k p x within ∙ sym is) ∙ of

@@ -1,6 +1,6 @@
 -- A read of a closed segment by its pages: what each of these definitions holds of, and what it
 -- refuses, of the segment 7 that `ReadingExamples` has, which held "abc".
-use Rattle.std.specs.Prelude.{◌≡◌, ◌⊎◌, ◌<◌, ◌++◌, ℕ, List, [], ◌∷◌, length, false, true, Option, Some, None, Result, Ok, Err}
+use Rattle.std.specs.Prelude.{◌≡◌, ◌⊎◌, ◌<◌, ◌++◌, ℕ, suc, List, [], ◌∷◌, length, false, true, Option, Some, None, Result, Ok, Err}
 use Rattle.std.proofs.Common.{refl, sym, subst, ap, inl, inr, arith, ◌∙◌, length-append, append-nil}
 use Rattle.page.specs.Sums.{add_sum}
 use Rattle.journal.specs.declared.frame.Found.{Found}
@@ -20,7 +20,7 @@ use Rattle.segments.specs.declared.error.Error.TheVariants as errors
 use Rattle.segments.specs.PagedReads.{HasFailedFrame, HasFailedRebuild, IsDamage, IsRebuilt, IsSettling, IsToldAs, PagedSegmentState, ReadsGoOn, SegmentFails, SegmentReadAnswers, SegmentReadGoes, SettlesGoes}
 use Rattle.segments.proofs.PagedFrameExamples.{it_is_its_frame, it_is_read, its_frame, its_page_is_another, none_is_before_its_end}
 use Rattle.segments.proofs.ReadingExamples.{in_pages}
-use Rattle.segments.proofs.SegmentReads.{content_same, frame_was_read, was_not_settled}
+use Rattle.segments.proofs.SegmentReads.{content_same, frame_was_read, not_built}
 
 -- ---- reads
 
@@ -29,7 +29,7 @@ xyz_was_read_since = (gave 0 xyz ∷ [], refl)
 
 -- reads aren't taken back
 pub it_was_taken_back : ReadsGoOn (gave 0 xyz ∷ []) [] → ⊥
-it_was_taken_back (more, same) = let none : ◌≡◌ {A = ℕ} 0 (1 + length more) = ap length same in omega (arith, none)
+it_was_taken_back (more, same) = let none : ◌≡◌ {A = ℕ} 0 (suc (length more)) = ap length same in omega (arith, none)
 
 pub damage_settles : IsSettling {T = ℕ} (Err causes.Damaged)
 damage_settles = tt
@@ -57,7 +57,7 @@ it_was_rebuilt = record {
 
 -- its page was to be read
 reads_it : (before after : List SourceRead) (answered : Result Levels pages.Error) → RebuildGoes first 32 its_seal before after answered → IsSettling answered → length before < length after
-reads_it before after (Ok levels) (bytes, gives, rest) settles = let more = simp length-append at (ap length gives.reads) in omega (arith, more)
+reads_it before after (Ok levels) (bytes, gives, root, are) settles = let more = simp length-append at (ap length gives.reads) in omega (arith, more)
 reads_it before after (Err causes.Damaged) (bytes, gives, differ) settles = let more = simp length-append at (ap length gives.reads) in omega (arith, more)
 reads_it before after (Err (causes.System e)) (i, within, (more, same)) settles = let longer = simp length-append at (ap length same) in omega (arith, longer)
 reads_it before after (Err causes.OutOfMemory) goes settles = absurd settles
@@ -82,7 +82,7 @@ abbrev after_xyz : PagedSegmentState
 after_xyz = record in_pages { content = xyz_read; is_settled = true }
 
 pub it_is_settled : SettlesGoes first in_pages after_xyz (Err causes.Damaged)
-it_is_settled = was_not_settled first in_pages (gave 0 xyz ∷ []) true causes.Damaged xyz_has_another_root (λ is. tt, λ is. refl)
+it_is_settled = not_built first in_pages (gave 0 xyz ∷ []) true causes.Damaged xyz_has_another_root (λ is. tt, λ is. refl)
 
 pub it_is_not_settled : SettlesGoes first in_pages in_pages (Ok tt) → ⊥
 it_is_not_settled is = cc (is.settled.1 tt)

@@ -26,7 +26,7 @@ pages_answer sum own d offset number P kept p q (Ok found) is reads =
     paged_closed sum own d P p.content.seal kept offset found is.1 (subst (λ n. ReadsPagedFrame d own n p.content.seal offset found) is.0.page_size reads)
 pages_answer sum own d offset number P kept p q (Err e) is fails = fails
 
-pub read_by_pages : (sum own : List ℕ → ℕ) (d : List ℕ → List ℕ) (offset : ℕ) (s : ClosedSegmentState) (p q : PagedSegmentState) (result : Result (Option Found) Error)
+read_by_pages : (sum own : List ℕ → ℕ) (d : List ℕ → List ℕ) (offset : ℕ) (s : ClosedSegmentState) (p q : PagedSegmentState) (result : Result (Option Found) Error)
     → s.from ≡ FromPages p → IsReaderOf sum own s.page_size s.number s.kept.fingerprint (FromPages p) → SegmentReadGoes d own offset p q result
     → ClosedReadGoes sum own d offset s (record s { from = FromPages q }) result
 read_by_pages sum own d offset s p q result from is goes = record {
@@ -64,7 +64,7 @@ memory_answers sum own d offset number P kept l m (Err errors.Manifest) is goes 
 memory_answers sum own d offset number P kept l m (Err (errors.NoSegment n)) is goes = absurd goes
 memory_answers sum own d offset number P kept l m (Err errors.NumbersExhausted) is goes = absurd goes
 
-pub read_in_memory : (sum own : List ℕ → ℕ) (d : List ℕ → List ℕ) (offset : ℕ) (s : ClosedSegmentState) (l m : LoadedState) (result : Result (Option Found) Error)
+read_in_memory : (sum own : List ℕ → ℕ) (d : List ℕ → List ℕ) (offset : ℕ) (s : ClosedSegmentState) (l m : LoadedState) (result : Result (Option Found) Error)
     → s.from ≡ FromMemory l → IsReaderOf sum own s.page_size s.number s.kept.fingerprint (FromMemory l) → HeldReadGoes sum own d l.owned.page_size l.kept offset result
     → ClosedReadGoes sum own d offset s (record s { from = FromMemory m }) result
 read_in_memory sum own d offset s l m result from is goes = record {
@@ -72,6 +72,22 @@ read_in_memory sum own d offset s l m result from is goes = record {
   answers = subst (λ (f : ReadFrom). ReaderAnswers sum own d offset (record s { from = f }) (record s { from = FromMemory m }) result) (sym from)
       (memory_answers sum own d offset s.number s.page_size s.kept l m result is goes);
 }
+
+-- ---- the same, by the fields of a reader
+
+pub pages_read : (sum own : List ℕ → ℕ) (d : List ℕ → List ℕ) (offset number P : ℕ) (kept : Closed) (s : ClosedSegmentState) (from : ReadFrom) (p q : PagedSegmentState) (result : Result (Option Found) Error)
+    → record { number = number; kept = kept; page_size = P; from = from } ≡ s → from ≡ FromPages p → IsReaderOf sum own P number kept.fingerprint from → SegmentReadGoes d own offset p q result
+    → ClosedReadGoes sum own d offset s (record { number = number; kept = kept; page_size = P; from = FromPages q }) result
+pages_read sum own d offset number P kept s from p q result view is reader goes =
+    subst (λ (t : ClosedSegmentState). ClosedReadGoes sum own d offset t (record { number = number; kept = kept; page_size = P; from = FromPages q }) result) view
+    (read_by_pages sum own d offset (record { number = number; kept = kept; page_size = P; from = from }) p q result is (subst (λ (f : ReadFrom). IsReaderOf sum own P number kept.fingerprint f) is reader) goes)
+
+pub memory_read : (sum own : List ℕ → ℕ) (d : List ℕ → List ℕ) (offset number P : ℕ) (kept : Closed) (s : ClosedSegmentState) (from : ReadFrom) (l m : LoadedState) (result : Result (Option Found) Error)
+    → record { number = number; kept = kept; page_size = P; from = from } ≡ s → from ≡ FromMemory l → IsReaderOf sum own P number kept.fingerprint from → HeldReadGoes sum own d l.owned.page_size l.kept offset result
+    → ClosedReadGoes sum own d offset s (record { number = number; kept = kept; page_size = P; from = FromMemory m }) result
+memory_read sum own d offset number P kept s from l m result view is reader goes =
+    subst (λ (t : ClosedSegmentState). ClosedReadGoes sum own d offset t (record { number = number; kept = kept; page_size = P; from = FromMemory m }) result) view
+    (read_in_memory sum own d offset (record { number = number; kept = kept; page_size = P; from = from }) l m result is (subst (λ (f : ReadFrom). IsReaderOf sum own P number kept.fingerprint f) is reader) goes)
 
 -- ---- a reader is opened
 

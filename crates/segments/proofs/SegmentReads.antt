@@ -26,7 +26,7 @@ frame_was_read d own offset s after found goes = record {
   answers = goes.answers.1;
 }
 
-pub frame_failed : (d : List ℕ → List ℕ) (own : List ℕ → ℕ) (offset : ℕ) (s : PagedSegmentState) (after : PagedState) (cause : pages.Error) (e : Error)
+frame_failed : (d : List ℕ → List ℕ) (own : List ℕ → ℕ) (offset : ℕ) (s : PagedSegmentState) (after : PagedState) (cause : pages.Error) (e : Error)
     → PagedFrameGoes d own offset s.content after (Err cause) → IsToldAs s.number cause e → (IsDamage cause → s.is_settled ≡ true)
     → SegmentReadGoes d own offset s (record s { content = after }) (Err e)
 frame_failed d own offset s after cause e goes told settled = record {
@@ -46,8 +46,8 @@ frame_failed d own offset s after cause e goes told settled = record {
 read_on : (old mid new : List SourceRead) → ReadsGoOn old mid → ReadsGoOn mid new → ReadsGoOn old new
 read_on old mid new (more, first) (rest, second) = (more ++ rest, second ∙ ap (λ reads. reads ++ rest) first ∙ append_assoc old more rest)
 
-not_settled : (b : Bool) → b ≡ false → b ≡ true → ⊥
-not_settled b no yes = cc (no, yes)
+pub not_settled : (b : Bool) → b ≡ false → b ≡ true → ⊥
+not_settled b off on = cc (off, on)
 
 of_frame : (d : List ℕ → List ℕ) (own : List ℕ → ℕ) (P k : ℕ) (seal other : Seal) (offset : ℕ) (found : Option Found) → k ≡ P → other ≡ seal
     → ReadsPagedFrame d own k other offset found → ReadsPagedFrame d own P seal offset found
@@ -76,18 +76,18 @@ rebuilt_since d s t u same is = record {
   until = is.until;
 }
 
-pub read_after_settling : (d : List ℕ → List ℕ) (own : List ℕ → ℕ) (offset : ℕ) (s m : PagedSegmentState) (after : PagedState) (found : Option Found) → s.is_settled ≡ false
-    → SettlesGoes d s m (Ok tt) → PagedFrameGoes d own offset m.content after (Ok found) → SegmentReadGoes d own offset s (record m { content = after }) (Ok found)
-read_after_settling d own offset s m after found not_yet settles goes = record {
+read_after_settling : (d : List ℕ → List ℕ) (own : List ℕ → ℕ) (offset : ℕ) (s m : PagedSegmentState) (u : Unit {0}) (after : PagedState) (found : Option Found) → s.is_settled ≡ false
+    → SettlesGoes d s m (Ok u) → PagedFrameGoes d own offset m.content after (Ok found) → SegmentReadGoes d own offset s (record m { content = after }) (Ok found)
+read_after_settling d own offset s m u after found not_yet settles goes = record {
   same = record { number = settles.same.number; of = goes.same.seal ∙ settles.same.of; page_size = goes.same.page_size ∙ settles.same.page_size };
   stays = λ is. absurd (not_settled s.is_settled not_yet is);
   rebuilt = λ is. inr (rebuilt_on d s.content m.content after (settles.rebuilt tt) goes.same.reads);
   answers = of_frame d own s.content.page_size m.content.page_size s.content.seal m.content.seal offset found settles.same.page_size settles.same.of goes.answers.1;
 }
 
-pub failed_after_settling : (d : List ℕ → List ℕ) (own : List ℕ → ℕ) (offset : ℕ) (s m : PagedSegmentState) (after : PagedState) (cause : pages.Error) (e : Error) → s.is_settled ≡ false
-    → SettlesGoes d s m (Ok tt) → PagedFrameGoes d own offset m.content after (Err cause) → IsToldAs s.number cause e → SegmentReadGoes d own offset s (record m { content = after }) (Err e)
-failed_after_settling d own offset s m after cause e not_yet settles goes told = record {
+failed_after_settling : (d : List ℕ → List ℕ) (own : List ℕ → ℕ) (offset : ℕ) (s m : PagedSegmentState) (u : Unit {0}) (after : PagedState) (cause : pages.Error) (e : Error) → s.is_settled ≡ false
+    → SettlesGoes d s m (Ok u) → PagedFrameGoes d own offset m.content after (Err cause) → IsToldAs s.number cause e → SegmentReadGoes d own offset s (record m { content = after }) (Err e)
+failed_after_settling d own offset s m u after cause e not_yet settles goes told = record {
   same = record { number = settles.same.number; of = goes.same.seal ∙ settles.same.of; page_size = goes.same.page_size ∙ settles.same.page_size };
   stays = λ is. absurd (not_settled s.is_settled not_yet is);
   rebuilt = λ is. inr (rebuilt_on d s.content m.content after (settles.rebuilt tt) goes.same.reads);
@@ -151,7 +151,7 @@ answers_since d own offset s mid t (Err e) same is = record {
 }
 
 -- a read after one that failed
-pub read_since : (d : List ℕ → List ℕ) (own : List ℕ → ℕ) (offset : ℕ) (s : PagedSegmentState) (mid : PagedState) (t : PagedSegmentState) (result : Result (Option Found) Error) → IsSameContent s.content mid
+read_since : (d : List ℕ → List ℕ) (own : List ℕ → ℕ) (offset : ℕ) (s : PagedSegmentState) (mid : PagedState) (t : PagedSegmentState) (result : Result (Option Found) Error) → IsSameContent s.content mid
     → SegmentReadGoes d own offset (record s { content = mid }) t result → SegmentReadGoes d own offset s t result
 read_since d own offset s mid t result same is = record {
   same = record { number = is.same.number; of = is.same.of ∙ same.seal; page_size = is.same.page_size ∙ same.page_size };
@@ -183,10 +183,10 @@ was_settled d s reads list_reads levels goes = record {
   fails = tt;
 }
 
-pub was_not_settled : (d : List ℕ → List ℕ) (s : PagedSegmentState) (reads : List SourceRead) (is_damaged : Bool) (e : pages.Error)
+pub not_built : (d : List ℕ → List ℕ) (s : PagedSegmentState) (reads : List SourceRead) (is_damaged : Bool) (e : pages.Error)
     → RebuildGoes d s.content.page_size s.content.seal s.content.reads reads (Err e) → ((is_damaged ≡ true) ↔ IsDamage e)
     → SettlesGoes d s (record s { content = record s.content { reads = reads }; is_settled = is_damaged }) (Err e)
-was_not_settled d s reads is_damaged e goes damaged = record {
+not_built d s reads is_damaged e goes damaged = record {
   same = record { number = refl; of = refl; page_size = refl };
   settled = damaged;
   rebuilt = λ is. record {
@@ -200,3 +200,40 @@ was_not_settled d s reads is_damaged e goes damaged = record {
   };
   fails = record { before = s.content.reads; after = reads; since = ([], sym (append-nil s.content.reads)); fails = goes; until = ([], sym (append-nil reads)) };
 }
+
+pub was_not_settled : (d : List ℕ → List ℕ) (number : ℕ) (own after : PagedState) (before is_damaged : Bool) (s : PagedSegmentState) (e : pages.Error)
+    → record { number = number; content = own; is_settled = before } ≡ s → after ≡ record own { reads = after.reads } → RebuildGoes d own.page_size own.seal own.reads after.reads (Err e)
+    → ((is_damaged ≡ true) ↔ IsDamage e) → SettlesGoes d s (record { number = number; content = after; is_settled = is_damaged }) (Err e)
+was_not_settled d number own after before is_damaged s e view rest goes damaged =
+    let old : PagedSegmentState = record { number = number; content = own; is_settled = before } in
+    subst (λ (t : PagedSegmentState). SettlesGoes d t (record { number = number; content = after; is_settled = is_damaged }) (Err e)) view
+    (subst (λ (t : PagedState). SettlesGoes d old (record { number = number; content = t; is_settled = is_damaged }) (Err e)) (sym rest) (not_built d old after.reads is_damaged e goes damaged))
+
+-- ---- the same, by the fields of a segment
+
+pub part_read : (d : List ℕ → List ℕ) (own : List ℕ → ℕ) (offset number : ℕ) (before after : PagedState) (settled : Bool) (s : PagedSegmentState) (cause : pages.Error) (e : Error)
+    → record { number = number; content = before; is_settled = settled } ≡ s → PagedFrameGoes d own offset before after (Err cause) → IsToldAs number cause e → (IsDamage cause → settled ≡ true)
+    → SegmentReadGoes d own offset s (record { number = number; content = after; is_settled = settled }) (Err e)
+part_read d own offset number before after settled s cause e view goes told damaged =
+    subst (λ (t : PagedSegmentState). SegmentReadGoes d own offset t (record { number = number; content = after; is_settled = settled }) (Err e)) view
+    (frame_failed d own offset (record { number = number; content = before; is_settled = settled }) after cause e goes told damaged)
+
+pub part_since : (d : List ℕ → List ℕ) (own : List ℕ → ℕ) (offset number : ℕ) (before mid : PagedState) (settled : Bool) (s t : PagedSegmentState) (result : Result (Option Found) Error)
+    → record { number = number; content = before; is_settled = settled } ≡ s → IsSameContent before mid → SegmentReadGoes d own offset (record { number = number; content = mid; is_settled = settled }) t result
+    → SegmentReadGoes d own offset s t result
+part_since d own offset number before mid settled s t result view same goes =
+    subst (λ (k : PagedSegmentState). SegmentReadGoes d own offset k t result) view
+    (read_since d own offset (record { number = number; content = before; is_settled = settled }) mid t result same goes)
+
+pub part_after : (d : List ℕ → List ℕ) (own : List ℕ → ℕ) (offset number : ℕ) (before after : PagedState) (settled : Bool) (s m : PagedSegmentState) (u : Unit {0}) (found : Option Found)
+    → record { number = number; content = before; is_settled = settled } ≡ m → s.is_settled ≡ false → SettlesGoes d s m (Ok u) → PagedFrameGoes d own offset before after (Ok found)
+    → SegmentReadGoes d own offset s (record { number = number; content = after; is_settled = settled }) (Ok found)
+part_after d own offset number before after settled s m u found view not_yet settles goes =
+    read_after_settling d own offset s (record { number = number; content = before; is_settled = settled }) u after found not_yet (subst (λ (k : PagedSegmentState). SettlesGoes d s k (Ok u)) (sym view) settles) goes
+
+pub part_failed : (d : List ℕ → List ℕ) (own : List ℕ → ℕ) (offset number : ℕ) (before after : PagedState) (settled : Bool) (s m : PagedSegmentState) (u : Unit {0}) (cause : pages.Error) (e : Error)
+    → record { number = number; content = before; is_settled = settled } ≡ m → s.is_settled ≡ false → SettlesGoes d s m (Ok u) → PagedFrameGoes d own offset before after (Err cause) → IsToldAs number cause e
+    → SegmentReadGoes d own offset s (record { number = number; content = after; is_settled = settled }) (Err e)
+part_failed d own offset number before after settled s m u cause e view not_yet settles goes told =
+    let was : SettlesGoes d s (record { number = number; content = before; is_settled = settled }) (Ok u) = subst (λ (k : PagedSegmentState). SettlesGoes d s k (Ok u)) (sym view) settles in
+    failed_after_settling d own offset s (record { number = number; content = before; is_settled = settled }) u after cause e not_yet was goes (subst (λ (n : ℕ). IsToldAs n cause e) was.same.number told)

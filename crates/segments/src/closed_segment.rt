@@ -120,7 +120,7 @@ impl<S: Source + Drop, H: Sum, R: Sum, D: Digest> ClosedSegment<S, H, R, D> {
     /// segment's file, once, in memory. `Damaged` if that doesn't help: the other pages can still
     /// be read. `System` if the system refuses a read, `Layer` if memory is refused. An error
     /// leaves the reader as it was.
-    #[tactic(auto, using(crate::proofs::SegmentReaders::read_by_pages, crate::proofs::SegmentReaders::read_in_memory, crate::proofs::SegmentReaders::still_by_pages))]
+    #[tactic(auto, using(crate::proofs::SegmentReaders::still_by_pages))]
     pub fn read(&mut self, offset: u64) -> Result<Option<Found>, Error>
         ensures { ClosedReadGoes H.sum_of R.sum_of D.digest_of offset self.old self.new result }
     {

@@ -37,7 +37,7 @@ impl<F: Folder<B> + Drop, B: Blob + Drop, H: Sum, R: Sum, D: Digest> SegmentedLo
     /// failed. After an error the blobs are gone, so no clause says what their files hold: each
     /// recovery of a journal on the way keeps what was committed (`leaves` of
     /// [`journal::Journal::recover`]).
-    #[tactic(auto, using(crate::proofs::Beginning::parts_open, crate::proofs::Recents::pages_none))]
+    #[tactic(auto, using(crate::proofs::Beginning::parts_open))]
     pub fn open(alloc: Global, folder: F, options: Options) -> Result<Self, Error>
         ensures log { IfOk result (λ log. IsLog H.sum_of R.sum_of log) }
         ensures opens { let before = F.asked folder in

@@ -16,7 +16,7 @@ use page_digests::{LEN_LIMIT, Seal};
 
 impl<F: Folder<B> + Drop, B: Blob + Drop, H: Sum, R: Sum, D: Digest> SegmentedLog<F, B, H, R, D> {
     // The frame at a place of a closed segment that is known by its pages.
-    #[tactic(auto, using(crate::proofs::PagedReading::too_long, crate::proofs::PagedReading::open_refused, crate::proofs::PagedReading::segment_read, crate::proofs::Recents::pages_kept))]
+    #[tactic(auto, using(crate::proofs::PagedReading::too_long, crate::proofs::PagedReading::open_refused))]
     pub(crate) fn read_paged(&mut self, place: Place, seal: Seal) -> Result<Option<Found>, Error>
         requires log { IsLog H.sum_of R.sum_of self.old }
         requires listed { IsKeptAs self.old.listing place.segment (HasSeal seal) }
@@ -39,7 +39,6 @@ impl<F: Folder<B> + Drop, B: Blob + Drop, H: Sum, R: Sum, D: Digest> SegmentedLo
     }
 
     // Takes the closed segment of this number if it is kept open, or else opens it.
-    #[tactic(auto, using(crate::proofs::Recents::taken_of, crate::proofs::Recents::pages_left))]
     fn take_paged(&mut self, number: u64, seal: Seal) -> Result<PagedSegment<F::Source, D>, Error>
         requires log { IsLog H.sum_of R.sum_of self.old }
         requires limit { seal.len < 2 ^ 50 }

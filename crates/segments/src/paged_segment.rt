@@ -90,7 +90,7 @@ impl<S: Source + Drop, D: Digest> PagedSegment<S, D> {
 
     /// The frame at a logical offset of the segment; `None` at its end and after it. If damage is
     /// found the list is built again from the segment's file, once, in memory.
-    #[tactic(auto, using(crate::proofs::SegmentReads::frame_was_read, crate::proofs::SegmentReads::frame_failed, crate::proofs::SegmentReads::read_since))]
+    #[tactic(auto, using(crate::proofs::SegmentReads::frame_was_read))]
     pub fn read<R: Sum>(&mut self, offset: u64) -> Result<Option<Found>, Error>
         ensures { SegmentReadGoes D.digest_of R.sum_of offset self.old self.new result }
     {
@@ -102,7 +102,7 @@ impl<S: Source + Drop, D: Digest> PagedSegment<S, D> {
     }
 
     // The frame at an offset, by a list that is built again.
-    #[tactic(auto, using(crate::proofs::SegmentReads::read_after_settling, crate::proofs::SegmentReads::failed_after_settling, crate::proofs::SegmentReads::not_rebuilt))]
+    #[tactic(auto, using(crate::proofs::SegmentReads::not_rebuilt))]
     fn read_again<R: Sum>(&mut self, offset: u64) -> Result<Option<Found>, Error>
         requires { self.old.is_settled ≡ false }
         ensures { SegmentReadGoes D.digest_of R.sum_of offset self.old self.new result }
@@ -117,7 +117,7 @@ impl<S: Source + Drop, D: Digest> PagedSegment<S, D> {
     }
 
     // Builds the list again from the segment's file. If it can't be built the one before stays.
-    #[tactic(auto, using(crate::proofs::SegmentReads::was_settled, crate::proofs::SegmentReads::was_not_settled))]
+    #[tactic(auto, using(crate::proofs::SegmentReads::was_settled))]
     fn settle(&mut self) -> Result<(), PageError>
         ensures { SettlesGoes D.digest_of self.old self.new result }
     {

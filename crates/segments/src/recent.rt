@@ -70,20 +70,18 @@ impl<S: Source + Drop, D: Digest> Recent<S, D> {
 
     /// Keeps a segment as the one that was read last. If there are too many then, the one goes that
     /// wasn't read for the longest time, and its files are closed.
-    #[tactic(auto, using(crate::proofs::Recents::kept_room, crate::proofs::Recents::kept_full))]
     pub fn keep(&mut self, segment: PagedSegment<S, D>)
         ensures { self.new ≡ kept_after OPENED segment self.old }
     {
         if self.segments.len() < OPENED {
-            let _ = self.segments.push(segment);
+            self.segments.push_reserved(segment);
             return;
         }
         let _ = self.segments.remove(0);
-        let _ = self.segments.push(segment);
+        self.segments.push_reserved(segment);
     }
 
     /// Lets the segments before this one go, and closes their files.
-    #[tactic(auto, using(std::proofs::lemmas::List::Elements::filter_from_retain))]
     pub fn let_go_before(&mut self, first: u64)
         ensures { self.new ≡ kept_from first self.old }
     {

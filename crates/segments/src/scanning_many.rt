@@ -21,7 +21,6 @@ impl<F: Folder<B> + Drop, B: Blob + Drop, H: Sum, R: Sum, D: Digest> SegmentedLo
     /// of `Layer` if memory for the list is refused. Each leaves the place where it was. If records
     /// stand before a frame that can't be read, they are answered, and the next call answers the
     /// error.
-    #[tactic(auto, using(crate::proofs::Following::one_more, crate::proofs::Following::too_much, crate::proofs::Following::one_alone, crate::proofs::Following::no_more, crate::proofs::Following::stopped, crate::proofs::Following::first_refused))]
     pub fn next_many(
         &mut self,
         place: &mut Place,
@@ -40,18 +39,18 @@ impl<F: Folder<B> + Drop, B: Blob + Drop, H: Sum, R: Sum, D: Digest> SegmentedLo
         'records: loop {
             let mut at = behind;
             match self.next(&mut at) {
-                Ok(Some((start, bytes))) => {
-                    let len = bytes.len();
+                Ok(Some(next)) => {
+                    let len = next.1.len();
                     if room < len {
                         if !found.is_empty() {
                             *place = behind;
                             return Ok(found);
                         }
-                        found.push((start, bytes))?;
+                        found.push(next)?;
                         *place = at;
                         return Ok(found);
                     }
-                    found.push((start, bytes))?;
+                    found.push(next)?;
                     behind = at;
                     room -= len;
                 }
