@@ -15,14 +15,16 @@ brackets, the ratio of the medians, the most memory of each program, and how man
   open    from the start of the program until its greeting has come: the open segment is as full as it gets. The
           plain program reads the file of that segment into memory, and ends
   scan    `pagedd cat FOLDER` to /dev/null, and the plain program as `plain cat FILE`
+  many    all records by next_many, each request for 1 MiB and sent once the place of it has come; the plain program
+          as `plain cat FILE` to a pipe
   recent  10,000 reads by place in the open segment, at random, 500 of them at once; for the plain side pread
   one     the same in one closed segment, once the first read of it is answered
   sorted  10,000 reads over all segments, sorted by place: each closed segment is opened once
   first   reads by place of closed segments, each of another one than that before, one after the other: each opens a
           file and its list, and compares the pages that it touches. The plain side: pread at the same places
 
-The last three are left out where no segment is closed. The files are made in a new folder below --folder, and removed.
-That should be on the disk of interest. There is to be room for twice --mib.
+The last three are left out where no segment is closed. --digest is that of `pagedd`. The files are made in a new folder
+below --folder, and removed. That should be on the disk of interest. There is to be room for twice --mib.
 """
 import argparse
 import os
@@ -40,7 +42,7 @@ from collections import namedtuple
 import usage
 from beside import GREETING, MIB, OFFER, Room, frame, machine, meet, receive
 from client import CLOSE, READ, batch
-from log_client import APPEND_RECORDS, APPEND_RECORDS_SYNC, SYNC_SIZE
+from log_client import APPEND_RECORDS, APPEND_RECORDS_SYNC, AT_END, NEXT_MANY, SCAN, SYNC_SIZE
 
 RECORD, FRAME = 1000, 1007
 # The records of a batch, how many batches with a sync are timed, and how many reads; how many of these are at once, and
@@ -56,8 +58,8 @@ Took = namedtuple("Took", "seconds memory")
 class Log:
     """A log and a plain file of the same records, in a room."""
 
-    def __init__(self, room, mib, segment):
-        self.room, self.segment = room, segment * MIB
+    def __init__(self, room, mib, segment, digest):
+        self.room, self.segment, self.digest = room, segment * MIB, f"--digest={digest}"
         self.folder, self.file = room.path("log"), room.path("file")
         self.count = mib * MIB // FRAME
         # So many records are in each closed segment.
@@ -77,7 +79,7 @@ class Log:
 
     def serve(self, *options):
         """The log, served."""
-        words = [self.room.pagedd, "serve-log", f"--segment-size={self.segment}", *options, self.folder]
+        words = [self.room.pagedd, "serve-log", f"--segment-size={self.segment}", self.digest, *options, self.folder]
         return self.room.started(*words, stdin=subprocess.PIPE, stdout=subprocess.PIPE)
 
     def took(self, seconds):
@@ -235,10 +237,47 @@ class Scan(Job):
         return Took(run.times[0], run.memory)
 
     def pagedd(self):
-        return self.to_nothing(self.log.room.pagedd, "cat", self.log.folder)
+        return self.to_nothing(self.log.room.pagedd, "cat", self.log.digest, self.log.folder)
 
     def plain(self):
         return self.to_nothing(self.log.room.plain, "cat", self.log.file)
+
+
+class Many(Job):
+    does = "reading all records by the protocol, 1 MiB at once"
+
+    def prepare(self):
+        super().prepare()
+        self.count = self.log.count
+
+    def pagedd(self):
+        with self.log.serve() as served:
+            begin(served)
+            begun, found = time.perf_counter(), 0
+            served.stdin.write(frame(NEXT_MANY, 0, 0, SCAN))
+            served.stdin.flush()
+            while True:
+                length, status = struct.unpack("<IB", served.stdout.read(5))
+                if status != 0:
+                    break
+                segment, offset, count = struct.unpack("<3Q", served.stdout.read(24))
+                served.stdin.write(frame(NEXT_MANY, segment, offset, SCAN))
+                served.stdin.flush()
+                receive(served.stdout, length - 25)
+                found += count
+            took = time.perf_counter() - begun
+            if (status, found) != (AT_END, self.count):
+                raise SystemExit(f"log_beside: {found} records came, and then status {status}")
+            receive(served.stdout, length - 1)
+            served.stdin.close()
+        return self.log.took(took)
+
+    def plain(self):
+        begun = time.perf_counter()
+        with self.log.room.started(self.log.room.plain, "cat", self.log.file, stdout=subprocess.PIPE) as plain:
+            receive(plain.stdout, self.count * RECORD)
+            took = time.perf_counter() - begun
+        return self.log.took(took)
 
 
 class Reads(Job):
@@ -318,8 +357,8 @@ class First(Reads):
         return [segment * self.log.each + self.log.rng.randrange(self.log.each) for segment in segments]
 
 
-JOBS = {"sync": Sync, "append": Append, "open": Open, "scan": Scan, "recent": Recent, "one": One, "sorted": Sorted,
-        "first": First}
+JOBS = {"sync": Sync, "append": Append, "open": Open, "scan": Scan, "many": Many, "recent": Recent, "one": One,
+        "sorted": Sorted, "first": First}
 CLOSED = ("one", "sorted", "first")
 
 
@@ -353,6 +392,8 @@ def words():
     parser.add_argument("PAGEDD", type=usage.program)
     parser.add_argument("--mib", type=usage.count, default=64, help="the records of the log and their frames (64)")
     parser.add_argument("--segment", type=usage.count, default=64, help="from how many MiB on a segment is closed (64)")
+    parser.add_argument("--digest", choices=("sha512-256", "poly61"), default="sha512-256",
+                        help="the digest of the pages of closed segments (sha512-256)")
     parser.add_argument("--turns", type=usage.count, default=5, help="how many times each job is played (5)")
     parser.add_argument("--only", nargs="+", choices=JOBS, default=list(JOBS), metavar="JOB", help="only these jobs")
     parser.add_argument("--folder", default=".", help="below which folder files are made (this one)")
@@ -372,9 +413,9 @@ def main():
         folder = os.path.abspath(folder)
         room = Room(folder, given.PAGEDD, 0)
         room.fill("close", [OFFER + frame(CLOSE)])
-        log = Log(room, given.mib, given.segment)
+        log = Log(room, given.mib, given.segment, given.digest)
         print(f"{machine(folder)}\n{given.mib:,} MiB of records of {RECORD:,} B, with their frames, in segments of"
-              f" {given.segment:,} MiB; medians of {given.turns} turns, and the least in brackets\n")
+              f" {given.segment:,} MiB, with {given.digest}; medians of {given.turns} turns, and the least in brackets\n")
         heads = ["Job", "`pagedd`", "plain", "`pagedd` / plain", "MiB of memory: `pagedd`, plain", "load"]
         print(f"| {' | '.join(heads)} |\n|{'---|' * len(heads)}", flush=True)
         for name in [name for name in JOBS if name in given.only and (log.closed or name not in CLOSED)]:
