@@ -4,8 +4,10 @@
 A log of records of 1,000 bytes, which has --mib MiB with their frames, in segments of --segment MiB. The plain side
 has the same records in one file, one after the other, and checks no byte: plain.c, which this script compiles, or the
 calls of Python itself. Each job is played --turns times on each side, by turns. Printed are medians, the least time in
-brackets, the ratio of the medians, the most memory of each program, and how many tasks the system had to do beside
-(the load of the last minute, as `uptime` tells it): a figure that was taken under load is too slow.
+brackets, the ratio of the medians, how long a processor worked for `pagedd` meanwhile, where the system tells it (so much
+of the time is no wait for the disk, the pipe, or other tasks), the most memory of each program, and how many tasks the
+system had to do beside (the load of the last minute, as `uptime` tells it): a figure that was taken under load is too
+slow, and the processor's time less so.
 
   append  all records by batches of 1,000, each a request, and one sync_size at the end; a batch is sent while the one
           before is taken. The plain program gets the records by a pipe too, writes them by 64 KiB, and ends with an
@@ -29,6 +31,7 @@ below --folder, and removed. That should be on the disk of interest. There is to
 import argparse
 import os
 import random
+import resource
 import shutil
 import signal
 import statistics
@@ -51,8 +54,32 @@ GROUP, SYNCS, READS, WINDOW, FIRSTS = 1000, 64, 10_000, 500, 20
 # How long the answer to a read is.
 FOUND = 4 + 1 + 8 + 1 + RECORD
 
-# What a turn took: its seconds, and the most memory, in bytes; none where the script itself did it.
-Took = namedtuple("Took", "seconds memory")
+# What a turn took: its seconds, the most memory, in bytes, and the seconds of the processor; none where the script itself
+# did it, and no last one where the system tells none.
+Took = namedtuple("Took", "seconds memory work")
+
+
+class Watch:
+    """The time of a program that runs under `plain run`, from now on: by the clock, and of the processor."""
+
+    def __init__(self, process, from_start=False):
+        self.process = process
+        self.worked = 0 if from_start else self.work()
+        self.begun = time.perf_counter()
+
+    def work(self):
+        try:
+            with open(f"/proc/{self.process.pid}/task/{self.process.pid}/children", encoding="ascii") as children:
+                child = children.read().split()[0]
+            with open(f"/proc/{child}/schedstat", encoding="ascii") as told:
+                return int(told.read().split()[0]) / 1e9
+        except (OSError, IndexError):
+            return None
+
+    def stop(self):
+        """Both times."""
+        seconds, work = time.perf_counter() - self.begun, self.work()
+        return seconds, None if None in (work, self.worked) else work - self.worked
 
 
 class Log:
@@ -82,9 +109,9 @@ class Log:
         words = [self.room.pagedd, "serve-log", f"--segment-size={self.segment}", self.digest, *options, self.folder]
         return self.room.started(*words, stdin=subprocess.PIPE, stdout=subprocess.PIPE)
 
-    def took(self, seconds):
-        """What the program took that ran last."""
-        return Took(seconds, self.room.run().memory)
+    def took(self, times):
+        """What the program took that ran last, in these times."""
+        return Took(times[0], self.room.run().memory, times[1])
 
     def append_all(self):
         """Appends all records, and answers the seconds until they are durable."""
@@ -92,7 +119,7 @@ class Log:
         request = frame(APPEND_RECORDS, data=batch(self.records))
         with self.serve() as log:
             begin(log)
-            begun, waits = time.perf_counter(), 0
+            watch, waits = Watch(log), 0
             for records in self.batches():
                 whole = len(records) == GROUP
                 log.stdin.write(request if whole else frame(APPEND_RECORDS, data=batch(records)))
@@ -104,7 +131,7 @@ class Log:
             receive(log.stdout, waits, framed=True)
             if log.stdout.read(13) != struct.pack("<IBQ", 9, 0, self.count):
                 raise SystemExit("log_beside: not all records were appended")
-            took = time.perf_counter() - begun
+            took = watch.stop()
             log.stdin.close()
         return took
 
@@ -117,7 +144,7 @@ class Log:
             for records in self.batches():
                 plain.stdin.write(content[:len(records) * RECORD])
             plain.stdin.close()
-        return time.perf_counter() - begun
+        return time.perf_counter() - begun, None
 
     def make(self):
         """Makes both, where they aren't there yet."""
@@ -177,12 +204,12 @@ class Sync(Job):
         request = frame(APPEND_RECORDS_SYNC, data=batch(log.records))
         with log.serve() as served:
             begin(served)
-            begun = time.perf_counter()
+            watch = Watch(served)
             for _ in range(SYNCS):
                 served.stdin.write(request)
                 served.stdin.flush()
                 receive(served.stdout, 5 + 16 * GROUP, framed=True)
-            took = time.perf_counter() - begun
+            took = watch.stop()
             served.stdin.close()
         shutil.rmtree(log.folder)
         return log.took(took)
@@ -196,7 +223,7 @@ class Sync(Job):
                 os.fdatasync(file.fileno())
             took = time.perf_counter() - begun
         self.log.room.fresh("file")
-        return Took(took, None)
+        return Took(took, None, None)
 
     def said(self, seconds):
         return f"{seconds / SYNCS * 1e3:,.2f} ms each, {SYNCS * GROUP / seconds:,.0f} records a second"
@@ -213,14 +240,15 @@ class Open(Job):
     def pagedd(self):
         begun = time.perf_counter()
         with self.log.serve() as served:
+            watch = Watch(served, from_start=True)
             receive(served.stdout, GREETING)
-            took = time.perf_counter() - begun
+            took = time.perf_counter() - begun, watch.stop()[1]
             served.stdin.close()
         return self.log.took(took)
 
     def plain(self):
         run = self.log.room.from_file("close", None, self.log.room.plain, "load", self.last)
-        return Took(run.times[0], run.memory)
+        return Took(run.times[0], run.memory, None)
 
 
 class Scan(Job):
@@ -231,10 +259,12 @@ class Scan(Job):
         self.count = self.log.count
 
     def to_nothing(self, *command):
+        before = resource.getrusage(resource.RUSAGE_CHILDREN)
         with self.log.room.started(*command, stdout=subprocess.DEVNULL):
             pass
-        run = self.log.room.run()
-        return Took(run.times[0], run.memory)
+        after, run = resource.getrusage(resource.RUSAGE_CHILDREN), self.log.room.run()
+        work = after.ru_utime - before.ru_utime + after.ru_stime - before.ru_stime
+        return Took(run.times[0], run.memory, work)
 
     def pagedd(self):
         return self.to_nothing(self.log.room.pagedd, "cat", self.log.digest, self.log.folder)
@@ -253,7 +283,7 @@ class Many(Job):
     def pagedd(self):
         with self.log.serve() as served:
             begin(served)
-            begun, found = time.perf_counter(), 0
+            watch, found = Watch(served), 0
             served.stdin.write(frame(NEXT_MANY, 0, 0, SCAN))
             served.stdin.flush()
             while True:
@@ -265,7 +295,7 @@ class Many(Job):
                 served.stdin.flush()
                 receive(served.stdout, length - 25)
                 found += count
-            took = time.perf_counter() - begun
+            took = watch.stop()
             if (status, found) != (AT_END, self.count):
                 raise SystemExit(f"log_beside: {found} records came, and then status {status}")
             receive(served.stdout, length - 1)
@@ -276,7 +306,7 @@ class Many(Job):
         begun = time.perf_counter()
         with self.log.room.started(self.log.room.plain, "cat", self.log.file, stdout=subprocess.PIPE) as plain:
             receive(plain.stdout, self.count * RECORD)
-            took = time.perf_counter() - begun
+            took = time.perf_counter() - begun, None
         return self.log.took(took)
 
 
@@ -297,10 +327,10 @@ class Reads(Job):
             begin(served)
             if self.before is not None:
                 self.ask(served, [frame(READ, *log.place(self.before))])
-            begun = time.perf_counter()
+            watch = Watch(served)
             for start in range(0, len(requests), self.window):
                 self.ask(served, requests[start:start + self.window])
-            took = time.perf_counter() - begun
+            took = watch.stop()
             served.stdin.close()
         return log.took(took)
 
@@ -317,7 +347,7 @@ class Reads(Job):
                 if len(os.pread(file.fileno(), RECORD, number * RECORD)) != RECORD:
                     raise SystemExit("log_beside: the plain file is too short")
             took = time.perf_counter() - begun
-        return Took(took, None)
+        return Took(took, None, None)
 
     def said(self, seconds):
         each = seconds / self.count
@@ -381,6 +411,8 @@ def row(job, found, loads):
         least = min(one.seconds for one in took)
         cells.append(job.said(middles[-1]) + (f" ({job.said(least)})" if len(took) > 1 else ""))
     cells.append(f"{middles[0] / middles[1]:,.2f}")
+    works = [took.work for took in found["pagedd"] if took.work is not None]
+    cells.append(job.said(statistics.median(works)) if works else "")
     memory = [max(one.memory for one in took) / MIB for took in found.values() if took[0].memory is not None]
     cells.append(", ".join(f"{most:,.0f}" for most in memory))
     cells.append(f"{min(loads):.1f} to {max(loads):.1f}")
@@ -416,7 +448,7 @@ def main():
         log = Log(room, given.mib, given.segment, given.digest)
         print(f"{machine(folder)}\n{given.mib:,} MiB of records of {RECORD:,} B, with their frames, in segments of"
               f" {given.segment:,} MiB, with {given.digest}; medians of {given.turns} turns, and the least in brackets\n")
-        heads = ["Job", "`pagedd`", "plain", "`pagedd` / plain", "MiB of memory: `pagedd`, plain", "load"]
+        heads = ["Job", "`pagedd`", "plain", "`pagedd` / plain", "processor", "MiB of memory: `pagedd`, plain", "load"]
         print(f"| {' | '.join(heads)} |\n|{'---|' * len(heads)}", flush=True)
         for name in [name for name in JOBS if name in given.only and (log.closed or name not in CLOSED)]:
             job = JOBS[name](log)

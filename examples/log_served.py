@@ -173,7 +173,7 @@ def wheres(program, folder):
     """What where answers, and the command of that name."""
     log = Session(program, folder, SMALL)
     expect(log.where() == Where(0, 0, (0, 0), 0, {}), "where says that a new log begins and ends at 0, 0")
-    places = log.append_all([some(number) for number in range(20)])
+    places = log.append_all([some(number) for number in range(18)])
     last, ends = places[-1][0], [log.read(place)[1] for place in places]
     closed = {number: Closed(sum(place[0] == number for place in places),
                              max(end for at, end in ends if at == number), False) for number in range(last)}
