@@ -13,8 +13,8 @@ use std::io;
 use std::marker::Model;
 use std::snapshot::Snapshot;
 
-/// A folder that holds the manifest and the open segment of its log, each opened once, for a look at
-/// them, and then handed out to the log. It passes all else on to another folder.
+/// A folder that holds the manifest and the open segment of its log, each opened once, for a look
+/// at them, and then handed out to the log. It passes all else on to another folder.
 #[derive(Drop)]
 pub struct HeldFolder<F: Folder<B>, B: Blob> {
     alloc: Global,
@@ -62,6 +62,15 @@ impl<F: Folder<B> + Drop, B: Blob + Drop> HeldFolder<F, B> {
             return Ok(false);
         }
         let blob = self.folder.open(file)?;
+        self.put(file, blob);
+        Ok(true)
+    }
+
+    // Holds a file that was opened.
+    fn put(&mut self, file: Asked, blob: B)
+        requires rests { IsDurable (B.life blob).present }
+        ensures { self.new ≡ self.old }
+    {
         match file {
             Asked::Manifest => self.manifest = Some(blob),
             Asked::Segment(number) => {
@@ -69,7 +78,6 @@ impl<F: Folder<B> + Drop, B: Blob + Drop> HeldFolder<F, B> {
                 self.number = number;
             }
         }
-        Ok(true)
     }
 
     /// The bytes of a file that is held; none where it isn't.
@@ -102,14 +110,21 @@ impl<F: Folder<B> + Drop, B: Blob + Drop> HeldFolder<F, B> {
         ensures same { self.new ≡ self.old }
         ensures rests { IfOk result (λ blob. IsDurable (B.life blob).present) }
     {
-        let held = match file {
+        match self.take_held(file) {
+            Some(blob) => Ok(blob),
+            None => self.folder.open(file),
+        }
+    }
+
+    // Takes a file out, if it is held.
+    fn take_held(&mut self, file: Asked) -> Option<B>
+        ensures same { self.new ≡ self.old }
+        ensures rests { IfSome result (λ blob. IsDurable (B.life blob).present) }
+    {
+        match file {
             Asked::Manifest => self.manifest.take(),
             Asked::Segment(number) if number == self.number => self.segment.take(),
             Asked::Segment(_) => None,
-        };
-        match held {
-            Some(blob) => Ok(blob),
-            None => self.folder.open(file),
         }
     }
 

@@ -93,9 +93,9 @@ pub fn take_next_many<F: Folder<B> + Drop, B: Blob + Cause + Drop, H: Sum, D: Di
     }
 }
 
-// The next records from a place on, as many as fit `most` bytes with twenty more for each; the first
-// one however long it is. The place moves behind the last one. None at the end of the log. An error
-// behind a record is left to the next call.
+// The next records from a place on, as many as fit `most` bytes with twenty more for each, and at
+// least one, however long it is. The place moves behind the last one. None at the end of the log.
+// An error behind a record is left to the next call.
 fn next_many<F: Folder<B> + Drop, B: Blob + Drop, H: Sum, D: Digest>(
     alloc: Global,
     log: &mut SegmentedLog<F, B, H, H, D>,

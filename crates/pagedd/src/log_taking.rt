@@ -130,7 +130,8 @@ fn refuse_closed<W: Write>(
     Ok(())
 }
 
-/// Answers a request after an error that left the log as it was: open, or closed by an error before.
+/// Answers a request after an error that left the log as it was: open, or closed by an error
+/// before.
 pub fn refuse_kept<W: Write>(
     alloc: Global,
     client: &Client,

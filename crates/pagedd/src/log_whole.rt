@@ -16,10 +16,10 @@ use segments::{Asked, Folder};
 /// How many bytes a frame has besides its record.
 const AROUND: u64 = 7;
 
-/// Opens and holds the manifest and the open segment of a log, and answers whether an opening of the
-/// log gives up nothing of them, and nothing is missing by the copy of the manifest. If the answer is
-/// `false`, the folder holds nothing, and a look at the log is to say why. Where a sync failed, a line
-/// says so.
+/// Opens and holds the manifest and the open segment of a log, and answers whether an opening of
+/// the log gives up nothing of them, and nothing is missing by the copy of the manifest. If the
+/// answer is `false`, the folder holds nothing, and a look at the log is to say why. If a sync
+/// failed, a line says so.
 pub fn hold_whole<F: Folder<B> + Drop, B: Blob + Drop, H: Sum>(
     rt: &HostRuntime,
     request: &Request,
@@ -57,7 +57,7 @@ fn hold_files<F: Folder<B> + Drop, B: Blob + Drop, H: Sum>(
     }
 }
 
-// Opens and holds a file. Answers whether that was done. Where a sync failed, a line says so, since a
+// Opens and holds a file. Answers whether that was done. If a sync failed, a line says so, since a
 // second one may succeed without what was written.
 fn hold<F: Folder<B> + Drop, B: Blob + Drop>(
     rt: &HostRuntime,
@@ -73,8 +73,8 @@ fn hold<F: Folder<B> + Drop, B: Blob + Drop>(
 }
 
 /// How many bytes the text of a log's file of these bytes has, if the file holds nothing else: each
-/// page has a value, all but the last are full, the last one has no bad slot, and the text ends with
-/// a frame. `None` for any other file.
+/// page has a value, all but the last are full, the last one has no bad slot, and the text ends
+/// with a frame. `None` for any other file.
 pub fn whole_len<H: Sum>(shape: Shape, bytes: &[u8]) -> Option<u64> {
     let len = pages_len::<H>(shape, bytes)?;
     let mut end = 0u64;
