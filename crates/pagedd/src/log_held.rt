@@ -182,7 +182,7 @@ impl<F: Folder<B> + Drop, B: Blob + Drop> Folder<B> for HeldFolder<F, B> {
         F::failed_sync(blob)
     }
 
-    /// A copy of a file that is held, which is locked, isn't read again.
+    /// A file that is held isn't read again: its bytes are copied.
     fn read(&mut self, file: Asked) -> io::Result<VecBlob> {
         match self.held(file) {
             Some(blob) => Ok(VecBlob::from_vec(Vec::from_slice(self.alloc, F::bytes(blob))?)),
@@ -234,11 +234,13 @@ impl<F: Folder<B> + Drop, B: Blob + Drop> Folder<B> for HeldFolder<F, B> {
         kept
     }
 
-    /// Nothing where the open segment is held: who holds it has compared it with what was known.
+    /// Nothing where the open segment is held: who holds it has compared it with what was known. A
+    /// copy of the manifest that can't be read is an error all the same.
     fn kept(&mut self) -> io::Result<Option<Known>> {
-        if self.segment.is_some() {
-            return Ok(None);
-        }
-        self.folder.kept()
+        let kept = self.folder.kept()?;
+        Ok(match &self.segment {
+            Some(_) => None,
+            None => kept,
+        })
     }
 }

@@ -108,21 +108,38 @@ fn next_many<F: Folder<B> + Drop, B: Blob + Drop, H: Sum, D: Digest>(
     let mut found = Vec::new(alloc);
     let mut left = most;
     for _ in 0..u64::MAX {
-        let mut behind = *place;
-        let (at, bytes) = match log.next(&mut behind) {
-            Ok(Some(next)) => next,
-            Err(error) if found.is_empty() => return Err(error),
-            Ok(None) | Err(_) => break,
-        };
-        let taken = bytes.len().saturating_add(MANY_EACH);
-        if taken > left && !found.is_empty() {
+        if !take_one(log, place, &mut left, &mut found)? {
             break;
         }
-        found.push((at, bytes))?;
-        left = left.saturating_sub(taken);
-        *place = behind;
     }
     Ok(found)
+}
+
+// Takes the next record, unless others were taken and it doesn't fit the bytes that are left, and
+// moves the place behind it. Answers whether it was taken.
+fn take_one<F: Folder<B> + Drop, B: Blob + Drop, H: Sum, D: Digest>(
+    log: &mut SegmentedLog<F, B, H, H, D>,
+    place: &mut Place,
+    left: &mut usize,
+    found: &mut Vec<Placed>,
+) -> Result<bool, Error>
+    requires log { IsLog H.sum_of H.sum_of log.old }
+    ensures log { IsLog H.sum_of H.sum_of log.new }
+{
+    let mut behind = *place;
+    let (at, bytes) = match log.next(&mut behind) {
+        Ok(Some(next)) => next,
+        Err(error) if found.is_empty() => return Err(error),
+        Ok(None) | Err(_) => return Ok(false),
+    };
+    let taken = bytes.len().saturating_add(MANY_EACH);
+    if taken > *left && !found.is_empty() {
+        return Ok(false);
+    }
+    found.push((at, bytes))?;
+    *left = left.saturating_sub(taken);
+    *place = behind;
+    Ok(true)
 }
 
 // Writes the place behind the last of these records, how many they are, the place and the length of

@@ -20,31 +20,8 @@ pub fn where_log<H: Sum, D: Digest>(
     to: u64,
 ) -> Result<Status, Status> {
     let (first, last) = (log.first_segment(), log.last_segment());
-    if request.json {
-        print_front(rt, request, first, last)?;
-    } else {
-        or_end(
-            rt,
-            println!(rt; "{} has a log: segments {first} to {last}", request.file),
-        )?;
-    }
-    let mut mark = "";
-    for number in from.max(first)..to.min(last) {
-        let Some(closed) = log.closed(number) else {
-            continue;
-        };
-        let told = if request.json {
-            print_kept(rt, number, &closed, mark)
-        } else {
-            println!(rt;
-                "segment {number}: {} records, {}",
-                closed.records,
-                Size(&closed)
-            )
-        };
-        or_end(rt, told)?;
-        mark = ",";
-    }
+    tell_front(rt, request, first, last)?;
+    tell_closed::<H, D>(rt, request, log, from.max(first), to.min(last))?;
     let count = log.len().unwrap_or(u64::MAX);
     or_end(
         rt,
@@ -54,7 +31,14 @@ pub fn where_log<H: Sum, D: Digest>(
 }
 
 // Prints what stands in front of the closed segments.
-fn print_front(rt: &HostRuntime, request: &Request, first: u64, last: u64) -> Result<(), Status> {
+fn tell_front(rt: &HostRuntime, request: &Request, first: u64, last: u64) -> Result<(), Status> {
+    if !request.json {
+        let file = request.file;
+        return or_end(
+            rt,
+            println!(rt; "{file} has a log: segments {first} to {last}"),
+        );
+    }
     let file = quoted(rt, request.file)?;
     let page_size = request.shape.page_size;
     let checksum = request.shape.checksum.name();
@@ -65,16 +49,45 @@ fn print_front(rt: &HostRuntime, request: &Request, first: u64, last: u64) -> Re
     or_end(rt, printed)
 }
 
+// Prints what was kept of the closed segments from `from` to before `to`.
+fn tell_closed<H: Sum, D: Digest>(
+    rt: &HostRuntime,
+    request: &Request,
+    log: &LogCopy<H, D>,
+    from: u64,
+    to: u64,
+) -> Result<(), Status> {
+    let mut is_first = true;
+    for number in from..to {
+        if let Some(closed) = log.closed(number) {
+            or_end(
+                rt,
+                print_kept(rt, request.json, number, &closed, is_first),
+            )?;
+            is_first = false;
+        }
+    }
+    Ok(())
+}
+
 // Prints what was kept of a closed segment.
-fn print_kept(rt: &HostRuntime, number: u64, closed: &Closed, mark: &str) -> io::Result<()> {
+fn print_kept(
+    rt: &HostRuntime,
+    is_json: bool,
+    number: u64,
+    closed: &Closed,
+    is_first: bool,
+) -> io::Result<()> {
+    let records = closed.records;
+    if !is_json {
+        return println!(rt; "segment {number}: {records} records, {}", Size(closed));
+    }
+    let mark = if is_first { "" } else { "," };
     let (what, len) = match &closed.fingerprint {
         Fingerprint::Whole(kept) => ("bytes", kept.len),
         Fingerprint::Paged(kept) => ("content_bytes", kept.seal.len),
     };
-    print!(rt;
-        "{mark}{{\"segment\":{number},\"records\":{},\"{what}\":{len}}}",
-        closed.records
-    )
+    print!(rt; "{mark}{{\"segment\":{number},\"records\":{records},\"{what}\":{len}}}")
 }
 
 // Prints where the log ends, how many records the open segment has, and how many the log.

@@ -73,8 +73,8 @@ fn hold<F: Folder<B> + Drop, B: Blob + Drop>(
 }
 
 /// How many bytes the text of a log's file of these bytes has, if the file holds nothing else: each
-/// page has a value, all but the last are full, the last one has no bad slot, and the text ends
-/// with a frame. `None` for any other file.
+/// page has a value, all but the last are full, a last one that isn't full has no bad slot, and the
+/// text ends with a frame. `None` for any other file.
 pub fn whole_len<H: Sum>(shape: Shape, bytes: &[u8]) -> Option<u64> {
     let len = pages_len::<H>(shape, bytes)?;
     let mut end = 0u64;
@@ -89,7 +89,7 @@ pub fn whole_len<H: Sum>(shape: Shape, bytes: &[u8]) -> Option<u64> {
 }
 
 // How many bytes the values of the pages have, if each page has one, all but the last are full, and
-// the last one has no bad slot.
+// a last one that isn't full has no bad slot.
 fn pages_len<H: Sum>(shape: Shape, bytes: &[u8]) -> Option<u64> {
     let full = usize::from(shape.page_size.get());
     let size = physical_page_size(shape.page_size) as usize;
