@@ -677,7 +677,11 @@ def short_open(program, folder):
     status, out, said = play(program, "serve-log", folder)
     expect((status, out) == (3, b"") and "older than its copy" in said,
            f"a log whose manifest's copy knows a later segment is refused: {said.strip()}")
-    os.remove(os.path.join(folder, "manifest.copy"))
+    copy = os.path.join(folder, "manifest.copy")
+    os.remove(copy)
+    os.mkdir(copy)
+    expect(play(program, "serve-log", folder)[:2] == (1, b""), "nor is one opened whose manifest's copy can't be read")
+    os.rmdir(copy)
     expect(play(program, "serve-log", folder)[0] == 0, "without that copy it is opened")
 
 
