@@ -14,7 +14,8 @@ use std::marker::Model;
 use std::snapshot::Snapshot;
 
 /// A folder that holds the manifest and the open segment of its log, each opened once, for a look
-/// at them, and then handed out to the log. It passes all else on to another folder.
+/// at them, and then handed out to the log. Its record of calls has what the log asked for: an
+/// opening stands there once the file is handed out. It passes all else on to another folder.
 #[derive(Drop)]
 pub struct HeldFolder<F: Folder<B>, B: Blob> {
     alloc: Global,
