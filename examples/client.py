@@ -60,6 +60,8 @@ class Blob:
 
     # What the hello of version 2 tells.
     page_size = checksum = read_only = cut = given_up = copy = limits = None
+    # What the hello has behind these.
+    rest = b""
 
     def __init__(self, program, path):
         self.open([program, "serve", path])
@@ -100,6 +102,7 @@ class Blob:
             names.append(hello[at + 8:at + 8 + length].decode(errors="replace"))
             at += 8 + length
         self.checksum, self.copy = names
+        self.rest = hello[at:]
 
     def send(self, data):
         try:

@@ -4,8 +4,10 @@
 A log of records of 1,000 bytes, which has --mib MiB with their frames, in segments of --segment MiB. The plain side
 has the same records in one file, one after the other, and checks no byte: plain.c, which this script compiles, or the
 calls of Python itself. Each job is played --turns times on each side, by turns. Printed are medians, the least time in
-brackets, the ratio of the medians, the most memory of each program, and how many tasks the system had to do beside
-(the load of the last minute, as `uptime` tells it): a figure that was taken under load is too slow.
+brackets, the ratio of the medians, how long a processor worked for `pagedd` meanwhile, where the system tells it (so much
+of the time is no wait for the disk, the pipe, or other tasks), the most memory of each program, and how many tasks the
+system had to do beside (the load of the last minute, as `uptime` tells it): a figure that was taken under load is too
+slow, and the processor's time less so.
 
   append  all records by batches of 1,000, each a request, and one sync_size at the end; a batch is sent while the one
           before is taken. The plain program gets the records by a pipe too, writes them by 64 KiB, and ends with an
@@ -15,18 +17,21 @@ brackets, the ratio of the medians, the most memory of each program, and how man
   open    from the start of the program until its greeting has come: the open segment is as full as it gets. The
           plain program reads the file of that segment into memory, and ends
   scan    `pagedd cat FOLDER` to /dev/null, and the plain program as `plain cat FILE`
+  many    all records by next_many, each request for 1 MiB and sent once the place of it has come; the plain program
+          as `plain cat FILE` to a pipe
   recent  10,000 reads by place in the open segment, at random, 500 of them at once; for the plain side pread
   one     the same in one closed segment, once the first read of it is answered
   sorted  10,000 reads over all segments, sorted by place: each closed segment is opened once
   first   reads by place of closed segments, each of another one than that before, one after the other: each opens a
           file and its list, and compares the pages that it touches. The plain side: pread at the same places
 
-The last three are left out where no segment is closed. The files are made in a new folder below --folder, and removed.
-That should be on the disk of interest. There is to be room for twice --mib.
+The last three are left out where no segment is closed. --digest is that of `pagedd`. The files are made in a new folder
+below --folder, and removed. That should be on the disk of interest. There is to be room for twice --mib.
 """
 import argparse
 import os
 import random
+import resource
 import shutil
 import signal
 import statistics
@@ -40,7 +45,7 @@ from collections import namedtuple
 import usage
 from beside import GREETING, MIB, OFFER, Room, frame, machine, meet, receive
 from client import CLOSE, READ, batch
-from log_client import APPEND_RECORDS, APPEND_RECORDS_SYNC, SYNC_SIZE
+from log_client import APPEND_RECORDS, APPEND_RECORDS_SYNC, AT_END, NEXT_MANY, SCAN, SYNC_SIZE
 
 RECORD, FRAME = 1000, 1007
 # The records of a batch, how many batches with a sync are timed, and how many reads; how many of these are at once, and
@@ -49,15 +54,39 @@ GROUP, SYNCS, READS, WINDOW, FIRSTS = 1000, 64, 10_000, 500, 20
 # How long the answer to a read is.
 FOUND = 4 + 1 + 8 + 1 + RECORD
 
-# What a turn took: its seconds, and the most memory, in bytes; none where the script itself did it.
-Took = namedtuple("Took", "seconds memory")
+# What a turn took: its seconds, the most memory, in bytes, and the seconds of the processor; none where the script itself
+# did it, and no last one where the system tells none.
+Took = namedtuple("Took", "seconds memory work")
+
+
+class Watch:
+    """The time of a program that runs under `plain run`, from now on: by the clock, and of the processor."""
+
+    def __init__(self, process, from_start=False):
+        self.process = process
+        self.worked = 0 if from_start else self.work()
+        self.begun = time.perf_counter()
+
+    def work(self):
+        try:
+            with open(f"/proc/{self.process.pid}/task/{self.process.pid}/children", encoding="ascii") as children:
+                child = children.read().split()[0]
+            with open(f"/proc/{child}/schedstat", encoding="ascii") as told:
+                return int(told.read().split()[0]) / 1e9
+        except (OSError, IndexError):
+            return None
+
+    def stop(self):
+        """Both times."""
+        seconds, work = time.perf_counter() - self.begun, self.work()
+        return seconds, None if None in (work, self.worked) else work - self.worked
 
 
 class Log:
     """A log and a plain file of the same records, in a room."""
 
-    def __init__(self, room, mib, segment):
-        self.room, self.segment = room, segment * MIB
+    def __init__(self, room, mib, segment, digest):
+        self.room, self.segment, self.digest = room, segment * MIB, f"--digest={digest}"
         self.folder, self.file = room.path("log"), room.path("file")
         self.count = mib * MIB // FRAME
         # So many records are in each closed segment.
@@ -77,12 +106,12 @@ class Log:
 
     def serve(self, *options):
         """The log, served."""
-        words = [self.room.pagedd, "serve-log", f"--segment-size={self.segment}", *options, self.folder]
+        words = [self.room.pagedd, "serve-log", f"--segment-size={self.segment}", self.digest, *options, self.folder]
         return self.room.started(*words, stdin=subprocess.PIPE, stdout=subprocess.PIPE)
 
-    def took(self, seconds):
-        """What the program took that ran last."""
-        return Took(seconds, self.room.run().memory)
+    def took(self, times):
+        """What the program took that ran last, in these times."""
+        return Took(times[0], self.room.run().memory, times[1])
 
     def append_all(self):
         """Appends all records, and answers the seconds until they are durable."""
@@ -90,7 +119,7 @@ class Log:
         request = frame(APPEND_RECORDS, data=batch(self.records))
         with self.serve() as log:
             begin(log)
-            begun, waits = time.perf_counter(), 0
+            watch, waits = Watch(log), 0
             for records in self.batches():
                 whole = len(records) == GROUP
                 log.stdin.write(request if whole else frame(APPEND_RECORDS, data=batch(records)))
@@ -102,7 +131,7 @@ class Log:
             receive(log.stdout, waits, framed=True)
             if log.stdout.read(13) != struct.pack("<IBQ", 9, 0, self.count):
                 raise SystemExit("log_beside: not all records were appended")
-            took = time.perf_counter() - begun
+            took = watch.stop()
             log.stdin.close()
         return took
 
@@ -115,7 +144,7 @@ class Log:
             for records in self.batches():
                 plain.stdin.write(content[:len(records) * RECORD])
             plain.stdin.close()
-        return time.perf_counter() - begun
+        return time.perf_counter() - begun, None
 
     def make(self):
         """Makes both, where they aren't there yet."""
@@ -175,12 +204,12 @@ class Sync(Job):
         request = frame(APPEND_RECORDS_SYNC, data=batch(log.records))
         with log.serve() as served:
             begin(served)
-            begun = time.perf_counter()
+            watch = Watch(served)
             for _ in range(SYNCS):
                 served.stdin.write(request)
                 served.stdin.flush()
                 receive(served.stdout, 5 + 16 * GROUP, framed=True)
-            took = time.perf_counter() - begun
+            took = watch.stop()
             served.stdin.close()
         shutil.rmtree(log.folder)
         return log.took(took)
@@ -194,7 +223,7 @@ class Sync(Job):
                 os.fdatasync(file.fileno())
             took = time.perf_counter() - begun
         self.log.room.fresh("file")
-        return Took(took, None)
+        return Took(took, None, None)
 
     def said(self, seconds):
         return f"{seconds / SYNCS * 1e3:,.2f} ms each, {SYNCS * GROUP / seconds:,.0f} records a second"
@@ -211,14 +240,15 @@ class Open(Job):
     def pagedd(self):
         begun = time.perf_counter()
         with self.log.serve() as served:
+            watch = Watch(served, from_start=True)
             receive(served.stdout, GREETING)
-            took = time.perf_counter() - begun
+            took = time.perf_counter() - begun, watch.stop()[1]
             served.stdin.close()
         return self.log.took(took)
 
     def plain(self):
         run = self.log.room.from_file("close", None, self.log.room.plain, "load", self.last)
-        return Took(run.times[0], run.memory)
+        return Took(run.times[0], run.memory, None)
 
 
 class Scan(Job):
@@ -229,16 +259,55 @@ class Scan(Job):
         self.count = self.log.count
 
     def to_nothing(self, *command):
+        before = resource.getrusage(resource.RUSAGE_CHILDREN)
         with self.log.room.started(*command, stdout=subprocess.DEVNULL):
             pass
-        run = self.log.room.run()
-        return Took(run.times[0], run.memory)
+        after, run = resource.getrusage(resource.RUSAGE_CHILDREN), self.log.room.run()
+        work = after.ru_utime - before.ru_utime + after.ru_stime - before.ru_stime
+        return Took(run.times[0], run.memory, work)
 
     def pagedd(self):
-        return self.to_nothing(self.log.room.pagedd, "cat", self.log.folder)
+        return self.to_nothing(self.log.room.pagedd, "cat", self.log.digest, self.log.folder)
 
     def plain(self):
         return self.to_nothing(self.log.room.plain, "cat", self.log.file)
+
+
+class Many(Job):
+    does = "reading all records by the protocol, 1 MiB at once"
+
+    def prepare(self):
+        super().prepare()
+        self.count = self.log.count
+
+    def pagedd(self):
+        with self.log.serve() as served:
+            begin(served)
+            watch, found = Watch(served), 0
+            served.stdin.write(frame(NEXT_MANY, 0, 0, SCAN))
+            served.stdin.flush()
+            while True:
+                length, status = struct.unpack("<IB", served.stdout.read(5))
+                if status != 0:
+                    break
+                segment, offset, count = struct.unpack("<3Q", served.stdout.read(24))
+                served.stdin.write(frame(NEXT_MANY, segment, offset, SCAN))
+                served.stdin.flush()
+                receive(served.stdout, length - 25)
+                found += count
+            took = watch.stop()
+            if (status, found) != (AT_END, self.count):
+                raise SystemExit(f"log_beside: {found} records came, and then status {status}")
+            receive(served.stdout, length - 1)
+            served.stdin.close()
+        return self.log.took(took)
+
+    def plain(self):
+        begun = time.perf_counter()
+        with self.log.room.started(self.log.room.plain, "cat", self.log.file, stdout=subprocess.PIPE) as plain:
+            receive(plain.stdout, self.count * RECORD)
+            took = time.perf_counter() - begun, None
+        return self.log.took(took)
 
 
 class Reads(Job):
@@ -258,10 +327,10 @@ class Reads(Job):
             begin(served)
             if self.before is not None:
                 self.ask(served, [frame(READ, *log.place(self.before))])
-            begun = time.perf_counter()
+            watch = Watch(served)
             for start in range(0, len(requests), self.window):
                 self.ask(served, requests[start:start + self.window])
-            took = time.perf_counter() - begun
+            took = watch.stop()
             served.stdin.close()
         return log.took(took)
 
@@ -278,7 +347,7 @@ class Reads(Job):
                 if len(os.pread(file.fileno(), RECORD, number * RECORD)) != RECORD:
                     raise SystemExit("log_beside: the plain file is too short")
             took = time.perf_counter() - begun
-        return Took(took, None)
+        return Took(took, None, None)
 
     def said(self, seconds):
         each = seconds / self.count
@@ -318,8 +387,8 @@ class First(Reads):
         return [segment * self.log.each + self.log.rng.randrange(self.log.each) for segment in segments]
 
 
-JOBS = {"sync": Sync, "append": Append, "open": Open, "scan": Scan, "recent": Recent, "one": One, "sorted": Sorted,
-        "first": First}
+JOBS = {"sync": Sync, "append": Append, "open": Open, "scan": Scan, "many": Many, "recent": Recent, "one": One,
+        "sorted": Sorted, "first": First}
 CLOSED = ("one", "sorted", "first")
 
 
@@ -342,6 +411,8 @@ def row(job, found, loads):
         least = min(one.seconds for one in took)
         cells.append(job.said(middles[-1]) + (f" ({job.said(least)})" if len(took) > 1 else ""))
     cells.append(f"{middles[0] / middles[1]:,.2f}")
+    works = [took.work for took in found["pagedd"] if took.work is not None]
+    cells.append(job.said(statistics.median(works)) if works else "")
     memory = [max(one.memory for one in took) / MIB for took in found.values() if took[0].memory is not None]
     cells.append(", ".join(f"{most:,.0f}" for most in memory))
     cells.append(f"{min(loads):.1f} to {max(loads):.1f}")
@@ -353,6 +424,8 @@ def words():
     parser.add_argument("PAGEDD", type=usage.program)
     parser.add_argument("--mib", type=usage.count, default=64, help="the records of the log and their frames (64)")
     parser.add_argument("--segment", type=usage.count, default=64, help="from how many MiB on a segment is closed (64)")
+    parser.add_argument("--digest", choices=("sha512-256", "poly61"), default="sha512-256",
+                        help="the digest of the pages of closed segments (sha512-256)")
     parser.add_argument("--turns", type=usage.count, default=5, help="how many times each job is played (5)")
     parser.add_argument("--only", nargs="+", choices=JOBS, default=list(JOBS), metavar="JOB", help="only these jobs")
     parser.add_argument("--folder", default=".", help="below which folder files are made (this one)")
@@ -372,10 +445,10 @@ def main():
         folder = os.path.abspath(folder)
         room = Room(folder, given.PAGEDD, 0)
         room.fill("close", [OFFER + frame(CLOSE)])
-        log = Log(room, given.mib, given.segment)
+        log = Log(room, given.mib, given.segment, given.digest)
         print(f"{machine(folder)}\n{given.mib:,} MiB of records of {RECORD:,} B, with their frames, in segments of"
-              f" {given.segment:,} MiB; medians of {given.turns} turns, and the least in brackets\n")
-        heads = ["Job", "`pagedd`", "plain", "`pagedd` / plain", "MiB of memory: `pagedd`, plain", "load"]
+              f" {given.segment:,} MiB, with {given.digest}; medians of {given.turns} turns, and the least in brackets\n")
+        heads = ["Job", "`pagedd`", "plain", "`pagedd` / plain", "processor", "MiB of memory: `pagedd`, plain", "load"]
         print(f"| {' | '.join(heads)} |\n|{'---|' * len(heads)}", flush=True)
         for name in [name for name in JOBS if name in given.only and (log.closed or name not in CLOSED)]:
             job = JOBS[name](log)

@@ -19,8 +19,8 @@ import tempfile
 import reader
 import usage
 from client import APPEND, CLOSE, READ, SIZE, SYNC, Refusal, batch
-from log_client import (APPEND_RECORDS, APPEND_RECORDS_SYNC, AT_END, CLOSED, DAMAGED, DROP_BEFORE, FLUSH, NEXT,
-                        NO_RECORDS, NO_SEGMENT, READ_ONLY, SYNC_SIZE, SYSTEM, Log)
+from log_client import (APPEND_RECORDS, APPEND_RECORDS_SYNC, AT_END, CLOSED, DAMAGED, DROP_BEFORE, FLUSH, GREATEST, NEXT,
+                        NEXT_MANY, NO_RECORDS, NO_SEGMENT, READ_ONLY, SYNC_SIZE, SYSTEM, WHERE, Closed, Log, Where)
 from statuses import contents, put
 
 SMALL = "--segment-size=300"
@@ -165,12 +165,124 @@ def version_two(program, folder):
            "so do those of places that aren't there")
     log.drop_before(1)
     expect(log.status(READ, 0, 0) == NO_SEGMENT and next(log.records())[0] == (1, 0), "a drop is as in version 1")
+    expect(tuple(log.kinds) == (1, 2, 5, 6, 7, 16, 17, 18, 21, 25, 27, 28, 29), "the hello lists the kinds of requests")
     expect(log.end() == (0, ""), "a close ends it with status 0")
+
+
+def wheres(program, folder):
+    """What where answers, and the command of that name."""
+    log = Session(program, folder, SMALL)
+    expect(log.where() == Where(0, 0, (0, 0), 0, {}), "where says that a new log begins and ends at 0, 0")
+    places = log.append_all([some(number) for number in range(18)])
+    last, ends = places[-1][0], [log.read(place)[1] for place in places]
+    closed = {number: Closed(sum(place[0] == number for place in places),
+                             max(end for at, end in ends if at == number), False) for number in range(last)}
+    inside = sum(place[0] == last for place in places)
+    whole = Where(0, last, ends[-1], inside, closed)
+    expect(log.where() == whole, "where says where a log begins and ends, and what each closed segment has")
+    expect(log.status(READ, *log.where().end) == AT_END and log.append(b"more") == whole.end,
+           "the next append puts its record at the end")
+    inside, end = inside + 1, (last, whole.end[1] + 7 + 4)
+    for start, stop in ((1, 3), (0, 1), (last - 1, last), (last - 1, GREATEST), (0, last), (1, last + 7)):
+        wanted = {number: it for number, it in closed.items() if start <= number < stop}
+        expect(log.where(start, stop) == Where(0, last, end, inside, wanted), f"of segments {start} to {stop} it says only these")
+    for start, stop in ((0, 0), (2, 2), (3, 1), (last, GREATEST), (GREATEST, GREATEST), (GREATEST, 0)):
+        expect(log.where(start, stop) == Where(0, last, end, inside, {}),
+               f"there is no closed segment from {start} to before {stop}")
+    log.drop_before(2)
+    for number in (0, 1):
+        del closed[number]
+    expect(log.where() == Where(2, last, end, inside, closed) == log.where(0, last), "dropped segments aren't among them")
+    log.ask(SYNC)
+    expect(log.end() == (0, ""), "and it ends well")
+    told = json.loads(play(program, "where", "--json", folder)[1])
+    expect((told["first"], told["last"], told["open"], told["records"])
+           == (2, last, {"segment": last, "records": inside, "end": end[1]},
+               inside + sum(it.records for it in closed.values()))
+           and told["closed"] == [{"segment": number, "records": it.records, "content_bytes": it.bytes}
+                                  for number, it in closed.items()], "so says pagedd where --json")
+    lines = play(program, "where", folder)[1].decode().splitlines()
+    expect(lines[0] == f"{folder} has a log: segments 2 to {last}" and len(lines) == last - 2 + 3
+           and lines[-2] == f"segment {last}: open, {inside} records; it ends at offset {end[1]}"
+           and lines[1] == f"segment 2: {closed[2].records} records, {closed[2].bytes} content bytes",
+           "and pagedd where, in lines")
+    some_of = json.loads(play(program, "where", "--json", "--from", "3", "--to", "4", folder)[1])
+    expect([it["segment"] for it in some_of["closed"]] == [3], "with --from and --to these alone")
+    expect(json.loads(play(program, "where", "--json", "--from", "9", "--to", "3", folder)[1])["closed"] == [],
+           "and none where there is none")
+
+
+def scans(program, folder):
+    """Many records by one request."""
+    log = Session(program, folder, SMALL)
+    expect(log.status(NEXT_MANY, 0, 0, 100) == AT_END, "a log without records has none")
+    records = [some(number) for number in range(20)] + [b""] * 3 + [bytes(MOST)]
+    places = log.append_all(records)
+    pairs, end = list(zip(places, records)), log.where().end
+    expect(list(log.records()) == pairs == list(log.one_by_one((0, 0))), "many at once are those that come one by one")
+    size = [20 + len(data) for data in records]
+    for most, count in ((0, 1), (1, 1), (size[0], 1), (size[0] + size[1] - 1, 1), (size[0] + size[1], 2),
+                        (sum(size[:9]), 9), (sum(size[:23]), 23), (sum(size) - 1, 23), (sum(size), 24), (GREATEST, 24)):
+        found, behind = log.next_many((0, 0), most)
+        wanted = end if count == 24 else places[count]
+        # (behind the last record of a segment that is its end, and not yet the next one's start)
+        same = behind == wanted or wanted == (behind[0] + 1, 0)
+        if found != pairs[:count] or not same or log.next_many(behind, 0)[0] != pairs[count:count + 1]:
+            raise SystemExit(f"NOT SO: {most} bytes hold {count} records: {len(found)}, {behind}")
+        print(f"{most} bytes of an answer hold {count} records, with 20 bytes for each, and one at least")
+    expect(all(log.next_many(place, 30)[0] == pairs[number:number + 1] for number, place in enumerate(places[:20])),
+           "it begins at any place")
+    expect(log.status(NEXT_MANY, *end, GREATEST) == AT_END, "at the end of the log it is refused with 6")
+    expect([log.status(NEXT_MANY, number, 0, 100) for number in (end[0] + 1, GREATEST)] == [NO_SEGMENT] * 2
+           and log.status(NEXT_MANY, end[0], GREATEST, 100) == AT_END,
+           "from a segment that isn't there it is refused with 38, and behind the end with 6")
+    log.drop_before(1)
+    expect(log.status(NEXT_MANY, 0, 7, 100) == NO_SEGMENT and log.next_many((0, 0))[0][0][0] == (1, 0),
+           "from a dropped segment it is refused with 38, and from 0, 0 on it begins at the first that is left")
+    many = [bytes(MOST)] * 300
+    log.append_all(many)
+    found, behind = log.next_many(end, GREATEST)
+    expect(sum(20 + len(data) for _, data in found) <= 1 << 24 < sum(20 + len(data) for _, data in found) + 20 + MOST,
+           "however many bytes are asked for, the records of an answer have 16 MiB at most")
+    rest = log.next_many(behind, GREATEST)[0]
+    expect([data for _, data in found + rest] == many, "and the next request goes on behind them")
+    log.end()
+    put(segment(folder, 3), flipped(contents(segment(folder, 3)), 10))
+    log = Session(program, folder, SMALL)
+    before = [pair for pair in pairs if 1 <= pair[0][0] < 3]
+    found, behind = log.next_many((0, 0), GREATEST)
+    expect(found == before and log.status(NEXT_MANY, *behind, GREATEST) == DAMAGED,
+           "records before a damaged page come, and the next request is refused with 39")
+    expect(log.next_many((4, 0), 0)[0] == [pair for pair in pairs if pair[0][0] == 4][:1], "later segments are read")
+    log.end()
+
+
+def reads_once(program, folder):
+    """An opening reads each file once, as the system counts bytes."""
+    if not os.path.exists("/proc/self/io"):
+        print("how much an opening reads isn't told by this system")
+        return
+    log = Session(program, folder, "--segment-size=3000000")
+    log.append_all([bytes(MOST)] * 100)
+    log.end()
+    length = os.path.getsize(segment(folder, log_end(program, folder)))
+    for options in ([], ["--read-only"]):
+        for _ in range(2):
+            log = Session(program, folder, *options)
+            with open(f"/proc/{log.process.pid}/io", encoding="ascii") as told:
+                count = int(told.readline().split()[1])
+            expect(length <= count < 1.1 * length + (1 << 16) and log.end() == (0, ""),
+                   f"an opening of {length} bytes reads {count}")
+
+
+def log_end(program, folder):
+    """The number of a log's open segment."""
+    return json.loads(play(program, "where", "--json", folder)[1])["last"]
 
 
 def wrong_frames(program, folder):
     shutil.rmtree(folder, ignore_errors=True)
-    kinds = {1: (1, 2, 5, 6, 7, 16, 27), 2: (1, 2, 5, 6, 7, 16, 17, 18, 21, 25, 27)}
+    kinds = {1: (1, 2, 5, 6, 7, 16, 27), 2: (1, 2, 5, 6, 7, 16, 17, 18, 21, 25, 27, 28, 29)}
     for version, begun in ((1, b"\x01"), (2, OFFER)):
         hello = len(play(program, "serve-log", folder, given=begun)[1])
         for kind in range(256):
@@ -193,6 +305,12 @@ def wrong_frames(program, folder):
             answer = b"" if version == 1 else struct.pack("<IBBQQ", 18, told, 2, 0, 0)
             if status != 2 or out[hello + 13:] != answer or not said.startswith("pagedd: request 2: "):
                 raise SystemExit(f"NOT SO: {frame} is no request of version {version}: {status} {out} {said}")
+        if version == 2:
+            lengths = [struct.pack("<IBQ", 9, WHERE, 0), struct.pack("<IBQQ", 17, NEXT_MANY, 0, 0)]
+            for frame in lengths:
+                status, out, _ = play(program, "serve-log", folder, given=begun + frame)
+                expect((status, out[hello:]) == (2, struct.pack("<IBBQQ", 18, 35, 2, 0, 0)),
+                       f"a request of kind {frame[4]} has all its fields")
         print(f"frames that are none end version {version} with status 2, after what came before was answered")
     greeting = b"\x01" + struct.pack("<IBQ", 9, 0, 0)
     expect(play(program, "serve-log", folder, given=b"\x03")[:2] == (2, greeting),
@@ -398,8 +516,13 @@ def older_log(program, folder):
                and log.end() == (0, "") and [play(program, words, *options, folder)[0] for words in ("check", "map", "cat")]
                == [0, 0, 0] and image(folder) == before, "a log of the form before is read, and is whole")
     told = json.loads(play(program, "check", "--json", folder)[1])["closed"]
-    expect([(it["bytes"], it["state"]) for it in told] == [(len(before[os.path.basename(segment("", n))]), "whole")
-                                                            for n in range(last)], "check tells the bytes of its files")
+    lengths = [len(before[os.path.basename(segment("", number))]) for number in range(last)]
+    expect([(it["bytes"], it["state"]) for it in told] == [(length, "whole") for length in lengths],
+           "check tells the bytes of its files")
+    log = Session(program, folder, "--read-only")
+    expect([(it.bytes, it.of_file) for it in log.where().closed.values()] == [(length, True) for length in lengths]
+           and log.end() == (0, "") and [it["bytes"] for it in json.loads(play(program, "where", "--json", folder)[1])["closed"]]
+           == lengths, "so does where, which says that they are those of files")
     log = Session(program, folder, SMALL)
     more = log.append_all([some(number) for number in range(20, 40)])
     expect([data for _, data in log.records()] == [some(number) for number in range(40)] and log.end() == (0, ""),
@@ -554,7 +677,11 @@ def short_open(program, folder):
     status, out, said = play(program, "serve-log", folder)
     expect((status, out) == (3, b"") and "older than its copy" in said,
            f"a log whose manifest's copy knows a later segment is refused: {said.strip()}")
-    os.remove(os.path.join(folder, "manifest.copy"))
+    copy = os.path.join(folder, "manifest.copy")
+    os.remove(copy)
+    os.mkdir(copy)
+    expect(play(program, "serve-log", folder)[:2] == (1, b""), "nor is one opened whose manifest's copy can't be read")
+    os.rmdir(copy)
     expect(play(program, "serve-log", folder)[0] == 0, "without that copy it is opened")
 
 
@@ -679,7 +806,7 @@ def commands(program, folder):
                   ["salvage", folder, out, "CUT"], ["salvage", "--json", file, out], ["rebuild", file],
                   ["copy", file, out], ["copy", folder, os.path.join(folder, "in")], ["copy", folder, file],
                   ["serve", folder], [folder], ["cat", "--from", "3", folder], ["cat", "--len", "3", folder],
-                  ["map", "--from", "99", folder]):
+                  ["map", "--from", "99", folder], ["where", file], ["where", folder + "-not"]):
         status, out, said = play(program, *words)
         expect((status, out, said.count("\n")) == (1, b"", 1), f"pagedd {words[0]} is refused: {said.strip()}")
     status, out, said = play(program, "serve-log", "--segment-size=0", folder)
@@ -708,8 +835,8 @@ def main():
     made.add_argument("PAGEDD", type=usage.program)
     program = made.parse_args().PAGEDD
     with tempfile.TemporaryDirectory() as room:
-        parts = (version_one, version_two, wrong_frames, in_order, alone, tampering, pages, digests, older_log, older_manifest,
-                 short_open, torn, begun, closed_by_a_failure, full, commands, documented)
+        parts = (version_one, version_two, wheres, scans, reads_once, wrong_frames, in_order, alone, tampering, pages, digests,
+                 older_log, older_manifest, short_open, torn, begun, closed_by_a_failure, full, commands, documented)
         for number, part in enumerate(parts):
             part(program, os.path.join(room, f"log-{number}"))
     print("all is so")

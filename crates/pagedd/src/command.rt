@@ -19,7 +19,7 @@ Exit status:
   141  the output was closed by its reader";
 
 /// The commands, and what each does.
-const COMMANDS: [(&str, &str); 11] = [
+const COMMANDS: [(&str, &str); 12] = [
     ("serve", "serves FILE, and makes it where it is missing"),
     (
         "serve-log",
@@ -36,6 +36,10 @@ const COMMANDS: [(&str, &str); 11] = [
     (
         "map",
         "draws the pages of FILE, or the segments of a log's folder, one mark each",
+    ),
+    (
+        "where",
+        "tells where the log in FOLDER begins and ends, and what its segments have",
     ),
     (
         "cat",
@@ -115,7 +119,7 @@ const ROWS: [Row; 24] = [
         takes: Takes::Word,
         default: None,
         help: "the folder of the log",
-        commands: &["serve-log", "rebuild", "copy"],
+        commands: &["serve-log", "where", "rebuild", "copy"],
     },
     Row {
         name: "page-size",
@@ -147,6 +151,7 @@ const ROWS: [Row; 24] = [
             "serve-log",
             "check",
             "map",
+            "where",
             "cat",
             "salvage",
             "rebuild",
@@ -228,14 +233,14 @@ const ROWS: [Row; 24] = [
         takes: Takes::Number,
         default: None,
         help: "the first page, or segment",
-        commands: &["map"],
+        commands: &["map", "where"],
     },
     Row {
         name: "to",
         takes: Takes::Number,
         default: None,
         help: "the page or segment before which it ends",
-        commands: &["map"],
+        commands: &["map", "where"],
     },
     Row {
         name: "from",
@@ -270,18 +275,19 @@ const ROWS: [Row; 24] = [
         takes: Takes::Nothing,
         default: None,
         help: "prints one JSON object; of salvage, for a log alone",
-        commands: &["check", "map", "salvage"],
+        commands: &["check", "map", "where", "salvage"],
     },
 ];
 
 /// The commands that are about a file or a folder.
-const WITH_PAGES: [&str; 10] = [
+const WITH_PAGES: [&str; 11] = [
     "pagedd",
     "serve",
     "serve-log",
     "append",
     "check",
     "map",
+    "where",
     "cat",
     "salvage",
     "rebuild",

@@ -26,17 +26,24 @@ pub struct GivenUp {
     pub copy: Option<String>,
 }
 
+impl GivenUp {
+    /// What an opening gives up of a log whose files are whole.
+    pub fn nothing() -> Self {
+        GivenUp {
+            cut: 0,
+            bytes: 0,
+            copy: None,
+        }
+    }
+}
+
 /// What an opening of a log gives up, unless the log is refused. A copy of that is set aside, and a
 /// line on standard error says what goes. For reading alone the line says what isn't served.
 pub fn guard_log<H: Sum, D: Digest>(
     rt: &HostRuntime,
     request: &Request,
 ) -> Result<GivenUp, Status> {
-    let mut given_up = GivenUp {
-        cut: 0,
-        bytes: 0,
-        copy: None,
-    };
+    let mut given_up = GivenUp::nothing();
     if let Some(kept) = kept_of::<H, D>(rt, request)? {
         let manifest = manifest_in(rt.alloc(), request.file)?;
         let segment = segment_in(rt.alloc(), request.file, kept.number)?;

@@ -2,6 +2,7 @@
 use crate::log_answer::{MOST_PAYLOAD, write_answer, write_head, write_numbers};
 use crate::log_input::{Unread, read_front};
 use crate::log_records::MOST_RECORDS;
+use crate::log_request::KINDS;
 use crate::log_status::NO_VERSION;
 use journal::MOST_BYTES;
 use protocol::{Flaw, Stop, Version};
@@ -13,8 +14,8 @@ const VERSION: u8 = 1;
 /// What an offer of versions begins with.
 const OFFER: u8 = 2;
 
-// How many bytes of the hello stand after its status, except for those of its texts.
-const FIXED: usize = 82;
+// How many bytes of the hello stand after its status, except for those of its texts and kinds.
+const FIXED: usize = 90;
 
 /// What the hello to a client of version 2 states of the log.
 #[derive(Clone, Copy)]
@@ -127,7 +128,11 @@ pub fn tell_opening<W: Write>(
 
 fn write_hello<W: Write>(out: &mut W, hello: &Hello<'_>) -> Result<(), Stop> {
     let texts = hello.checksum.len().saturating_add(hello.copy.len());
-    write_head(out, 0, texts.saturating_add(FIXED))?;
+    write_head(
+        out,
+        0,
+        texts.saturating_add(KINDS.len()).saturating_add(FIXED),
+    )?;
     out.write_all(&[2, u8::from(hello.read_only)])?;
     let numbers = [
         hello.records,
@@ -140,13 +145,14 @@ fn write_hello<W: Write>(out: &mut W, hello: &Hello<'_>) -> Result<(), Stop> {
         hello.given_up,
     ];
     write_numbers(out, &numbers)?;
-    write_text(out, hello.checksum)?;
-    write_text(out, hello.copy)
+    write_counted(out, hello.checksum.as_bytes())?;
+    write_counted(out, hello.copy.as_bytes())?;
+    write_counted(out, &KINDS)
 }
 
-// Writes how many bytes a text has, and then the text.
-fn write_text<W: Write>(out: &mut W, text: &str) -> Result<(), Stop> {
-    out.write_all(&(text.len() as u64).to_le_bytes())?;
-    out.write_all(text.as_bytes())?;
+// Writes how many bytes these are, and then the bytes.
+fn write_counted<W: Write>(out: &mut W, bytes: &[u8]) -> Result<(), Stop> {
+    out.write_all(&(bytes.len() as u64).to_le_bytes())?;
+    out.write_all(bytes)?;
     Ok(())
 }

@@ -27,6 +27,10 @@ pub enum LogTask {
     Next(Place),
     /// To drop the segments before this one.
     DropBefore(u64),
+    /// Where the log begins and ends, and what its closed segments from `from` to before `to` have.
+    Where { from: u64, to: u64 },
+    /// The next records from a place on, as many as an answer of so many bytes holds.
+    NextMany { place: Place, most: u64 },
     /// To send all answers.
     Flush,
 }
@@ -41,7 +45,12 @@ impl LogTask {
             | LogTask::Sync
             | LogTask::SyncSize
             | LogTask::DropBefore(_) => true,
-            LogTask::Size | LogTask::Read(_) | LogTask::Next(_) | LogTask::Flush => false,
+            LogTask::Size
+            | LogTask::Read(_)
+            | LogTask::Next(_)
+            | LogTask::Where { .. }
+            | LogTask::NextMany { .. }
+            | LogTask::Flush => false,
         }
     }
 }
@@ -105,6 +114,8 @@ fn read_body<R: BufRead>(
         21 => LogTask::SyncSize,
         25 => LogTask::Flush,
         27 => LogTask::DropBefore(read_number(input)?),
+        28 => read_where(input)?,
+        29 => read_next_many(input)?,
         _ => return Ok(None),
     };
     let bytes = Vec::new(alloc);
@@ -124,11 +135,14 @@ pub fn lent_request(version: Version, held: &[u8]) -> Option<(LogTask, &[u8])> {
     Some((task_of_bytes(*kind), bytes))
 }
 
+/// The kinds of requests of version 2, as the hello lists them.
+pub const KINDS: [u8; 13] = [1, 2, 5, 6, 7, 16, 17, 18, 21, 25, 27, 28, 29];
+
 // Whether there is a kind of this number.
 fn is_known(version: Version, kind: u8) -> bool {
     match kind {
         1 | 2 | 5 | 6 | 7 | 16 | 27 => true,
-        17 | 18 | 21 | 25 => version == Version::Two,
+        17 | 18 | 21 | 25 | 28 | 29 => version == Version::Two,
         _ => false,
     }
 }
@@ -155,8 +169,9 @@ fn task_of_bytes(kind: u8) -> LogTask {
 // How many bytes the fields of any other kind have.
 fn fields_len(kind: u8) -> usize {
     match kind {
-        6 | 7 => 16,
+        6 | 7 | 28 => 16,
         27 => 8,
+        29 => 24,
         _ => 0,
     }
 }
@@ -188,4 +203,18 @@ fn read_place<R: BufRead>(input: &mut R) -> Result<Place, Unread> {
     let segment = read_number(input)?;
     let offset = read_number(input)?;
     Ok(Place { segment, offset })
+}
+
+// Reads which segments are asked for.
+fn read_where<R: BufRead>(input: &mut R) -> Result<LogTask, Unread> {
+    let from = read_number(input)?;
+    let to = read_number(input)?;
+    Ok(LogTask::Where { from, to })
+}
+
+// Reads from where on records are asked for, and how many bytes of an answer.
+fn read_next_many<R: BufRead>(input: &mut R) -> Result<LogTask, Unread> {
+    let place = read_place(input)?;
+    let most = read_number(input)?;
+    Ok(LogTask::NextMany { place, most })
 }

@@ -5,6 +5,7 @@ use crate::ending::{fail, fail_stop, or_end, tell};
 use crate::log_answer::{Refusal, write_refusal};
 use crate::log_files::{copy_of, is_folder, manifest_in, open_log, segment_in};
 use crate::log_guard::{GivenUp, guard_log};
+use crate::log_held::HeldFolder;
 use crate::log_hello::{Hello, greet, greet_refused, read_opening, tell_opening};
 use crate::log_lock::lock_folder;
 use crate::log_put::sync_above;
@@ -12,6 +13,7 @@ use crate::log_refusing::refuse_log;
 use crate::log_request::{LogRequest, lent_request, read_request};
 use crate::log_status::{is_failed_sync, status_of, status_of_flaw};
 use crate::log_taking::{Client, take_request, unsynced_of};
+use crate::log_whole::hold_whole;
 use crate::request::Request;
 use crate::rewrite::Unsynced;
 use crate::serving::{flushed, tell_stop};
@@ -52,21 +54,36 @@ fn lock_for(rt: &HostRuntime, request: &Request) -> Result<Option<File>, Status>
     lock_folder(rt, request.file, false)
 }
 
-// Looks at the log in a folder, and serves it.
+// Serves the log in a folder, or for reading alone a copy of it.
 fn guard_and_serve<H: Sum, D: Digest>(
     rt: &HostRuntime,
     request: &Request,
 ) -> Result<Status, Status> {
     let folder = request.file;
-    let given_up = guard_log::<H, D>(rt, request)?;
     if request.read_only {
         let copy = copy_of(rt, folder)?;
-        return serve_folder::<FolderCopy, VecBlob, H, D>(rt, request, &given_up, copy);
+        return serve_guarded::<FolderCopy, VecBlob, H, D>(rt, request, copy);
     }
     match FileFolder::new(rt, folder) {
-        Ok(files) => serve_folder::<FileFolder, FileBlob, H, D>(rt, request, &given_up, files),
+        Ok(files) => serve_guarded::<FileFolder, FileBlob, H, D>(rt, request, files),
         Err(error) => Err(fail(rt, folder, error)),
     }
+}
+
+// Serves the log of a folder, unless it is refused. If its files are whole, each is read once, and
+// nothing is given up. If not, a look at them finds what is.
+fn serve_guarded<F: Folder<B> + Drop, B: Blob + Cause + Drop, H: Sum, D: Digest>(
+    rt: &HostRuntime,
+    request: &Request,
+    folder: F,
+) -> Result<Status, Status> {
+    let mut held = HeldFolder::new(rt.alloc(), folder);
+    let given_up = if hold_whole::<F, B, H>(rt, request, &mut held)? {
+        GivenUp::nothing()
+    } else {
+        guard_log::<H, D>(rt, request)?
+    };
+    serve_folder::<HeldFolder<F, B>, B, H, D>(rt, request, &given_up, held)
 }
 
 // Makes the folder, unless something else has its name, or the log is served for reading alone.

@@ -4,6 +4,7 @@ ghost use Rattle.segments.specs.Log.{IsLog};
 use crate::log_answer::{Refusal, write_answer, write_found, write_places, write_refusal};
 use crate::log_records::{Records, length_of, split_record};
 use crate::log_request::LogTask;
+use crate::log_scan::{take_next_many, take_where};
 use crate::log_status::{AT_END, Failure, NO_RECORDS, READ_ONLY, is_failed_sync, refusal_of};
 use digest::Digest;
 use disk::Blob;
@@ -69,18 +70,27 @@ pub fn take_request<F: Folder<B> + Drop, B: Blob + Cause + Drop, H: Sum, D: Dige
         LogTask::Read(place) => take_read(alloc, client, log, place, out),
         LogTask::Next(place) => take_next(alloc, client, log, place, out),
         LogTask::DropBefore(segment) => take_drop(alloc, client, log, segment, out),
+        LogTask::Where { from, to } => take_where(alloc, client, log, from, to, out),
+        LogTask::NextMany { place, most } => {
+            take_next_many(alloc, client, log, place, most, out)
+        }
         LogTask::Flush => write_flushed(out),
     }
 }
 
-// Answers a request that can't be met as it stands.
-fn refuse<W: Write>(alloc: Global, client: &Client, out: &mut W, status: u8) -> Result<(), Stop> {
+/// Answers a request that can't be met as it stands.
+pub fn refuse<W: Write>(
+    alloc: Global,
+    client: &Client,
+    out: &mut W,
+    status: u8,
+) -> Result<(), Stop> {
     write_refusal(alloc, client.version, out, Refusal::plain(status))
 }
 
-// Why a file of the log failed, if one did. The file of the open segment is asked first, then the
-// manifest.
-fn failure_of<F: Folder<B> + Drop, B: Blob + Cause + Drop, H: Sum, D: Digest>(
+/// Why a file of the log failed, if one did. The file of the open segment is asked first, then the
+/// manifest.
+pub fn failure_of<F: Folder<B> + Drop, B: Blob + Cause + Drop, H: Sum, D: Digest>(
     log: &SegmentedLog<F, B, H, H, D>,
 ) -> Failure<'_> {
     let error = match log.blob().cause() {
@@ -123,8 +133,9 @@ fn refuse_closed<W: Write>(
     Ok(())
 }
 
-// Answers a request after an error that left the log as it was: open, or closed by an error before.
-fn refuse_kept<W: Write>(
+/// Answers a request after an error that left the log as it was: open, or closed by an error
+/// before.
+pub fn refuse_kept<W: Write>(
     alloc: Global,
     client: &Client,
     out: &mut W,
@@ -136,8 +147,8 @@ fn refuse_kept<W: Write>(
     write_refusal(alloc, client.version, out, refusal)
 }
 
-// Answers a request that can't be met since the log is closed.
-fn refuse_lost<F: Folder<B> + Drop, B: Blob + Cause + Drop, H: Sum, D: Digest, W: Write>(
+/// Answers a request that can't be met since the log is closed.
+pub fn refuse_lost<F: Folder<B> + Drop, B: Blob + Cause + Drop, H: Sum, D: Digest, W: Write>(
     alloc: Global,
     client: &Client,
     log: &SegmentedLog<F, B, H, H, D>,
@@ -294,7 +305,19 @@ fn take_read<F: Folder<B> + Drop, B: Blob + Cause + Drop, H: Sum, D: Digest, W: 
     }
 }
 
-// The place 0, 0 stands for the start of the log, also where segment 0 was dropped.
+/// The place itself; for 0, 0 the start of the log, also where segment 0 was dropped.
+pub fn begun_at<F: Folder<B> + Drop, B: Blob + Drop, H: Sum, D: Digest>(
+    log: &SegmentedLog<F, B, H, H, D>,
+    place: Place,
+) -> Place {
+    if place.segment == 0 && place.offset == 0 {
+        log.start()
+    } else {
+        place
+    }
+}
+
+// Answers the next record from a place on.
 fn take_next<F: Folder<B> + Drop, B: Blob + Cause + Drop, H: Sum, D: Digest, W: Write>(
     alloc: Global,
     client: &Client,
@@ -305,10 +328,7 @@ fn take_next<F: Folder<B> + Drop, B: Blob + Cause + Drop, H: Sum, D: Digest, W: 
     requires log { IsLog H.sum_of H.sum_of log.old }
     ensures log { IsLog H.sum_of H.sum_of log.new }
 {
-    let mut behind = place;
-    if place.segment == 0 && place.offset == 0 {
-        behind = log.start();
-    }
+    let mut behind = begun_at(log, place);
     match log.next(&mut behind) {
         Ok(Some((at, bytes))) => {
             let numbers = [at.segment, at.offset, behind.segment, behind.offset];

@@ -7,6 +7,7 @@ use crate::log_durable::tell_missing;
 use crate::log_files::{copy_of, open_log};
 use crate::log_map::{Drawn, map_log};
 use crate::log_refusing::refuse_log;
+use crate::log_where::where_log;
 use crate::request::{Request, Told};
 use crate::status::Status;
 use digest::Digest;
@@ -42,6 +43,7 @@ fn tell_opened<H: Sum, D: Digest>(
     let status = match told {
         Told::Check => check_log::<H, D>(rt, request, log),
         Told::Map { from, to, long } => map_log::<H, D>(rt, request, log, Drawn { from, to, long }),
+        Told::Where { from, to } => where_log::<H, D>(rt, request, log, from, to),
         Told::Cat { .. } => cat_log::<H, D>(rt, request, log),
     }?;
     Ok(match status {

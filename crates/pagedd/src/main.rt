@@ -34,6 +34,7 @@ mod log_copying;
 mod log_durable;
 mod log_files;
 mod log_guard;
+mod log_held;
 mod log_hello;
 mod log_input;
 mod log_known;
@@ -49,11 +50,14 @@ mod log_report;
 mod log_request;
 mod log_salvage;
 mod log_salvaged;
+mod log_scan;
 mod log_serving;
 mod log_status;
 mod log_taking;
 mod log_text;
 mod log_told;
+mod log_where;
+mod log_whole;
 mod look;
 mod map;
 mod opening;
@@ -190,6 +194,10 @@ fn tell_of<H: Sum>(
     match told {
         Told::Check => check::<H>(rt, request, blob),
         Told::Map { from, to, long } => map::<H>(rt, request, blob, from, to, long),
+        Told::Where { .. } => {
+            let words = "it is no folder: name the folder of a log";
+            Err(fail(rt, request.file, words))
+        }
         Told::Cat { from, len } => cat::<H>(rt, request, blob, from, len),
     }
 }

@@ -108,6 +108,9 @@ pub enum Told {
     /// Its pages from `from` to before `to`, drawn. For a log, its segments. Where `long` asks, a
     /// line for each, with what is known of it.
     Map { from: u64, to: u64, long: bool },
+    /// Where the log in a folder begins and ends, and what was kept of its closed segments from
+    /// `from` to before `to`.
+    Where { from: u64, to: u64 },
     /// Its content from the byte `from` on, at most `len` bytes. For a log, all its records.
     Cat { from: u64, len: u64 },
 }
@@ -187,6 +190,10 @@ fn task_of<'a>(name: &str, words: &ArgMatches<'a>) -> Task<'a> {
             from: words.get_one::<u64>("from").unwrap_or(0),
             to: words.get_one::<u64>("to").unwrap_or(u64::MAX),
             long: words.get_flag("long"),
+        }),
+        "where" => Task::Tell(Told::Where {
+            from: words.get_one::<u64>("from").unwrap_or(0),
+            to: words.get_one::<u64>("to").unwrap_or(u64::MAX),
         }),
         "cat" => Task::Tell(Told::Cat {
             from: words.get_one::<u64>("from").unwrap_or(0),

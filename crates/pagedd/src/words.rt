@@ -8,12 +8,13 @@ use std::{env, fs, str};
 use strsim::levenshtein;
 
 /// The commands.
-const COMMANDS: [&str; 12] = [
+const COMMANDS: [&str; 13] = [
     "serve",
     "serve-log",
     "append",
     "check",
     "map",
+    "where",
     "cat",
     "salvage",
     "rebuild",
