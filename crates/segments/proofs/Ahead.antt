@@ -2,7 +2,7 @@
 use Rattle.std.specs.Prelude.{◌≡◌, ◌<◌, ◌≤◌, ◌+◌, ◌-◌, ◌*◌, ◌/◌, ◌%◌, ◌++◌, ℕ, zero, suc, Bool, true, cond, List, [], ◌∷◌, length, take, Some, None, Option, IfSome, Result, Ok, Err}
 use Rattle.std.specs.List.{filter, range_with_len}
 use Rattle.std.specs.Result.{IsErrAnd}
-use Rattle.std.proofs.Common.{ap, sym, ◌∙◌, refl, subst, arith, inl, inr, div-add-mod', div-mul-le_self, length-append, mod-lt, mul-le-mul_right, suc-mul}
+use Rattle.std.proofs.Common.{ap, sym, ◌∙◌, subst, arith, inl, inr, div-add-mod', div-mul-le_self, length-append, mod-lt, mul-le-mul_right, suc-mul}
 use Rattle.std.proofs.lemmas.Bool.{cases_Bool, false_from_ne_true}
 use Rattle.std.proofs.lemmas.List.{take-append-le}
 use Rattle.std.proofs.Math.Nat.{lt_of_mul-lt-mul_right}
@@ -16,10 +16,8 @@ use Rattle.paged_read.specs.Failures.{NoneFailed, none_failed_joins, none_failed
 use Rattle.paged_read.specs.Ranges.{touches}
 use Rattle.paged_read.proofs.RangedPages.{touch_true}
 use Rattle.paged_read.proofs.Windows.{filter_none}
-use Rattle.paged.specs.Caches.{tail_of}
 use Rattle.paged.specs.Calls.{AsksAtMost}
 use Rattle.journal.specs.Calls.{RecordReadLeaves}
-use Rattle.journal.specs.Costs.{pages_met}
 use Rattle.journal.specs.Journal.{ReadContentGoes, RecordReadRefused}
 use Rattle.journal.proofs.Journals.{refused_later}
 use Rattle.page_digests.specs.Growing.{DigestingState, DigestsPage, FinishesList, IsDigested}
@@ -41,7 +39,7 @@ now_by d P life x None there has = absurd there
 now_by d P life x (Some w) there has = has
 
 -- the content of the journal that is there is digested so far
-pub ahead_now : (d : List ℕ → List ℕ) (s : OwnedState) (x : DigestingState) → HasJournal s.journal (λ w. Unit {0}) → HasDigests d s x → IsDigestedAhead d s.page_size (content_now s) x
+ahead_now : (d : List ℕ → List ℕ) (s : OwnedState) (x : DigestingState) → HasJournal s.journal (λ w. Unit {0}) → HasDigests d s x → IsDigestedAhead d s.page_size (content_now s) x
 ahead_now d s x there has = now_by d s.page_size s.life x s.journal there has
 
 of_by : (d : List ℕ → List ℕ) (P : ℕ) (life : Life) (x : DigestingState) (j : Option WriterState) → IsDigestedAhead d P (content_of j life) x
@@ -49,7 +47,7 @@ of_by : (d : List ℕ → List ℕ) (P : ℕ) (life : Life) (x : DigestingState)
 of_by d P life x None is = tt
 of_by d P life x (Some w) is = is
 
-pub ahead_of : (d : List ℕ → List ℕ) (s : OwnedState) (x : DigestingState) → IsDigestedAhead d s.page_size (content_now s) x → HasDigests d s x
+ahead_of : (d : List ℕ → List ℕ) (s : OwnedState) (x : DigestingState) → IsDigestedAhead d s.page_size (content_now s) x → HasDigests d s x
 ahead_of d s x is = of_by d s.page_size s.life x s.journal is
 
 -- that of the journal that was taken
@@ -67,9 +65,11 @@ digests_none d P life x j is =
       bytes = subst (λ (n : ℕ). EachIsByte (take (n * P) held)) (sym (none_digested d x is)) (no_bytes_yet P held);
     })
 
--- there is no journal
-pub unneeded : (d : List ℕ → List ℕ) (s : OwnedState) (x : DigestingState) → s.journal ≡ None → HasDigests d s x
-unneeded d s x none = subst (λ (j : Option WriterState). IfSome j (λ w. IsDigestedAhead d s.page_size (content w s.life.present.readable) x)) (sym none) tt
+-- nor where what was digested was taken
+pub digests_renewed : (d : List ℕ → List ℕ) (P : ℕ) (life : Life) (fresh x : DigestingState) (j : Option WriterState) → x ≡ fresh → ((P : ℕ) (content : List ℕ) → IsDigested d P content fresh)
+    → IfSome j (λ w. IsDigestedAhead d P (content w life.present.readable) x)
+digests_renewed d P life fresh x j same is =
+    subst (λ (y : DigestingState). IfSome j (λ w. IsDigestedAhead d P (content w life.present.readable) y)) (sym same) (digests_none d P life fresh j is)
 
 -- what is digested stays so as the content grows
 pub ahead_grown : (d : List ℕ → List ℕ) (P : ℕ) (held now more : List ℕ) (x : DigestingState) → IsDigestedAhead d P held x → now ≡ held ++ more → IsDigestedAhead d P now x
@@ -90,19 +90,6 @@ pub digests_looked : (d : List ℕ → List ℕ) (P : ℕ) (old new : Life) (x :
 digests_looked d P old new x None looked has = tt
 digests_looked d P old new x (Some w) looked has =
     ahead_kept d P (content w old.present.readable) (content w new.present.readable) x has (ap (λ (bytes : List ℕ). content w bytes) (looked_bytes old new looked))
-
-left_by : (sum own : List ℕ → ℕ) (d : List ℕ → List ℕ) (s t : OwnedState) (x : DigestingState) → OwnedReadLeaves sum own s t → HasJournal s.journal (λ w. Unit {0}) → HasDigests d s x → HasDigests d t x
-left_by sum own d s t x leaves there has =
-    ahead_of d t x (subst (λ (P : ℕ). IsDigestedAhead d P (content_now t) x) (sym leaves.page_size)
-    (ahead_kept d s.page_size (content_now s) (content_now t) x (ahead_now d s x there has) (content_kept sum own s t leaves)))
-
-none_by : (P : Type 0) (j : Option WriterState) → (j ≡ None → P) → (HasJournal j (λ w. Unit {0}) → P) → P
-none_by P None none some = none refl
-none_by P (Some w) none some = some tt
-
-pub ahead_left : (sum own : List ℕ → ℕ) (d : List ℕ → List ℕ) (s t : OwnedState) (x : DigestingState) → OwnedReadLeaves sum own s t → HasDigests d s x → HasDigests d t x
-ahead_left sum own d s t x leaves has =
-    none_by (HasDigests d t x) s.journal (λ none. unneeded d t x (leaves.journal ∙ none)) (λ there. left_by sum own d s t x leaves there has)
 
 -- ---- a page
 
@@ -159,7 +146,7 @@ list_ahead sum own d P n s a b before after x list u owned leaves there has page
     )
 
 -- whole pages lie within the content
-pub pages_room : (P size end : ℕ) → end ≤ size / P → end * P ≤ size
+pages_room : (P size end : ℕ) → end ≤ size / P → end * P ≤ size
 pages_room P size end below =
     let more : end * P ≤ size / P * P = mul-le-mul_right P below in
     let top : size / P * P ≤ size = div-mul-le_self size P in
@@ -170,12 +157,6 @@ pub whole_pages : (s a : OwnedState) (P size end : ℕ) → a ≡ s → P ≡ s.
 whole_pages s a P size end same pages sized below =
     subst (λ (o : OwnedState). end * o.page_size ≤ owned_size o.journal) (sym same)
     (subst (λ (Q : ℕ). end * Q ≤ owned_size s.journal) pages (subst (λ (k : ℕ). end * P ≤ k) sized (pages_room P size end below)))
-
--- a page's bytes are a range of the content
-pub page_within : (s : OwnedState) (n P len : ℕ) → P ≡ s.page_size → len ≡ s.page_size → n * s.page_size + s.page_size ≤ owned_size s.journal → n * P + len ≤ owned_size s.journal
-page_within s n P len pages buffer whole =
-    let at : n * P ≡ n * s.page_size = ap (λ (k : ℕ). n * k) pages in
-    omega (arith, at, buffer, whole)
 
 -- so does each of them, after reads too
 pub page_room : (sum own : List ℕ → ℕ) (s a : OwnedState) (n end : ℕ) → OwnedReadLeaves sum own s a → n < end → end * s.page_size ≤ owned_size s.journal
@@ -198,34 +179,6 @@ none_then (Some w) old mid new first second = none_failed_joins old.present mid.
 refused_then : (j : Option WriterState) (old mid new : Life) (e : disk.Error) → Looked old mid → HasJournal j (λ w. NoneFailed old.present mid.present) → HasJournal j (λ w. RecordReadRefused mid new e) → HasJournal j (λ w. RecordReadRefused old new e)
 refused_then None old mid new e looked first second = first
 refused_then (Some w) old mid new e looked first second = refused_later old mid new e looked first second
-
--- what a read answers for a page
-pub read_answers : (offset : ℕ) (before after : List ℕ) (s t : OwnedState) (u : Unit {0}) → OwnedContentGoes offset before after s t (Ok u) → AheadGoes s t (Ok u)
-read_answers offset before after s t u is = by_case s.journal is where
-  by_case : (j : Option WriterState) → HasJournal j (λ w. ReadContentGoes (content w s.life.present.readable) offset before after s.life t.life (Ok u)) → HasJournal j (λ w. NoneFailed s.life.present t.life.present)
-  by_case None is = is
-  by_case (Some w) is = is.answers.1
-
-refused_by : (offset : ℕ) (before after : List ℕ) (j : Option WriterState) (old new : Life) (e : disk.Error) → HasJournal j (λ w. ReadContentGoes (content w old.present.readable) offset before after old new (Err e))
-    → HasJournal j (λ w. RecordReadRefused old new e)
-refused_by offset before after None old new e is = is
-refused_by offset before after (Some w) old new e is = is.answers
-
--- and why it is refused
-pub read_refused : (offset : ℕ) (before after : List ℕ) (s t : OwnedState) (e : Error) → OwnedContentGoes offset before after s t (Err e) → AheadGoes s t (Err e)
-read_refused offset before after s t (errors.Layer e) is = refused_by offset before after s.journal s.life t.life e is
-read_refused offset before after s t errors.Closed is = is
-read_refused offset before after s t (errors.System e) is = is
-read_refused offset before after s t (errors.Unsynced e) is = is
-read_refused offset before after s t (errors.Damaged n) is = is
-read_refused offset before after s t (errors.Unlisted n) is = is
-read_refused offset before after s t (errors.Missing n) is = is
-read_refused offset before after s t (errors.Short n) is = is
-read_refused offset before after s t (errors.AnotherDigest n) is = is
-read_refused offset before after s t (errors.Outdated n) is = is
-read_refused offset before after s t errors.Manifest is = is
-read_refused offset before after s t (errors.NoSegment n) is = is
-read_refused offset before after s t errors.NumbersExhausted is = is
 
 memory_by : (j : Option WriterState) (old new : Life) → HasJournal j (λ w. NoneFailed old.present new.present) → HasJournal j (λ w. RecordReadRefused old new layer.OutOfMemory)
 memory_by None old new none = none
@@ -340,7 +293,7 @@ calls_by sum own s n (Some w) owned =
     (one_passes (touches w.page_size (n * w.page_size, w.page_size)) n 0 w.full_pages (λ p met. its_page w.page_size n p met))
 
 -- a read of a whole page makes at most one device call
-pub one_call : (sum own : List ℕ → ℕ) (s t : OwnedState) (n len : ℕ) → IsOwned sum own s → len ≡ s.page_size → AsksAtMost (content_calls s.journal (n * s.page_size, len)) s.life t.life → AsksAtMost 1 s.life t.life
+one_call : (sum own : List ℕ → ℕ) (s t : OwnedState) (n len : ℕ) → IsOwned sum own s → len ≡ s.page_size → AsksAtMost (content_calls s.journal (n * s.page_size, len)) s.life t.life → AsksAtMost 1 s.life t.life
 one_call sum own s t n len owned size asks =
     let one = calls_by sum own s n s.journal owned.1 in
     let same : content_calls s.journal (n * s.page_size, len) ≡ content_calls s.journal (n * s.page_size, s.page_size) = ap (λ (k : ℕ). content_calls s.journal (n * s.page_size, k)) size in
@@ -351,13 +304,6 @@ pub page_costs : (sum own : List ℕ → ℕ) (s t : OwnedState) (n P len : ℕ)
     → AsksAtMost 1 s.life t.life
 page_costs sum own s t n P len owned pages buffer asks =
     one_call sum own s t n len owned buffer (subst (λ (k : ℕ). AsksAtMost (content_calls s.journal (n * k, len)) s.life t.life) pages asks)
-
--- the read of a range in the journal that is there
-pub costs_there : (view s : OwnedState) (w : WriterState) (range : ℕ × ℕ) (t : Life) → view ≡ s → view.journal ≡ Some w → AsksAtMost (pages_met (tail_of w) range) view.life t
-    → AsksAtMost (content_calls s.journal range) s.life t
-costs_there view s w range t same is asks =
-    subst (λ (o : OwnedState). AsksAtMost (content_calls o.journal range) o.life t) same
-    (subst (λ (j : Option WriterState). AsksAtMost (content_calls j range) view.life t) (sym is) asks)
 
 -- pages up to an end that is at most so many pages on
 pub asks_few : (s a b t : OwnedState) (end pages most : ℕ) → a ≡ s → t ≡ b → end ≤ pages + most → AsksAtMost (end - pages) a.life b.life → AsksAtMost most s.life t.life

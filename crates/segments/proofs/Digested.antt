@@ -1,7 +1,7 @@
 -- The digests of the pages of a journal's content.
 use Rattle.std.specs.Prelude.{◌≡◌, ◌<◌, ◌≤◌, ◌+◌, ◌-◌, ◌*◌, ◌/◌, ◌%◌, ℕ, suc, List, [], length, take, drop, Some, None, Option, IfSome, Result, Ok, Err, Vec}
 use Rattle.std.specs.Result.{IsErrAnd}
-use Rattle.std.proofs.Common.{ap, sym, ◌∙◌, refl, subst, arith, div-add-mod', div-mul-le_self, lit<, mod-lt, mul-le-mul_right, suc-mul, take-add, take_all}
+use Rattle.std.proofs.Common.{ap, sym, ◌∙◌, refl, subst, arith, div-add-mod', lit<, mod-lt, suc-mul, take-add, take_all}
 use Rattle.std.proofs.lemmas.List.{length-drop}
 use Rattle.disk.specs.Disk.{Life}
 use Rattle.disk.specs.declared.error.Error as disk
@@ -49,15 +49,6 @@ read_by offset before after (Some w) old new u is = (is.answers.0, is.size)
 pub read_is : (offset : ℕ) (before after : List ℕ) (s t : OwnedState) (u : Unit {0}) → OwnedContentGoes offset before after s t (Ok u)
     → (after ≡ take (length before) (drop offset (content_now s))) × (length after ≡ length before)
 read_is offset before after s t u is = read_by offset before after s.journal s.life t.life u is
-
--- page n, one of the whole ones, lies within the content
-pub page_fits : (P n size : ℕ) → n < size / P → n * P + P ≤ size
-page_fits P n size below =
-    let step : suc n * P ≡ n * P + P = suc-mul n P in
-    let next : suc n ≤ size / P = omega (arith, below) in
-    let more : suc n * P ≤ size / P * P = mul-le-mul_right P next in
-    let top : size / P * P ≤ size = div-mul-le_self size P in
-    omega (arith, step, more, top)
 
 -- the rest behind the whole pages is shorter than a page
 pub rest_short : (P size : ℕ) → 0 < P → size - size / P * P < P
