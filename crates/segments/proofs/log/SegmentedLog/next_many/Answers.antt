@@ -100,9 +100,11 @@ returns-then-is_empty-clause-goes g c =
     let own = g.R.Sum.sum_of in
     let d : List ℕ → List ℕ = g.D.Digest.digest_of in
     let r = c.records in
-    let before = r.invariant in
-    (before.same, inr (first_refused sum own d c.args.most r.room c.args.self.now r.self c.next.new.self c.args.place.now r.behind c.in-Err.error r.found.items
-      before.leaves before.so_far c.in-Err.ensures.goes.1 (none_found r.found.items r.found.len c.is_empty-in-Err.result r.found.ok.0 c.is_empty-in-Err.ensures c.if-is_empty.true)))
+    let before = r.invariant in (
+      before.same,
+      inr (first_refused sum own d c.args.most r.room c.args.self.now r.self c.next.new.self c.args.place.now r.behind c.in-Err.error r.found.items
+          before.leaves before.so_far c.in-Err.ensures.goes.1 (none_found r.found.items r.found.len c.is_empty-in-Err.result r.found.ok.0 c.is_empty-in-Err.ensures c.if-is_empty.true)),
+    )
 
 pub returns-then-is_empty-clause-leaves : goal.returns-then-is_empty-clause-leaves
 returns-then-is_empty-clause-leaves g c =
