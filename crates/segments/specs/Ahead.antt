@@ -1,6 +1,5 @@
 -- Digests of the open segment's pages that are made ahead of its rotation.
 use Rattle.std.specs.Prelude.{◌≡◌, ◌*◌, ℕ, List, Option, Some, None, IfSome, Result, Ok, Err, take}
-use Rattle.disk.specs.Disk.{Life}
 use Rattle.writer_state.specs.WriterState.{WriterState}
 use Rattle.writer_state.specs.Sound.{content}
 use Rattle.paged_read.specs.Failures.{NoneFailed}

@@ -1,4 +1,3 @@
-use Rattle.std.specs.Prelude.{◌≡◌}
 use Rattle.std.proofs.Common.{sym, subst, arith}
 use Rattle.segments.specs.Ahead.{AheadGoes}
 use Rattle.segments.specs.Owned.{OwnedReadLeaves, OwnedState}

@@ -1,4 +1,4 @@
-use Rattle.std.specs.Prelude.{◌≡◌, ◌+◌, ◌*◌, ◌-◌, ◌≤◌, ◌/◌, drop, length, take}
+use Rattle.std.specs.Prelude.{◌≡◌, ◌*◌, ◌-◌, ◌/◌, drop, length}
 use Rattle.std.proofs.Common.{ap, ◌∙◌, subst, arith, take_at}
 use Rattle.page_digests.specs.Growing.{FinishesList}
 use Rattle.page_digests.specs.Seals.{EachIsByte}

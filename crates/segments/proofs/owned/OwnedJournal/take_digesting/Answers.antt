@@ -1,4 +1,3 @@
-use Rattle.std.specs.Prelude.{ℕ, List}
 use Rattle.std.proofs.Common.{subst, sym}
 use Rattle.std.specs.Int.NonZero.{non_zero_u16_get}
 use Rattle.page_digests.specs.Growing.{DigestingState, IsDigested}
