@@ -1,7 +1,8 @@
 // A closed segment that is read without its log.
 ghost use Rattle.std.specs.Prelude.{◌≡◌};
 ghost use Rattle.std.specs.Int.NonZero.{non_zero_u16_get};
-ghost use Rattle.segments.specs.ClosedSegments.{ClosedReadGoes, FromMemory, FromPages, IsSegmentReader};
+ghost use Rattle.segments.specs.ClosedSegments.{ClosedReadGoes, FromMemory, FromPages};
+ghost use Rattle.segments.specs.ClosedSegments.{IsSegmentReader};
 
 use crate::closed::Closed;
 use crate::error::Error;

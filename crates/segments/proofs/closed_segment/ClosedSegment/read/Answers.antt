@@ -15,9 +15,9 @@ returns g c =
       | in-InMemory w ↦
           let from : from_fields i.bytes ≡ FromMemory w.in-InMemory.loaded = rw w.in-InMemory.is refl in
           rw (w.self-inside-is, w.result-is) (memory_read g.H.Sum.sum_of g.R.Sum.sum_of g.D.Digest.digest_of c.args.offset i.number P i.closed c.args.self.now (from_fields i.bytes) w.in-InMemory.loaded w.read.new.self w.read.result
-            c.self.view_is from c.self.invariant (w.read.ensures.goes g.D.Digest.digest_of))
+          c.self.view_is from c.self.invariant (w.read.ensures.goes g.D.Digest.digest_of))
       | in-ByPages w ↦
           let from : from_fields i.bytes ≡ FromPages w.in-ByPages.segment = rw w.in-ByPages.is refl in
           rw (w.self-inside-is, w.result-is) (pages_read g.H.Sum.sum_of g.R.Sum.sum_of g.D.Digest.digest_of c.args.offset i.number P i.closed c.args.self.now (from_fields i.bytes) w.in-ByPages.segment w.read-in-ByPages.new.self w.read-in-ByPages.result
-            c.self.view_is from c.self.invariant w.read-in-ByPages.ensures)
+          c.self.view_is from c.self.invariant w.read-in-ByPages.ensures)
     ]

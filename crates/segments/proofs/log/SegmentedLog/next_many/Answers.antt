@@ -1,5 +1,5 @@
 use Rattle.std.specs.Prelude.{◌≡◌, ◌≤◌, ◌<◌, ◌-◌, ℕ, List, length, Option, Some, None, Ok}
-use Rattle.std.proofs.Common.{inr, refl, subst, sym}
+use Rattle.std.proofs.Common.{inr, refl, rules, subst, sym}
 use Rattle.segments.specs.declared.place.Place.{Place}
 use Rattle.segments.specs.Scan.{HasMany, IsBehind, IsNextAt, MovesPlace, NextGoes}
 use Rattle.segments.proofs.Joining.{leaves_joins, leaves_start}
@@ -25,7 +25,7 @@ returns-then-not-is_empty-clause-goes g c =
     let is : IsNextAt sum own d r.self r.behind c.in-Ok-Some.next.0 c.next.new.place c.in-Ok-Some.next.1 = subst (λ (o : Option (Place × List ℕ)). NextGoes sum own d r.self c.next.new.self r.behind c.next.new.place (Ok o)) some c.in-Ok-Some.ensures.goes in
     let long : r.room < length c.in-Ok-Some.next.1 = subst (λ (n : ℕ). r.room < n) c.len-len.ensures c.if-room-len.true in
     too_much sum own d c.args.most r.room c.args.self.now r.self c.next.new.self c.args.place.now r.behind c.next.new.place c.in-Ok-Some.next r.found.items
-    before.leaves before.so_far is long (some_found r.found.items r.found.len c.is_empty.result r.found.ok.0 c.is_empty.ensures c.if-not-is_empty.true)
+    before.leaves before.so_far is long (some_found r.found.items r.found.len c.is_empty.result r.found.ok.0 c.is_empty.ensures (search rules))
 
 pub returns-then-not-is_empty-clause-leaves : goal.returns-then-not-is_empty-clause-leaves
 returns-then-not-is_empty-clause-leaves g c =
@@ -100,9 +100,11 @@ returns-then-is_empty-clause-goes g c =
     let own = g.R.Sum.sum_of in
     let d : List ℕ → List ℕ = g.D.Digest.digest_of in
     let r = c.records in
-    let before = r.invariant in
-    (before.same, inr (first_refused sum own d c.args.most r.room c.args.self.now r.self c.next.new.self c.args.place.now r.behind c.in-Err.error r.found.items
-      before.leaves before.so_far c.in-Err.ensures.goes.1 (none_found r.found.items r.found.len c.is_empty-in-Err.result r.found.ok.0 c.is_empty-in-Err.ensures c.if-is_empty.true)))
+    let before = r.invariant in (
+      before.same,
+      inr (first_refused sum own d c.args.most r.room c.args.self.now r.self c.next.new.self c.args.place.now r.behind c.in-Err.error r.found.items
+          before.leaves before.so_far c.in-Err.ensures.goes.1 (none_found r.found.items r.found.len c.is_empty-in-Err.result r.found.ok.0 c.is_empty-in-Err.ensures c.if-is_empty.true)),
+    )
 
 pub returns-then-is_empty-clause-leaves : goal.returns-then-is_empty-clause-leaves
 returns-then-is_empty-clause-leaves g c =
