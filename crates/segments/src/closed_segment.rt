@@ -19,8 +19,8 @@ use std::num::NonZeroU16;
 /// [`closed_reader`](crate::SegmentedLog::closed_reader). It has files of its own open, so it reads
 /// on while the log appends, rotates and drops. A segment that was dropped is still read: on Unix
 /// the bytes of a removed file stay until whoever has it open closes it, and so take room until
-/// this is let go. It holds some 12 KiB with pages of 4,096 bytes; a segment that a version before
-/// 0.11 closed is held whole in memory.
+/// this is let go. It holds 0.5 MiB at most with pages of 4,096 bytes; a segment that a version
+/// before 0.11 closed is held whole in memory.
 #[derive(Drop)]
 pub struct ClosedSegment<S: Source + Drop, H: Sum, R: Sum, D: Digest> {
     number: u64,

@@ -10,8 +10,8 @@ use std::alloc::{AllocError, Global};
 use std::marker::Model;
 
 /// How many closed segments a log keeps open that are read by their pages. So reads to and fro
-/// between so many open no file. Each has two files open, and holds a page of its content, a page
-/// of its list, and its top: some 12 KiB with pages of 4,096 bytes.
+/// between so many open no file. Each has two files open, and holds a page of its content, at most
+/// 129 pages of its list, and its top: 0.5 MiB at most with pages of 4,096 bytes.
 pub const OPENED: usize = 8;
 
 /// The closed segments that were read by their pages last, the latest one at the end: there the
