@@ -5,7 +5,7 @@ use Rattle.std.specs.Prelude.{◌≡◌, ◌*◌, ℕ, zero, suc, List, [], ◌�
 use Rattle.std.proofs.Common.{refl, ap, arith, lit<, lit≤}
 use Rattle.disk.specs.declared.error.Error.TheVariants.{OutOfMemory, WriteFailed}
 use Rattle.paged_read.specs.Failures.{none_failed_start}
-use Rattle.page_digests.specs.Growing.{DigestingState, IsDigested}
+use Rattle.page_digests.specs.Growing.{DigestingState}
 use Rattle.page_digests.specs.Seals.{EachIsByte}
 use Rattle.page_digests.proofs.PageExamples.{first}
 use Rattle.writer_state.specs.WriterState.{WriterState}
