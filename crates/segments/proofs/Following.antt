@@ -1,12 +1,12 @@
 -- Records that follow one another: many that were found, one after another.
-use Rattle.std.specs.Prelude.{◌≡◌, ◌≢◌, ◌⊎◌, ◌≤◌, ◌<◌, ◌+◌, ◌-◌, ◌++◌, ℕ, List, [], ◌∷◌, length, map, Bool, true, false, ◌==◌, Option, Some, None, Result, Ok, Err}
+use Rattle.std.specs.Prelude.{◌≡◌, ◌≢◌, ◌≤◌, ◌<◌, ◌+◌, ◌-◌, ◌++◌, ℕ, List, [], ◌∷◌, length, map, Bool, true, false, ◌==◌}
 use Rattle.std.proofs.Common.{ap, sym, ◌∙◌, refl, subst, inl, inr, append_assoc, append-nil, zero-add, arith, eqb-true}
 use Rattle.std.proofs.lemmas.List.{map-append}
 use Rattle.std.proofs.lemmas.List.Sums.{sum_by_push}
 use Rattle.segments.specs.declared.error.Error.{Error}
 use Rattle.segments.specs.declared.place.Place.{Place}
 use Rattle.segments.specs.Log.{LeavesReading, LogState}
-use Rattle.segments.specs.Scan.{AreNextAt, HasMany, IsBehind, IsEnd, IsFrom, IsNextAt, IsRefusedFrom, IsTooMuch, NextGoes, StandBetween, far_from, found_bytes}
+use Rattle.segments.specs.Scan.{AreNextAt, HasMany, IsBehind, IsEnd, IsFrom, IsNextAt, IsRefusedFrom, StandBetween, found_bytes}
 use Rattle.segments.proofs.Joining.{leaves_joins}
 use Rattle.segments.proofs.Stepping.{behind_back, between_back, end_back}
 

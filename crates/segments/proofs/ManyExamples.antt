@@ -1,6 +1,6 @@
 -- Many records at once: what each of these definitions holds of, and what it refuses, in the log of
 -- `LogExamples` whose one segment is open and has "c".
-use Rattle.std.specs.Prelude.{◌≡◌, ◌≢◌, ◌⊎◌, ◌≤◌, ◌<◌, ◌++◌, ℕ, List, [], ◌∷◌, length, map, Bool, true, false, if◌then◌else◌, nat_lt, Option, Some, None, Ok, Err, Vec}
+use Rattle.std.specs.Prelude.{◌≡◌, ◌<◌, ℕ, List, [], ◌∷◌, Bool, true, false, if◌then◌else◌, nat_lt, Option, Some, None, Ok, Err, Vec}
 use Rattle.std.specs.declared.alloc.Global.{Global}
 use Rattle.std.proofs.Common.{ap, sym, ◌∙◌, refl, subst, inl, inr, arith, lit<, lit≤}
 use Rattle.disk.specs.declared.error.Error.TheVariants as layer
@@ -9,8 +9,8 @@ use Rattle.journal.specs.Frame.{frames, is_record, record_len, record_of, record
 use Rattle.segments.specs.declared.closed.Closed.{Closed}
 use Rattle.segments.specs.declared.error.Error.TheVariants as errors
 use Rattle.segments.specs.declared.place.Place.{Place}
-use Rattle.segments.specs.Log.{HasTwinIn, LogState}
-use Rattle.segments.specs.Scan.{AreNextAt, HasMany, IsBehind, IsEnd, IsFrom, IsNextAt, IsTooMuch, MovesPlace, NextManyGoes, StandBetween, found_bytes, place_at, records_from}
+use Rattle.segments.specs.Log.{HasTwinIn}
+use Rattle.segments.specs.Scan.{AreNextAt, HasMany, IsEnd, IsFrom, IsNextAt, IsTooMuch, MovesPlace, NextManyGoes, found_bytes, place_at}
 use Rattle.segments.proofs.BytesExamples.{c}
 use Rattle.segments.proofs.LogExamples.{held, small}
 use Rattle.segments.proofs.ScanExamples.{it_is_behind}

@@ -6,7 +6,6 @@ use Rattle.page.specs.Sums.{add_sum}
 use Rattle.journal.specs.declared.frame.Found.{Found}
 use Rattle.page_digests.proofs.ContentExamples.{damaged, read}
 use Rattle.page_digests.proofs.PageExamples.{first}
-use Rattle.segments.specs.declared.closed.FileDigest.{FileDigest}
 use Rattle.segments.specs.declared.closed.Fingerprint.TheVariants.{Paged}
 use Rattle.segments.specs.declared.closed_segment.SegmentBytes.TheVariants.{InMemory, ByPages}
 use Rattle.segments.specs.declared.error.Error.TheVariants as errors
@@ -16,7 +15,7 @@ use Rattle.segments.specs.Readers.{from_fields}
 use Rattle.segments.proofs.LogExamples.{by_pages, small}
 use Rattle.segments.proofs.PagedFrameExamples.{it_is_its_frame, its_frame}
 use Rattle.segments.proofs.PagedReading.{paged_closed}
-use Rattle.segments.proofs.ReadingExamples.{abc_is_passed_over, in_memory, in_pages, its_file_is_damaged, no_file_is_damaged, none_seal, sealed}
+use Rattle.segments.proofs.ReadingExamples.{abc_is_passed_over, in_pages, its_file_is_damaged, no_file_is_damaged, none_seal, sealed}
 use Rattle.segments.proofs.SegmentReadExamples.{it_fails}
 
 abbrev reader : ClosedSegmentState

@@ -1,6 +1,6 @@
 -- The closed segments that a log keeps open: what each of these definitions holds of, and what it
 -- refuses, of the segment that `ReadingExamples` has.
-use Rattle.std.specs.Prelude.{◌≡◌, ℕ, List, [], ◌∷◌, length, Some, None}
+use Rattle.std.specs.Prelude.{◌≡◌, ℕ, List, [], ◌∷◌, length, None}
 use Rattle.std.proofs.Common.{refl, ap, arith}
 use Rattle.std.proofs.lemmas.List.Elements.{All-cons, All-head, All-nil}
 use Rattle.page_digests.proofs.SealExamples.{its_seal}

@@ -1,7 +1,7 @@
 -- A read of a closed segment by its pages: what each of these definitions holds of, and what it
 -- refuses, of the segment 7 that `ReadingExamples` has, which held "abc".
-use Rattle.std.specs.Prelude.{◌≡◌, ◌⊎◌, ◌<◌, ◌++◌, ℕ, suc, List, [], ◌∷◌, length, false, true, Option, Some, None, Result, Ok, Err}
-use Rattle.std.proofs.Common.{refl, sym, subst, ap, inl, inr, arith, ◌∙◌, length-append, append-nil}
+use Rattle.std.specs.Prelude.{◌≡◌, ◌⊎◌, ◌<◌, ℕ, suc, List, [], ◌∷◌, length, false, true, Option, Some, None, Result, Ok, Err}
+use Rattle.std.proofs.Common.{refl, ap, inl, inr, arith, length-append}
 use Rattle.page.specs.Sums.{add_sum}
 use Rattle.journal.specs.declared.frame.Found.{Found}
 use Rattle.page_digests.specs.Contents.{PagedState}
@@ -14,7 +14,7 @@ use Rattle.page_digests.specs.declared.seal.Seal.{Seal}
 use Rattle.page_digests.proofs.ContentExamples.{damaged, opened, read}
 use Rattle.page_digests.proofs.PageExamples.{first}
 use Rattle.page_digests.proofs.RebuildExamples.{xyz_has_another_root}
-use Rattle.page_digests.proofs.SealExamples.{abc, its_seal, xyz}
+use Rattle.page_digests.proofs.SealExamples.{its_seal, xyz}
 use Rattle.segments.specs.declared.error.Error.{Error}
 use Rattle.segments.specs.declared.error.Error.TheVariants as errors
 use Rattle.segments.specs.PagedReads.{HasFailedFrame, HasFailedRebuild, IsDamage, IsRebuilt, IsSettling, IsToldAs, PagedSegmentState, ReadsGoOn, SegmentFails, SegmentReadAnswers, SegmentReadGoes, SettlesGoes}

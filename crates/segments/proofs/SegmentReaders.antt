@@ -1,6 +1,6 @@
 -- Readers of closed segments.
-use Rattle.std.specs.Prelude.{◌≡◌, ◌≤◌, ◌^◌, ℕ, List, Some, None, Option, Result, Ok, Err}
-use Rattle.std.proofs.Common.{refl, sym, ◌∙◌, subst, inl, inr}
+use Rattle.std.specs.Prelude.{◌≡◌, ℕ, List, Some, Option, Result, Ok, Err}
+use Rattle.std.proofs.Common.{refl, sym, ◌∙◌, subst}
 use Rattle.journal.specs.declared.frame.Found.{Found}
 use Rattle.page_digests.specs.declared.seal.Seal.{Seal}
 use Rattle.segments.specs.declared.closed.Closed.{Closed}
@@ -10,11 +10,11 @@ use Rattle.segments.specs.declared.closed.Fingerprint.TheVariants.{Whole, Paged}
 use Rattle.segments.specs.declared.closed.PagedSeal.{PagedSeal}
 use Rattle.segments.specs.declared.error.Error.{Error}
 use Rattle.segments.specs.declared.error.Error.TheVariants as errors
-use Rattle.segments.specs.ClosedSegments.{ClosedReadGoes, ClosedSegmentState, IsDamagedAtOpening, IsReaderOf, OpenReaderGoes, ReadFrom, FromMemory, FromPages, ReaderAnswers, ReaderFails}
+use Rattle.segments.specs.ClosedSegments.{ClosedReadGoes, ClosedSegmentState, IsDamagedAtOpening, IsReaderOf, OpenReaderGoes, ReadFrom, FromMemory, FromPages, ReaderAnswers}
 use Rattle.segments.specs.Log.{HasLoaded, HeldReadGoes, IsLoaded, IsReadOfClosed, LoadedState, LogState, TakeLoadedGoes}
 use Rattle.segments.specs.Manifest.{closed_at, closed_by}
 use Rattle.segments.specs.PagedFrames.{ReadsPagedFrame}
-use Rattle.segments.specs.PagedReads.{HasDamagedFile, HasSeal, IsPagedOf, OpensPaged, PagedSegmentState, SegmentReadAnswers, SegmentReadGoes}
+use Rattle.segments.specs.PagedReads.{HasSeal, OpensPaged, PagedSegmentState, SegmentReadAnswers, SegmentReadGoes}
 use Rattle.segments.proofs.PagedReading.{paged_closed}
 
 -- ---- a read by the pages

@@ -1,5 +1,5 @@
 -- Reads of the frames of a closed segment, by its pages.
-use Rattle.std.specs.Prelude.{◌≡◌, ◌⊎◌, ◌↔◌, ◌++◌, ℕ, List, [], None, true, false, Bool, Option, Result, Ok, Err}
+use Rattle.std.specs.Prelude.{◌≡◌, ◌↔◌, ◌++◌, ℕ, List, [], None, true, false, Bool, Option, Result, Ok, Err}
 use Rattle.std.proofs.Common.{refl, sym, ◌∙◌, ap, subst, inl, inr, append_assoc, append-nil}
 use Rattle.journal.specs.declared.frame.Found.{Found}
 use Rattle.page_digests.specs.Contents.{IsSameContent, PagedState}
@@ -10,7 +10,7 @@ use Rattle.page_digests.specs.declared.levels.Levels.{Levels}
 use Rattle.page_digests.specs.declared.seal.Seal.{Seal}
 use Rattle.segments.specs.declared.error.Error.{Error}
 use Rattle.segments.specs.PagedFrames.{PagedFrameGoes, ReadsPagedFrame}
-use Rattle.segments.specs.PagedReads.{HasFailedFrame, HasFailedRebuild, IsDamage, IsPagedOf, ReadsGoOn, IsRebuilt, IsSettling, IsToldAs, PagedSegmentState, SegmentFails, SegmentReadAnswers, SegmentReadGoes, SettlesGoes}
+use Rattle.segments.specs.PagedReads.{HasFailedFrame, HasFailedRebuild, IsDamage, ReadsGoOn, IsRebuilt, IsToldAs, PagedSegmentState, SegmentReadAnswers, SegmentReadGoes, SettlesGoes}
 
 pub content_same : (s : PagedState) → IsSameContent s s
 content_same s = record { seal = refl; page_size = refl; reads = ([], sym (append-nil s.reads)); list_reads = ([], sym (append-nil s.list_reads)) }
