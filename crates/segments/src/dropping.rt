@@ -31,7 +31,7 @@ impl<F: Folder<B> + Drop, B: Blob + Drop, H: Sum, R: Sum, D: Digest> SegmentedLo
     /// call: the drop is durable, and some of the files may be left. It may be tried again.
     /// `Unsynced` where the files are gone, and the folder couldn't be synced after that: a crash
     /// may bring some of them back, which no call reads.
-    #[tactic(auto, using(crate::proofs::DropSurvival::drop_still, crate::proofs::DropSurvival::drop_tries, crate::proofs::Recents::pages_from))]
+    #[tactic(auto, using(crate::proofs::DropSurvival::drop_still, crate::proofs::DropSurvival::drop_tries))]
     pub fn drop_before(&mut self, segment: u64) -> Result<(), Error>
         requires log { IsLog H.sum_of R.sum_of self.old }
         ensures goes { LogDropGoes segment self.old self.new result }
