@@ -81,9 +81,9 @@ fn kept_of<H: Sum, D: Digest>(rt: &HostRuntime, request: &Request) -> Result<Opt
     }
 }
 
-// Refuses a log of which something is missing, by the copy of its manifest. For reading alone a line
-// says so. If the open segment is short, and a cut was asked for, a line says so, and the copy goes:
-// the opening keeps another one.
+// Refuses a log of which something is missing, by the copy of its manifest. For reading alone a
+// line says so. If the open segment is short, and a cut was asked for, a line says so, and the copy
+// goes: the opening keeps another one.
 fn refuse_missing(rt: &HostRuntime, request: &Request, kept: Kept) -> Result<(), Status> {
     if request.read_only {
         tell_missing(rt, request, kept.number, kept.segment)?;

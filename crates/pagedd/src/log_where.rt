@@ -60,10 +60,7 @@ fn tell_closed<H: Sum, D: Digest>(
     let mut is_first = true;
     for number in from..to {
         if let Some(closed) = log.closed(number) {
-            or_end(
-                rt,
-                print_kept(rt, request.json, number, &closed, is_first),
-            )?;
+            or_end(rt, print_kept(rt, request.json, number, &closed, is_first))?;
             is_first = false;
         }
     }
