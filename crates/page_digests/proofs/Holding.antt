@@ -18,4 +18,3 @@ taken_at digest len old new k p there is left = record {
 pushed : {T E : Type 0} (r : Result T E) (xs ys new : List PageState) → IsOk r → new ≡ (if is_ok r then xs else ys) → new ≡ xs
 pushed (Ok t) xs ys new ok is = is
 pushed (Err e) xs ys new ok is = cc ok
-

@@ -24,7 +24,7 @@ impl<D: Digest> Model for HeldPage<D> {
 
     ghost Value = { PageState };
 
-    ghost view = { λ p. record { digest = p.digest; bytes = p.bytes.items; } };
+    ghost view = { λ p. record { digest = p.digest; bytes = p.bytes.items } };
 
     ghost invariant = { λ p. IsHeldPage D.digest_of (record {
       digest = p.digest;
@@ -35,8 +35,8 @@ impl<D: Digest> Model for HeldPage<D> {
 impl<D: Digest> HeldPage<D> {
     /// A page that has this digest.
     pub fn new(digest: [u8; 32], bytes: Vec<u8>) -> Self
-        requires { IsHeldPage D.digest_of (record { digest = digest; bytes = bytes.items; }) }
-        ensures { result ≡ record { digest = digest; bytes = bytes.items; } }
+        requires { IsHeldPage D.digest_of (record { digest = digest; bytes = bytes.items }) }
+        ensures { result ≡ record { digest = digest; bytes = bytes.items } }
     {
         HeldPage {
             digest,
