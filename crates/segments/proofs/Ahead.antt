@@ -1,8 +1,8 @@
 -- Digests of the open segment's pages that are made ahead of its rotation.
-use Rattle.std.specs.Prelude.{◌≡◌, ◌<◌, ◌≤◌, ◌+◌, ◌-◌, ◌*◌, ◌/◌, ◌%◌, ◌++◌, ℕ, zero, suc, Bool, true, cond, List, [], ◌∷◌, length, take, Some, None, Option, IfSome, Result, Ok, Err}
+use Rattle.std.specs.Prelude.{◌≡◌, ◌<◌, ◌≤◌, ◌+◌, ◌-◌, ◌*◌, ◌/◌, ◌%◌, ◌++◌, ℕ, zero, suc, Bool, true, cond, List, [], ◌∷◌, length, take, max, min, Some, None, Option, IfOk, IfSome, Result, Ok, Err}
 use Rattle.std.specs.List.{filter, range_with_len}
 use Rattle.std.specs.Result.{IsErrAnd}
-use Rattle.std.proofs.Common.{ap, sym, ◌∙◌, subst, arith, inl, inr, div-add-mod', div-mul-le_self, length-append, mod-lt, mul-le-mul_right, suc-mul}
+use Rattle.std.proofs.Common.{ap, sym, ◌∙◌, subst, arith, inl, inr, div-add-mod', div-mul-le_self, length-append, mod-lt, mul-le-mul_left, mul-le-mul_right, suc-mul}
 use Rattle.std.proofs.lemmas.Bool.{cases_Bool, false_from_ne_true}
 use Rattle.std.proofs.lemmas.List.{take-append-le}
 use Rattle.std.proofs.Math.Nat.{lt_of_mul-lt-mul_right}
@@ -27,7 +27,7 @@ use Rattle.page_digests.proofs.Growth.{digested_still}
 use Rattle.segments.specs.declared.error.Error.{Error}
 use Rattle.segments.specs.declared.error.Error.TheVariants as errors
 use Rattle.segments.specs.Owned.{DigestsFail, HasJournal, IsOwned, IsOwnedJournal, OwnedContentGoes, OwnedReadLeaves, OwnedState, content_now, content_of, owned_size}
-use Rattle.segments.specs.Ahead.{AheadGoes, HasDigests, IsDigestedAhead, content_calls}
+use Rattle.segments.specs.Ahead.{AheadGoes, HasDigests, IsDigestedAhead, IsFurther, PagesGo, content_calls}
 use Rattle.segments.proofs.Joining.{looked_bytes}
 use Rattle.segments.proofs.Digested.{all_bytes, bytes_grow, content_kept, list_done, no_bytes_yet, none_digested, page_digested, size_now}
 
@@ -70,6 +70,10 @@ pub digests_renewed : (d : List ℕ → List ℕ) (P : ℕ) (life : Life) (fresh
     → IfSome j (λ w. IsDigestedAhead d P (content w life.present.readable) x)
 digests_renewed d P life fresh x j same is =
     subst (λ (y : DigestingState). IfSome j (λ w. IsDigestedAhead d P (content w life.present.readable) y)) (sym same) (digests_none d P life fresh j is)
+
+-- no page is digested then
+pub digests_gone : (u s : OwnedState) (n : ℕ) → u ≡ s → n ≡ 0 → record u { digested = n } ≡ record s { digested = 0 }
+digests_gone u s n same none = ap (λ (v : OwnedState). record v { digested = n }) same ∙ ap (λ (k : ℕ). record s { digested = k }) none
 
 -- what is digested stays so as the content grows
 pub ahead_grown : (d : List ℕ → List ℕ) (P : ℕ) (held now more : List ℕ) (x : DigestingState) → IsDigestedAhead d P held x → now ≡ held ++ more → IsDigestedAhead d P now x
@@ -145,6 +149,13 @@ list_ahead sum own d P n s a b before after x list u owned leaves there has page
       all_bytes sum own P n s a b before after u owned kept read len small (subst (λ (k : ℕ). EachIsByte (take (k * P) held)) count ahead.bytes),
     )
 
+-- there are at most as many pages as bytes
+pub pages_few : (P size : ℕ) → 0 < P → size / P ≤ size
+pages_few P size positive =
+    let top : size / P * P ≤ size = div-mul-le_self size P in
+    let more : size / P * 1 ≤ size / P * P = mul-le-mul_left (size / P) positive in
+    omega (arith, more, top)
+
 -- whole pages lie within the content
 pages_room : (P size end : ℕ) → end ≤ size / P → end * P ≤ size
 pages_room P size end below =
@@ -153,8 +164,8 @@ pages_room P size end below =
     omega (arith, more, top)
 
 -- so they do in the journal that is there
-pub whole_pages : (s a : OwnedState) (P size end : ℕ) → a ≡ s → P ≡ s.page_size → size ≡ owned_size s.journal → end ≤ size / P → end * a.page_size ≤ owned_size a.journal
-whole_pages s a P size end same pages sized below =
+pub whole_pages : (s a : OwnedState) (k P size end : ℕ) → a ≡ record s { digested = k } → P ≡ s.page_size → size ≡ owned_size s.journal → end ≤ size / P → end * a.page_size ≤ owned_size a.journal
+whole_pages s a k P size end same pages sized below =
     subst (λ (o : OwnedState). end * o.page_size ≤ owned_size o.journal) (sym same)
     (subst (λ (Q : ℕ). end * Q ≤ owned_size s.journal) pages (subst (λ (k : ℕ). end * P ≤ k) sized (pages_room P size end below)))
 
@@ -185,7 +196,7 @@ memory_by None old new none = none
 memory_by (Some w) old new none = none
 
 -- memory was refused after reads that didn't fail
-pub memory_refused : (s t : OwnedState) → HasJournal s.journal (λ w. NoneFailed s.life.present t.life.present) → AheadGoes s t (Err (errors.Layer layer.OutOfMemory))
+pub memory_refused : (s t : OwnedState) → HasJournal s.journal (λ w. NoneFailed s.life.present t.life.present) → PagesGo s t (Err (errors.Layer layer.OutOfMemory))
 memory_refused s t none = memory_by s.journal s.life t.life none
 
 start_by : (j : Option WriterState) (life : Life) → HasJournal j (λ w. Unit {0}) → HasJournal j (λ w. NoneFailed life.present life.present)
@@ -197,7 +208,7 @@ pub none_read : (s : OwnedState) → HasJournal s.journal (λ w. Unit {0}) → H
 none_read s there = start_by s.journal s.life there
 
 -- one read more that didn't fail
-pub reads_on : (s a t : OwnedState) (u : Unit {0}) → a.journal ≡ s.journal → HasJournal s.journal (λ w. NoneFailed s.life.present a.life.present) → AheadGoes a t (Ok u) → HasJournal s.journal (λ w. NoneFailed s.life.present t.life.present)
+pub reads_on : (s a t : OwnedState) (u : Unit {0}) → a.journal ≡ s.journal → HasJournal s.journal (λ w. NoneFailed s.life.present a.life.present) → PagesGo a t (Ok u) → HasJournal s.journal (λ w. NoneFailed s.life.present t.life.present)
 reads_on s a t u same none more =
     none_then s.journal s.life a.life t.life none (subst (λ (j : Option WriterState). HasJournal j (λ w. NoneFailed a.life.present t.life.present)) same more)
 
@@ -210,7 +221,7 @@ no_journal P None none there = there
 no_journal P (Some w) none there = absurd (cc none)
 
 -- or one that was refused
-pub reads_end : (sum own : List ℕ → ℕ) (s a t : OwnedState) (e : Error) → OwnedReadLeaves sum own s a → HasJournal s.journal (λ w. NoneFailed s.life.present a.life.present) → AheadGoes a t (Err e) → AheadGoes s t (Err e)
+pub reads_end : (sum own : List ℕ → ℕ) (s a t : OwnedState) (e : Error) → OwnedReadLeaves sum own s a → HasJournal s.journal (λ w. NoneFailed s.life.present a.life.present) → PagesGo a t (Err e) → PagesGo s t (Err e)
 reads_end sum own s a t (errors.Layer e) leaves none fails =
     refused_then s.journal s.life a.life t.life e (looked_of sum own s.journal s a none leaves.call) none
     (subst (λ (j : Option WriterState). HasJournal j (λ w. RecordReadRefused a.life t.life e)) leaves.journal fails)
@@ -228,33 +239,70 @@ reads_end sum own s a t (errors.NoSegment n) leaves none fails = absurd fails
 reads_end sum own s a t errors.NumbersExhausted leaves none fails = absurd fails
 
 -- a call that ends by `?` answers its error
-pub ahead_refused : (s t : OwnedState) (e : Error) (result : Result (Unit {0}) Error) → IsErrAnd result (λ x. x ≡ e) → AheadGoes s t (Err e) → AheadGoes s t result
+pub ahead_refused : (s t : OwnedState) (e : Error) (result : Result (Unit {0}) Error) → IsErrAnd result (λ x. x ≡ e) → PagesGo s t (Err e) → PagesGo s t result
 ahead_refused s t e (Ok u) is fails = absurd is
-ahead_refused s t e (Err x) is fails = subst (λ (y : Error). AheadGoes s t (Err y)) (sym is) fails
+ahead_refused s t e (Err x) is fails = subst (λ (y : Error). PagesGo s t (Err y)) (sym is) fails
 
 digests_by : (j : Option WriterState) (old new : Life) (e : disk.Error) → HasJournal j (λ w. RecordReadRefused old new e) → HasJournal j (λ w. (mid : Life) × RecordReadRefused mid new e)
 digests_by None old new e is = is
 digests_by (Some w) old new e is = (old, is)
 
 -- so the digests of all pages can't be made
-digests_fail : (s t : OwnedState) (e : Error) → AheadGoes s t (Err e) → DigestsFail s t e
-digests_fail s t (errors.Layer e) is = digests_by s.journal s.life t.life e is
-digests_fail s t errors.Closed is = is.0
-digests_fail s t (errors.System e) is = is
-digests_fail s t (errors.Unsynced e) is = is
-digests_fail s t (errors.Damaged n) is = is
-digests_fail s t (errors.Unlisted n) is = is
-digests_fail s t (errors.Missing n) is = is
-digests_fail s t (errors.Short n) is = is
-digests_fail s t (errors.AnotherDigest n) is = is
-digests_fail s t (errors.Outdated n) is = is
-digests_fail s t errors.Manifest is = is
-digests_fail s t (errors.NoSegment n) is = is
-digests_fail s t errors.NumbersExhausted is = is
+digests_fail : (s t : OwnedState) (k : ℕ) (e : Error) → PagesGo (record s { digested = k }) t (Err e) → DigestsFail s t e
+digests_fail s t k (errors.Layer e) is = digests_by s.journal s.life t.life e is
+digests_fail s t k errors.Closed is = is.0
+digests_fail s t k (errors.System e) is = is
+digests_fail s t k (errors.Unsynced e) is = is
+digests_fail s t k (errors.Damaged n) is = is
+digests_fail s t k (errors.Unlisted n) is = is
+digests_fail s t k (errors.Missing n) is = is
+digests_fail s t k (errors.Short n) is = is
+digests_fail s t k (errors.AnotherDigest n) is = is
+digests_fail s t k (errors.Outdated n) is = is
+digests_fail s t k errors.Manifest is = is
+digests_fail s t k (errors.NoSegment n) is = is
+digests_fail s t k errors.NumbersExhausted is = is
 
 -- as where the pages before it can't be
-pub pages_fail : (s a t : OwnedState) (e : Error) → a ≡ s → AheadGoes a t (Err e) → DigestsFail s t e
-pages_fail s a t e same is = digests_fail s t e (subst (λ (o : OwnedState). AheadGoes o t (Err e)) same is)
+pub pages_fail : (s a t : OwnedState) (k : ℕ) (e : Error) → a ≡ record s { digested = k } → PagesGo a t (Err e) → DigestsFail s t e
+pages_fail s a t k e same is = digests_fail s t k e (subst (λ (o : OwnedState). PagesGo o t (Err e)) same is)
+
+-- what a read leaves, though other digests are held
+pub leaves_before : (sum own : List ℕ → ℕ) (s a t : OwnedState) (k : ℕ) → a ≡ record s { digested = k } → OwnedReadLeaves sum own a t → OwnedReadLeaves sum own s t
+leaves_before sum own s a t k same leaves =
+    let is = subst (λ (o : OwnedState). OwnedReadLeaves sum own o t) same leaves in
+    record { journal = is.journal; page_size = is.page_size; records = is.records; call = is.call }
+
+pub leaves_after : (sum own : List ℕ → ℕ) (s b t : OwnedState) (k : ℕ) → t ≡ record b { digested = k } → OwnedReadLeaves sum own s b → OwnedReadLeaves sum own s t
+leaves_after sum own s b t k same is =
+    subst (λ (o : OwnedState). OwnedReadLeaves sum own s o) (sym same) (record { journal = is.journal; page_size = is.page_size; records = is.records; call = is.call })
+
+-- ---- so many more
+
+-- the pages up to an end are digested
+pub ahead_done : (most : ℕ) (s o b t : OwnedState) (x y end : ℕ) (r : Result (Unit {0}) Error) → o ≡ record s { digested = 0 } → t ≡ record b { digested = y } → HasJournal s.journal (λ w. Unit {0})
+    → x ≡ s.digested → x ≤ y → y ≤ max x end → end ≤ x + most → min (owned_size s.journal / s.page_size) (s.digested + most) ≤ end → IfOk r (λ u. end ≤ y) → PagesGo o b r → AheadGoes most s t r
+ahead_done most s o b t x y end r same kept there count further few most_of low all goes =
+    subst (λ (v : OwnedState). AheadGoes most s v r) (sym kept) (by_answer r (subst (λ (v : OwnedState). PagesGo v b r) same goes) all)
+  where
+    on : IsFurther most s (record b { digested = y })
+    on = record { further = omega (arith, count, further); few = omega (arith, count, few, most_of) }
+
+    by_answer : (r : Result (Unit {0}) Error) → PagesGo (record s { digested = 0 }) b r → IfOk r (λ u. end ≤ y) → AheadGoes most s (record b { digested = y }) r
+    by_answer (Ok u) is done = (on, omega (arith, low, done), is)
+    by_answer (Err (errors.Layer e)) is done = (on, is)
+    by_answer (Err errors.Closed) is done = absurd (no_journal _ s.journal is.0 there)
+    by_answer (Err (errors.System e)) is done = absurd is
+    by_answer (Err (errors.Unsynced e)) is done = absurd is
+    by_answer (Err (errors.Damaged n)) is done = absurd is
+    by_answer (Err (errors.Unlisted n)) is done = absurd is
+    by_answer (Err (errors.Missing n)) is done = absurd is
+    by_answer (Err (errors.Short n)) is done = absurd is
+    by_answer (Err (errors.AnotherDigest n)) is done = absurd is
+    by_answer (Err (errors.Outdated n)) is done = absurd is
+    by_answer (Err errors.Manifest) is done = absurd is
+    by_answer (Err (errors.NoSegment n)) is done = absurd is
+    by_answer (Err errors.NumbersExhausted) is done = absurd is
 
 -- ---- device calls
 
@@ -306,6 +354,6 @@ page_costs sum own s t n P len owned pages buffer asks =
     one_call sum own s t n len owned buffer (subst (λ (k : ℕ). AsksAtMost (content_calls s.journal (n * k, len)) s.life t.life) pages asks)
 
 -- pages up to an end that is at most so many pages on
-pub asks_few : (s a b t : OwnedState) (end pages most : ℕ) → a ≡ s → t ≡ b → end ≤ pages + most → AsksAtMost (end - pages) a.life b.life → AsksAtMost most s.life t.life
-asks_few s a b t end pages most same kept few asks =
+pub asks_few : (s a b t : OwnedState) (y end pages most : ℕ) → a ≡ record s { digested = 0 } → t ≡ record b { digested = y } → end ≤ pages + most → AsksAtMost (end - pages) a.life b.life → AsksAtMost most s.life t.life
+asks_few s a b t y end pages most same kept few asks =
     subst (λ (o : OwnedState). AsksAtMost most s.life o.life) (sym kept) (subst (λ (o : OwnedState). AsksAtMost most o.life b.life) same (omega (arith, few, asks)))

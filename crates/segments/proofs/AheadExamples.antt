@@ -1,7 +1,7 @@
 -- Digests of the open segment's pages that are made ahead of its rotation: what each definition holds of, and what it
 -- refuses. The open segment has one record, "c", whose frame has 8 bytes: two pages of 4 bytes, or a part of one of 18.
 -- The digest of a string is its first 32 bytes, filled up with zeros.
-use Rattle.std.specs.Prelude.{◌≡◌, ◌*◌, ℕ, zero, suc, List, [], ◌∷◌, length, take, None, Some, Ok, Err}
+use Rattle.std.specs.Prelude.{◌≡◌, ◌≤◌, ◌*◌, ℕ, zero, suc, List, [], ◌∷◌, length, take, None, Some, Ok, Err}
 use Rattle.std.proofs.Common.{refl, ap, arith, lit<, lit≤}
 use Rattle.disk.specs.declared.error.Error.TheVariants.{OutOfMemory, WriteFailed}
 use Rattle.paged_read.specs.Failures.{none_failed_start}
@@ -10,7 +10,7 @@ use Rattle.page_digests.specs.Seals.{EachIsByte}
 use Rattle.page_digests.proofs.PageExamples.{first}
 use Rattle.writer_state.specs.WriterState.{WriterState}
 use Rattle.segments.specs.declared.error.Error.TheVariants as errors
-use Rattle.segments.specs.Ahead.{AheadGoes, HasDigests, IsDigestedAhead, content_calls}
+use Rattle.segments.specs.Ahead.{AheadGoes, HasDigests, IsDigestedAhead, IsFurther, PagesGo, content_calls}
 use Rattle.segments.specs.Owned.{OwnedState, without_journal}
 use Rattle.segments.proofs.BytesExamples.{c_frame, c_page, resting, with_c, writer}
 
@@ -60,25 +60,44 @@ of_a_closed_one x = tt
 
 -- ---- answers
 
-pub none_was_read : AheadGoes with_c with_c (Ok tt)
+pub none_was_read : PagesGo with_c with_c (Ok tt)
 none_was_read = none_failed_start (resting c_page)
 
-pub of_no_journal : (t : OwnedState) → AheadGoes (without_journal with_c) t (Ok tt) → ⊥
+pub of_no_journal : (t : OwnedState) → PagesGo (without_journal with_c) t (Ok tt) → ⊥
 of_no_journal t goes = goes
 
-pub no_memory : AheadGoes with_c with_c (Err (errors.Layer OutOfMemory))
+pub no_memory : PagesGo with_c with_c (Err (errors.Layer OutOfMemory))
 no_memory = none_failed_start (resting c_page)
 
 -- no write is made
-pub no_write : (t : OwnedState) → AheadGoes with_c t (Err (errors.Layer WriteFailed)) → ⊥
+pub no_write : (t : OwnedState) → PagesGo with_c t (Err (errors.Layer WriteFailed)) → ⊥
 no_write t goes = goes
 
-pub it_is_closed : AheadGoes (without_journal with_c) (without_journal with_c) (Err errors.Closed)
+pub it_is_closed : AheadGoes 5 (without_journal with_c) (without_journal with_c) (Err errors.Closed)
 it_is_closed = (refl, refl)
 
 -- one that is open isn't called closed
-pub it_is_open : (t : OwnedState) → AheadGoes with_c t (Err errors.Closed) → ⊥
+pub it_is_open : (t : OwnedState) → AheadGoes 5 with_c t (Err errors.Closed) → ⊥
 it_is_open t goes = absurd (cc goes.0)
+
+-- ---- how many
+
+pub one_more : IsFurther 2 with_c (record with_c { digested = 1 })
+one_more = record { further = lit≤ tt; few = lit≤ tt }
+
+pub more_than_that : IsFurther 2 with_c (record with_c { digested = 3 }) → ⊥
+more_than_that is = omega (arith, is.few)
+
+pub one_is_lost : IsFurther 2 (record with_c { digested = 1 }) with_c → ⊥
+one_is_lost is = omega (arith, is.further)
+
+-- its content has no whole page
+pub none_is_asked_for : AheadGoes 2 with_c with_c (Ok tt)
+none_is_asked_for = (record { further = lit≤ tt; few = lit≤ tt }, omega arith, none_failed_start (resting c_page))
+
+-- two pages of 4 bytes, of which none is digested
+pub nothing_is_done : (t : OwnedState) → t.digested ≡ 0 → AheadGoes 2 (record with_c { page_size = 4 }) t (Ok tt) → ⊥
+nothing_is_done t none goes = let two : 2 ≤ t.digested = goes.1 in omega (arith, two, none)
 
 -- ---- device calls
 

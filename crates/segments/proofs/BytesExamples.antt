@@ -132,8 +132,8 @@ bare_is_fresh key above = refl
 
 -- a blob with "c", and its journal
 abbrev pub with_c : OwnedState
-with_c = record { cache = bare_cache; life = c_life; journal = Some (writer c_frame); page_size = 18; records = 1 }
+with_c = record { cache = bare_cache; life = c_life; journal = Some (writer c_frame); page_size = 18; records = 1; digested = 0 }
 
 -- a blob with nothing in it, and its journal
 abbrev pub with_none : OwnedState
-with_none = record { cache = bare_cache; life = life_of []; journal = Some (writer []); page_size = 18; records = 0 }
+with_none = record { cache = bare_cache; life = life_of []; journal = Some (writer []); page_size = 18; records = 0; digested = 0 }

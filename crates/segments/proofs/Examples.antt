@@ -41,7 +41,7 @@ first_of f (e ∷ es) = f e.call
 
 module _ (cache : CacheState) (life : Life) (w : WriterState) (kept : Closed) where
   abbrev owned : OwnedState
-  owned = record { cache = cache; life = life; journal = Some w; page_size = 4; records = 0 }
+  owned = record { cache = cache; life = life; journal = Some w; page_size = 4; records = 0; digested = 0 }
 
   abbrev log : LogState
   log = record { manifest = owned; current = owned; listing = record { first = 0; closed = kept ∷ [] }; asked = []; reading = record { whole = None; paged = [] }; page_size = 4; most = 100; known = 3 }

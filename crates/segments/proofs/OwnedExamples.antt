@@ -50,7 +50,7 @@ size_of_none = refl
 
 -- the journal is gone since a call failed; the blob and the count stay
 abbrev closed : OwnedState
-closed = record { cache = bare_cache; life = c_life; journal = None; page_size = 18; records = 1 }
+closed = record { cache = bare_cache; life = c_life; journal = None; page_size = 18; records = 1; digested = 0 }
 
 pub it_was_closed : without_journal with_c ≡ closed
 it_was_closed = refl
@@ -79,7 +79,7 @@ its_journal is = record { journal = is; page_size = refl; counts = refl }
 
 -- a journal of one record that is said to have two
 abbrev miscounted : OwnedState
-miscounted = record { cache = bare_cache; life = c_life; journal = Some (writer c_frame); page_size = 18; records = 2 }
+miscounted = record { cache = bare_cache; life = c_life; journal = Some (writer c_frame); page_size = 18; records = 2; digested = 0 }
 
 pub another_count : IsOwnedJournal add_sum add_sum miscounted (writer c_frame) → ⊥
 unfolding record_len is_record record_of frames records
@@ -150,7 +150,7 @@ it_does_not_wait sum own is = let same : Clean ≡ Pending 0 = is.sync in absurd
 
 -- the journal waits for the sync that was started first
 abbrev waiting : OwnedState
-waiting = record { cache = bare_cache; life = c_life; journal = Some (record (writer c_frame) { sync = Pending 0 }); page_size = 18; records = 1 }
+waiting = record { cache = bare_cache; life = c_life; journal = Some (record (writer c_frame) { sync = Pending 0 }); page_size = 18; records = 1; digested = 0 }
 
 pub a_wait_of_a_closed_one : (sum own : List ℕ → ℕ) → OwnedWaitGoes sum own closed closed (Err errors.Closed)
 a_wait_of_a_closed_one sum own = (refl, refl)

@@ -125,7 +125,7 @@ not_zeros_behind = refl
 -- ---- a log
 
 abbrev pub owned : CacheState → Life → WriterState → OwnedState
-owned cache life w = record { cache = cache; life = life; journal = Some w; page_size = 40; records = 0 }
+owned cache life w = record { cache = cache; life = life; journal = Some w; page_size = 40; records = 0; digested = 0 }
 
 abbrev pub log : CacheState → Life → WriterState → LogState
 log cache life w =

@@ -1,5 +1,5 @@
 -- Digests of the open segment's pages that are made ahead of its rotation.
-use Rattle.std.specs.Prelude.{◌≡◌, ◌*◌, ℕ, List, Option, Some, None, IfSome, Result, Ok, Err, take}
+use Rattle.std.specs.Prelude.{◌≡◌, ◌≤◌, ◌+◌, ◌*◌, ◌/◌, min, ℕ, List, Option, Some, None, IfSome, Result, Ok, Err, take}
 use Rattle.writer_state.specs.WriterState.{WriterState}
 use Rattle.writer_state.specs.Sound.{content}
 use Rattle.paged_read.specs.Failures.{NoneFailed}
@@ -10,7 +10,7 @@ use Rattle.page_digests.specs.Growing.{DigestingState, IsDigested}
 use Rattle.page_digests.specs.Seals.{EachIsByte}
 use Rattle.segments.specs.declared.error.Error.{Error}
 use Rattle.segments.specs.declared.error.Error.TheVariants as errors
-use Rattle.segments.specs.Owned.{HasJournal, OwnedState}
+use Rattle.segments.specs.Owned.{HasJournal, OwnedState, owned_size}
 
 -- the first pages of a content are digested, each a whole one, and they hold bytes
 pub record IsDigestedAhead (d : List ℕ → List ℕ) (P : ℕ) (held : List ℕ) (x : DigestingState)
@@ -23,14 +23,28 @@ abbrev pub HasDigests : (d : List ℕ → List ℕ) → OwnedState → Digesting
 HasDigests d s x = IfSome s.journal (λ w.
     IsDigestedAhead d s.page_size (content w s.life.present.readable) x)
 
--- pages of a journal's content were read and digested, by the answer: at `Ok` no device call
--- failed; an error is that of a read, or memory was refused
-abbrev pub AheadGoes : OwnedState → OwnedState → Result (Unit {0}) Error → Type 0
-AheadGoes s t (Ok _) = HasJournal s.journal (λ w. NoneFailed s.life.present t.life.present)
-AheadGoes s t (Err (errors.Layer e)) =
+-- pages of a journal's content were read, by the answer: at `Ok` no device call failed; an error is
+-- that of a read, or memory was refused
+abbrev pub PagesGo : OwnedState → OwnedState → Result (Unit {0}) Error → Type 0
+PagesGo s t (Ok _) = HasJournal s.journal (λ w. NoneFailed s.life.present t.life.present)
+PagesGo s t (Err (errors.Layer e)) =
     HasJournal s.journal (λ w. RecordReadRefused s.life t.life e)
-AheadGoes s t (Err errors.Closed) = (s.journal ≡ None) × (t ≡ s)
-AheadGoes s t (Err _) = ⊥
+PagesGo s t (Err errors.Closed) = (s.journal ≡ None) × (t ≡ s)
+PagesGo s t (Err _) = ⊥
+
+-- so many pages more are digested at most, and those before are still
+pub record IsFurther (most : ℕ) (s t : OwnedState) : Type 0 where
+  pub further : s.digested ≤ t.digested
+  pub few : t.digested ≤ s.digested + most
+
+-- the next pages of a journal's content are digested, by the answer: at `Ok` `most` of them, or all
+-- whole ones, and no device call failed; an error is that of a read, or memory was refused
+abbrev pub AheadGoes : (most : ℕ) → OwnedState → OwnedState → Result (Unit {0}) Error → Type 0
+AheadGoes most s t (Ok u) = IsFurther most s t
+    × (min (owned_size s.journal / s.page_size) (s.digested + most) ≤ t.digested)
+    × PagesGo s t (Ok u)
+AheadGoes most s t (Err (errors.Layer e)) = IsFurther most s t × PagesGo s t (Err (errors.Layer e))
+AheadGoes most s t (Err e) = PagesGo s t (Err e)
 
 -- the most device calls that a read of this range of a journal's content makes: one for each page
 abbrev pub content_calls : Option WriterState → (range : ℕ × ℕ) → ℕ

@@ -26,14 +26,15 @@ use Rattle.journal.specs.Calls.{JournalCallLeaves, JournalRecoverGoes, RecordRea
 use Rattle.segments.specs.declared.error.Error.{Error}
 use Rattle.segments.specs.declared.error.Error.TheVariants as errors
 
--- such a blob, journal and cache as contracts see them; there is no journal once a call that takes
--- it failed
+-- such a blob, journal and cache as contracts see them, and how many pages of the journal's content
+-- are digested ahead; there is no journal once a call that takes it failed
 pub record OwnedState : Type 0 where
   pub cache : CacheState
   pub life : Life
   pub journal : Option WriterState
   pub page_size : ℕ
   pub records : ℕ
+  pub digested : ℕ
 
 -- the journal is one between two calls, has pages of this size, and so many records
 pub record IsOwnedJournal (sum own : List ℕ → ℕ) (s : OwnedState) (w : WriterState) : Type 0 where

@@ -27,7 +27,7 @@ impl<F: Folder<B> + Drop, B: Blob + Drop, H: Sum, R: Sum, D: Digest> SegmentedLo
     /// the rotation reads the others.
     pub fn digest_ahead(&mut self, most: u64) -> Result<(), Error>
         requires log { IsLog H.sum_of R.sum_of self.old }
-        ensures goes { AheadGoes self.old.current self.new.current result }
+        ensures goes { AheadGoes most self.old.current self.new.current result }
         ensures ready { IsLog H.sum_of R.sum_of self.new }
         ensures rest { IsSameButCurrent self.old self.new }
         ensures leaves { OwnedReadLeaves H.sum_of R.sum_of self.old.current self.new.current }

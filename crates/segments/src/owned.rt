@@ -1,6 +1,6 @@
 // A blob with a journal on it, and a cache of its own.
 ghost use Rattle.std.specs.Prelude.{◌≡◌, ◌≤◌, ◌+◌, ◌-◌, ◌*◌, ◌∷◌, ◌++◌, [], length};
-ghost use Rattle.std.specs.Prelude.{is_none, None, IfOk};
+ghost use Rattle.std.specs.Prelude.{is_none, max, None, IfErr, IfOk};
 ghost use Rattle.std.specs.Int.NonZero.{non_zero_u16_get};
 ghost use Rattle.segments.specs.Owned.{IsOwned, OwnedAddGoes, OwnedAddKeeps, OwnedAppendGoes};
 ghost use Rattle.segments.specs.Owned.{OwnedCommitGoes, OwnedLeaves};
@@ -9,7 +9,7 @@ ghost use Rattle.segments.specs.Owned.{OwnedKeeps, OwnedReadLeaves, OwnedReadGoe
 ghost use Rattle.segments.specs.Owned.{HasJournal, LevelsGo, ListGoes, OwnedContentGoes};
 ghost use Rattle.segments.specs.Owned.{OwnedRecoverGoes};
 ghost use Rattle.segments.specs.Owned.{owned_size, records_now, without_journal};
-ghost use Rattle.segments.specs.Ahead.{AheadGoes, HasDigests, content_calls};
+ghost use Rattle.segments.specs.Ahead.{AheadGoes, HasDigests, PagesGo, content_calls};
 ghost use Rattle.paged.specs.Calls.{AsksAtMost};
 ghost use Rattle.journal.specs.Calls.{JournalRecoveryLeaves};
 ghost use Rattle.page_digests.specs.Seals.{EachIsByte};
@@ -66,6 +66,7 @@ impl<B: Blob, H, R, D: Digest> Model for OwnedJournal<B, H, R, D> {
       journal = o.journal;
       page_size = non_zero_u16_get o.page_size;
       records = o.records;
+      digested = o.digesting.pages;
     } };
 
     ghost invariant = { λ o. HasDigests D.digest_of (record {
@@ -74,6 +75,7 @@ impl<B: Blob, H, R, D: Digest> Model for OwnedJournal<B, H, R, D> {
       journal = o.journal;
       page_size = non_zero_u16_get o.page_size;
       records = o.records;
+      digested = o.digesting.pages;
     }) o.digesting };
 }
 
@@ -344,7 +346,7 @@ impl<B: Blob + Drop, H: Sum, R: Sum, D: Digest> OwnedJournal<B, H, R, D> {
     /// digested before it.
     pub fn digest_ahead(&mut self, alloc: Global, most: u64) -> Result<(), Error>
         requires owned { IsOwned H.sum_of R.sum_of self.old }
-        ensures goes { AheadGoes self.old self.new result }
+        ensures goes { AheadGoes most self.old self.new result }
         ensures ready { IsOwned H.sum_of R.sum_of self.new }
         ensures leaves { OwnedReadLeaves H.sum_of R.sum_of self.old self.new }
         ensures costs { AsksAtMost most self.old.life self.new.life }
@@ -362,7 +364,8 @@ impl<B: Blob + Drop, H: Sum, R: Sum, D: Digest> OwnedJournal<B, H, R, D> {
 
     // Takes the digests so far, and leaves none.
     fn take_digesting(&mut self, alloc: Global) -> Digesting<D>
-        ensures same { self.new ≡ self.old }
+        ensures taken { self.new ≡ record self.old { digested = 0 } }
+        ensures pages { result.pages ≡ self.old.digested }
         ensures digested { HasDigests D.digest_of self.old result }
     {
         mem::replace(&mut self.digesting, Digesting::new(alloc))
@@ -371,7 +374,7 @@ impl<B: Blob + Drop, H: Sum, R: Sum, D: Digest> OwnedJournal<B, H, R, D> {
     // Keeps the digests so far.
     fn keep_digesting(&mut self, digesting: Digesting<D>)
         requires digested { HasDigests D.digest_of self.old digesting }
-        ensures same { self.new ≡ self.old }
+        ensures { self.new ≡ record self.old { digested = digesting.pages } }
     {
         self.digesting = digesting;
     }
@@ -388,8 +391,10 @@ impl<B: Blob + Drop, H: Sum, R: Sum, D: Digest> OwnedJournal<B, H, R, D> {
         requires there { HasJournal self.old.journal (λ w. Unit {0}) }
         requires whole { end * self.old.page_size ≤ owned_size self.old.journal }
         requires digested { HasDigests D.digest_of self.old digesting.old }
-        ensures goes { AheadGoes self.old self.new result }
+        ensures goes { PagesGo self.old self.new result }
         ensures all { IfOk result (λ u. end ≤ digesting.new.pages) }
+        ensures further { digesting.old.pages ≤ digesting.new.pages }
+        ensures few { digesting.new.pages ≤ max digesting.old.pages end }
         ensures digested { HasDigests D.digest_of self.new digesting.new }
         ensures ready { IsOwned H.sum_of R.sum_of self.new }
         ensures leaves { OwnedReadLeaves H.sum_of R.sum_of self.old self.new }
@@ -416,8 +421,9 @@ impl<B: Blob + Drop, H: Sum, R: Sum, D: Digest> OwnedJournal<B, H, R, D> {
         requires whole { n * self.old.page_size + self.old.page_size
             ≤ owned_size self.old.journal }
         requires digested { HasDigests D.digest_of self.old digesting.old }
-        ensures goes { AheadGoes self.old self.new result }
+        ensures goes { PagesGo self.old self.new result }
         ensures more { IfOk result (λ u. digesting.new.pages ≡ n + 1) }
+        ensures kept { IfErr result (λ e. digesting.new ≡ digesting.old) }
         ensures buffer { length page.new.items ≡ length page.old.items }
         ensures digested { HasDigests D.digest_of self.new digesting.new }
         ensures ready { IsOwned H.sum_of R.sum_of self.new }

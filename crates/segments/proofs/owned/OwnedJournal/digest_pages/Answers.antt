@@ -19,6 +19,8 @@ loop-n-init g c = record {
   none = none_read c.args.self.now c.requires.there;
   digested = c.requires.digested;
   pages = sym c.pages-n.ensures;
+  further = omega arith;
+  few = omega arith;
   asked = omega (arith, c.pages-n.ensures);
   buffer = grind (arith, common_steps, ap (λ (o : OwnedState). o.page_size) c.self.view_is);
 }
@@ -44,6 +46,8 @@ loop-n-preserved g c =
       none = reads_on s a b c.in_ok-digest_page.field-0 before.leaves.journal before.none c.in_ok-digest_page.ensures.goes;
       digested = c.digest_page.ensures.digested;
       pages = c.in_ok-digest_page.ensures.more;
+      further = omega (arith, before.further, before.pages, c.in_ok-digest_page.ensures.more);
+      few = omega (arith, c.in_ok-digest_page.ensures.more, c.loop-n-test.true);
       asked = omega (arith, before.asked, c.digest_page.ensures.costs, c.loop-n-test.true);
       buffer = c.digest_page.ensures.buffer ∙ before.buffer;
     }
@@ -69,3 +73,15 @@ returns-clause-goes g c = c.loop-n.invariant.none
 
 pub returns-clause-costs : goal.returns-clause-costs
 returns-clause-costs g c = omega (arith, c.loop-n.invariant.asked)
+
+pub returns-in_err-digest_page-clause-further : goal.returns-in_err-digest_page-clause-further
+returns-in_err-digest_page-clause-further g c = rw c.in_err-digest_page.ensures.kept c.loop-n.invariant.further
+
+pub returns-in_err-digest_page-clause-few : goal.returns-in_err-digest_page-clause-few
+returns-in_err-digest_page-clause-few g c = rw c.in_err-digest_page.ensures.kept c.loop-n.invariant.few
+
+pub returns-clause-further : goal.returns-clause-further
+returns-clause-further g c = c.loop-n.invariant.further
+
+pub returns-clause-few : goal.returns-clause-few
+returns-clause-few g c = c.loop-n.invariant.few

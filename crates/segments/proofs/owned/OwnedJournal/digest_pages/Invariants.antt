@@ -1,4 +1,4 @@
-use Rattle.std.specs.Prelude.{◌≡◌, ◌≤◌, ◌+◌, ◌-◌, length}
+use Rattle.std.specs.Prelude.{◌≡◌, ◌≤◌, ◌+◌, ◌-◌, length, max}
 use Rattle.paged_read.specs.Failures.{NoneFailed}
 use Rattle.segments.specs.Ahead.{HasDigests}
 use Rattle.segments.specs.Owned.{HasJournal, IsOwned, OwnedReadLeaves}
@@ -11,6 +11,8 @@ invariant-loop-n g l = record {
   none : HasJournal l.fn.self.journal (λ w. NoneFailed l.fn.self.life.present l.self.life.present);
   digested : HasDigests g.D.Digest.digest_of l.self l.digesting;
   pages : l.digesting.pages ≡ l.n;
+  further : l.fn.digesting.pages ≤ l.digesting.pages;
+  few : l.digesting.pages ≤ max l.fn.digesting.pages l.fn.end;
   asked : length l.self.life.present.log + (l.fn.end - l.n) ≤ length l.fn.self.life.present.log + (l.fn.end - l.fn.digesting.pages);
   buffer : length l.page.items ≡ l.fn.self.page_size;
 }

@@ -3,7 +3,7 @@ use Rattle.std.proofs.Common.{ap, ◌∙◌, subst, arith, take_at}
 use Rattle.page_digests.specs.Growing.{FinishesList}
 use Rattle.page_digests.specs.Seals.{EachIsByte}
 use Rattle.segments.specs.Owned.{OwnedReadLeaves, OwnedState, owned_size}
-use Rattle.segments.proofs.Ahead.{list_ahead, pages_fail, whole_pages}
+use Rattle.segments.proofs.Ahead.{leaves_before, list_ahead, pages_fail, whole_pages}
 use Rattle.segments.proofs.Digested.{list_refused, memory_failed, read_failed, read_is, size_there, there_is}
 use Rattle.segments.proofs.Joining.{owned_joins}
 use Rattle.segments.proofs.owned.OwnedJournal.list.Given.{Over}
@@ -13,7 +13,7 @@ use Rattle.segments.proofs.owned.OwnedJournal.list.Goals.{After-digest_pages}
 -- the pages were read
 before : (g : Over) (c : After-digest_pages g) → OwnedReadLeaves g.H.Sum.sum_of g.R.Sum.sum_of c.args.self.now c.digest_pages.new.self
 before g c =
-    subst (λ (s : OwnedState). OwnedReadLeaves g.H.Sum.sum_of g.R.Sum.sum_of s c.digest_pages.new.self) c.take_digesting-digesting.ensures.same c.digest_pages.ensures.leaves
+    leaves_before g.H.Sum.sum_of g.R.Sum.sum_of c.args.self.now c.take_digesting-digesting.new.self c.digest_pages.new.self 0 c.take_digesting-digesting.ensures.taken c.digest_pages.ensures.leaves
 
 pub digest_pages-requires-clause-whole : goal.digest_pages-requires-clause-whole
 digest_pages-requires-clause-whole g c =
@@ -21,14 +21,14 @@ digest_pages-requires-clause-whole g c =
     let P = c.get-page_size.result in
     let size : c.size-size.result ≡ owned_size s.journal = size_there _ s c.in-Some.journal c.size-size.result c.self.view_is c.in-Some.is c.size-size.ensures in
     let sized : P ≡ s.page_size = c.get-page_size.ensures.value ∙ ap (λ (o : OwnedState). o.page_size) c.self.view_is in
-    whole_pages s c.take_digesting-digesting.new.self P c.size-size.result (c.size-size.result / P) c.take_digesting-digesting.ensures.same sized size (omega arith)
+    whole_pages s c.take_digesting-digesting.new.self 0 P c.size-size.result (c.size-size.result / P) c.take_digesting-digesting.ensures.taken sized size (omega arith)
 
 pub returns-in_err-digest_pages-clause-goes : goal.returns-in_err-digest_pages-clause-goes
 returns-in_err-digest_pages-clause-goes g c =
     let s = c.args.self.now in
     let a = c.digest_pages.new.self in
     list_refused g.D.Digest.digest_of s a _ c.from_residual.result c.from_residual.ensures.1
-    (pages_fail s c.take_digesting-digesting.new.self a _ c.take_digesting-digesting.ensures.same c.in_err-digest_pages.ensures.goes)
+    (pages_fail s c.take_digesting-digesting.new.self a 0 _ c.take_digesting-digesting.ensures.taken c.in_err-digest_pages.ensures.goes)
 
 pub returns-in_err-resize-clause-goes : goal.returns-in_err-resize-clause-goes
 returns-in_err-resize-clause-goes g c =
