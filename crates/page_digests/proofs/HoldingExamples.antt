@@ -2,8 +2,8 @@
 use Rattle.std.proofs.Common.{◌≡◌, ◌∷◌, [], ℕ, List, length, get_or, refl, ap, arith, lit<}
 use Rattle.std.specs.Prelude.{Option, Some, None, IfSome, Ok, true, false}
 use Rattle.std.proofs.lemmas.List.Elements.{All-cons, All-head, All-nil}
-use Rattle.page_digests.specs.HeldPages.{FindsPage, HoldNone, HoldsAt, IsHeldPage, IsPageWith, IsTakenPage, PageState, TakesPage, kept_page, staying}
-use Rattle.page_digests.specs.PagedBytes.{BytesState, FetchGoes, HoldsGoes, IsLoaded, IsTurned, PutsAway, TurnGoes, put_away, turned_to}
+use Rattle.page_digests.specs.HeldPages.{FindsPage, HoldNone, HoldsAt, IsHeldPage, IsPageWith, IsTakenPage, PageState, TakesHeldPage, kept_page, staying}
+use Rattle.page_digests.specs.PagedBytes.{BytesState, FetchGoes, HoldsGoes, IsPageLoaded, IsTurned, PutsAway, TurnGoes, put_away, turned_to}
 use Rattle.page_digests.specs.Sources.{gave}
 use Rattle.page_digests.proofs.PageExamples.{first}
 use Rattle.page_digests.proofs.PagedBytesExamples.{three_bytes, three_read}
@@ -54,11 +54,11 @@ it_is_taken = record { before = other_page ∷ []; after = []; there = refl; lef
 pub the_other_is_taken : IsTakenPage its_digest 3 (other_page ∷ its_page ∷ []) (its_page ∷ []) other_page → ⊥
 the_other_is_taken is = the_other_has_not is.it
 
-pub none_is_taken : TakesPage its_digest 3 (other_page ∷ []) (other_page ∷ []) None
+pub none_is_taken : TakesHeldPage its_digest 3 (other_page ∷ []) (other_page ∷ []) None
 none_is_taken = (refl, none_has_it)
 
 -- a page that is held isn't taken
-pub it_stays : TakesPage its_digest 3 (its_page ∷ []) (its_page ∷ []) None → ⊥
+pub it_stays : TakesHeldPage its_digest 3 (its_page ∷ []) (its_page ∷ []) None → ⊥
 it_stays (same, none) = though_it_is_held none
 
 pub the_later_stays : staying 2 (other_page ∷ its_page ∷ []) ≡ its_page ∷ []
@@ -99,14 +99,14 @@ it_was_held = (its_page, record three_away { held = [] }, it_is_turned_to, refl)
 pub it_was_not_held : TurnGoes {E = ℕ} 2 0 its_digest 3 three_away three_away (Ok false) → ⊥
 it_was_not_held = none_is_turned_to
 
-pub nothing_is_read : IsLoaded 2 0 three_away three_read
+pub nothing_is_read : IsPageLoaded 2 0 three_away three_read
 nothing_is_read = record { taken = Some its_page; rest = record three_away { held = [] }; turned = it_is_turned_to; held = refl; reads = refl }
 
 -- a page that is held is read again
 abbrev pub read_again : BytesState
 read_again = record three_read { reads = gave 5 abc ∷ gave 5 abc ∷ [] }
 
-pub though_it_was_held : IsLoaded 2 0 three_away read_again → ⊥
+pub though_it_was_held : IsPageLoaded 2 0 three_away read_again → ⊥
 though_it_was_held is = by_case is.taken is.turned is.reads
   where
     by_case : (taken : Option PageState) → IsTurned 2 its_digest 3 three_away taken is.rest → IfSome taken (λ p. read_again.reads ≡ three_away.reads) → ⊥

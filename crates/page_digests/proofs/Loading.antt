@@ -3,14 +3,14 @@ use Rattle.std.proofs.Common.{◌≡◌, ◌∙◌, ℕ, List, [], ◌++◌, len
 use Rattle.std.specs.Prelude.{Option, Some, None, Result, Ok, Err}
 use Rattle.page_digests.specs.declared.error.Error.{Error}
 use Rattle.page_digests.specs.declared.error.Error.TheVariants.{Damaged, OutOfMemory, System}
-use Rattle.page_digests.specs.HeldPages.{PageState, TakesPage}
+use Rattle.page_digests.specs.HeldPages.{PageState, TakesHeldPage}
 use Rattle.page_digests.specs.PagedBytes.{BytesLoadAnswers, BytesLoadGoes, BytesState, FetchGoes, HoldsGoes, IsSameBytes, IsTurned, TurnGoes, put_away, turned_to}
 use Rattle.page_digests.specs.Pages.{digest_at, page_len}
 use Rattle.page_digests.specs.Sources.{SourceRead}
 
 -- a page that was held is the one that was used last
 pub turned : (most j : ℕ) (digest : List ℕ) (count : ℕ) (u s r v : BytesState) (others : List PageState) (p : PageState) (bytes : List ℕ) → u ≡ s
-    → TakesPage digest count u.held others (Some p) → r ≡ put_away most u.cached (record u { held = others }) → v ≡ r → bytes ≡ p.bytes
+    → TakesHeldPage digest count u.held others (Some p) → r ≡ put_away most u.cached (record u { held = others }) → v ≡ r → bytes ≡ p.bytes
     → (x : PageState) × (rest : BytesState) × IsTurned most digest count s (Some x) rest × (record v { cached = Some j; page = bytes } ≡ turned_to j (Some x) rest)
 turned most j digest count u s r v others p bytes same takes away after its = (
   p,

@@ -43,10 +43,10 @@ pub record IsTakenPage (digest : List ℕ) (len : ℕ) (old new : List PageState
   pub it : IsPageWith digest len p
 
 -- a page is taken out of those that are held, by the answer
-abbrev pub TakesPage : (digest : List ℕ) → (len : ℕ) → (old new : List PageState)
+abbrev pub TakesHeldPage : (digest : List ℕ) → (len : ℕ) → (old new : List PageState)
     → Option PageState → Type 0
-TakesPage digest len old new None = (new ≡ old) × HoldNone digest len old
-TakesPage digest len old new (Some p) = IsTakenPage digest len old new p
+TakesHeldPage digest len old new None = (new ≡ old) × HoldNone digest len old
+TakesHeldPage digest len old new (Some p) = IsTakenPage digest len old new p
 
 -- those of some pages that stay as one more is held, `most` in all: those that were used last
 abbrev pub staying : (most : ℕ) → List PageState → List PageState

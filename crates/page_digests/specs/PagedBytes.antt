@@ -2,7 +2,7 @@
 use Rattle.std.specs.Prelude.{◌≡◌, ◌≢◌, ◌⊎◌, ◌<◌, ◌≤◌, ◌+◌, ◌*◌, ◌/◌, ◌%◌, ◌^◌, ◌++◌, ℕ, List}
 use Rattle.std.specs.Prelude.{[], ◌∷◌, length, take, Option, Some, None, IfSome, Result, Ok, Err}
 use Rattle.std.specs.Prelude.{Bool, false, true, OnOk}
-use Rattle.page_digests.specs.HeldPages.{PageState, TakesPage, kept_page, staying}
+use Rattle.page_digests.specs.HeldPages.{PageState, TakesHeldPage, kept_page, staying}
 use Rattle.page_digests.specs.Pages.{digest_at, list_len, list_of, page_len, range_at}
 use Rattle.page_digests.specs.Reads.{IsReadOn, IsTouched, pages_touched}
 use Rattle.page_digests.specs.Seals.{EachIsByte, HasPagePreimage}
@@ -139,7 +139,7 @@ turned_to j (Some p) s = record s { cached = Some j; page = p.bytes }
 pub record IsTurned (most : ℕ) (digest : List ℕ) (count : ℕ) (old : BytesState)
     (taken : Option PageState) (rest : BytesState) : Type 0 where
   pub others : List PageState
-  pub takes : TakesPage digest count old.held others taken
+  pub takes : TakesHeldPage digest count old.held others taken
   pub away : rest ≡ put_away most old.cached (record old { held = others })
 
 -- page j is taken out of those that are held, if it is held, by the answer
@@ -152,7 +152,7 @@ TurnGoes most j digest count old new (Err e) =
     new ≡ record old { cached = None; page = []; held = new.held }
 
 -- page j is loaded: nothing is read if it is held, and the page that was used last is put away
-pub record IsLoaded (most j : ℕ) (old new : BytesState) : Type 0 where
+pub record IsPageLoaded (most j : ℕ) (old new : BytesState) : Type 0 where
   pub taken : Option PageState
   pub rest : BytesState
   pub turned : let P = old.page_size in
@@ -163,7 +163,7 @@ pub record IsLoaded (most j : ℕ) (old new : BytesState) : Type 0 where
 -- which pages are held as page j is loaded, by the answer
 abbrev pub HoldsGoes : (most j : ℕ) → (old new : BytesState) → Result (Unit {0}) Error → Type 0
 HoldsGoes most j old new (Ok _) = (old.cached ≡ Some j → new ≡ old)
-    × ((old.cached ≡ Some j → ⊥) → IsLoaded most j old new)
+    × ((old.cached ≡ Some j → ⊥) → IsPageLoaded most j old new)
 HoldsGoes most j old new (Err e) = Unit {0}
 
 -- page j is loaded: it is read, unless it is held

@@ -1,6 +1,6 @@
 // Pages that were read and compared, and are held, so that none is read and compared again.
 ghost use Rattle.std.specs.Prelude.{◌≡◌, ◌↔◌, [], IfErr, IfOk, true};
-ghost use Rattle.page_digests.specs.HeldPages.{FindsPage, IsHeldPage, IsPageWith, TakesPage};
+ghost use Rattle.page_digests.specs.HeldPages.{FindsPage, IsHeldPage, IsPageWith, TakesHeldPage};
 ghost use Rattle.page_digests.specs.HeldPages.{kept_page, staying};
 
 use digest::Digest;
@@ -96,7 +96,7 @@ impl<D: Digest> HeldPages<D> {
     /// Takes the page out that has this digest and so many bytes, if it is held.
     #[tactic(auto, using(crate::proofs::Holding::taken_at))]
     pub fn take(&mut self, digest: &[u8; 32], len: usize) -> Option<HeldPage<D>>
-        ensures { TakesPage digest.now len self.old self.new result }
+        ensures { TakesHeldPage digest.now len self.old self.new result }
     {
         match self.place_of(digest, len) {
             Some(place) => Some(self.pages.remove(place)),
