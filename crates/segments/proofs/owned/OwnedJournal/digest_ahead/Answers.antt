@@ -1,4 +1,4 @@
-use Rattle.std.proofs.Common.{◌≡◌, ◌≤◌, ◌+◌, ◌/◌, ◌∙◌, ap, arith, min, ℕ}
+use Rattle.std.proofs.Common.{◌≡◌, ◌≤◌, ◌/◌, ◌∙◌, ap, arith, ℕ}
 use Rattle.segments.specs.Owned.{OwnedState, owned_size}
 use Rattle.segments.proofs.Ahead.{ahead_done, asks_few, leaves_after, leaves_before, pages_few, whole_pages}
 use Rattle.segments.proofs.Digested.{size_there, there_is}
