@@ -35,6 +35,8 @@ pub mod Appends
 pub mod Padding
 pub mod OfDigest
 pub mod PagedFrames
+pub mod Begins
+pub mod Pushes
 pub mod Removing
 pub mod RotationExamples
 pub mod TurnExamples
@@ -55,3 +57,4 @@ pub mod SegmentReadExamples
 pub mod RecentExamples
 pub mod ReaderExamples
 pub mod ManyExamples
+pub mod MarkExamples

@@ -9,6 +9,8 @@ pub mod FrameReads
 pub mod PagedFrames
 pub mod PagedReads
 pub mod Recent
+pub mod Marks
+pub mod Marking
 pub mod SegmentFiles
 pub mod Log
 pub mod ClosedSegments

@@ -21,6 +21,8 @@ mod known;
 mod listing;
 mod loaded;
 mod log;
+mod mark;
+mod marking;
 mod names;
 mod opening;
 mod owned;
