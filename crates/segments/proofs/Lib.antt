@@ -37,6 +37,8 @@ pub mod OfDigest
 pub mod PagedFrames
 pub mod Begins
 pub mod Pushes
+pub mod MarkBytes
+pub mod Marked
 pub mod Removing
 pub mod RotationExamples
 pub mod TurnExamples

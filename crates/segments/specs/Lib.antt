@@ -11,6 +11,7 @@ pub mod PagedReads
 pub mod Recent
 pub mod Marks
 pub mod Marking
+pub mod MarkReads
 pub mod SegmentFiles
 pub mod Log
 pub mod ClosedSegments

@@ -22,6 +22,7 @@ mod listing;
 mod loaded;
 mod log;
 mod mark;
+mod marked;
 mod marking;
 mod names;
 mod opening;

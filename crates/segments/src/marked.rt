@@ -1,0 +1,120 @@
+// The marks of a content, which are read by their pages.
+ghost use Rattle.std.specs.Prelude.{◌≡◌, ◌<◌, ◌+◌, ◌*◌, ◌^◌, IfErr, IfOk};
+ghost use Rattle.std.specs.Int.NonZero.{non_zero_u16_get};
+ghost use Rattle.page_digests.specs.PagedBytes.{RootFails};
+ghost use Rattle.page_digests.specs.Pages.{list_len};
+ghost use Rattle.segments.specs.MarkReads.{AreOpenedMarks, FirstGoes, MarkGoes, marks_len};
+ghost use Rattle.segments.specs.MarkReads.{marks_start};
+
+use crate::mark::{Mark, mark_of};
+use digest::Digest;
+use page_digests::{Error, LEN_LIMIT, PagedBytes, Source, UnopenedBytes};
+use std::alloc::Global;
+use std::marker::Model;
+use std::num::NonZeroU16;
+
+// How many bytes a mark has.
+const MARK_LEN: usize = 8;
+
+/// The marks of a content in its list's file, of which nothing is believed: each page of them is
+/// compared with its digest before it is used.
+#[derive(Drop)]
+pub struct Marks<S: Source, D: Digest> {
+    len: usize,
+    root: [u8; 32],
+    page_size: usize,
+    bytes: PagedBytes<S, D>,
+}
+
+/// Where a frame begins.
+#[derive(Clone, Copy)]
+pub struct Begin {
+    /// The frame's number; the content's first frame is frame 0.
+    pub number: u64,
+    /// The logical byte of the content at which it begins.
+    pub offset: u64,
+}
+
+impl<S: Source, D: Digest> Model for Marks<S, D> {
+    ghost use Rattle.segments.specs.MarkReads.{AreMarks, MarksState};
+
+    ghost Value = { MarksState };
+
+    ghost view = { λ m. record { len = m.len; root = m.root; bytes = m.bytes } };
+
+    ghost invariant = { λ m. AreMarks D.digest_of m.page_size (record {
+      len = m.len;
+      root = m.root;
+      bytes = m.bytes;
+    }) };
+}
+
+impl<S: Source + Drop, D: Digest> Marks<S, D> {
+    /// Opens the marks of a content of `len` bytes that have this root, by pages of `page_size`
+    /// bytes. In the file they stand behind the content's list and top, and their own top behind
+    /// them. This reads their top: `Damaged` if the root isn't its digest. After an error the file
+    /// is given back.
+    pub fn open(
+        alloc: Global,
+        file: S,
+        len: u64,
+        page_size: NonZeroU16,
+        root: [u8; 32],
+    ) -> Result<Self, UnopenedBytes<S>>
+        requires { len < LEN_LIMIT }
+        ensures opens_marks { let P = non_zero_u16_get page_size in
+            IfOk result (λ m. AreOpenedMarks D.digest_of P len root (S.reads file) m) }
+        ensures root_fails { let P = non_zero_u16_get page_size in let count = marks_len P len in
+            IfErr result (λ u. RootFails D.digest_of (marks_start P len + count)
+            (list_len P count) root (S.reads file) (S.reads u.file) u.error) }
+    {
+        let size = usize::from(page_size.get());
+        let len = len as usize;
+        let list = list_len(len, size);
+        let start = list + list_len(list, size);
+        let count = len.div_ceil(size) * MARK_LEN;
+        match PagedBytes::open(alloc, file, start, count, page_size, &root) {
+            Ok(bytes) => Ok(Marks {
+                len,
+                root,
+                page_size: size,
+                bytes,
+            }),
+            Err(unopened) => Err(unopened),
+        }
+    }
+
+    /// The mark of page `i` of the content. `Damaged` if a page of the marks that has bytes of it
+    /// isn't as it was; the other pages can still be read.
+    pub fn mark(&mut self, i: usize) -> Result<Mark, Error>
+        requires { i * self.old.bytes.page_size < self.old.len }
+        ensures { MarkGoes D.digest_of i self.old self.new result }
+    {
+        // The use of a field opens the invariant, from which the proof takes where the marks are.
+        let _ = &self.root;
+        let mut bytes = [0; 8];
+        self.bytes.read(i * MARK_LEN, &mut bytes)?;
+        Ok(mark_of(bytes))
+    }
+
+    /// Where the first frame begins at the begin of page `i` or behind it. Where the content ends
+    /// counts as a begin. This asks for marks alone: for one, unless a record is longer than a page.
+    pub fn first_from(&mut self, page: usize) -> Result<Begin, Error>
+        requires { page * self.old.bytes.page_size < self.old.len }
+        ensures { FirstGoes D.digest_of page self.old self.new result }
+    {
+        // The use of a field opens the invariant, from which the proof takes that no sum overflows.
+        let _ = &self.root;
+        let mut i = page;
+        let mut mark = self.mark(i)?;
+        let count = self.len.div_ceil(self.page_size);
+        while usize::from(mark.skip) == self.page_size && i + 1 < count {
+            i += 1;
+            mark = self.mark(i)?;
+        }
+        Ok(Begin {
+            number: mark.before,
+            offset: (i * self.page_size + usize::from(mark.skip)) as u64,
+        })
+    }
+}
