@@ -38,7 +38,9 @@ pub mod PagedFrames
 pub mod Begins
 pub mod Pushes
 pub mod MarkBytes
-pub mod Marked
+pub mod MarksRead
+pub mod Halving
+pub mod Behind
 pub mod Removing
 pub mod RotationExamples
 pub mod TurnExamples

@@ -89,7 +89,7 @@ frame_asks offset n len s t u some is same first holds second = record {
 -- ---- the answers
 
 -- what a range failed for since a call began it failed for in it
-range_fails_before : (d : List ℕ → List ℕ) (offset len : ℕ) (s t u : PagedState) (e : Error) → IsSameContent s t → RangeFails d offset len t u e → RangeFails d offset len s u e
+pub range_fails_before : (d : List ℕ → List ℕ) (offset len : ℕ) (s t u : PagedState) (e : Error) → IsSameContent s t → RangeFails d offset len t u e → RangeFails d offset len s u e
 range_fails_before d offset len s t u Damaged same (i, touched, fails) =
     (i, subst (λ (P : ℕ). IsTouched P offset len i) same.page_size touched, fails_before d i s t u Damaged same fails)
 range_fails_before d offset len s t u (System e) same (i, touched, fails) =

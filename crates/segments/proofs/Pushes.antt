@@ -28,14 +28,14 @@ pass_begins page first near = record {
 }
 
 -- the frame behind one
-next_frame : (content : List ℕ) (n at : ℕ) → frame_begin content n ≡ at → frame_begin content (n + 1) ≡ at + record_len (drop at content) + 7
+pub next_frame : (content : List ℕ) (n at : ℕ) → frame_begin content n ≡ at → frame_begin content (n + 1) ≡ at + record_len (drop at content) + 7
 next_frame content n at is =
     let one : n + 1 ≡ suc n = omega arith in
     let step : frame_begin content (suc n) ≡ frame_begin content n + frame_len (drop (frame_begin content n) content) = refl in
     ap (frame_begin content) one ∙ step ∙ ap (λ (b : ℕ). b + frame_len (drop b content)) is ∙ (let e : at + (record_len (drop at content) + 7) ≡ at + record_len (drop at content) + 7 = omega arith in e)
 
 -- one frame more begins in the page
-begun_more : (content : List ℕ) (end n frames at : ℕ) → FramesBegin content end n frames at → at < end → (m : ℕ) → n ≤ m → m < n + (frames + 1) → frame_begin content m < end
+pub begun_more : (content : List ℕ) (end n frames at : ℕ) → FramesBegin content end n frames at → at < end → (m : ℕ) → n ≤ m → m < n + (frames + 1) → frame_begin content m < end
 begun_more content end n frames at passed within m least most = elim (cases_lt m (n + frames)) [
   | inl less ↦ passed.begun m least less
   | inr more ↦

@@ -12,6 +12,7 @@ pub mod Recent
 pub mod Marks
 pub mod Marking
 pub mod MarkReads
+pub mod Seeks
 pub mod SegmentFiles
 pub mod Log
 pub mod ClosedSegments

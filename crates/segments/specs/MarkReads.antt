@@ -1,5 +1,5 @@
 -- Reads of a content's marks, which stand in its list's file, and searches by them.
-use Rattle.std.specs.Prelude.{◌≡◌, ◌⊎◌, ◌<◌, ◌≤◌, ◌+◌, ◌*◌, ◌^◌, ℕ, List, length, min}
+use Rattle.std.specs.Prelude.{◌≡◌, ◌⊎◌, ◌<◌, ◌≤◌, ◌+◌, ◌*◌, ◌/◌, ◌^◌, ℕ, List, length, min}
 use Rattle.std.specs.Prelude.{Result, Ok, Err}
 use Rattle.page_digests.specs.PagedBytes.{BytesPageFails, BytesState, IsOpenedBytes, IsSameBytes}
 use Rattle.page_digests.specs.Pages.{list_len, list_of, pages_of_len, top_len}
@@ -75,10 +75,15 @@ abbrev pub MarkFails : (List ℕ → List ℕ) → (i : ℕ) → (old new : Mark
 MarkFails d i old new e = (j : ℕ) × IsTouched old.bytes.page_size (i * 8) 8 j
     × BytesPageFails d old.bytes j old.bytes.reads new.bytes.reads e
 
+-- how many pages a mark has bytes of, at most
+abbrev pub mark_reads : (P : ℕ) → ℕ
+mark_reads P = 7 / P + 2
+
 -- a mark is read, by the answer
 abbrev pub MarkAnswers : (List ℕ → List ℕ) → (i : ℕ) → (old new : MarksState)
     → Result Mark Error → Type 0
-MarkAnswers d i old new (Ok m) = IsOfMarks d old (λ P content. m ≡ mark_at P content i)
+MarkAnswers d i old new (Ok m) =
+    (m.before < 2 ^ 48) × IsOfMarks d old (λ P content. m ≡ mark_at P content i)
 MarkAnswers d i old new (Err e) = MarkFails d i old new e
 
 pub record MarkGoes (d : List ℕ → List ℕ) (i : ℕ) (old new : MarksState)
@@ -98,10 +103,39 @@ pub record IsFirstFrom (P : ℕ) (content : List ℕ) (i : ℕ) (b : Begin) : Ty
 -- the first frame's begin is found, by the answer
 abbrev pub FirstAnswers : (List ℕ → List ℕ) → (i : ℕ) → (old new : MarksState)
     → Result Begin Error → Type 0
-FirstAnswers d i old new (Ok b) = IsOfMarks d old (λ P content. IsFirstFrom P content i b)
+FirstAnswers d i old new (Ok b) = (b.number < 2 ^ 48) × (i * old.bytes.page_size ≤ b.offset)
+    × IsOfMarks d old (λ P content. IsFirstFrom P content i b)
 FirstAnswers d i old new (Err e) = (k : ℕ) × (i ≤ k) × MarkFails d k old new e
 
 pub record FirstGoes (d : List ℕ → List ℕ) (i : ℕ) (old new : MarksState)
     (result : Result Begin Error) : Type 0 where
   pub same : AreSameMarks old new
   pub answers : FirstAnswers d i old new result
+
+-- ---- the nth frame
+
+-- frame n begins in page i; or page i is the last one, and frame n begins in it or behind it
+pub record IsPageOfNth (P : ℕ) (content : List ℕ) (n i : ℕ) : Type 0 where
+  pub least : i * P ≤ frame_begin content n
+  pub most : (i + 1) * P < length content → frame_begin content n < (i + 1) * P
+
+-- the page of frame n is found, by the answer
+abbrev pub NthAnswers : (List ℕ → List ℕ) → (n : ℕ) → (old new : MarksState)
+    → Result ℕ Error → Type 0
+NthAnswers d n old new (Ok i) = (i * old.bytes.page_size < old.len)
+    × IsOfMarks d old (λ P content. IsPageOfNth P content n i)
+NthAnswers d n old new (Err e) = (i : ℕ) × MarkFails d i old new e
+
+-- so many marks were read: as many as there are halves of halves of the pages, or one more, that is
+-- the logarithm of the pages' number and one more
+pub record HalvesRead (P pages : ℕ) (old new : List SourceRead) : Type 0 where
+  pub marks : ℕ
+  pub few : 2 ^ marks ≤ 2 * pages
+  pub reads : length new ≤ length old + marks * mark_reads P
+
+pub record NthGoes (d : List ℕ → List ℕ) (n : ℕ) (old new : MarksState)
+    (result : Result ℕ Error) : Type 0 where
+  pub same : AreSameMarks old new
+  pub calls : let P = old.bytes.page_size in
+      HalvesRead P (pages_of_len P old.len) old.bytes.reads new.bytes.reads
+  pub answers : NthAnswers d n old new result

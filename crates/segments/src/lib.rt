@@ -37,6 +37,7 @@ mod recent;
 mod rotation;
 mod scanning;
 mod scanning_many;
+mod seeking;
 mod segment_file;
 
 pub use call::FolderCall;

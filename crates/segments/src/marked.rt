@@ -3,18 +3,21 @@ ghost use Rattle.std.specs.Prelude.{◌≡◌, ◌<◌, ◌+◌, ◌*◌, ◌^�
 ghost use Rattle.std.specs.Int.NonZero.{non_zero_u16_get};
 ghost use Rattle.page_digests.specs.PagedBytes.{RootFails};
 ghost use Rattle.page_digests.specs.Pages.{list_len};
-ghost use Rattle.segments.specs.MarkReads.{AreOpenedMarks, FirstGoes, MarkGoes, marks_len};
-ghost use Rattle.segments.specs.MarkReads.{marks_start};
+ghost use Rattle.segments.specs.MarkReads.{AreOpenedMarks, FirstGoes, MarkGoes, NthGoes};
+ghost use Rattle.segments.specs.MarkReads.{marks_len, marks_start};
+ghost use Rattle.segments.specs.Seeks.{BehindGoes, IsBeginGoes};
 
 use crate::mark::{Mark, mark_of};
+use crate::seeking::pass_to;
 use digest::Digest;
-use page_digests::{Error, LEN_LIMIT, PagedBytes, Source, UnopenedBytes};
+use page_digests::{Error, LEN_LIMIT, PagedBytes, PagedContent, Source, UnopenedBytes};
 use std::alloc::Global;
 use std::marker::Model;
 use std::num::NonZeroU16;
 
-// How many bytes a mark has.
+// How many bytes a mark has, and a digest.
 const MARK_LEN: usize = 8;
+const DIGEST_LEN: usize = 32;
 
 /// The marks of a content in its list's file, of which nothing is believed: each page of them is
 /// compared with its digest before it is used.
@@ -70,8 +73,8 @@ impl<S: Source + Drop, D: Digest> Marks<S, D> {
     {
         let size = usize::from(page_size.get());
         let len = len as usize;
-        let list = list_len(len, size);
-        let start = list + list_len(list, size);
+        let list = len.div_ceil(size) * DIGEST_LEN;
+        let start = list + list.div_ceil(size) * DIGEST_LEN;
         let count = len.div_ceil(size) * MARK_LEN;
         match PagedBytes::open(alloc, file, start, count, page_size, &root) {
             Ok(bytes) => Ok(Marks {
@@ -103,18 +106,79 @@ impl<S: Source + Drop, D: Digest> Marks<S, D> {
         requires { page * self.old.bytes.page_size < self.old.len }
         ensures { FirstGoes D.digest_of page self.old self.new result }
     {
-        // The use of a field opens the invariant, from which the proof takes that no sum overflows.
-        let _ = &self.root;
+        let page_size = self.page_size;
+        let count = self.len.div_ceil(page_size);
         let mut i = page;
         let mut mark = self.mark(i)?;
-        let count = self.len.div_ceil(self.page_size);
-        while usize::from(mark.skip) == self.page_size && i + 1 < count {
+        while usize::from(mark.skip) == page_size && i + 1 < count {
             i += 1;
             mark = self.mark(i)?;
         }
         Ok(Begin {
             number: mark.before,
-            offset: (i * self.page_size + usize::from(mark.skip)) as u64,
+            offset: (i * page_size + usize::from(mark.skip)) as u64,
         })
+    }
+    /// The page in which frame `n` begins; the last page if the content has no such frame. By each
+    /// mark that is read, half of the pages are left.
+    pub fn nth(&mut self, n: u64) -> Result<usize, Error>
+        requires { 0 < self.old.len }
+        ensures { NthGoes D.digest_of n self.old self.new result }
+    {
+        let mut low = 0;
+        let mut high = self.len.div_ceil(self.page_size);
+        while low + 1 < high {
+            let middle = low + (high - low) / 2;
+            let mark = self.mark(middle)?;
+            if mark.before <= n {
+                low = middle;
+            } else {
+                high = middle;
+            }
+        }
+        Ok(low)
+    }
+    /// Where the first frame begins at byte `offset` of a content or behind it. `content` is that
+    /// content, of which `self` has the marks. Where it ends counts as a begin. This asks for
+    /// marks, and if a frame begins in the offset's page before it, for that page.
+    pub fn first_behind<F: Source + Drop>(
+        &mut self,
+        alloc: Global,
+        content: &mut PagedContent<F, D>,
+        offset: u64,
+    ) -> Result<Begin, Error>
+        requires within { offset < self.old.len }
+        requires len { content.old.seal.len ≡ self.old.len }
+        requires page_size { content.old.page_size ≡ self.old.bytes.page_size }
+        ensures { BehindGoes D.digest_of offset self.old self.new content.old content.new result }
+    {
+        let page_size = self.page_size as u64;
+        let end = (self.len.div_ceil(self.page_size) * self.page_size) as u64;
+        let first = self.first_from((offset / page_size) as usize)?;
+        if offset <= first.offset {
+            return Ok(first);
+        }
+        let (frames, there) = pass_to(alloc, content, first.offset, offset)?;
+        Ok(Begin {
+            number: first.number + frames,
+            offset: there.min(end),
+        })
+    }
+
+    /// Whether a frame begins at byte `offset` of a content. `content` is that content, of which
+    /// `self` has the marks.
+    pub fn is_begin<F: Source + Drop>(
+        &mut self,
+        alloc: Global,
+        content: &mut PagedContent<F, D>,
+        offset: u64,
+    ) -> Result<bool, Error>
+        requires within { offset < self.old.len }
+        requires len { content.old.seal.len ≡ self.old.len }
+        requires page_size { content.old.page_size ≡ self.old.bytes.page_size }
+        ensures { IsBeginGoes D.digest_of offset self.old self.new content.old content.new result }
+    {
+        let first = self.first_behind(alloc, content, offset)?;
+        Ok(first.offset == offset)
     }
 }

@@ -93,7 +93,6 @@ fn pass_frames(page: &[u8], first: usize) -> (usize, usize)
 }
 
 // The frames that begin in a page, the first of them `first` bytes behind the page's begin.
-#[tactic(auto, using(crate::proofs::Pushes::ends_cut, crate::proofs::Pushes::ends_whole))]
 fn page_end(page: &[u8], first: usize) -> PageEnd
     requires near { first ≤ 65542 }
     requires short { length page.now < 2 ^ 16 }

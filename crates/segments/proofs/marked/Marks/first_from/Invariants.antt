@@ -1,10 +1,9 @@
 use Rattle.std.proofs.Common.{◌-◌}
-use Rattle.page_digests.specs.Pages.{pages_of_len}
-use Rattle.segments.proofs.Marked.{IsSeeking}
+use Rattle.segments.proofs.MarksRead.{IsSeeking}
 use Rattle.segments.proofs.marked.Marks.first_from.Given as goal
 
-abbrev pub decreases-loop-i : goal.decreases-loop-i
-decreases-loop-i g l = l.count - l.i
+abbrev pub decreases-loop-mark : goal.decreases-loop-mark
+decreases-loop-mark g l = l.count - l.i
 
-abbrev pub invariant-loop-i : goal.invariant-loop-i
-invariant-loop-i g l = IsSeeking g.D.Digest.digest_of l.page l.fn.self l.self l.i l.mark
+abbrev pub invariant-loop-mark : goal.invariant-loop-mark
+invariant-loop-mark g l = IsSeeking g.D.Digest.digest_of l.page l.fn.self l.self l.i l.mark

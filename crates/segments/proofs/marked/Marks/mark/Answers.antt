@@ -2,7 +2,7 @@ use Rattle.std.proofs.Common.{◌≡◌, ◌<◌, ◌≤◌, ◌+◌, ◌*◌, �
 use Rattle.std.specs.Prelude.{Ok, Err}
 use Rattle.std.proofs.lemmas.Result.{err_from_is_err_and}
 use Rattle.segments.specs.MarkReads.{MarkGoes, MarksState}
-use Rattle.segments.proofs.Marked.{mark_lost, mark_read, mark_within}
+use Rattle.segments.proofs.MarksRead.{mark_lost, mark_read, mark_within}
 use Rattle.segments.proofs.marked.Marks.mark.Goals as goal
 
 pub read-requires : goal.read-requires

@@ -8,10 +8,10 @@ use Rattle.page_digests.specs.Reads.{IsReadOn, IsTouched, pages_touched}
 use Rattle.std.proofs.lemmas.Bool.{cases_lt}
 use Rattle.std.proofs.Math.Nat.{mul-le-mul_right, suc-mul}
 use Rattle.page_digests.proofs.BytesReads.{bytes_after, page_fails_before}
-use Rattle.page_digests.proofs.Paging.{page_below}
+use Rattle.page_digests.proofs.Paging.{page_below, page_within}
 use Rattle.page_digests.proofs.Twins.{judged, length-list_of}
 use Rattle.segments.specs.Marks.{begins_before, frame_begin, mark_at, mark_bytes, marks, marks_of}
-use Rattle.segments.specs.MarkReads.{AreMarks, AreSameMarks, FirstGoes, HasMarks, HasMarksPreimage, IsFirstFrom, IsOfMarks, MarkGoes, MarksState}
+use Rattle.segments.specs.MarkReads.{AreMarks, AreSameMarks, FirstGoes, HasMarks, HasMarksPreimage, IsFirstFrom, IsOfMarks, MarkFails, MarkGoes, MarksState}
 use Rattle.segments.specs.declared.mark.Mark.{Mark}
 use Rattle.segments.specs.declared.marked.Begin.{Begin}
 use Rattle.segments.proofs.Begins.{begun_before, count_is, next_begin}
@@ -51,18 +51,21 @@ module _ (d : List ℕ → List ℕ) (sized : (b : List ℕ) → length (d b) �
     calls = let all = (goes.reads_on (i * 8) 0 (length m.bytes.reads) (omega arith) (none_read m.bytes.page_size (i * 8) (length m.bytes.reads) m.bytes.cached)).0 in
         let e : 0 + length before ≡ 8 = omega arith in
         subst (λ (n : ℕ). length t.reads ≤ length m.bytes.reads + pages_touched m.bytes.page_size (i * 8) n) e all;
-    answers = λ content its.
-        let Q = m.bytes.page_size in
-        let below : i < pages_of_len Q m.len = page_below Q m.len i (subst (λ (p : ℕ). 0 < p) (sym is.page_size) is.positive) within in
-        let there : i < pages_of_len Q (length content) = subst (λ (n : ℕ). i < pages_of_len Q n) its.len below in
-        elim (marks_known (range_at (i * 8) (length after)) after goes.answers content its) [
-          | inr twin ↦ inr twin
-          | inl same ↦
-              let span : i * 8 + length after - i * 8 ≡ 8 = let e = goes.len in omega arith in
-              let bytes : after ≡ mark_bytes (mark_at Q content i) = same ∙ ap (λ (n : ℕ). take n (drop (i * 8) (marks_of Q content))) span ∙ mark_in Q content (pages_of_len Q (length content)) i there in
-              inl (mark_told mark Q content i few near (subst (λ (p : ℕ). p < 65536) (sym is.page_size) is.small) (let f = is.fits in omega arith) (told ∙ bytes))
-        ];
+    answers = (few, its_mark);
   }
+    where
+      its_mark : IsOfMarks d m (λ Q content. mark ≡ mark_at Q content i)
+      its_mark content its =
+          let Q = m.bytes.page_size in
+          let below : i < pages_of_len Q m.len = page_below Q m.len i (subst (λ (p : ℕ). 0 < p) (sym is.page_size) is.positive) within in
+          let there : i < pages_of_len Q (length content) = subst (λ (n : ℕ). i < pages_of_len Q n) its.len below in
+          elim (marks_known (range_at (i * 8) (length after)) after goes.answers content its) [
+            | inr twin ↦ inr twin
+            | inl same ↦
+                let span : i * 8 + length after - i * 8 ≡ 8 = let e = goes.len in omega arith in
+                let bytes : after ≡ mark_bytes (mark_at Q content i) = same ∙ ap (λ (n : ℕ). take n (drop (i * 8) (marks_of Q content))) span ∙ mark_in Q content (pages_of_len Q (length content)) i there in
+                inl (mark_told mark Q content i few near (subst (λ (p : ℕ). p < 65536) (sym is.page_size) is.small) (let f = is.fits in omega arith) (told ∙ bytes))
+          ]
 
   -- a page of the marks can't be had
   pub mark_lost : (i : ℕ) (t : BytesState) (before after : List ℕ) (e : Error) → length before ≡ 8 → BytesGoes d (i * 8) m.bytes t before after (Err e) → MarkGoes d i m (record m { bytes = t }) (Err e)
@@ -77,11 +80,11 @@ module _ (d : List ℕ → List ℕ) (sized : (b : List ℕ) → length (d b) �
 -- ---- the first begin
 
 -- the same marks after two calls
-same_after : (s t u : MarksState) → AreSameMarks s t → AreSameMarks t u → AreSameMarks s u
+pub same_after : (s t u : MarksState) → AreSameMarks s t → AreSameMarks t u → AreSameMarks s u
 same_after s t u one other = record { len = other.len ∙ one.len; root = other.root ∙ one.root; bytes = bytes_after s.bytes t.bytes u.bytes one.bytes other.bytes }
 
 -- what is so by the marks after a call was so before it
-marks_before : (d : List ℕ → List ℕ) (s t : MarksState) (is : (P : ℕ) → List ℕ → Type 0) → AreSameMarks s t → IsOfMarks d t is → IsOfMarks d s is
+pub marks_before : (d : List ℕ → List ℕ) (s t : MarksState) (is : (P : ℕ) → List ℕ → Type 0) → AreSameMarks s t → IsOfMarks d t is → IsOfMarks d s is
 marks_before d s t is same told content its =
     let P = s.bytes.page_size in
     let has : HasMarks d t.bytes.page_size content t.len t.root = record {
@@ -89,6 +92,14 @@ marks_before d s t is same told content its =
       root = same.root ∙ its.root ∙ ap (λ (p : ℕ). d (list_of d p (marks_of p content))) (sym same.bytes.page_size);
     } in
     subst (λ (p : ℕ). is p content ⊎ HasMarksPreimage d p content) same.bytes.page_size (told content has)
+
+-- a mark that can't be read since a call began
+pub mark_fails_since : (d : List ℕ → List ℕ) (i : ℕ) (s t u : MarksState) (e : Error) → AreSameMarks s t → MarkFails d i t u e → MarkFails d i s u e
+mark_fails_since d i s t u e same fails = (
+  fails.0,
+  subst (λ (P : ℕ). IsTouched P (i * 8) 8 fails.0) same.bytes.page_size fails.1,
+  page_fails_before d fails.0 s.bytes t.bytes u.bytes.reads e same.bytes fails.2,
+)
 
 -- no frame begins in a page whose mark says so: as many begin before the next page
 as_many_before : (P : ℕ) (content : List ℕ) (i : ℕ) → P ≤ frame_begin content (begins_before content (i * P)) - i * P → begins_before content ((i + 1) * P) ≡ begins_before content (i * P)
@@ -104,6 +115,7 @@ pub record IsSeeking (d : List ℕ → List ℕ) (page : ℕ) (old now : MarksSt
   pub from : page ≤ i
   pub within : i < pages_of_len old.bytes.page_size old.len
   pub same : AreSameMarks old now
+  pub few : mark.before < 281474976710656
   pub told : IsOfMarks d old (λ P content. (mark ≡ mark_at P content i) × (begins_before content (i * P) ≡ begins_before content (page * P)))
 
 pub seek_begins : (d : List ℕ → List ℕ) (page : ℕ) (s t : MarksState) (mark : Mark) → 0 < s.bytes.page_size → page * s.bytes.page_size < s.len → MarkGoes d page s t (Ok mark) → IsSeeking d page s t page mark
@@ -111,11 +123,19 @@ seek_begins d page s t mark positive within goes = record {
   from = omega arith;
   within = page_below s.bytes.page_size s.len page positive within;
   same = goes.same;
-  told = λ content its. elim (goes.answers content its) [
+  few = goes.answers.0;
+  told = λ content its. elim (goes.answers.1 content its) [
     | inl is ↦ inl (is, refl)
     | inr twin ↦ inr twin
   ];
 }
+
+-- the next mark is one of the content's
+pub seek_reads : (d : List ℕ → List ℕ) (page : ℕ) (s t : MarksState) (i : ℕ) (mark : Mark) → 0 < s.bytes.page_size → i + 1 < pages_of_len s.bytes.page_size s.len → IsSeeking d page s t i mark
+    → (i + 1) * t.bytes.page_size < t.len
+seek_reads d page s t i mark positive below is =
+    let within : (i + 1) * s.bytes.page_size < s.len = page_within s.bytes.page_size s.len (i + 1) positive below in
+    subst (λ (P : ℕ). (i + 1) * P < t.len) (sym is.same.bytes.page_size) (subst (λ (n : ℕ). (i + 1) * s.bytes.page_size < n) (sym is.same.len) within)
 
 pub seek_more : (d : List ℕ → List ℕ) (page : ℕ) (s t u : MarksState) (i : ℕ) (mark next : Mark) → mark.skip ≡ s.bytes.page_size → i + 1 < pages_of_len s.bytes.page_size s.len → IsSeeking d page s t i mark
     → MarkGoes d (i + 1) t u (Ok next) → IsSeeking d page s u (i + 1) next
@@ -123,10 +143,11 @@ seek_more d page s t u i mark next none below is goes = record {
   from = let f = is.from in omega arith;
   within = below;
   same = same_after s t u is.same goes.same;
+  few = goes.answers.0;
   told = λ content its. elim (is.told content its) [
     | inr twin ↦ inr twin
     | inl had ↦
-        elim (marks_before d s t (λ P content. next ≡ mark_at P content (i + 1)) is.same goes.answers content its) [
+        elim (marks_before d s t (λ P content. next ≡ mark_at P content (i + 1)) is.same goes.answers.1 content its) [
           | inr twin ↦ inr twin
           | inl told ↦
               let P = s.bytes.page_size in
@@ -159,18 +180,22 @@ pub seek_ends : (d : List ℕ → List ℕ) (page : ℕ) (s t : MarksState) (i :
     → b.number ≡ mark.before → b.offset ≡ i * s.bytes.page_size + mark.skip → IsSeeking d page s t i mark → FirstGoes d page s t (Ok b)
 seek_ends d page s t i mark b last number offset is = record {
   same = is.same;
-  answers = λ content its. elim (is.told content its) [
-    | inr twin ↦ inr twin
-    | inl had ↦
-        let P = s.bytes.page_size in
-        let before : mark.before ≡ begins_before content (i * P) = ap (λ (m : Mark). m.before) had.0 in
-        let skip : mark.skip ≡ min (frame_begin content (begins_before content (i * P)) - i * P) P = ap (λ (m : Mark). m.skip) had.0 in
-        inl (record {
-          number = number ∙ before ∙ had.1;
-          offset = offset ∙ begin_offset P content i mark.skip (pages_of_len P s.len) is.within last skip
-              ∙ ap₂ (λ (n len : ℕ). min (frame_begin content n) (pages_of_len P len * P)) had.1 its.len;
-        })
-  ];
+  answers = (
+    (let few = is.few in omega arith),
+    (let more : page * s.bytes.page_size ≤ i * s.bytes.page_size = mul-le-mul_right s.bytes.page_size is.from in omega arith),
+    λ content its. elim (is.told content its) [
+      | inr twin ↦ inr twin
+      | inl had ↦
+          let P = s.bytes.page_size in
+          let before : mark.before ≡ begins_before content (i * P) = ap (λ (m : Mark). m.before) had.0 in
+          let skip : mark.skip ≡ min (frame_begin content (begins_before content (i * P)) - i * P) P = ap (λ (m : Mark). m.skip) had.0 in
+          inl (record {
+            number = number ∙ before ∙ had.1;
+            offset = offset ∙ begin_offset P content i mark.skip (pages_of_len P s.len) is.within last skip
+                ∙ ap₂ (λ (n len : ℕ). min (frame_begin content n) (pages_of_len P len * P)) had.1 its.len;
+          })
+    ],
+  );
 }
 
 pub seek_fails : (d : List ℕ → List ℕ) (page : ℕ) (s t u : MarksState) (i : ℕ) (mark : Mark) (e : Error) → IsSeeking d page s t i mark → MarkGoes d (i + 1) t u (Err e) → FirstGoes d page s u (Err e)
@@ -179,11 +204,9 @@ seek_fails d page s t u i mark e is goes = record {
   answers = (
     i + 1,
     (let f = is.from in omega arith),
-    goes.answers.0,
-    subst (λ (P : ℕ). IsTouched P ((i + 1) * 8) 8 goes.answers.0) is.same.bytes.page_size goes.answers.1,
-    page_fails_before d goes.answers.0 s.bytes t.bytes u.bytes.reads e is.same.bytes goes.answers.2,
+    mark_fails_since d (i + 1) s t u e is.same goes.answers,
   );
 }
 
 pub seek_fails_at_once : (d : List ℕ → List ℕ) (page : ℕ) (s t : MarksState) (e : Error) → MarkGoes d page s t (Err e) → FirstGoes d page s t (Err e)
-seek_fails_at_once d page s t e goes = record { same = goes.same; answers = (page, omega arith, goes.answers.0, goes.answers.1, goes.answers.2) }
+seek_fails_at_once d page s t e goes = record { same = goes.same; answers = (page, omega arith, goes.answers) }

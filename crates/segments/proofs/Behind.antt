@@ -1,0 +1,219 @@
+-- The first frame behind an offset.
+use Rattle.std.proofs.Common.{◌≡◌, ◌⊎◌, ◌↔◌, ◌<◌, ◌≤◌, ◌*◌, ◌+◌, ◌-◌, ◌/◌, ◌==◌, ◌∙◌, ℕ, suc, List, [], length, take, drop, append-nil, ap, refl, sym, subst, inl, inr, min, arith, Bool, true, false}
+use Rattle.std.specs.Prelude.{Ok, Err, Vec, IsTrue}
+use Rattle.std.specs.declared.alloc.Global.{Global}
+use Rattle.std.proofs.lemmas.Bool.{cases_lt}
+use Rattle.std.proofs.lemmas.Grind.{div_ceil_times}
+use Rattle.std.proofs.Math.Nat.{div-mul-le_self, lt-div-mul-add}
+use Rattle.journal.specs.Frame.{record_len}
+use Rattle.journal.proofs.Frames.{record_len-take}
+use Rattle.page_digests.specs.declared.error.Error.{Error}
+use Rattle.page_digests.specs.declared.seal.Seal.{Seal}
+use Rattle.page_digests.specs.Contents.{IsSameContent, PagedReadGoes, PagedState, RangeFails}
+use Rattle.page_digests.specs.Pages.{pages_of_len, range_at}
+use Rattle.page_digests.specs.Seals.{HasSecondPreimage, IsSealOf, IsVerified}
+use Rattle.page_digests.proofs.ContentReads.{content_after}
+use Rattle.segments.specs.Marking.{FramesBegin}
+use Rattle.segments.specs.Marks.{begins_before, frame_begin}
+use Rattle.segments.specs.MarkReads.{FirstGoes, HasMarks, IsFirstFrom, MarksState}
+use Rattle.segments.specs.Seeks.{BehindFails, BehindGoes, IsBegin, IsBeginGoes, IsFirstBehind, LengthFails, PassGoes, PassesTo}
+use Rattle.segments.specs.declared.marked.Begin.{Begin}
+use Rattle.segments.proofs.Begins.{begins_apart, begun_before, count_is, next_begin}
+use Rattle.segments.proofs.PagedFrames.{range_fails_before}
+use Rattle.segments.proofs.Pushes.{begun_more, next_frame}
+
+-- ---- frames that are passed
+
+-- so many frames are passed
+pub record IsPassingTo (d : List ℕ → List ℕ) (first offset : ℕ) (old now : PagedState) (frames at : ℕ) : Type 0 where
+  pub same : IsSameContent old now
+  pub counted : frames * 7 + first ≤ at
+  pub passed : PassesTo d old.page_size old.seal first offset frames at
+
+same_content : (s : PagedState) → IsSameContent s s
+same_content s = record { seal = refl; page_size = refl; reads = ([], sym (append-nil s.reads)); list_reads = ([], sym (append-nil s.list_reads)) }
+
+pub passing_begins : (d : List ℕ → List ℕ) (first offset : ℕ) (s : PagedState) → IsPassingTo d first offset s s 0 first
+passing_begins d first offset s = record {
+  same = same_content s;
+  counted = omega arith;
+  passed = λ content its. inl (λ n begins.
+      let none : n + 0 ≡ n = omega arith in
+      record { next = ap (frame_begin content) none ∙ begins; begun = λ m least most. absurd (omega arith) });
+}
+
+-- what was read since a call began is of the content as it was then
+verified_since : (d : List ℕ → List ℕ) (s t : PagedState) (of : List ℕ → List ℕ) (bytes : List ℕ) → IsSameContent s t → IsVerified d t.page_size t.seal of bytes → IsVerified d s.page_size s.seal of bytes
+verified_since d s t of bytes same is =
+    subst (λ (seal : Seal). IsVerified d s.page_size seal of bytes) same.seal (subst (λ (P : ℕ). IsVerified d P t.seal of bytes) same.page_size is)
+
+-- a frame's length, by its first two bytes
+length_read : (content front : List ℕ) (at : ℕ) → front ≡ range_at at 2 content → record_len front ≡ record_len (drop at content)
+length_read content front at is =
+    let two : 2 ≤ at + 2 - at = omega arith in
+    ap record_len is ∙ record_len-take (at + 2 - at) (drop at content) two
+
+pub passing_more : (d : List ℕ → List ℕ) (first offset : ℕ) (s t u : PagedState) (frames at len : ℕ) (front : Vec ℕ Global) → at < offset → len ≡ record_len front.items → IsPassingTo d first offset s t frames at
+    → PagedReadGoes d at 2 t u (Ok front) → IsPassingTo d first offset s u (frames + 1) (at + (2 + len + 5))
+passing_more d first offset s t u frames at len front less says is goes = record {
+  same = content_after s t u is.same goes.same;
+  counted = let had = is.counted in omega arith;
+  passed = λ content its. elim (verified_since d s t (range_at at 2) front.items is.same goes.answers.1 content its) [
+    | inr twin ↦ inr twin
+    | inl read ↦
+        elim (is.passed content its) [
+          | inr twin ↦ inr twin
+          | inl passed ↦ inl (λ n begins. one_more content n (passed n begins) read)
+        ]
+  ];
+}
+  where
+    one_more : (content : List ℕ) (n : ℕ) → FramesBegin content offset n frames at → front.items ≡ range_at at 2 content → FramesBegin content offset n (frames + 1) (at + (2 + len + 5))
+    one_more content n passed read =
+        let same : n + (frames + 1) ≡ n + frames + 1 = omega arith in
+        let long : len ≡ record_len (drop at content) = says ∙ length_read content front.items at read in
+        record {
+          next = ap (frame_begin content) same ∙ next_frame content (n + frames) at passed.next ∙ (let e : at + record_len (drop at content) + 7 ≡ at + (2 + len + 5) = omega arith in e);
+          begun = begun_more content offset n frames at passed less;
+        }
+
+pub passing_fails : (d : List ℕ → List ℕ) (first offset : ℕ) (s t u : PagedState) (frames at : ℕ) (e : Error) → at < offset → IsPassingTo d first offset s t frames at → PagedReadGoes d at 2 t u (Err e)
+    → PassGoes d first offset s u (Err e)
+passing_fails d first offset s t u frames at e less is goes = record {
+  same = content_after s t u is.same goes.same;
+  answers = (at, (let had = is.counted in omega arith), less, range_fails_before d at 2 s t u e is.same goes.answers);
+}
+
+pub passing_ends : (d : List ℕ → List ℕ) (first offset : ℕ) (s t : PagedState) (frames at : ℕ) → offset ≤ at → IsPassingTo d first offset s t frames at → PassGoes d first offset s t (Ok (frames, at))
+passing_ends d first offset s t frames at done is = record { same = is.same; answers = (done, is.counted, is.passed) }
+
+-- ---- begins
+
+-- an offset is in its page
+in_page : (P offset : ℕ) → 0 < P → (offset / P * P ≤ offset) × (offset < offset / P * P + P)
+in_page P offset positive = (div-mul-le_self offset P, lt-div-mul-add positive)
+
+-- none begins in the page before the offset
+at_once : (P : ℕ) (content : List ℕ) (i offset : ℕ) (b : Begin) → i * P ≤ offset → offset ≤ b.offset → IsFirstFrom P content i b → IsFirstBehind P content offset b
+at_once P content i offset b before behind is =
+    let n = begins_before content (i * P) in
+    let there : b.offset ≡ min (frame_begin content n) (pages_of_len P (length content) * P) = is.offset in
+    let same : n ≡ begins_before content offset = count_is content offset n (omega arith) (λ m less. let begun = begun_before content (i * P) m less in omega arith) in
+    record { number = is.number ∙ same; there = there ∙ ap (λ (k : ℕ). min (frame_begin content k) (pages_of_len P (length content) * P)) same }
+
+-- frames that begin in it before the offset are passed
+by_frames : (P : ℕ) (content : List ℕ) (i offset frames there end : ℕ) (b c : Begin) → i * P ≤ offset → b.offset < offset → offset ≤ there → offset < end → end ≡ pages_of_len P (length content) * P
+    → c.number ≡ b.number + frames → c.offset ≡ min there end → IsFirstFrom P content i b
+    → ((n : ℕ) → frame_begin content n ≡ b.offset → FramesBegin content offset n frames there) → IsFirstBehind P content offset c
+by_frames P content i offset frames there end b c before less behind within ends number place is passes =
+    let n = begins_before content (i * P) in
+    let begin : b.offset ≡ min (frame_begin content n) (pages_of_len P (length content) * P) = is.offset in
+    let here : frame_begin content n ≡ b.offset = omega arith in
+    let passed : FramesBegin content offset n frames there = passes n here in
+    let next : frame_begin content (n + frames) ≡ there = passed.next in
+    let all : (m : ℕ) → m < n + frames → frame_begin content m < offset = λ m most. elim (cases_lt m n) [
+      | inl fewer ↦ let begun = begun_before content (i * P) m fewer in omega arith
+      | inr more ↦ passed.begun m more most
+    ] in
+    let same : n + frames ≡ begins_before content offset = count_is content offset (n + frames) (omega arith) all in
+    let count : c.number ≡ n + frames = number ∙ ap (λ (k : ℕ). k + frames) is.number in
+    let far : frame_begin content (begins_before content offset) ≡ there = ap (frame_begin content) (sym same) ∙ next in
+    record { number = count ∙ same; there = place ∙ (let e : min there end ≡ min (frame_begin content (begins_before content offset)) (pages_of_len P (length content) * P) = omega arith in e) }
+
+-- the first begin of the page is behind the offset
+pub behind_at_once : (d : List ℕ → List ℕ) (offset i : ℕ) (s t : MarksState) (c : PagedState) (b : Begin) → 0 < s.bytes.page_size → i ≡ offset / s.bytes.page_size → offset ≤ b.offset → FirstGoes d i s t (Ok b)
+    → BehindGoes d offset s t c c (Ok b)
+behind_at_once d offset i s t c b positive page behind goes = record {
+  same = goes.same;
+  content = same_content c;
+  answers = λ content sealed its. elim (goes.answers.2 content its) [
+    | inr twin ↦ inr (inr twin)
+    | inl is ↦
+        let P = s.bytes.page_size in
+        let place : i * P ≡ offset / P * P = ap (λ (k : ℕ). k * P) page in
+        let within = in_page P offset positive in
+        inl (at_once P content i offset b (omega (arith, within.0)) behind is)
+  ];
+}
+
+-- no mark can be read
+pub behind_unmarked : (d : List ℕ → List ℕ) (offset i : ℕ) (s t : MarksState) (c : PagedState) (e : Error) → i ≡ offset / s.bytes.page_size → FirstGoes d i s t (Err e) → BehindGoes d offset s t c c (Err e)
+behind_unmarked d offset i s t c e page goes = record {
+  same = goes.same;
+  content = same_content c;
+  answers = inl (goes.answers.0, subst (λ (k : ℕ). k ≤ goes.answers.0) page goes.answers.1, goes.answers.2);
+}
+
+-- a frame's length can't be read
+pub behind_unread : (d : List ℕ → List ℕ) (offset i : ℕ) (s t : MarksState) (c u : PagedState) (b : Begin) (e : Error) → i ≡ offset / s.bytes.page_size → FirstGoes d i s t (Ok b) → PassGoes d b.offset offset c u (Err e)
+    → BehindGoes d offset s t c u (Err e)
+behind_unread d offset i s t c u b e page goes passes = record {
+  same = goes.same;
+  content = passes.same;
+  answers = inr (
+    passes.answers.0,
+    (let least : i * s.bytes.page_size ≤ b.offset = goes.answers.1 in
+    let place : i * s.bytes.page_size ≡ offset / s.bytes.page_size * s.bytes.page_size = ap (λ (k : ℕ). k * s.bytes.page_size) page in
+    let more : b.offset ≤ passes.answers.0 = passes.answers.1 in
+    omega arith),
+    passes.answers.2,
+    passes.answers.3,
+  );
+}
+
+-- frames are passed up to the offset
+pub behind_by_frames : (d : List ℕ → List ℕ) (offset i frames there end : ℕ) (s t : MarksState) (c u : PagedState) (b r : Begin) → 0 < s.bytes.page_size → i ≡ offset / s.bytes.page_size
+    → offset < s.len → end ≡ pages_of_len s.bytes.page_size s.len * s.bytes.page_size → c.page_size ≡ s.bytes.page_size → b.offset < offset
+    → r.number ≡ b.number + frames → r.offset ≡ min there end → FirstGoes d i s t (Ok b) → PassGoes d b.offset offset c u (Ok (frames, there)) → BehindGoes d offset s t c u (Ok r)
+behind_by_frames d offset i frames there end s t c u b r positive page within ends size less number place goes passes = record {
+  same = goes.same;
+  content = passes.same;
+  answers = λ content sealed its. elim (goes.answers.2 content its) [
+    | inr twin ↦ inr (inr twin)
+    | inl is ↦
+        elim (passed content sealed) [
+          | inr twin ↦ inr (inl twin)
+          | inl begins ↦
+              let P = s.bytes.page_size in
+              let at : i * P ≡ offset / P * P = ap (λ (k : ℕ). k * P) page in
+              let inside = in_page P offset positive in
+              let all : s.len ≤ pages_of_len P s.len * P = (div_ceil_times s.len P positive).0 in
+              let last : end ≡ pages_of_len P (length content) * P = ends ∙ ap (λ (k : ℕ). pages_of_len P k * P) its.len in
+              inl (by_frames P content i offset frames there end b r (omega (arith, inside.0)) less passes.answers.0 (omega arith) last number place is begins)
+        ]
+  ];
+}
+  where
+    passed : (content : List ℕ) → IsSealOf d s.bytes.page_size content c.seal
+        → ((n : ℕ) → frame_begin content n ≡ b.offset → FramesBegin content offset n frames there) ⊎ HasSecondPreimage d s.bytes.page_size content
+    passed = subst (λ (P : ℕ). PassesTo d P c.seal b.offset offset frames there) size passes.answers.2
+
+-- ---- whether a frame begins at an offset
+
+-- a frame begins at an offset if the first behind it does
+begin_told : (content : List ℕ) (offset : ℕ) → IsBegin content offset → frame_begin content (begins_before content offset) ≡ offset
+begin_told content offset (n, is) =
+    let same : n ≡ begins_before content offset = count_is content offset n (omega arith) (λ m less. let before = begins_apart content m n less in omega arith) in
+    ap (frame_begin content) (sym same) ∙ is
+
+pub begin_is : (d : List ℕ → List ℕ) (offset : ℕ) (s t : MarksState) (c u : PagedState) (b : Begin) (is : Bool) → 0 < s.bytes.page_size → offset < s.len → IsTrue is ↔ (b.offset ≡ offset)
+    → BehindGoes d offset s t c u (Ok b) → IsBeginGoes d offset s t c u (Ok is)
+begin_is d offset s t c u b is positive within says goes = record {
+  same = goes.same;
+  content = goes.content;
+  answers = λ content sealed its. elim (goes.answers content sealed its) [
+    | inr twin ↦ inr twin
+    | inl first ↦
+        let P = s.bytes.page_size in
+        let all : s.len ≤ pages_of_len P s.len * P = (div_ceil_times s.len P positive).0 in
+        let last : pages_of_len P s.len * P ≡ pages_of_len P (length content) * P = ap (λ (k : ℕ). pages_of_len P k * P) its.len in
+        let there : b.offset ≡ min (frame_begin content (begins_before content offset)) (pages_of_len P (length content) * P) = first.there in
+        inl (
+          (λ yes. (begins_before content offset, (let at : b.offset ≡ offset = says.0 yes in omega arith))),
+          (λ begin. says.1 (let at = begin_told content offset begin in omega arith)),
+        )
+  ];
+}
+
+pub begin_fails : (d : List ℕ → List ℕ) (offset : ℕ) (s t : MarksState) (c u : PagedState) (e : Error) → BehindGoes d offset s t c u (Err e) → IsBeginGoes d offset s t c u (Err e)
+begin_fails d offset s t c u e goes = record { same = goes.same; content = goes.content; answers = goes.answers }

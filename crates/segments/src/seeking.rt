@@ -1,0 +1,31 @@
+// Frames of a content that is read by its pages, which are passed.
+ghost use Rattle.std.specs.Prelude.{◌<◌, ◌+◌, ◌≤◌, ◌^◌};
+ghost use Rattle.segments.specs.Seeks.{PassGoes};
+
+use digest::Digest;
+use journal::{AFTER, IN_FRONT, record_len_of};
+use page_digests::{Error, PagedContent, Source};
+use std::alloc::Global;
+
+/// Passes the frames of a content from the one on that begins at byte `first`, as far as they begin
+/// before byte `offset`: their lengths alone are read. Answers how many, and where the next one
+/// begins.
+pub fn pass_to<F: Source + Drop, D: Digest>(
+    alloc: Global,
+    content: &mut PagedContent<F, D>,
+    first: u64,
+    offset: u64,
+) -> Result<(u64, u64), Error>
+    requires within { offset < content.old.seal.len }
+    requires limit { offset < 2 ^ 50 }
+    ensures { PassGoes D.digest_of first offset content.old content.new result }
+{
+    let mut frames = 0;
+    let mut at = first;
+    while at < offset {
+        let front = content.read(alloc, at, IN_FRONT)?;
+        at += (IN_FRONT + record_len_of(&front) + AFTER) as u64;
+        frames += 1;
+    }
+    Ok((frames, at))
+}
