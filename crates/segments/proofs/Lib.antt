@@ -62,3 +62,4 @@ pub mod RecentExamples
 pub mod ReaderExamples
 pub mod ManyExamples
 pub mod MarkExamples
+pub mod MarkReadExamples

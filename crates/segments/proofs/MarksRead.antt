@@ -17,6 +17,23 @@ use Rattle.segments.specs.declared.marked.Begin.{Begin}
 use Rattle.segments.proofs.Begins.{begun_before, count_is, next_begin}
 use Rattle.segments.proofs.MarkBytes.{length-marks, mark_in, mark_told}
 
+-- what the parts of marks say of them
+pub record ArePartsOf (P len : ℕ) (s : MarksState) : Type 0 where
+  pub positive : 0 < s.bytes.page_size
+  pub small : s.bytes.page_size < 65536
+  pub page_size : P ≡ s.bytes.page_size
+  pub len : len ≡ s.len
+  pub fits : s.len < 1125899906842624
+
+pub parts_of : (d : List ℕ → List ℕ) (P : ℕ) (m s : MarksState) → AreMarks d P m → m ≡ s → ArePartsOf P m.len s
+parts_of d P m s is same = subst (ArePartsOf P m.len) same (record {
+  positive = subst (λ (p : ℕ). 0 < p) (sym is.page_size) is.positive;
+  small = subst (λ (p : ℕ). p < 65536) (sym is.page_size) is.small;
+  page_size = sym is.page_size;
+  len = refl;
+  fits = is.fits;
+})
+
 -- the bytes of mark i are within the marks
 pub mark_within : (P len i : ℕ) → 0 < P → i * P < len → i * 8 + 8 ≤ pages_of_len P len * 8
 mark_within P len i positive within = let below = page_below P len i positive within in omega (arith, below)

@@ -1,5 +1,5 @@
 // The marks of a content, which are read by their pages.
-ghost use Rattle.std.specs.Prelude.{◌≡◌, ◌<◌, ◌+◌, ◌*◌, ◌^◌, IfErr, IfOk};
+ghost use Rattle.std.specs.Prelude.{◌≡◌, ◌<◌, ◌≤◌, ◌+◌, ◌*◌, ◌^◌, true, false, IfErr, IfOk};
 ghost use Rattle.std.specs.Int.NonZero.{non_zero_u16_get};
 ghost use Rattle.page_digests.specs.PagedBytes.{RootFails};
 ghost use Rattle.page_digests.specs.Pages.{list_len};
@@ -36,6 +36,15 @@ pub struct Begin {
     pub number: u64,
     /// The logical byte of the content at which it begins.
     pub offset: u64,
+}
+
+// Whether no frame begins in page `i`, which has this mark, and isn't the last of so many pages.
+fn leads_on(mark: Mark, page_size: usize, i: usize, count: usize) -> bool
+    requires { i < count }
+    ensures on { result ≡ true → (mark.skip ≡ page_size) × (i + 1 < count) }
+    ensures last { result ≡ false → mark.skip ≡ page_size → count ≤ i + 1 }
+{
+    usize::from(mark.skip) == page_size && i + 1 < count
 }
 
 impl<S: Source, D: Digest> Model for Marks<S, D> {
@@ -110,7 +119,7 @@ impl<S: Source + Drop, D: Digest> Marks<S, D> {
         let count = self.len.div_ceil(page_size);
         let mut i = page;
         let mut mark = self.mark(i)?;
-        while usize::from(mark.skip) == page_size && i + 1 < count {
+        while leads_on(mark, page_size, i, count) {
             i += 1;
             mark = self.mark(i)?;
         }
