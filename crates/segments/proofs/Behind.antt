@@ -191,7 +191,7 @@ behind_by_frames d offset i frames there end s t c u b r positive page within en
 -- ---- whether a frame begins at an offset
 
 -- a frame begins at an offset if the first behind it does
-begin_told : (content : List ℕ) (offset : ℕ) → IsBegin content offset → frame_begin content (begins_before content offset) ≡ offset
+pub begin_told : (content : List ℕ) (offset : ℕ) → IsBegin content offset → frame_begin content (begins_before content offset) ≡ offset
 begin_told content offset (n, is) =
     let same : n ≡ begins_before content offset = count_is content offset n (omega arith) (λ m less. let before = begins_apart content m n less in omega arith) in
     ap (frame_begin content) (sym same) ∙ is

@@ -112,7 +112,7 @@ halves_up d n s t u low high middle mark positive more place few is goes = recor
   order = omega arith;
   within = is.within;
   same = same_after s t u is.same goes.same;
-  least = λ content its. elim (marks_before d s t (λ P content. mark ≡ mark_at P content middle) is.same goes.answers.1 content its) [
+  least = λ content its. elim (marks_before d s t (λ P content. mark ≡ mark_at P content middle) is.same goes.answers.2 content its) [
     | inr twin ↦ inr twin
     | inl told ↦
         let P = s.bytes.page_size in
@@ -133,7 +133,7 @@ halves_down d n s t u low high middle mark positive more place few is goes = rec
   within = let w = is.within in omega arith;
   same = same_after s t u is.same goes.same;
   least = is.least;
-  most = λ content its. elim (marks_before d s t (λ P content. mark ≡ mark_at P content middle) is.same goes.answers.1 content its) [
+  most = λ content its. elim (marks_before d s t (λ P content. mark ≡ mark_at P content middle) is.same goes.answers.2 content its) [
     | inr twin ↦ inr twin
     | inl told ↦
         let P = s.bytes.page_size in

@@ -150,10 +150,10 @@ pub unread_it_does_not : (i : ℕ) → MarkFails first i of_two of_two Damaged �
 unread_it_does_not i (j, touched, (bytes, last, len, differ)) = none_was_last (gave (64 + j * 32) bytes) last
 
 pub it_is_answered : MarkAnswers first 0 of_two once_read (Ok (record { before = 0; skip = 0 }))
-it_is_answered = (lit< tt, λ content its. inl refl)
+it_is_answered = (lit< tt, lit< tt, λ content its. inl refl)
 
 pub another_is_answered : MarkAnswers first 0 of_two once_read (Ok (record { before = 0; skip = 1 })) → ⊥
-another_is_answered is = another_mark (λ content its. elim (is.1 content its) [
+another_is_answered is = another_mark (λ content its. elim (is.2 content its) [
   | inl same ↦ inl (sym same)
   | inr twin ↦ inr twin
 ])
@@ -313,7 +313,7 @@ of_each_content content sealed its = inl (sym its.len)
 pub of_no_content : IsOfMarked first its_seal of_two (λ P content. length content ≡ 16) → ⊥
 of_no_content is = by_case (is two_frames it_is_its_seal its_marks_are)
   where
-    by_case : (15 ≡ 16) ⊎ HasSecondPreimage first 32 two_frames ⊎ HasMarksPreimage first 32 two_frames → ⊥
+    by_case : (length two_frames ≡ 16) ⊎ HasSecondPreimage first 32 two_frames ⊎ HasMarksPreimage first 32 two_frames → ⊥
     by_case (inl same) = omega (arith, same)
     by_case (inr (inl twin)) = it_has_no_twin twin
     by_case (inr (inr twin)) = no_other_marks twin

@@ -18,11 +18,11 @@ use Rattle.segments.proofs.Begins.{begun_before, count_is, next_begin}
 use Rattle.segments.proofs.MarkBytes.{length-marks, mark_in, mark_told}
 
 -- what the parts of marks say of them
-pub record ArePartsOf (P len : ℕ) (s : MarksState) : Type 0 where
+pub record ArePartsOf (P n : ℕ) (s : MarksState) : Type 0 where
   pub positive : 0 < s.bytes.page_size
   pub small : s.bytes.page_size < 65536
   pub page_size : P ≡ s.bytes.page_size
-  pub len : len ≡ s.len
+  pub len : n ≡ s.len
   pub fits : s.len < 1125899906842624
 
 pub parts_of : (d : List ℕ → List ℕ) (P : ℕ) (m s : MarksState) → AreMarks d P m → m ≡ s → ArePartsOf P m.len s
@@ -68,7 +68,7 @@ module _ (d : List ℕ → List ℕ) (sized : (b : List ℕ) → length (d b) �
     calls = let all = (goes.reads_on (i * 8) 0 (length m.bytes.reads) (omega arith) (none_read m.bytes.page_size (i * 8) (length m.bytes.reads) m.bytes.cached)).0 in
         let e : 0 + length before ≡ 8 = omega arith in
         subst (λ (n : ℕ). length t.reads ≤ length m.bytes.reads + pages_touched m.bytes.page_size (i * 8) n) e all;
-    answers = (few, its_mark);
+    answers = (few, near, its_mark);
   }
     where
       its_mark : IsOfMarks d m (λ Q content. mark ≡ mark_at Q content i)
@@ -133,6 +133,7 @@ pub record IsSeeking (d : List ℕ → List ℕ) (page : ℕ) (old now : MarksSt
   pub within : i < pages_of_len old.bytes.page_size old.len
   pub same : AreSameMarks old now
   pub few : mark.before < 281474976710656
+  pub near : mark.skip < 65536
   pub told : IsOfMarks d old (λ P content. (mark ≡ mark_at P content i) × (begins_before content (i * P) ≡ begins_before content (page * P)))
 
 pub seek_begins : (d : List ℕ → List ℕ) (page : ℕ) (s t : MarksState) (mark : Mark) → 0 < s.bytes.page_size → page * s.bytes.page_size < s.len → MarkGoes d page s t (Ok mark) → IsSeeking d page s t page mark
@@ -141,7 +142,8 @@ seek_begins d page s t mark positive within goes = record {
   within = page_below s.bytes.page_size s.len page positive within;
   same = goes.same;
   few = goes.answers.0;
-  told = λ content its. elim (goes.answers.1 content its) [
+  near = goes.answers.1;
+  told = λ content its. elim (goes.answers.2 content its) [
     | inl is ↦ inl (is, refl)
     | inr twin ↦ inr twin
   ];
@@ -161,10 +163,11 @@ seek_more d page s t u i mark next none below is goes = record {
   within = below;
   same = same_after s t u is.same goes.same;
   few = goes.answers.0;
+  near = goes.answers.1;
   told = λ content its. elim (is.told content its) [
     | inr twin ↦ inr twin
     | inl had ↦
-        elim (marks_before d s t (λ P content. next ≡ mark_at P content (i + 1)) is.same goes.answers.1 content its) [
+        elim (marks_before d s t (λ P content. next ≡ mark_at P content (i + 1)) is.same goes.answers.2 content its) [
           | inr twin ↦ inr twin
           | inl told ↦
               let P = s.bytes.page_size in

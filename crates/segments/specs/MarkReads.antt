@@ -83,7 +83,8 @@ mark_reads P = 7 / P + 2
 abbrev pub MarkAnswers : (List ℕ → List ℕ) → (i : ℕ) → (old new : MarksState)
     → Result Mark Error → Type 0
 MarkAnswers d i old new (Ok m) =
-    (m.before < 2 ^ 48) × IsOfMarks d old (λ P content. m ≡ mark_at P content i)
+    (m.before < 2 ^ 48) × (m.skip < 2 ^ 16)
+    × IsOfMarks d old (λ P content. m ≡ mark_at P content i)
 MarkAnswers d i old new (Err e) = MarkFails d i old new e
 
 pub record MarkGoes (d : List ℕ → List ℕ) (i : ℕ) (old new : MarksState)

@@ -187,6 +187,8 @@ impl<S: Source + Drop, D: Digest> Marks<S, D> {
         requires page_size { content.old.page_size ≡ self.old.bytes.page_size }
         ensures { IsBeginGoes D.digest_of offset self.old self.new content.old content.new result }
     {
+        // The use of a field opens the invariant, from which the proof takes that a page has a byte.
+        let _ = &self.root;
         let first = self.first_behind(alloc, content, offset)?;
         Ok(first.offset == offset)
     }
