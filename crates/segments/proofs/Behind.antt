@@ -153,9 +153,9 @@ behind_unread d offset i s t c u b e page goes passes = record {
   answers = inr (
     passes.answers.0,
     (let least : i * s.bytes.page_size ≤ b.offset = goes.answers.1 in
-    let place : i * s.bytes.page_size ≡ offset / s.bytes.page_size * s.bytes.page_size = ap (λ (k : ℕ). k * s.bytes.page_size) page in
-    let more : b.offset ≤ passes.answers.0 = passes.answers.1 in
-    omega arith),
+        let place : i * s.bytes.page_size ≡ offset / s.bytes.page_size * s.bytes.page_size = ap (λ (k : ℕ). k * s.bytes.page_size) page in
+        let more : b.offset ≤ passes.answers.0 = passes.answers.1 in
+        omega arith),
     passes.answers.2,
     passes.answers.3,
   );

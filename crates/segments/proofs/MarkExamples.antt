@@ -83,7 +83,7 @@ two_are_marked = record { marks = refl; before = refl; next = refl }
 -- a frame isn't counted
 pub one_is_not_counted : IsMarkedTo two_frames 8 (record after_two { before = 1 }) → ⊥
 unfolding record_len
-one_is_not_counted is = let e : 1 ≡ 2 = is.before in omega arith
+one_is_not_counted is = omega (arith, is.before)
 
 pub they_are_marked : IsMarked two_frames after_two
 they_are_marked = record { within = lit≤ tt; marked = two_are_marked }
@@ -135,8 +135,12 @@ pub without_its_mark : PushesPage {E = ℕ} its_front unmarked (record after_one
 without_its_mark pushes = omega (arith, ap length ((pushes.2 two_frames (none_is_marked two_frames) refl).marks))
 
 pub it_is_taken : TakesMarkedPage {E = ℕ} its_front unmarked after_one (Ok tt)
-it_is_taken = (refl, refl, λ content marked paged.
-    page_taken content its_front unmarked after_one refl refl refl paged (lit< tt) marked (it_is_pushed.2 content marked paged))
+it_is_taken = (
+  refl,
+  refl,
+  λ content marked paged.
+      page_taken content its_front unmarked after_one refl refl refl paged (lit< tt) marked (it_is_pushed.2 content marked paged),
+)
 
 pub it_is_not_taken : TakesMarkedPage {E = ℕ} its_front unmarked unmarked (Err 0)
 it_is_not_taken = refl

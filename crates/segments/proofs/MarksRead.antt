@@ -49,7 +49,7 @@ module _ (d : List ℕ → List ℕ) (sized : (b : List ℕ) → length (d b) �
       let Q = m.bytes.page_size in
       let its_marks : List ℕ = marks_of Q content in
       let whole : length its_marks ≡ m.bytes.len = length-marks Q content (pages_of_len Q (length content)) ∙ ap (λ (n : ℕ). pages_of_len Q n * 8) (sym its.len)
-          ∙ ap (λ (p : ℕ). pages_of_len p m.len * 8) is.page_size ∙ sym is.len in
+      ∙ ap (λ (p : ℕ). pages_of_len p m.len * 8) is.page_size ∙ sym is.len in
       let size : length m.bytes.top ≡ length (list_of d Q its_marks) = is.top ∙ ap₂ list_len (sym is.page_size) (sym whole) ∙ sym (length-list_of d sized Q its_marks) in
       elim (judged d m.bytes.top (list_of d Q its_marks) is.bytes size (is.root ∙ its.root)) [
         | inr twin ↦ inr (inl (m.bytes.top, twin))

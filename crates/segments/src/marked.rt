@@ -15,8 +15,10 @@ use std::alloc::Global;
 use std::marker::Model;
 use std::num::NonZeroU16;
 
-// How many bytes a mark has, and a digest.
+// How many bytes a mark has.
 const MARK_LEN: usize = 8;
+
+// How many bytes a digest has.
 const DIGEST_LEN: usize = 32;
 
 /// The marks of a content in its list's file, of which nothing is believed: each page of them is

@@ -27,8 +27,7 @@ returns c =
     } in
     let mark = c.bytes_of_mark.ensures ∙ ap (λ (n : ℕ). mark_bytes (record { before = c.self.inside.before; skip = n })) c.min.ensures in
     let listed = c.in_ok-extend_from_slice.ensures.items ∙ ap (λ (l : List ℕ). c.self.inside.marks.items ++ l) mark in
-    subst (λ (v : MarkingState). PushesPage {E = ℕ} page v t (Ok tt)) c.self.view_is
-    (
+    subst (λ (v : MarkingState). PushesPage {E = ℕ} page v t (Ok tt)) c.self.view_is (
       refl,
       refl,
       λ content marked paged. page_pushed content page s t c.first_begin-first.result end.frames end.skip end.is_cut c.first_begin-first.ensures.first c.requires.some c.page_end-end.ensures.passes
