@@ -1,5 +1,5 @@
 -- The first frame behind an offset.
-use Rattle.std.proofs.Common.{◌≡◌, ◌⊎◌, ◌↔◌, ◌<◌, ◌≤◌, ◌*◌, ◌+◌, ◌-◌, ◌/◌, ◌==◌, ◌∙◌, ℕ, suc, List, [], length, take, drop, append-nil, ap, refl, sym, subst, inl, inr, min, arith, Bool, true, false}
+use Rattle.std.proofs.Common.{◌≡◌, ◌⊎◌, ◌↔◌, ◌<◌, ◌≤◌, ◌*◌, ◌+◌, ◌-◌, ◌/◌, ◌∙◌, ℕ, List, [], length, drop, append-nil, ap, refl, sym, subst, inl, inr, min, arith, Bool}
 use Rattle.std.specs.Prelude.{Ok, Err, Vec, IsTrue}
 use Rattle.std.specs.declared.alloc.Global.{Global}
 use Rattle.std.proofs.lemmas.Bool.{cases_lt}
@@ -9,16 +9,16 @@ use Rattle.journal.specs.Frame.{record_len}
 use Rattle.journal.proofs.Frames.{record_len-take}
 use Rattle.page_digests.specs.declared.error.Error.{Error}
 use Rattle.page_digests.specs.declared.seal.Seal.{Seal}
-use Rattle.page_digests.specs.Contents.{IsSameContent, PagedReadGoes, PagedState, RangeFails}
+use Rattle.page_digests.specs.Contents.{IsSameContent, PagedReadGoes, PagedState}
 use Rattle.page_digests.specs.Pages.{pages_of_len, range_at}
 use Rattle.page_digests.specs.Seals.{HasSecondPreimage, IsSealOf, IsVerified}
 use Rattle.page_digests.proofs.ContentReads.{content_after}
 use Rattle.segments.specs.Marking.{FramesBegin}
 use Rattle.segments.specs.Marks.{begins_before, frame_begin}
-use Rattle.segments.specs.MarkReads.{FirstGoes, HasMarks, IsFirstFrom, MarksState}
-use Rattle.segments.specs.Seeks.{BehindFails, BehindGoes, IsBegin, IsBeginGoes, IsFirstBehind, LengthFails, PassGoes, PassesTo}
+use Rattle.segments.specs.MarkReads.{FirstGoes, IsFirstFrom, MarksState}
+use Rattle.segments.specs.Seeks.{BehindGoes, IsBegin, IsBeginGoes, IsFirstBehind, PassGoes, PassesTo}
 use Rattle.segments.specs.declared.marked.Begin.{Begin}
-use Rattle.segments.proofs.Begins.{begins_apart, begun_before, count_is, next_begin}
+use Rattle.segments.proofs.Begins.{begins_apart, begun_before, count_is}
 use Rattle.segments.proofs.PagedFrames.{range_fails_before}
 use Rattle.segments.proofs.Pushes.{begun_more, next_frame}
 

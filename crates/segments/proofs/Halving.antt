@@ -1,17 +1,15 @@
 -- The page of a frame is searched by halves.
-use Rattle.std.proofs.Common.{◌≡◌, ◌⊎◌, ◌<◌, ◌≤◌, ◌*◌, ◌+◌, ◌-◌, ◌/◌, ◌^◌, ◌∙◌, ℕ, List, [], length, append-nil, ap, refl, sym, subst, inl, inr, arith}
+use Rattle.std.proofs.Common.{◌≡◌, ◌<◌, ◌≤◌, ◌*◌, ◌+◌, ◌-◌, ◌/◌, ◌^◌, ℕ, List, [], length, append-nil, ap, refl, sym, subst, inl, inr, arith}
 use Rattle.std.specs.Prelude.{Ok, Err}
-use Rattle.std.specs.Int.{div_ceil}
 use Rattle.std.proofs.lemmas.Grind.{div_ceil_times}
 use Rattle.std.proofs.lemmas.Nat.{div_below, pow-add}
 use Rattle.std.proofs.Math.Nat.{lt-div-mul-add, mul-le-mul_right}
 use Rattle.page_digests.specs.declared.error.Error.{Error}
-use Rattle.page_digests.specs.PagedBytes.{IsSameBytes}
 use Rattle.page_digests.specs.Pages.{pages_of_len}
 use Rattle.page_digests.specs.Reads.{pages_touched}
 use Rattle.page_digests.proofs.Paging.{page_below, page_within}
 use Rattle.segments.specs.Marks.{begins_before, frame_begin, mark_at}
-use Rattle.segments.specs.MarkReads.{AreSameMarks, HalvesRead, HasMarks, HasMarksPreimage, IsOfMarks, IsPageOfNth, MarkFails, MarkGoes, MarksState, NthGoes, mark_reads}
+use Rattle.segments.specs.MarkReads.{AreSameMarks, HalvesRead, IsOfMarks, MarkGoes, MarksState, NthGoes, mark_reads}
 use Rattle.segments.specs.declared.mark.Mark.{Mark}
 use Rattle.segments.proofs.Begins.{begins_in_order, begun_before, next_begin}
 use Rattle.segments.proofs.MarksRead.{mark_fails_since, marks_before, same_after}

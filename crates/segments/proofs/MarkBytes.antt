@@ -1,5 +1,5 @@
 -- Marks in their bytes.
-use Rattle.std.proofs.Common.{◌≡◌, ◌⊎◌, ◌<◌, ◌≤◌, ◌*◌, ◌+◌, ◌++◌, ◌-◌, ◌∙◌, ℕ, zero, suc, List, length, take, drop, ap, ap₂, refl, sym, subst, inl, inr, min, arith, length-append, length-drop}
+use Rattle.std.proofs.Common.{◌≡◌, ◌<◌, ◌≤◌, ◌*◌, ◌+◌, ◌++◌, ◌-◌, ◌∙◌, ℕ, zero, suc, List, length, take, drop, ap, ap₂, refl, sym, subst, inl, inr, arith, length-append, length-drop}
 use Rattle.std.specs.Int.{w64, to_le_bytes, from_le_bytes}
 use Rattle.std.proofs.lemmas.Bool.{cases_lt}
 use Rattle.std.proofs.lemmas.List.{drop-append-le, drop_at, take-append-le, take_all}

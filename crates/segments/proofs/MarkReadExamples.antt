@@ -1,28 +1,25 @@
 -- The marks of two frames by pages of 32 bytes: one mark of zeros. So their top, which is its
 -- digest, and their root are zeros.
-use Rattle.std.proofs.Common.{◌≡◌, ◌⊎◌, ◌<◌, ◌≤◌, ◌+◌, ◌*◌, ◌^◌, ◌↔◌, ◌∷◌, ◌++◌, ◌∙◌, [], ℕ, zero, suc, List, length, replicate, get_or}
-use Rattle.std.proofs.Common.{refl, ap, sym, subst, inl, inr, arith, length-append, lit<, lit≤, true, false}
-use Rattle.std.specs.Prelude.{IsTrue, Some, None, Ok, Err}
+use Rattle.std.proofs.Common.{◌≡◌, ◌⊎◌, ◌<◌, ◌≤◌, ◌+◌, ◌*◌, ◌^◌, ◌↔◌, ◌∷◌, [], ℕ, zero, suc, List, length, replicate, get_or}
+use Rattle.std.proofs.Common.{refl, ap, sym, inl, inr, arith, length-append, lit<, lit≤, true, false}
+use Rattle.std.specs.Prelude.{IsTrue, Some, None, Ok}
 use Rattle.std.proofs.lemmas.Bool.{cases_lt}
 use Rattle.std.proofs.lemmas.Nat.{pow_below}
 use Rattle.journal.specs.Frame.{record_len}
-use Rattle.page_digests.specs.declared.error.Error.{Error}
 use Rattle.page_digests.specs.declared.error.Error.TheVariants.{Damaged, OutOfMemory}
 use Rattle.page_digests.specs.declared.seal.Seal.{Seal}
-use Rattle.page_digests.specs.Contents.{PagedState, RangeFails, unread}
-use Rattle.page_digests.specs.PagedBytes.{BytesState}
-use Rattle.page_digests.specs.Pages.{digest_at, list_of}
+use Rattle.page_digests.specs.Contents.{PagedState, unread}
+use Rattle.page_digests.specs.Pages.{list_of}
 use Rattle.page_digests.specs.Seals.{EachIsByte, HasSecondPreimage, IsSealOf}
 use Rattle.page_digests.specs.Sources.{EndsWithRead, SourceRead, gave}
 use Rattle.page_digests.proofs.PageExamples.{first, flat}
-use Rattle.page_digests.proofs.ReadExamples.{given_bytes, zeros}
+use Rattle.page_digests.proofs.ReadExamples.{zeros}
 use Rattle.page_digests.proofs.SealExamples.{no_page_twin, no_short_twin}
 use Rattle.segments.specs.Marking.{FramesBegin}
 use Rattle.segments.specs.Marks.{frame_begin, mark_at, marks_of}
 use Rattle.segments.specs.MarkReads.{AreMarks, AreOpenedMarks, AreSameMarks, FirstAnswers, FirstGoes, HalvesRead, HasMarks, HasMarksPreimage, IsFirstFrom, IsOfMarks, IsPageOfNth, MarkAnswers, MarkFails, MarkGoes, MarksState, NthAnswers, NthGoes, mark_reads, marks_len, marks_root_of, marks_start}
 use Rattle.segments.specs.Seeks.{BehindAnswers, BehindFails, BehindGoes, IsBegin, IsBeginAnswers, IsBeginGoes, IsFirstBehind, IsOfMarked, LengthFails, PassAnswers, PassGoes, PassesTo}
 use Rattle.segments.specs.declared.mark.Mark.{Mark}
-use Rattle.segments.specs.declared.marked.Begin.{Begin}
 use Rattle.segments.proofs.Behind.{begin_told, passing_begins, passing_ends}
 use Rattle.segments.proofs.MarkExamples.{two_frames}
 
@@ -42,19 +39,19 @@ its_marks_are = record { len = refl; root = refl }
 pub a_byte_too_many : HasMarks first 32 two_frames 16 zeros → ⊥
 a_byte_too_many is = omega (arith, is.len)
 
-a_one_is_bytes : (n : ℕ) → EachIsByte (1 ∷ replicate n 0)
-a_one_is_bytes n zero = lit< tt
-a_one_is_bytes n (suc i) = rest n i
-  where
-    rest : (n : ℕ) → EachIsByte (replicate n 0)
-    rest zero i = lit< tt
-    rest (suc n) zero = lit< tt
-    rest (suc n) (suc i) = rest n i
+zeros_are_bytes : (n : ℕ) → EachIsByte (replicate n 0)
+zeros_are_bytes zero i = lit< tt
+zeros_are_bytes (suc n) zero = lit< tt
+zeros_are_bytes (suc n) (suc i) = zeros_are_bytes n i
+
+one_is_a_byte : (n : ℕ) → EachIsByte (1 ∷ replicate n 0)
+one_is_a_byte n zero = lit< tt
+one_is_a_byte n (suc i) = zeros_are_bytes n i
 
 pub another_list_of_marks : HasMarksPreimage flat 32 two_frames
 another_list_of_marks = inl (
   1 ∷ replicate 31 0,
-  record { small = a_one_is_bytes 31; differ = λ same. omega (arith, ap (λ (l : List ℕ). get_or l 0 0) same); len = refl; digest = refl },
+  record { small = one_is_a_byte 31; differ = λ same. omega (arith, ap (λ (l : List ℕ). get_or l 0 0) same); len = refl; digest = refl },
 )
 
 pub no_other_marks : HasMarksPreimage first 32 two_frames → ⊥
@@ -99,11 +96,6 @@ once_read = record of_two { bytes = record of_two.bytes { cached = Some 0; page 
 -- another page was read
 abbrev pub once_damaged : MarksState
 once_damaged = record of_two { bytes = record of_two.bytes { reads = gave 64 (replicate 8 1) ∷ [] } }
-
-zeros_are_bytes : (n : ℕ) → EachIsByte (replicate n 0)
-zeros_are_bytes zero i = lit< tt
-zeros_are_bytes (suc n) zero = lit< tt
-zeros_are_bytes (suc n) (suc i) = zeros_are_bytes n i
 
 pub they_are_marks : AreMarks first 32 of_two
 they_are_marks = record { page_size = refl; positive = lit< tt; small = lit< tt; fits = lit< tt; len = refl; top = refl; bytes = zeros_are_bytes 32; root = refl }

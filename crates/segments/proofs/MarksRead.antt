@@ -1,8 +1,8 @@
 -- Marks that are read by their pages.
-use Rattle.std.proofs.Common.{◌≡◌, ◌⊎◌, ◌<◌, ◌≤◌, ◌*◌, ◌+◌, ◌-◌, ◌∙◌, ℕ, zero, suc, List, length, take, drop, ap, ap₂, refl, sym, subst, inl, inr, min, arith}
+use Rattle.std.proofs.Common.{◌≡◌, ◌⊎◌, ◌<◌, ◌≤◌, ◌*◌, ◌+◌, ◌-◌, ◌∙◌, ℕ, suc, List, length, take, drop, ap, ap₂, refl, sym, subst, inl, inr, min, arith}
 use Rattle.std.specs.Prelude.{Ok, Err}
 use Rattle.page_digests.specs.declared.error.Error.{Error}
-use Rattle.page_digests.specs.PagedBytes.{BytesGoes, BytesState, IsKnown, IsSameBytes}
+use Rattle.page_digests.specs.PagedBytes.{BytesGoes, BytesState, IsKnown}
 use Rattle.page_digests.specs.Pages.{list_len, list_of, pages_of_len, range_at}
 use Rattle.page_digests.specs.Reads.{IsReadOn, IsTouched, pages_touched}
 use Rattle.std.proofs.lemmas.Bool.{cases_lt}
@@ -10,8 +10,8 @@ use Rattle.std.proofs.Math.Nat.{mul-le-mul_right, suc-mul}
 use Rattle.page_digests.proofs.BytesReads.{bytes_after, page_fails_before}
 use Rattle.page_digests.proofs.Paging.{page_below, page_within}
 use Rattle.page_digests.proofs.Twins.{judged, length-list_of}
-use Rattle.segments.specs.Marks.{begins_before, frame_begin, mark_at, mark_bytes, marks, marks_of}
-use Rattle.segments.specs.MarkReads.{AreMarks, AreSameMarks, FirstGoes, HasMarks, HasMarksPreimage, IsFirstFrom, IsOfMarks, MarkFails, MarkGoes, MarksState}
+use Rattle.segments.specs.Marks.{begins_before, frame_begin, mark_at, mark_bytes, marks_of}
+use Rattle.segments.specs.MarkReads.{AreMarks, AreSameMarks, FirstGoes, HasMarks, HasMarksPreimage, IsOfMarks, MarkFails, MarkGoes, MarksState}
 use Rattle.segments.specs.declared.mark.Mark.{Mark}
 use Rattle.segments.specs.declared.marked.Begin.{Begin}
 use Rattle.segments.proofs.Begins.{begun_before, count_is, next_begin}

@@ -1,6 +1,6 @@
 -- The marks of a content that comes page by page.
-use Rattle.std.specs.Prelude.{◌≡◌, ◌≤◌, ◌<◌, ◌+◌, ◌*◌, ◌^◌, ℕ, List, length, take, drop, slice_index}
-use Rattle.std.specs.Prelude.{Bool, if◌then◌else◌, Result, Ok, Err}
+use Rattle.std.specs.Prelude.{◌≡◌, ◌≤◌, ◌<◌, ◌+◌, ◌*◌, ◌^◌, ℕ, List, length, take, drop}
+use Rattle.std.specs.Prelude.{slice_index, Bool, if◌then◌else◌, Result, Ok, Err}
 use Rattle.page_digests.specs.Pages.{content_page}
 use Rattle.segments.specs.Marks.{begins_before, frame_begin, marks, marks_of}
 
@@ -55,7 +55,8 @@ PassesPage page first frames next = (content : List ℕ) (offset k n : ℕ)
     → let end = offset + length page in FramesBegin content end n frames (next content end)
 
 -- a page is marked, perhaps a last one, which is shorter, by the answer: whatever content is marked
--- so far, and whose next page this is, is marked to the page's end. After an error nothing was taken
+-- so far, and whose next page this is, is marked to the page's end. After an error nothing was
+-- taken
 abbrev pub PushesPage : {E : Type 0} → List ℕ → (s t : MarkingState) → Result (Unit {0}) E
     → Type 0
 PushesPage page s t (Ok _) = (t.page_size ≡ s.page_size) × (t.pages ≡ s.pages + 1)

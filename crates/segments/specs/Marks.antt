@@ -1,5 +1,5 @@
--- Where the frames of a content begin, and its marks: for each page, how many frames begin before it
--- and where the next one begins. They are a function of the content alone.
+-- Where the frames of a content begin, and its marks: for each page, how many frames begin before
+-- it and where the next one begins. They are a function of the content alone.
 use Rattle.std.specs.Prelude.{◌+◌, ◌-◌, ◌*◌, ◌^◌, ◌++◌, ◌==◌, ℕ, zero, suc, List, [], length, drop}
 use Rattle.std.specs.Prelude.{min, if◌then◌else◌}
 use Rattle.std.specs.Int.{w64, to_le_bytes}

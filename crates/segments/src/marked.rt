@@ -112,7 +112,7 @@ impl<S: Source + Drop, D: Digest> Marks<S, D> {
     }
 
     /// Where the first frame begins at the begin of page `i` or behind it. Where the content ends
-    /// counts as a begin. This asks for marks alone: for one, unless a record is longer than a page.
+    /// counts as a begin. This asks for marks: for one, unless a record is longer than a page.
     pub fn first_from(&mut self, page: usize) -> Result<Begin, Error>
         requires { page * self.old.bytes.page_size < self.old.len }
         ensures { FirstGoes D.digest_of page self.old self.new result }
@@ -189,7 +189,7 @@ impl<S: Source + Drop, D: Digest> Marks<S, D> {
         requires page_size { content.old.page_size ≡ self.old.bytes.page_size }
         ensures { IsBeginGoes D.digest_of offset self.old self.new content.old content.new result }
     {
-        // The use of a field opens the invariant, from which the proof takes that a page has a byte.
+        // This use opens the invariant, from which the proof takes that a page has a byte.
         let _ = &self.root;
         let first = self.first_behind(alloc, content, offset)?;
         Ok(first.offset == offset)

@@ -162,7 +162,7 @@ impl Marking {
         requires fits { self.old.pages * self.old.page_size + length page.now < 2 ^ 50 }
         ensures { TakesMarkedPage page.now self.old self.new result }
     {
-        // The use of a field opens the invariant, from which the proof takes that a page has a byte.
+        // This use opens the invariant, from which the proof takes that a page has a byte.
         let _ = &self.page_size;
         self.push_page(page)
     }

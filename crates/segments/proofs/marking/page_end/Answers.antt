@@ -1,4 +1,4 @@
-use Rattle.std.proofs.Common.{◌≡◌, ◌+◌, ◌*◌, ◌-◌, get_or, length, refl, ap, arith}
+use Rattle.std.proofs.Common.{◌≡◌, ◌+◌, ◌*◌, ◌-◌, get_or, length, refl, arith}
 use Rattle.segments.proofs.Pushes.{ends_cut, ends_whole}
 use Rattle.segments.proofs.marking.page_end.Goals as goal
 

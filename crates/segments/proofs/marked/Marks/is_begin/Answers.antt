@@ -1,4 +1,4 @@
-use Rattle.std.proofs.Common.{◌≡◌, ◌↔◌, ℕ, nat_eq, eq-eqb}
+use Rattle.std.proofs.Common.{◌≡◌, ◌↔◌, nat_eq, eq-eqb}
 use Rattle.std.specs.Prelude.{IsTrue}
 use Rattle.std.proofs.lemmas.Bool.{eqb-true}
 use Rattle.segments.specs.MarkReads.{MarksState}

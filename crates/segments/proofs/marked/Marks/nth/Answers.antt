@@ -1,4 +1,4 @@
-use Rattle.std.proofs.Common.{◌≡◌, ◌<◌, ◌+◌, ◌-◌, ◌/◌, ℕ, refl, arith}
+use Rattle.std.proofs.Common.{◌<◌, ◌+◌, ◌-◌, ◌/◌, refl, arith}
 use Rattle.std.proofs.lemmas.Result.{err_from_is_err_and}
 use Rattle.segments.specs.MarkReads.{MarksState}
 use Rattle.segments.proofs.Halving.{halves_down, halves_up, halving_ends, halving_fails, halving_reads}
