@@ -126,7 +126,7 @@ pub behind_at_once : (d : List ℕ → List ℕ) (offset i : ℕ) (s t : MarksSt
 behind_at_once d offset i s t c b positive page behind goes = record {
   same = goes.same;
   content = same_content c;
-  answers = λ content sealed its. elim (goes.answers.2 content its) [
+  answers = λ content sealed its. elim (goes.answers.3 content its) [
     | inr twin ↦ inr (inr twin)
     | inl is ↦
         let P = s.bytes.page_size in
@@ -141,7 +141,7 @@ pub behind_unmarked : (d : List ℕ → List ℕ) (offset i : ℕ) (s t : MarksS
 behind_unmarked d offset i s t c e page goes = record {
   same = goes.same;
   content = same_content c;
-  answers = inl (goes.answers.0, subst (λ (k : ℕ). k ≤ goes.answers.0) page goes.answers.1, goes.answers.2);
+  answers = inl (goes.answers.0, subst (λ (k : ℕ). k ≤ goes.answers.0) page goes.answers.1, goes.answers.3);
 }
 
 -- a frame's length can't be read
@@ -168,7 +168,7 @@ pub behind_by_frames : (d : List ℕ → List ℕ) (offset i frames there end : 
 behind_by_frames d offset i frames there end s t c u b r positive page within ends size less number place goes passes = record {
   same = goes.same;
   content = passes.same;
-  answers = λ content sealed its. elim (goes.answers.2 content its) [
+  answers = λ content sealed its. elim (goes.answers.3 content its) [
     | inr twin ↦ inr (inr twin)
     | inl is ↦
         elim (passed content sealed) [

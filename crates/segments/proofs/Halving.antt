@@ -2,8 +2,8 @@
 use Rattle.std.proofs.Common.{◌≡◌, ◌<◌, ◌≤◌, ◌*◌, ◌+◌, ◌-◌, ◌/◌, ◌^◌, ℕ, List, [], length, append-nil, ap, refl, sym, subst, inl, inr, arith}
 use Rattle.std.specs.Prelude.{Ok, Err}
 use Rattle.std.proofs.lemmas.Grind.{div_ceil_times}
-use Rattle.std.proofs.lemmas.Nat.{div_below, pow-add}
-use Rattle.std.proofs.Math.Nat.{lt-div-mul-add, mul-le-mul_right}
+use Rattle.std.proofs.lemmas.Nat.{pow-add}
+use Rattle.std.proofs.Math.Nat.{mul-le-mul_right}
 use Rattle.page_digests.specs.declared.error.Error.{Error}
 use Rattle.page_digests.specs.Pages.{pages_of_len}
 use Rattle.page_digests.specs.Reads.{pages_touched}
@@ -12,18 +12,9 @@ use Rattle.segments.specs.Marks.{begins_before, frame_begin, mark_at}
 use Rattle.segments.specs.MarkReads.{AreSameMarks, HalvesRead, IsOfMarks, MarkGoes, MarksState, NthGoes, mark_reads}
 use Rattle.segments.specs.declared.mark.Mark.{Mark}
 use Rattle.segments.proofs.Begins.{begins_in_order, begun_before, next_begin}
-use Rattle.segments.proofs.MarksRead.{mark_fails_since, marks_before, same_after}
+use Rattle.segments.proofs.MarksRead.{mark_costs_few, mark_fails_since, marks_before, same_after, same_marks}
 
 -- ---- how many marks are read
-
--- a mark has bytes of so few pages
-mark_touches : (P i : ℕ) → 0 < P → pages_touched P (i * 8) 8 ≤ 7 / P + 2
-mark_touches P i positive =
-    let first : i * 8 < i * 8 / P * P + P = lt-div-mul-add positive in
-    let more : 7 < 7 / P * P + P = lt-div-mul-add positive in
-    let both : i * 8 + 7 < (i * 8 / P + 7 / P + 2) * P = omega arith in
-    let few : (i * 8 + 7) / P < i * 8 / P + 7 / P + 2 = div_below (i * 8 + 7) P (i * 8 / P + 7 / P + 2) positive both in
-    omega arith
 
 -- so many pages are left but one, since a search began over these; a mark costs so many reads
 pub record IsHalved (spare pages each old new : ℕ) : Type 0 where
@@ -67,9 +58,6 @@ pub record IsHalving (d : List ℕ → List ℕ) (n : ℕ) (old now : MarksState
   pub most : IsOfMarks d old (λ P content. high * P < length content → frame_begin content n < high * P)
   pub halved : IsHalved (high - low - 1) (pages_of_len old.bytes.page_size old.len) (mark_reads old.bytes.page_size) (length old.bytes.reads) (length now.bytes.reads)
 
-same_marks : (s : MarksState) → AreSameMarks s s
-same_marks s = record { len = refl; root = refl; bytes = record { start = refl; len = refl; page_size = refl; top = refl; reads = ([], sym (append-nil s.bytes.reads)) } }
-
 pub halving_begins : (d : List ℕ → List ℕ) (n : ℕ) (s : MarksState) → 0 < s.bytes.page_size → 0 < s.len → IsHalving d n s s 0 (pages_of_len s.bytes.page_size s.len)
 halving_begins d n s positive some =
     let count = pages_of_len s.bytes.page_size s.len in
@@ -97,11 +85,8 @@ mark_costs : (d : List ℕ → List ℕ) (n i : ℕ) (s t u : MarksState) (low h
     → length u.bytes.reads ≤ length t.bytes.reads + pages_touched t.bytes.page_size (i * 8) 8
     → IsHalved spare (pages_of_len s.bytes.page_size s.len) (mark_reads s.bytes.page_size) (length s.bytes.reads) (length u.bytes.reads)
 mark_costs d n i s t u low high spare positive more half is calls =
-    let here : length u.bytes.reads ≤ length t.bytes.reads + pages_touched s.bytes.page_size (i * 8) 8 =
-    subst (λ (P : ℕ). length u.bytes.reads ≤ length t.bytes.reads + pages_touched P (i * 8) 8) is.same.bytes.page_size calls in
-    let few : pages_touched s.bytes.page_size (i * 8) 8 ≤ mark_reads s.bytes.page_size = mark_touches s.bytes.page_size i positive in
     halves_more (high - low - 1) spare (pages_of_len s.bytes.page_size s.len) (mark_reads s.bytes.page_size) (length s.bytes.reads) (length t.bytes.reads) (length u.bytes.reads)
-    (omega arith) half (omega (arith, here, few)) is.halved
+    (omega arith) half (mark_costs_few i s t u positive is.same calls) is.halved
 
 -- a page at which frame n begins, or before it
 pub halves_up : (d : List ℕ → List ℕ) (n : ℕ) (s t u : MarksState) (low high middle : ℕ) (mark : Mark) → 0 < s.bytes.page_size → low + 1 < high → middle ≡ low + (high - low) / 2 → mark.before ≤ n
@@ -141,15 +126,15 @@ halves_down d n s t u low high middle mark positive more place few is goes = rec
   halved = mark_costs d n middle s t u low high (middle - low - 1) positive more (omega arith) is goes.calls;
 }
 
-halves_told : (spare P pages : ℕ) (s t : MarksState) → IsHalved spare pages (mark_reads P) (length s.bytes.reads) (length t.bytes.reads) → HalvesRead P pages s.bytes.reads t.bytes.reads
-halves_told spare P pages s t is = record { marks = is.marks; few = is.few; reads = is.reads }
+halves_told : (spare : ℕ) (s t : MarksState) → IsHalved spare (pages_of_len s.bytes.page_size s.len) (mark_reads s.bytes.page_size) (length s.bytes.reads) (length t.bytes.reads) → HalvesRead s t
+halves_told spare s t is = record { marks = is.marks; few = is.few; reads = is.reads }
 
 -- a mark can't be read
 pub halving_fails : (d : List ℕ → List ℕ) (n : ℕ) (s t u : MarksState) (low high middle : ℕ) (e : Error) → 0 < s.bytes.page_size → low + 1 < high → IsHalving d n s t low high
     → MarkGoes d middle t u (Err e) → NthGoes d n s u (Err e)
 halving_fails d n s t u low high middle e positive more is goes = record {
   same = same_after s t u is.same goes.same;
-  calls = halves_told 0 s.bytes.page_size (pages_of_len s.bytes.page_size s.len) s u (mark_costs d n middle s t u low high 0 positive more (omega arith) is goes.calls);
+  calls = halves_told 0 s u (mark_costs d n middle s t u low high 0 positive more (omega arith) is goes.calls);
   answers = (middle, mark_fails_since d middle s t u e is.same goes.answers);
 }
 
@@ -157,7 +142,7 @@ halving_fails d n s t u low high middle e positive more is goes = record {
 pub halving_ends : (d : List ℕ → List ℕ) (n : ℕ) (s t : MarksState) (low high : ℕ) → 0 < s.bytes.page_size → high ≤ low + 1 → IsHalving d n s t low high → NthGoes d n s t (Ok low)
 halving_ends d n s t low high positive done is = record {
   same = is.same;
-  calls = halves_told (high - low - 1) s.bytes.page_size (pages_of_len s.bytes.page_size s.len) s t is.halved;
+  calls = halves_told (high - low - 1) s t is.halved;
   answers = (
     page_within s.bytes.page_size s.len low positive (let o = is.order in let w = is.within in omega arith),
     λ content its. elim (is.least content its) [

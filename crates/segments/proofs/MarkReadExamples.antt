@@ -17,7 +17,7 @@ use Rattle.page_digests.proofs.ReadExamples.{zeros}
 use Rattle.page_digests.proofs.SealExamples.{no_page_twin, no_short_twin}
 use Rattle.segments.specs.Marking.{FramesBegin}
 use Rattle.segments.specs.Marks.{frame_begin, mark_at, marks_of}
-use Rattle.segments.specs.MarkReads.{AreMarks, AreOpenedMarks, AreSameMarks, FirstAnswers, FirstGoes, HalvesRead, HasMarks, HasMarksPreimage, IsFirstFrom, IsOfMarks, IsPageOfNth, MarkAnswers, MarkFails, MarkGoes, MarksState, NthAnswers, NthGoes, mark_reads, marks_len, marks_root_of, marks_start}
+use Rattle.segments.specs.MarkReads.{AreMarks, AreOpenedMarks, AreSameMarks, FirstAnswers, FirstGoes, HalvesRead, HasMarks, HasMarksPreimage, IsFirstFrom, IsOfMarks, IsPageOfNth, MarkAnswers, MarkFails, MarkGoes, MarksState, NthAnswers, NthGoes, ReadsMarks, mark_reads, marks_len, marks_root_of, marks_start}
 use Rattle.segments.specs.Seeks.{BehindAnswers, BehindFails, BehindGoes, IsBegin, IsBeginAnswers, IsBeginGoes, IsFirstBehind, IsOfMarked, LengthFails, PassAnswers, PassGoes, PassesTo}
 use Rattle.segments.specs.declared.mark.Mark.{Mark}
 use Rattle.segments.proofs.Behind.{begin_told, passing_begins, passing_ends}
@@ -173,7 +173,7 @@ unfolding record_len
 not_the_first is = let e : 0 ≡ 1 = is.number in omega (arith, e)
 
 pub first_answered : FirstAnswers first 0 of_two once_read (Ok (record { number = 0; offset = 0 }))
-first_answered = (lit< tt, lit≤ tt, λ content its. inl (the_first_begins content))
+first_answered = (lit< tt, lit≤ tt, lit≤ tt, λ content its. inl (the_first_begins content))
 
 -- page 1 begins behind it
 pub first_before_its_page : FirstAnswers first 1 of_two once_read (Ok (record { number = 0; offset = 0 })) → ⊥
@@ -183,7 +183,7 @@ pub first_goes : FirstGoes first 0 of_two once_read (Ok (record { number = 0; of
 first_goes = record { same = one_more_read; answers = first_answered }
 
 pub first_is_not_1 : FirstGoes first 0 of_two once_read (Ok (record { number = 1; offset = 0 })) → ⊥
-first_is_not_1 is = by_case (is.answers.2 two_frames its_marks_are)
+first_is_not_1 is = by_case (is.answers.3 two_frames its_marks_are)
   where
     by_case : IsFirstFrom 32 two_frames 0 (record { number = 1; offset = 0 }) ⊎ HasMarksPreimage first 32 two_frames → ⊥
     by_case (inl told) = let e : 1 ≡ 0 = told.number in omega (arith, e)
@@ -210,13 +210,20 @@ nth_answered = (lit< tt, λ content its. inl (record { least = omega arith; most
 pub a_page_too_many : NthAnswers first 0 of_two of_two (Ok 1) → ⊥
 a_page_too_many is = let e : 32 < 15 = is.0 in omega (arith, e)
 
-pub by_three_marks : HalvesRead 32 4 [] (replicate 6 (gave 64 its_mark))
-by_three_marks = record { marks = 3; few = lit≤ tt; reads = lit≤ tt }
+-- one mark was asked for, and two pages at most have bytes of it
+pub of_one_mark : ReadsMarks 1 of_two once_read
+of_one_mark = lit≤ tt
+
+pub of_none : ReadsMarks 0 of_two once_read → ⊥
+of_none is = let e : 1 ≤ 0 = is in omega (arith, e)
+
+pub by_halves : HalvesRead of_two once_read
+by_halves = record { marks = 1; few = lit≤ tt; reads = lit≤ tt }
 
 -- of one page one mark is read
-pub too_many_marks : HalvesRead 32 1 [] (replicate 3 (gave 64 its_mark)) → ⊥
+pub too_many_marks : HalvesRead of_two (record of_two { bytes = record of_two.bytes { reads = replicate 3 (gave 64 its_mark) } }) → ⊥
 too_many_marks is = elim (cases_lt 1 is.marks) [
-  | inl more ↦ let few : 2 ^ 1 < 2 ^ is.marks = pow_below 1 is.marks more in let had = is.few in omega arith
+  | inl more ↦ let few : 2 ^ 1 < 2 ^ is.marks = pow_below 1 is.marks more in let had : 2 ^ is.marks ≤ 2 = is.few in omega arith
   | inr few ↦ let reads : 3 ≤ 0 + is.marks * 2 = is.reads in omega arith
 ]
 

@@ -1,17 +1,18 @@
 -- Marks that are read by their pages.
-use Rattle.std.proofs.Common.{◌≡◌, ◌⊎◌, ◌<◌, ◌≤◌, ◌*◌, ◌+◌, ◌-◌, ◌∙◌, ℕ, suc, List, length, take, drop, ap, ap₂, refl, sym, subst, inl, inr, min, arith}
+use Rattle.std.proofs.Common.{◌≡◌, ◌⊎◌, ◌<◌, ◌≤◌, ◌*◌, ◌+◌, ◌-◌, ◌/◌, ◌∙◌, ℕ, suc, List, [], length, take, drop, append-nil, ap, ap₂, refl, sym, subst, inl, inr, min, arith}
 use Rattle.std.specs.Prelude.{Ok, Err}
 use Rattle.page_digests.specs.declared.error.Error.{Error}
 use Rattle.page_digests.specs.PagedBytes.{BytesGoes, BytesState, IsKnown}
 use Rattle.page_digests.specs.Pages.{list_len, list_of, pages_of_len, range_at}
 use Rattle.page_digests.specs.Reads.{IsReadOn, IsTouched, pages_touched}
 use Rattle.std.proofs.lemmas.Bool.{cases_lt}
-use Rattle.std.proofs.Math.Nat.{mul-le-mul_right, suc-mul}
+use Rattle.std.proofs.lemmas.Nat.{div_below, le-div}
+use Rattle.std.proofs.Math.Nat.{lt-div-mul-add, mul-le-mul_right, suc-mul}
 use Rattle.page_digests.proofs.BytesReads.{bytes_after, page_fails_before}
 use Rattle.page_digests.proofs.Paging.{page_below, page_within}
 use Rattle.page_digests.proofs.Twins.{judged, length-list_of}
 use Rattle.segments.specs.Marks.{begins_before, frame_begin, mark_at, mark_bytes, marks_of}
-use Rattle.segments.specs.MarkReads.{AreMarks, AreSameMarks, FirstGoes, HasMarks, HasMarksPreimage, IsOfMarks, MarkFails, MarkGoes, MarksState}
+use Rattle.segments.specs.MarkReads.{AreMarks, AreSameMarks, FirstGoes, HasMarks, HasMarksPreimage, IsOfMarks, MarkFails, MarkGoes, MarksState, ReadsMarks, mark_reads}
 use Rattle.segments.specs.declared.mark.Mark.{Mark}
 use Rattle.segments.specs.declared.marked.Begin.{Begin}
 use Rattle.segments.proofs.Begins.{begun_before, count_is, next_begin}
@@ -94,7 +95,51 @@ module _ (d : List ℕ → List ℕ) (sized : (b : List ℕ) → length (d b) �
     answers = (goes.answers.0, subst (λ (n : ℕ). IsTouched m.bytes.page_size (i * 8) n goes.answers.0) (goes.len ∙ long) goes.answers.1, goes.answers.2);
   }
 
+-- ---- how much is read
+
+-- a mark has bytes of so few pages
+pub mark_touches : (P i : ℕ) → 0 < P → pages_touched P (i * 8) 8 ≤ 7 / P + 2
+mark_touches P i positive =
+    let first : i * 8 < i * 8 / P * P + P = lt-div-mul-add positive in
+    let more : 7 < 7 / P * P + P = lt-div-mul-add positive in
+    let both : i * 8 + 7 < (i * 8 / P + 7 / P + 2) * P = omega arith in
+    let few : (i * 8 + 7) / P < i * 8 / P + 7 / P + 2 = div_below (i * 8 + 7) P (i * 8 / P + 7 / P + 2) positive both in
+    omega arith
+
+-- so a mark costs few reads, since a call began
+pub mark_costs_few : (i : ℕ) (s t u : MarksState) → 0 < s.bytes.page_size → AreSameMarks s t → length u.bytes.reads ≤ length t.bytes.reads + pages_touched t.bytes.page_size (i * 8) 8
+    → length u.bytes.reads ≤ length t.bytes.reads + mark_reads s.bytes.page_size
+mark_costs_few i s t u positive same calls =
+    let here : length u.bytes.reads ≤ length t.bytes.reads + pages_touched s.bytes.page_size (i * 8) 8 =
+    subst (λ (P : ℕ). length u.bytes.reads ≤ length t.bytes.reads + pages_touched P (i * 8) 8) same.bytes.page_size calls in
+    let few : pages_touched s.bytes.page_size (i * 8) 8 ≤ mark_reads s.bytes.page_size = mark_touches s.bytes.page_size i positive in
+    omega (arith, here, few)
+
+-- one more, at `each` a mark
+one_more : (page i each old now new : ℕ) → page ≤ i → now ≤ old + (i + 1 - page) * each → new ≤ now + each → new ≤ old + (i + 1 + 1 - page) * each
+one_more page i each old now new from had more =
+    let count : i + 1 + 1 - page ≡ suc (i + 1 - page) = omega arith in
+    let step : (i + 1 + 1 - page) * each ≡ (i + 1 - page) * each + each = ap (λ (k : ℕ). k * each) count ∙ suc-mul (i + 1 - page) each in
+    omega arith
+
+-- the first one
+first_one : (page each old new : ℕ) → new ≤ old + each → new ≤ old + (page + 1 - page) * each
+first_one page each old new more =
+    let count : page + 1 - page ≡ 1 = omega arith in
+    let step : (page + 1 - page) * each ≡ 1 * each = ap (λ (k : ℕ). k * each) count in
+    omega arith
+
+-- the page of the begin is that of its mark, or behind it
+up_to_begin : (P page i skip each old now offset : ℕ) → 0 < P → offset ≡ i * P + skip → now ≤ old + (i + 1 - page) * each → now ≤ old + (offset / P + 1 - page) * each
+up_to_begin P page i skip each old now offset positive is had =
+    let behind : i ≤ offset / P = le-div i offset P positive (omega arith) in
+    let more : (i + 1 - page) * each ≤ (offset / P + 1 - page) * each = mul-le-mul_right each (omega arith) in
+    omega arith
+
 -- ---- the first begin
+
+pub same_marks : (s : MarksState) → AreSameMarks s s
+same_marks s = record { len = refl; root = refl; bytes = record { start = refl; len = refl; page_size = refl; top = refl; reads = ([], sym (append-nil s.bytes.reads)) } }
 
 -- the same marks after two calls
 pub same_after : (s t u : MarksState) → AreSameMarks s t → AreSameMarks t u → AreSameMarks s u
@@ -134,6 +179,7 @@ pub record IsSeeking (d : List ℕ → List ℕ) (page : ℕ) (old now : MarksSt
   pub same : AreSameMarks old now
   pub few : mark.before < 281474976710656
   pub near : mark.skip < 65536
+  pub calls : ReadsMarks (i + 1 - page) old now
   pub told : IsOfMarks d old (λ P content. (mark ≡ mark_at P content i) × (begins_before content (i * P) ≡ begins_before content (page * P)))
 
 pub seek_begins : (d : List ℕ → List ℕ) (page : ℕ) (s t : MarksState) (mark : Mark) → 0 < s.bytes.page_size → page * s.bytes.page_size < s.len → MarkGoes d page s t (Ok mark) → IsSeeking d page s t page mark
@@ -143,6 +189,7 @@ seek_begins d page s t mark positive within goes = record {
   same = goes.same;
   few = goes.answers.0;
   near = goes.answers.1;
+  calls = first_one page (mark_reads s.bytes.page_size) (length s.bytes.reads) (length t.bytes.reads) (mark_costs_few page s s t positive (same_marks s) goes.calls);
   told = λ content its. elim (goes.answers.2 content its) [
     | inl is ↦ inl (is, refl)
     | inr twin ↦ inr twin
@@ -156,14 +203,15 @@ seek_reads d page s t i mark positive below is =
     let within : (i + 1) * s.bytes.page_size < s.len = page_within s.bytes.page_size s.len (i + 1) positive below in
     subst (λ (P : ℕ). (i + 1) * P < t.len) (sym is.same.bytes.page_size) (subst (λ (n : ℕ). (i + 1) * s.bytes.page_size < n) (sym is.same.len) within)
 
-pub seek_more : (d : List ℕ → List ℕ) (page : ℕ) (s t u : MarksState) (i : ℕ) (mark next : Mark) → mark.skip ≡ s.bytes.page_size → i + 1 < pages_of_len s.bytes.page_size s.len → IsSeeking d page s t i mark
+pub seek_more : (d : List ℕ → List ℕ) (page : ℕ) (s t u : MarksState) (i : ℕ) (mark next : Mark) → 0 < s.bytes.page_size → mark.skip ≡ s.bytes.page_size → i + 1 < pages_of_len s.bytes.page_size s.len → IsSeeking d page s t i mark
     → MarkGoes d (i + 1) t u (Ok next) → IsSeeking d page s u (i + 1) next
-seek_more d page s t u i mark next none below is goes = record {
+seek_more d page s t u i mark next positive none below is goes = record {
   from = let f = is.from in omega arith;
   within = below;
   same = same_after s t u is.same goes.same;
   few = goes.answers.0;
   near = goes.answers.1;
+  calls = one_more page i (mark_reads s.bytes.page_size) (length s.bytes.reads) (length t.bytes.reads) (length u.bytes.reads) is.from is.calls (mark_costs_few (i + 1) s t u positive is.same goes.calls);
   told = λ content its. elim (is.told content its) [
     | inr twin ↦ inr twin
     | inl had ↦
@@ -196,13 +244,14 @@ begin_offset P content i skip count within last is =
           omega arith
     ]
 
-pub seek_ends : (d : List ℕ → List ℕ) (page : ℕ) (s t : MarksState) (i : ℕ) (mark : Mark) (b : Begin) → (mark.skip ≡ s.bytes.page_size → pages_of_len s.bytes.page_size s.len ≤ i + 1)
+pub seek_ends : (d : List ℕ → List ℕ) (page : ℕ) (s t : MarksState) (i : ℕ) (mark : Mark) (b : Begin) → 0 < s.bytes.page_size → (mark.skip ≡ s.bytes.page_size → pages_of_len s.bytes.page_size s.len ≤ i + 1)
     → b.number ≡ mark.before → b.offset ≡ i * s.bytes.page_size + mark.skip → IsSeeking d page s t i mark → FirstGoes d page s t (Ok b)
-seek_ends d page s t i mark b last number offset is = record {
+seek_ends d page s t i mark b positive last number offset is = record {
   same = is.same;
   answers = (
     (let few = is.few in omega arith),
     (let more : page * s.bytes.page_size ≤ i * s.bytes.page_size = mul-le-mul_right s.bytes.page_size is.from in omega arith),
+    up_to_begin s.bytes.page_size page i mark.skip (mark_reads s.bytes.page_size) (length s.bytes.reads) (length t.bytes.reads) b.offset positive offset is.calls,
     λ content its. elim (is.told content its) [
       | inr twin ↦ inr twin
       | inl had ↦
@@ -218,15 +267,24 @@ seek_ends d page s t i mark b last number offset is = record {
   );
 }
 
-pub seek_fails : (d : List ℕ → List ℕ) (page : ℕ) (s t u : MarksState) (i : ℕ) (mark : Mark) (e : Error) → IsSeeking d page s t i mark → MarkGoes d (i + 1) t u (Err e) → FirstGoes d page s u (Err e)
-seek_fails d page s t u i mark e is goes = record {
+pub seek_fails : (d : List ℕ → List ℕ) (page : ℕ) (s t u : MarksState) (i : ℕ) (mark : Mark) (e : Error) → 0 < s.bytes.page_size → IsSeeking d page s t i mark → MarkGoes d (i + 1) t u (Err e) → FirstGoes d page s u (Err e)
+seek_fails d page s t u i mark e positive is goes = record {
   same = same_after s t u is.same goes.same;
   answers = (
     i + 1,
     (let f = is.from in omega arith),
+    one_more page i (mark_reads s.bytes.page_size) (length s.bytes.reads) (length t.bytes.reads) (length u.bytes.reads) is.from is.calls (mark_costs_few (i + 1) s t u positive is.same goes.calls),
     mark_fails_since d (i + 1) s t u e is.same goes.answers,
   );
 }
 
-pub seek_fails_at_once : (d : List ℕ → List ℕ) (page : ℕ) (s t : MarksState) (e : Error) → MarkGoes d page s t (Err e) → FirstGoes d page s t (Err e)
-seek_fails_at_once d page s t e goes = record { same = goes.same; answers = (page, omega arith, goes.answers) }
+pub seek_fails_at_once : (d : List ℕ → List ℕ) (page : ℕ) (s t : MarksState) (e : Error) → 0 < s.bytes.page_size → MarkGoes d page s t (Err e) → FirstGoes d page s t (Err e)
+seek_fails_at_once d page s t e positive goes = record {
+  same = goes.same;
+  answers = (
+    page,
+    omega arith,
+    first_one page (mark_reads s.bytes.page_size) (length s.bytes.reads) (length t.bytes.reads) (mark_costs_few page s s t positive (same_marks s) goes.calls),
+    goes.answers,
+  );
+}

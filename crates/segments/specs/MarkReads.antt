@@ -1,6 +1,6 @@
 -- Reads of a content's marks, which stand in its list's file, and searches by them.
-use Rattle.std.specs.Prelude.{◌≡◌, ◌⊎◌, ◌<◌, ◌≤◌, ◌+◌, ◌*◌, ◌/◌, ◌^◌, ℕ, List, length, min}
-use Rattle.std.specs.Prelude.{Result, Ok, Err}
+use Rattle.std.specs.Prelude.{◌≡◌, ◌⊎◌, ◌<◌, ◌≤◌, ◌+◌, ◌-◌, ◌*◌, ◌/◌, ◌^◌, ℕ, List, length}
+use Rattle.std.specs.Prelude.{min, Result, Ok, Err}
 use Rattle.page_digests.specs.PagedBytes.{BytesPageFails, BytesState, IsOpenedBytes, IsSameBytes}
 use Rattle.page_digests.specs.Pages.{list_len, list_of, pages_of_len, top_len}
 use Rattle.page_digests.specs.Reads.{IsTouched, pages_touched}
@@ -79,6 +79,11 @@ MarkFails d i old new e = (j : ℕ) × IsTouched old.bytes.page_size (i * 8) 8 j
 abbrev pub mark_reads : (P : ℕ) → ℕ
 mark_reads P = 7 / P + 2
 
+-- not more was asked for than so many marks have bytes of
+abbrev pub ReadsMarks : (count : ℕ) → (old new : MarksState) → Type 0
+ReadsMarks count old new =
+    length new.bytes.reads ≤ length old.bytes.reads + count * mark_reads old.bytes.page_size
+
 -- a mark is read, by the answer
 abbrev pub MarkAnswers : (List ℕ → List ℕ) → (i : ℕ) → (old new : MarksState)
     → Result Mark Error → Type 0
@@ -101,12 +106,14 @@ pub record IsFirstFrom (P : ℕ) (content : List ℕ) (i : ℕ) (b : Begin) : Ty
   pub offset : let n = begins_before content (i * P) in
       b.offset ≡ min (frame_begin content n) (pages_of_len P (length content) * P)
 
--- the first frame's begin is found, by the answer
+-- the first frame's begin is found, by the answer: of the pages up to its page the marks are read
 abbrev pub FirstAnswers : (List ℕ → List ℕ) → (i : ℕ) → (old new : MarksState)
     → Result Begin Error → Type 0
 FirstAnswers d i old new (Ok b) = (b.number < 2 ^ 48) × (i * old.bytes.page_size ≤ b.offset)
+    × ReadsMarks (b.offset / old.bytes.page_size + 1 - i) old new
     × IsOfMarks d old (λ P content. IsFirstFrom P content i b)
-FirstAnswers d i old new (Err e) = (k : ℕ) × (i ≤ k) × MarkFails d k old new e
+FirstAnswers d i old new (Err e) =
+    (k : ℕ) × (i ≤ k) × ReadsMarks (k + 1 - i) old new × MarkFails d k old new e
 
 pub record FirstGoes (d : List ℕ → List ℕ) (i : ℕ) (old new : MarksState)
     (result : Result Begin Error) : Type 0 where
@@ -129,14 +136,13 @@ NthAnswers d n old new (Err e) = (i : ℕ) × MarkFails d i old new e
 
 -- so many marks were read: as many as there are halves of halves of the pages, or one more, that is
 -- the logarithm of the pages' number and one more
-pub record HalvesRead (P pages : ℕ) (old new : List SourceRead) : Type 0 where
+pub record HalvesRead (old new : MarksState) : Type 0 where
   pub marks : ℕ
-  pub few : 2 ^ marks ≤ 2 * pages
-  pub reads : length new ≤ length old + marks * mark_reads P
+  pub few : 2 ^ marks ≤ 2 * pages_of_len old.bytes.page_size old.len
+  pub reads : ReadsMarks marks old new
 
 pub record NthGoes (d : List ℕ → List ℕ) (n : ℕ) (old new : MarksState)
     (result : Result ℕ Error) : Type 0 where
   pub same : AreSameMarks old new
-  pub calls : let P = old.bytes.page_size in
-      HalvesRead P (pages_of_len P old.len) old.bytes.reads new.bytes.reads
+  pub calls : HalvesRead old new
   pub answers : NthAnswers d n old new result
