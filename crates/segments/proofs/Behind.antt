@@ -1,22 +1,23 @@
 -- The first frame behind an offset.
-use Rattle.std.proofs.Common.{◌≡◌, ◌⊎◌, ◌↔◌, ◌<◌, ◌≤◌, ◌*◌, ◌+◌, ◌-◌, ◌/◌, ◌∙◌, ℕ, List, [], length, drop, append-nil, ap, refl, sym, subst, inl, inr, min, arith, Bool}
-use Rattle.std.specs.Prelude.{Ok, Err, Vec, IsTrue}
+use Rattle.std.proofs.Common.{◌≡◌, ◌⊎◌, ◌↔◌, ◌<◌, ◌≤◌, ◌*◌, ◌+◌, ◌-◌, ◌/◌, ◌∙◌, ℕ, suc, List, [], length, drop, append-nil, ap, refl, sym, subst, inl, inr, min, arith, lit<, Bool}
+use Rattle.std.specs.Prelude.{Some, Ok, Err, Vec, IsTrue}
 use Rattle.std.specs.declared.alloc.Global.{Global}
 use Rattle.std.proofs.lemmas.Bool.{cases_lt}
 use Rattle.std.proofs.lemmas.Grind.{div_ceil_times}
-use Rattle.std.proofs.Math.Nat.{div-mul-le_self, lt-div-mul-add}
+use Rattle.std.proofs.Math.Nat.{div-eq_of_lt-le, div-mul-le_self, lt-div-mul-add, suc-mul}
 use Rattle.journal.specs.Frame.{record_len}
 use Rattle.journal.proofs.Frames.{record_len-take}
 use Rattle.page_digests.specs.declared.error.Error.{Error}
 use Rattle.page_digests.specs.declared.seal.Seal.{Seal}
-use Rattle.page_digests.specs.Contents.{IsSameContent, PagedReadGoes, PagedState}
+use Rattle.page_digests.specs.Contents.{HoldsLast, IsSameContent, PagedReadGoes, PagedState, RangeAsks}
 use Rattle.page_digests.specs.Pages.{pages_of_len, range_at}
+use Rattle.page_digests.specs.Reads.{pages_touched}
 use Rattle.page_digests.specs.Seals.{HasSecondPreimage, IsSealOf, IsVerified}
 use Rattle.page_digests.proofs.ContentReads.{content_after}
 use Rattle.segments.specs.Marking.{FramesBegin}
 use Rattle.segments.specs.Marks.{begins_before, frame_begin}
 use Rattle.segments.specs.MarkReads.{FirstGoes, IsFirstFrom, MarksState}
-use Rattle.segments.specs.Seeks.{BehindGoes, IsBegin, IsBeginGoes, IsFirstBehind, PassGoes, PassesTo}
+use Rattle.segments.specs.Seeks.{AsksForOnePage, BehindGoes, IsBegin, IsBeginGoes, IsFirstBehind, PassGoes, PassesTo}
 use Rattle.segments.specs.declared.marked.Begin.{Begin}
 use Rattle.segments.proofs.Begins.{begins_apart, begun_before, count_is}
 use Rattle.segments.proofs.PagedFrames.{range_fails_before}
@@ -24,11 +25,57 @@ use Rattle.segments.proofs.Pushes.{begun_more, next_frame}
 
 -- ---- frames that are passed
 
+-- a page alone was asked for, and once at most; it is held, if it was
+pub record IsInOnePage (page : ℕ) (old now : PagedState) : Type 0 where
+  pub calls : length now.reads ≤ length old.reads + 1
+  pub held : (now ≡ old) ⊎ (now.cached ≡ Some page)
+
+-- the page of a byte
+page_is : (P page at : ℕ) → page * P ≤ at → at < page * P + P → at / P ≡ page
+page_is P page at low high =
+    let one : page + 1 ≡ suc page = omega arith in
+    let step : (page + 1) * P ≡ page * P + P = ap (λ (k : ℕ). k * P) one ∙ suc-mul page P in
+    let below : at < (page + 1) * P = omega arith in
+    div-eq_of_lt-le P low below
+
+-- two bytes in a page touch it alone
+touches_one : (P page at : ℕ) → page * P ≤ at → at + 2 ≤ page * P + P → pages_touched P at 2 ≡ 1
+touches_one P page at low high =
+    let first : at / P ≡ page = page_is P page at low (omega arith) in
+    let last : (at + 1) / P ≡ page = page_is P page (at + 1) (omega arith) (omega arith) in
+    omega (arith, first, last)
+
+-- one more read of it
+asked_more : (page at : ℕ) (s t u : PagedState) → IsSameContent s t → page * s.page_size ≤ at → at + 2 ≤ page * s.page_size + s.page_size → IsInOnePage page s t → RangeAsks at 2 t u
+    → length u.reads ≤ length s.reads + 1
+asked_more page at s t u same low high is asks =
+    let from : page * t.page_size ≤ at = subst (λ (P : ℕ). page * P ≤ at) (sym same.page_size) low in
+    let to : at + 2 ≤ page * t.page_size + t.page_size = subst (λ (P : ℕ). at + 2 ≤ page * P + P) (sym same.page_size) high in
+    elim is.held [
+      | inl still ↦
+          let before : length t.reads ≡ length s.reads = ap (λ (v : PagedState). length v.reads) still in
+          let one = touches_one t.page_size page at from to in
+          let calls = asks.calls in
+          omega (arith, before, one, calls)
+      | inr cached ↦
+          let none : length u.reads ≡ length t.reads = ap (λ (v : PagedState). length v.reads) (asks.cached (record { page = page; cached = cached; begins = from; ends = to })) in
+          let calls = is.calls in
+          omega (arith, none, calls)
+    ]
+
+-- and it is held then
+held_more : (page at : ℕ) (s t u : PagedState) → IsSameContent s t → IsSameContent t u → page * s.page_size ≤ at → at + 2 ≤ page * s.page_size + s.page_size → HoldsLast at 2 u → u.cached ≡ Some page
+held_more page at s t u same more low high holds =
+    let next : at + 2 - 1 ≡ at + 1 = omega arith in
+    let last : (at + 1) / s.page_size ≡ page = page_is s.page_size page (at + 1) (omega arith) (omega arith) in
+    holds (lit< tt) ∙ ap (λ (P : ℕ). Some ((at + 2 - 1) / P)) (more.page_size ∙ same.page_size) ∙ ap (λ (k : ℕ). Some (k / s.page_size)) next ∙ ap Some last
+
 -- so many frames are passed
 pub record IsPassingTo (d : List ℕ → List ℕ) (first offset : ℕ) (old now : PagedState) (frames at : ℕ) : Type 0 where
   pub same : IsSameContent old now
   pub counted : frames * 7 + first ≤ at
   pub passed : PassesTo d old.page_size old.seal first offset frames at
+  pub asks : (page : ℕ) → page * old.page_size ≤ first → offset < page * old.page_size + old.page_size → IsInOnePage page old now
 
 same_content : (s : PagedState) → IsSameContent s s
 same_content s = record { seal = refl; page_size = refl; reads = ([], sym (append-nil s.reads)); list_reads = ([], sym (append-nil s.list_reads)) }
@@ -40,6 +87,7 @@ passing_begins d first offset s = record {
   passed = λ content its. inl (λ n begins.
       let none : n + 0 ≡ n = omega arith in
       record { next = ap (frame_begin content) none ∙ begins; begun = λ m least most. absurd (omega arith) });
+  asks = λ page low high. record { calls = omega arith; held = inl refl };
 }
 
 -- what was read since a call began is of the content as it was then
@@ -66,6 +114,13 @@ passing_more d first offset s t u frames at len front less says is goes = record
           | inl passed ↦ inl (λ n begins. one_more content n (passed n begins) read)
         ]
   ];
+  asks = λ page low high.
+      let from : page * s.page_size ≤ at = let had = is.counted in omega arith in
+      let to : at + 2 ≤ page * s.page_size + s.page_size = omega arith in
+      record {
+        calls = asked_more page at s t u is.same from to (is.asks page low high) goes.asks;
+        held = inr (held_more page at s t u is.same goes.same from to goes.answers.0);
+      };
 }
   where
     one_more : (content : List ℕ) (n : ℕ) → FramesBegin content offset n frames at → front.items ≡ range_at at 2 content → FramesBegin content offset n (frames + 1) (at + (2 + len + 5))
@@ -81,11 +136,12 @@ pub passing_fails : (d : List ℕ → List ℕ) (first offset : ℕ) (s t u : Pa
     → PassGoes d first offset s u (Err e)
 passing_fails d first offset s t u frames at e less is goes = record {
   same = content_after s t u is.same goes.same;
+  calls = λ page low high. asked_more page at s t u is.same (let had = is.counted in omega arith) (omega arith) (is.asks page low high) goes.asks;
   answers = (at, (let had = is.counted in omega arith), less, range_fails_before d at 2 s t u e is.same goes.answers);
 }
 
 pub passing_ends : (d : List ℕ → List ℕ) (first offset : ℕ) (s t : PagedState) (frames at : ℕ) → offset ≤ at → IsPassingTo d first offset s t frames at → PassGoes d first offset s t (Ok (frames, at))
-passing_ends d first offset s t frames at done is = record { same = is.same; answers = (done, is.counted, is.passed) }
+passing_ends d first offset s t frames at done is = record { same = is.same; calls = λ page low high. (is.asks page low high).calls; answers = (done, is.counted, is.passed) }
 
 -- ---- begins
 
@@ -126,6 +182,7 @@ pub behind_at_once : (d : List ℕ → List ℕ) (offset i : ℕ) (s t : MarksSt
 behind_at_once d offset i s t c b positive page behind goes = record {
   same = goes.same;
   content = same_content c;
+  calls = omega arith;
   answers = λ content sealed its. elim (goes.answers.3 content its) [
     | inr twin ↦ inr (inr twin)
     | inl is ↦
@@ -136,20 +193,34 @@ behind_at_once d offset i s t c b positive page behind goes = record {
   ];
 }
 
+-- the page of the offset alone is asked for
+page_asked : (d : List ℕ → List ℕ) (offset i : ℕ) (s t : MarksState) (c u : PagedState) (b : Begin) → 0 < s.bytes.page_size → i ≡ offset / s.bytes.page_size → c.page_size ≡ s.bytes.page_size
+    → FirstGoes d i s t (Ok b) → AsksForOnePage b.offset offset c u → length u.reads ≤ length c.reads + 1
+page_asked d offset i s t c u b positive page size goes asks =
+    let P = s.bytes.page_size in
+    let place : i * P ≡ offset / P * P = ap (λ (k : ℕ). k * P) page in
+    let inside = in_page P offset positive in
+    let least : i * P ≤ b.offset = goes.answers.1 in
+    let most : offset < i * P + P = omega (arith, place, inside.1) in
+    asks i (subst (λ (k : ℕ). i * k ≤ b.offset) (sym size) least) (subst (λ (k : ℕ). offset < i * k + k) (sym size) most)
+
 -- no mark can be read
 pub behind_unmarked : (d : List ℕ → List ℕ) (offset i : ℕ) (s t : MarksState) (c : PagedState) (e : Error) → i ≡ offset / s.bytes.page_size → FirstGoes d i s t (Err e) → BehindGoes d offset s t c c (Err e)
 behind_unmarked d offset i s t c e page goes = record {
   same = goes.same;
   content = same_content c;
+  calls = omega arith;
   answers = inl (goes.answers.0, subst (λ (k : ℕ). k ≤ goes.answers.0) page goes.answers.1, goes.answers.3);
 }
 
 -- a frame's length can't be read
-pub behind_unread : (d : List ℕ → List ℕ) (offset i : ℕ) (s t : MarksState) (c u : PagedState) (b : Begin) (e : Error) → i ≡ offset / s.bytes.page_size → FirstGoes d i s t (Ok b) → PassGoes d b.offset offset c u (Err e)
+pub behind_unread : (d : List ℕ → List ℕ) (offset i : ℕ) (s t : MarksState) (c u : PagedState) (b : Begin) (e : Error) → 0 < s.bytes.page_size → i ≡ offset / s.bytes.page_size → c.page_size ≡ s.bytes.page_size → FirstGoes d i s t (Ok b)
+    → PassGoes d b.offset offset c u (Err e)
     → BehindGoes d offset s t c u (Err e)
-behind_unread d offset i s t c u b e page goes passes = record {
+behind_unread d offset i s t c u b e positive page size goes passes = record {
   same = goes.same;
   content = passes.same;
+  calls = page_asked d offset i s t c u b positive page size goes passes.calls;
   answers = inr (
     passes.answers.0,
     (let least : i * s.bytes.page_size ≤ b.offset = goes.answers.1 in
@@ -168,6 +239,7 @@ pub behind_by_frames : (d : List ℕ → List ℕ) (offset i frames there end : 
 behind_by_frames d offset i frames there end s t c u b r positive page within ends size less number place goes passes = record {
   same = goes.same;
   content = passes.same;
+  calls = page_asked d offset i s t c u b positive page size goes passes.calls;
   answers = λ content sealed its. elim (goes.answers.3 content its) [
     | inr twin ↦ inr (inr twin)
     | inl is ↦
@@ -201,6 +273,7 @@ pub begin_is : (d : List ℕ → List ℕ) (offset : ℕ) (s t : MarksState) (c 
 begin_is d offset s t c u b is positive within says goes = record {
   same = goes.same;
   content = goes.content;
+  calls = goes.calls;
   answers = λ content sealed its. elim (goes.answers content sealed its) [
     | inr twin ↦ inr twin
     | inl first ↦
@@ -216,4 +289,4 @@ begin_is d offset s t c u b is positive within says goes = record {
 }
 
 pub begin_fails : (d : List ℕ → List ℕ) (offset : ℕ) (s t : MarksState) (c u : PagedState) (e : Error) → BehindGoes d offset s t c u (Err e) → IsBeginGoes d offset s t c u (Err e)
-begin_fails d offset s t c u e goes = record { same = goes.same; content = goes.content; answers = goes.answers }
+begin_fails d offset s t c u e goes = record { same = goes.same; content = goes.content; calls = goes.calls; answers = goes.answers }

@@ -18,7 +18,7 @@ use Rattle.page_digests.proofs.SealExamples.{no_page_twin, no_short_twin}
 use Rattle.segments.specs.Marking.{FramesBegin}
 use Rattle.segments.specs.Marks.{frame_begin, mark_at, marks_of}
 use Rattle.segments.specs.MarkReads.{AreMarks, AreOpenedMarks, AreSameMarks, FirstAnswers, FirstGoes, HalvesRead, HasMarks, HasMarksPreimage, IsFirstFrom, IsOfMarks, IsPageOfNth, MarkAnswers, MarkFails, MarkGoes, MarksState, NthAnswers, NthGoes, ReadsMarks, mark_reads, marks_len, marks_root_of, marks_start}
-use Rattle.segments.specs.Seeks.{BehindAnswers, BehindFails, BehindGoes, IsBegin, IsBeginAnswers, IsBeginGoes, IsFirstBehind, IsOfMarked, LengthFails, PassAnswers, PassGoes, PassesTo}
+use Rattle.segments.specs.Seeks.{AsksForOnePage, BehindAnswers, BehindFails, BehindGoes, IsBegin, IsBeginAnswers, IsBeginGoes, IsFirstBehind, IsOfMarked, LengthFails, PassAnswers, PassGoes, PassesTo}
 use Rattle.segments.specs.declared.mark.Mark.{Mark}
 use Rattle.segments.proofs.Behind.{begin_told, passing_begins, passing_ends}
 use Rattle.segments.proofs.MarkExamples.{two_frames}
@@ -280,6 +280,16 @@ pass_answered = (lit≤ tt, lit≤ tt, none_is_passed)
 pub not_so_far : PassAnswers first 0 7 unopened unopened (Ok (0, 0)) → ⊥
 not_so_far is = let e : 7 ≤ 0 = is.0 in omega (arith, e)
 
+abbrev pub read_twice_over : PagedState
+read_twice_over = record unopened { reads = gave 0 two_frames ∷ gave 0 two_frames ∷ [] }
+
+pub one_page_asked : AsksForOnePage 0 7 unopened (record unopened { reads = gave 0 two_frames ∷ [] })
+one_page_asked page low high = lit≤ tt
+
+-- it is asked for twice
+pub asked_twice : AsksForOnePage 0 7 unopened read_twice_over → ⊥
+asked_twice asks = let e : 2 ≤ 1 = asks 0 (lit≤ tt) (lit< tt) in omega (arith, e)
+
 pub pass_goes : PassGoes first 7 7 unopened unopened (Ok (0, 7))
 pass_goes = passing_ends first 7 7 unopened unopened 0 7 (lit≤ tt) (passing_begins first 7 7 unopened)
 
@@ -341,7 +351,7 @@ not_behind_it is = by_case (is two_frames it_is_its_seal its_marks_are)
     by_case (inr (inr twin)) = no_other_marks twin
 
 pub behind_goes : BehindGoes first 0 of_two once_read unopened unopened (Ok (record { number = 0; offset = 0 }))
-behind_goes = record { same = one_more_read; content = pass_goes.same; answers = behind_answered }
+behind_goes = record { same = one_more_read; content = pass_goes.same; calls = lit≤ tt; answers = behind_answered }
 
 pub behind_goes_wrong : BehindGoes first 0 of_two once_read unopened unopened (Ok (record { number = 1; offset = 7 })) → ⊥
 behind_goes_wrong is = not_behind_it is.answers
@@ -359,7 +369,7 @@ no_begin_answered is = by_case (is two_frames it_is_its_seal its_marks_are)
     by_case (inr (inr twin)) = no_other_marks twin
 
 pub begin_goes : IsBeginGoes first 0 of_two once_read unopened unopened (Ok true)
-begin_goes = record { same = one_more_read; content = pass_goes.same; answers = begin_answered }
+begin_goes = record { same = one_more_read; content = pass_goes.same; calls = lit≤ tt; answers = begin_answered }
 
 pub begin_goes_wrong : IsBeginGoes first 0 of_two once_read unopened unopened (Ok false) → ⊥
 begin_goes_wrong is = no_begin_answered is.answers

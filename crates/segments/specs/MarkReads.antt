@@ -134,8 +134,8 @@ NthAnswers d n old new (Ok i) = (i * old.bytes.page_size < old.len)
     × IsOfMarks d old (λ P content. IsPageOfNth P content n i)
 NthAnswers d n old new (Err e) = (i : ℕ) × MarkFails d i old new e
 
--- so many marks were read: as many as there are halves of halves of the pages, or one more, that is
--- the logarithm of the pages' number and one more
+-- so many marks were read at most: two to that power is no more than twice the number of pages, so
+-- that they are as many as its logarithm and one more
 pub record HalvesRead (old new : MarksState) : Type 0 where
   pub marks : ℕ
   pub few : 2 ^ marks ≤ 2 * pages_of_len old.bytes.page_size old.len

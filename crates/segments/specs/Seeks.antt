@@ -35,9 +35,15 @@ PassAnswers d first offset old new (Ok r) = (offset ≤ r.1)
     × (r.0 * 7 + first ≤ r.1) × PassesTo d old.page_size old.seal first offset r.0 r.1
 PassAnswers d first offset old new (Err e) = LengthFails d first offset old new e
 
+-- where `first` and the offset are in one page, that page alone is asked for, and once at most
+abbrev pub AsksForOnePage : (first offset : ℕ) → (old new : PagedState) → Type 0
+AsksForOnePage first offset old new = (page : ℕ) → page * old.page_size ≤ first
+    → offset < page * old.page_size + old.page_size → length new.reads ≤ length old.reads + 1
+
 pub record PassGoes (d : List ℕ → List ℕ) (first offset : ℕ) (old new : PagedState)
     (result : Result (ℕ × ℕ) Error) : Type 0 where
   pub same : IsSameContent old new
+  pub calls : AsksForOnePage first offset old new
   pub answers : PassAnswers d first offset old new result
 
 -- ---- begins
@@ -76,10 +82,12 @@ BehindAnswers d offset old new before after (Ok b) =
 BehindAnswers d offset old new before after (Err e) =
     BehindFails d offset old new before after e
 
+-- of the content a page is asked for at most, that of the offset
 pub record BehindGoes (d : List ℕ → List ℕ) (offset : ℕ) (old new : MarksState)
     (before after : PagedState) (result : Result Begin Error) : Type 0 where
   pub same : AreSameMarks old new
   pub content : IsSameContent before after
+  pub calls : length after.reads ≤ length before.reads + 1
   pub answers : BehindAnswers d offset old new before after result
 
 -- whether a frame begins at an offset, by the answer
@@ -94,4 +102,5 @@ pub record IsBeginGoes (d : List ℕ → List ℕ) (offset : ℕ) (old new : Mar
     (before after : PagedState) (result : Result Bool Error) : Type 0 where
   pub same : AreSameMarks old new
   pub content : IsSameContent before after
+  pub calls : length after.reads ≤ length before.reads + 1
   pub answers : IsBeginAnswers d offset old new before after result

@@ -3,7 +3,7 @@ use Rattle.std.proofs.lemmas.Result.{err_from_is_err_and}
 use Rattle.page_digests.specs.Pages.{pages_of_len}
 use Rattle.segments.specs.MarkReads.{MarksState}
 use Rattle.segments.specs.declared.marked.Begin.{Begin}
-use Rattle.segments.proofs.Behind.{behind_at_once, behind_by_frames, behind_unmarked}
+use Rattle.segments.proofs.Behind.{behind_at_once, behind_by_frames, behind_unmarked, behind_unread}
 use Rattle.segments.proofs.MarksRead.{ArePartsOf, parts_of}
 use Rattle.segments.proofs.marked.Marks.first_behind.Goals as goal
 
@@ -22,6 +22,15 @@ returns-then-offset-first g c =
     let page : c.args.offset / c.self.inside.page_size ≡ c.args.offset / c.args.self.now.bytes.page_size = ap (λ (P : ℕ). c.args.offset / P) is.page_size in
     behind_at_once g.D.Digest.digest_of c.args.offset (c.args.offset / c.self.inside.page_size) c.args.self.now c.first_from.new.self c.args.content.now c.in_ok-first.first is.positive page c.if-offset-first.true
     c.in_ok-first.ensures
+
+pub returns-in_err-frames : goal.returns-in_err-frames
+returns-in_err-frames g c =
+    let m : MarksState = record { len = c.self.inside.len; root = c.self.inside.root; bytes = c.self.inside.bytes } in
+    let is : ArePartsOf c.self.inside.page_size c.self.inside.len c.args.self.now = parts_of g.D.Digest.digest_of c.self.inside.page_size m c.args.self.now c.self.invariant c.self.view_is in
+    let page : c.args.offset / c.self.inside.page_size ≡ c.args.offset / c.args.self.now.bytes.page_size = ap (λ (P : ℕ). c.args.offset / P) is.page_size in
+    let p = err_from_is_err_and c.from_residual-in_err-frames.result c.from_residual-in_err-frames.ensures.1 in
+    rw (p.1, p.2) (behind_unread g.D.Digest.digest_of c.args.offset (c.args.offset / c.self.inside.page_size) c.args.self.now c.first_from.new.self c.args.content.now c.pass_to.new.content c.in_ok-first.first
+    c.in_err-frames.field-0.0 is.positive page c.requires.page_size c.in_ok-first.ensures c.in_err-frames.ensures)
 
 pub returns : goal.returns
 returns g c =

@@ -45,6 +45,15 @@ loop-mark-preserved g c =
     seek_more g.D.Digest.digest_of c.args.page c.args.self.now c.loop-mark.self c.mark-in-loop-mark.new.self c.loop-mark.i c.loop-mark.mark c.in_ok-mark-2.mark is.positive (on.0 ∙ is.page_size)
     (omega (arith, on.1, pages, c.div_ceil-count.ensures)) c.loop-mark.invariant c.in_ok-mark-2.ensures
 
+pub overflow_mul-result : goal.overflow_mul-result
+overflow_mul-result g c =
+    let m : MarksState = record { len = c.self.inside.len; root = c.self.inside.root; bytes = c.self.inside.bytes } in
+    let is : ArePartsOf c.self.inside.page_size c.self.inside.len c.args.self.now = parts_of g.D.Digest.digest_of c.self.inside.page_size m c.args.self.now c.self.invariant c.self.view_is in
+    let within : c.loop-mark.i * c.args.self.now.bytes.page_size < c.args.self.now.len =
+    page_within c.args.self.now.bytes.page_size c.args.self.now.len c.loop-mark.i is.positive c.loop-mark.invariant.within in
+    let here : c.loop-mark.i * c.self.inside.page_size < c.args.self.now.len = subst (λ (P : ℕ). c.loop-mark.i * P < c.args.self.now.len) (sym is.page_size) within in
+    omega (arith, here, is.fits)
+
 pub overflow_add-result : goal.overflow_add-result
 overflow_add-result g c =
     let m : MarksState = record { len = c.self.inside.len; root = c.self.inside.root; bytes = c.self.inside.bytes } in
