@@ -150,8 +150,8 @@ impl<S: Source + Drop, D: Digest> Marks<S, D> {
         Ok(low)
     }
     /// Where the first frame begins at byte `offset` of a content or behind it. `content` is that
-    /// content, of which `self` has the marks. Where it ends counts as a begin. This asks for
-    /// marks, and if a frame begins in the offset's page before it, for that page.
+    /// content, of which `self` has the marks. Where it ends counts as a begin. This asks for marks,
+    /// and of the content for the offset's page at most, if a frame begins in it before the offset.
     pub fn first_behind<F: Source + Drop>(
         &mut self,
         alloc: Global,

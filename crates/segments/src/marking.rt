@@ -133,6 +133,13 @@ impl Marking {
         }
     }
 
+    /// How many pages were taken.
+    pub fn pages(&self) -> usize
+        ensures { result ≡ self.now.pages }
+    {
+        self.pages
+    }
+
     // Marks the next page, which has a byte at least. After an error nothing was taken.
     #[tactic(auto, using(crate::proofs::Pushes::few_frames, crate::proofs::Pushes::few_pages))]
     fn push_page(&mut self, page: &[u8]) -> Result<(), AllocError>

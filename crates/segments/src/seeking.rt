@@ -8,8 +8,8 @@ use page_digests::{Error, PagedContent, Source};
 use std::alloc::Global;
 
 /// Passes the frames of a content from the one on that begins at byte `first`, as far as they begin
-/// before byte `offset`: their lengths alone are read. Answers how many, and where the next one
-/// begins.
+/// before byte `offset`. Answers how many, and where the next one begins. Their lengths alone are
+/// read: where `first` and the offset are in one page, that page alone is asked for, once at most.
 pub fn pass_to<F: Source + Drop, D: Digest>(
     alloc: Global,
     content: &mut PagedContent<F, D>,
