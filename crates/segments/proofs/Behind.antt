@@ -5,7 +5,7 @@ use Rattle.std.specs.declared.alloc.Global.{Global}
 use Rattle.std.proofs.lemmas.Bool.{cases_lt}
 use Rattle.std.proofs.lemmas.Grind.{div_ceil_times}
 use Rattle.std.proofs.Math.Nat.{div-eq_of_lt-le, div-mul-le_self, lt-div-mul-add, suc-mul}
-use Rattle.journal.specs.Frame.{record_len}
+use Rattle.journal.specs.Frame.{frame_len, record_len}
 use Rattle.journal.proofs.Frames.{record_len-take}
 use Rattle.page_digests.specs.declared.error.Error.{Error}
 use Rattle.page_digests.specs.declared.seal.Seal.{Seal}
@@ -77,7 +77,7 @@ pub record IsPassingTo (d : List ℕ → List ℕ) (first offset : ℕ) (old now
   pub passed : PassesTo d old.page_size old.seal first offset frames at
   pub asks : (page : ℕ) → page * old.page_size ≤ first → offset < page * old.page_size + old.page_size → IsInOnePage page old now
 
-same_content : (s : PagedState) → IsSameContent s s
+pub same_content : (s : PagedState) → IsSameContent s s
 same_content s = record { seal = refl; page_size = refl; reads = ([], sym (append-nil s.reads)); list_reads = ([], sym (append-nil s.list_reads)) }
 
 pub passing_begins : (d : List ℕ → List ℕ) (first offset : ℕ) (s : PagedState) → IsPassingTo d first offset s s 0 first
@@ -91,18 +91,18 @@ passing_begins d first offset s = record {
 }
 
 -- what was read since a call began is of the content as it was then
-verified_since : (d : List ℕ → List ℕ) (s t : PagedState) (of : List ℕ → List ℕ) (bytes : List ℕ) → IsSameContent s t → IsVerified d t.page_size t.seal of bytes → IsVerified d s.page_size s.seal of bytes
+pub verified_since : (d : List ℕ → List ℕ) (s t : PagedState) (of : List ℕ → List ℕ) (bytes : List ℕ) → IsSameContent s t → IsVerified d t.page_size t.seal of bytes → IsVerified d s.page_size s.seal of bytes
 verified_since d s t of bytes same is =
     subst (λ (seal : Seal). IsVerified d s.page_size seal of bytes) same.seal (subst (λ (P : ℕ). IsVerified d P t.seal of bytes) same.page_size is)
 
 -- a frame's length, by its first two bytes
-length_read : (content front : List ℕ) (at : ℕ) → front ≡ range_at at 2 content → record_len front ≡ record_len (drop at content)
+pub length_read : (content front : List ℕ) (at : ℕ) → front ≡ range_at at 2 content → record_len front ≡ record_len (drop at content)
 length_read content front at is =
     let two : 2 ≤ at + 2 - at = omega arith in
     ap record_len is ∙ record_len-take (at + 2 - at) (drop at content) two
 
-pub passing_more : (d : List ℕ → List ℕ) (first offset : ℕ) (s t u : PagedState) (frames at len : ℕ) (front : Vec ℕ Global) → at < offset → len ≡ record_len front.items → IsPassingTo d first offset s t frames at
-    → PagedReadGoes d at 2 t u (Ok front) → IsPassingTo d first offset s u (frames + 1) (at + (2 + len + 5))
+pub passing_more : (d : List ℕ → List ℕ) (first offset : ℕ) (s t u : PagedState) (frames at len : ℕ) (front : Vec ℕ Global) → at < offset → len ≡ frame_len front.items → IsPassingTo d first offset s t frames at
+    → PagedReadGoes d at 2 t u (Ok front) → IsPassingTo d first offset s u (frames + 1) (at + len)
 passing_more d first offset s t u frames at len front less says is goes = record {
   same = content_after s t u is.same goes.same;
   counted = let had = is.counted in omega arith;
@@ -123,12 +123,12 @@ passing_more d first offset s t u frames at len front less says is goes = record
       };
 }
   where
-    one_more : (content : List ℕ) (n : ℕ) → FramesBegin content offset n frames at → front.items ≡ range_at at 2 content → FramesBegin content offset n (frames + 1) (at + (2 + len + 5))
+    one_more : (content : List ℕ) (n : ℕ) → FramesBegin content offset n frames at → front.items ≡ range_at at 2 content → FramesBegin content offset n (frames + 1) (at + len)
     one_more content n passed read =
         let same : n + (frames + 1) ≡ n + frames + 1 = omega arith in
-        let long : len ≡ record_len (drop at content) = says ∙ length_read content front.items at read in
+        let long : len ≡ frame_len (drop at content) = says ∙ ap (λ (k : ℕ). k + 7) (length_read content front.items at read) in
         record {
-          next = ap (frame_begin content) same ∙ next_frame content (n + frames) at passed.next ∙ (let e : at + record_len (drop at content) + 7 ≡ at + (2 + len + 5) = omega arith in e);
+          next = ap (frame_begin content) same ∙ next_frame content (n + frames) at passed.next ∙ (let e : at + record_len (drop at content) + 7 ≡ at + len = omega arith in e);
           begun = begun_more content offset n frames at passed less;
         }
 

@@ -41,6 +41,7 @@ pub mod MarkBytes
 pub mod MarksRead
 pub mod Halving
 pub mod Behind
+pub mod NthBegins
 pub mod MarkedAhead
 pub mod Removing
 pub mod RotationExamples

@@ -18,10 +18,11 @@ use Rattle.page_digests.proofs.SealExamples.{no_page_twin, no_short_twin}
 use Rattle.segments.specs.Marking.{FramesBegin}
 use Rattle.segments.specs.Marks.{frame_begin, mark_at, marks_of}
 use Rattle.segments.specs.MarkReads.{AreMarks, AreOpenedMarks, AreSameMarks, FirstAnswers, FirstGoes, HalvesRead, HasMarks, HasMarksPreimage, IsFirstFrom, IsOfMarks, IsPageOfNth, MarkAnswers, MarkFails, MarkGoes, MarksState, NthAnswers, NthGoes, ReadsMarks, mark_reads, marks_len, marks_root_of, marks_start}
-use Rattle.segments.specs.Seeks.{AsksForOnePage, BehindAnswers, BehindFails, BehindGoes, IsBegin, IsBeginAnswers, IsBeginGoes, IsFirstBehind, IsOfMarked, LengthFails, PassAnswers, PassGoes, PassesTo}
+use Rattle.segments.specs.Seeks.{AsksForOnePage, BehindAnswers, BehindFails, BehindGoes, CountAnswers, CountGoes, CountsTo, IsBegin, IsBeginAnswers, IsBeginGoes, IsFirstBehind, IsNthBegin, IsOfMarked, LengthFails, NthBeginAnswers, NthBeginGoes, PassAnswers, PassGoes, PassesTo}
 use Rattle.segments.specs.declared.mark.Mark.{Mark}
 use Rattle.segments.proofs.Behind.{begin_told, passing_begins, passing_ends}
 use Rattle.segments.proofs.MarkExamples.{two_frames}
+use Rattle.segments.proofs.NthBegins.{counting_begins, counting_ends}
 
 -- ---- their root
 
@@ -373,3 +374,60 @@ begin_goes = record { same = one_more_read; content = pass_goes.same; calls = li
 
 pub begin_goes_wrong : IsBeginGoes first 0 of_two once_read unopened unopened (Ok false) → ⊥
 begin_goes_wrong is = no_begin_answered is.answers
+
+-- ---- where the nth frame begins
+
+pub none_is_counted : CountsTo first 32 its_seal 7 0 7
+none_is_counted = (counting_begins first 7 0 unopened).counts
+
+-- behind the first frame the second begins
+pub counted_wrong : CountsTo first 32 its_seal 0 1 8 → ⊥
+unfolding record_len
+counted_wrong counts = by_case (counts two_frames it_is_its_seal)
+  where
+    by_case : ((n : ℕ) → frame_begin two_frames n ≡ 0 → frame_begin two_frames (n + 1) ≡ 8) ⊎ HasSecondPreimage first 32 two_frames → ⊥
+    by_case (inl all) = let e : 7 ≡ 8 = all 0 refl in omega (arith, e)
+    by_case (inr twin) = it_has_no_twin twin
+
+pub count_answered : CountAnswers first 7 0 unopened unopened (Ok (0, 7))
+count_answered = (lit≤ tt, lit≤ tt, (λ more. absurd (omega (arith, more))), none_is_counted)
+
+-- one is left, though the content goes on
+pub one_is_left : CountAnswers first 7 1 unopened unopened (Ok (1, 7)) → ⊥
+one_is_left is = let e : 15 ≤ 8 = is.2 (lit< tt) in omega (arith, e)
+
+pub count_goes : CountGoes first 7 0 unopened unopened (Ok (0, 7))
+count_goes = counting_ends first 7 0 unopened unopened 0 7 (λ more. absurd (omega (arith, more))) (counting_begins first 7 0 unopened)
+
+pub count_stops : CountGoes first 7 1 unopened unopened (Ok (1, 7)) → ⊥
+count_stops is = one_is_left is.answers
+
+pub the_second_is_there : IsNthBegin two_frames 1 (Some (record { number = 1; offset = 7 }))
+unfolding record_len
+the_second_is_there = (refl, refl, lit< tt)
+
+pub there_is_no_third : IsNthBegin two_frames 2 None
+unfolding record_len
+there_is_no_third = lit≤ tt
+
+-- the content has it
+pub no_second_is_there : IsNthBegin two_frames 1 None → ⊥
+unfolding record_len
+no_second_is_there is = let e : 15 ≤ 7 = is in omega (arith, e)
+
+pub nth_begin_answered : NthBeginAnswers first 0 of_two once_read unopened unopened (Ok (Some (record { number = 0; offset = 0 })))
+nth_begin_answered content sealed its = inl (refl, refl, omega (arith, its.len))
+
+pub none_answered : NthBeginAnswers first 0 of_two once_read unopened unopened (Ok None) → ⊥
+none_answered is = by_case (is two_frames it_is_its_seal its_marks_are)
+  where
+    by_case : IsNthBegin two_frames 0 None ⊎ HasSecondPreimage first 32 two_frames ⊎ HasMarksPreimage first 32 two_frames → ⊥
+    by_case (inl told) = let e : 15 ≤ 0 = told in omega (arith, e)
+    by_case (inr (inl twin)) = it_has_no_twin twin
+    by_case (inr (inr twin)) = no_other_marks twin
+
+pub nth_begin_goes : NthBeginGoes first 0 of_two once_read unopened unopened (Ok (Some (record { number = 0; offset = 0 })))
+nth_begin_goes = record { same = one_more_read; content = pass_goes.same; answers = nth_begin_answered }
+
+pub nth_begin_goes_wrong : NthBeginGoes first 0 of_two once_read unopened unopened (Ok None) → ⊥
+nth_begin_goes_wrong is = none_answered is.answers

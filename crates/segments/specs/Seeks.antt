@@ -1,6 +1,6 @@
 -- Searches for the begins of frames in a content that is read by its pages, by its marks.
-use Rattle.std.specs.Prelude.{◌≡◌, ◌⊎◌, ◌↔◌, ◌<◌, ◌≤◌, ◌+◌, ◌*◌, ◌/◌, ℕ, List, length, min, Bool}
-use Rattle.std.specs.Prelude.{IsTrue, Result, Ok, Err}
+use Rattle.std.specs.Prelude.{◌≡◌, ◌⊎◌, ◌↔◌, ◌<◌, ◌≤◌, ◌+◌, ◌-◌, ◌*◌, ◌/◌, ℕ, List, length, min}
+use Rattle.std.specs.Prelude.{Bool, IsTrue, Option, Some, None, Result, Ok, Err}
 use Rattle.page_digests.specs.Contents.{IsSameContent, PagedState, RangeFails}
 use Rattle.page_digests.specs.Pages.{pages_of_len}
 use Rattle.page_digests.specs.Seals.{HasSecondPreimage, IsSealOf}
@@ -104,3 +104,46 @@ pub record IsBeginGoes (d : List ℕ → List ℕ) (offset : ℕ) (old new : Mar
   pub content : IsSameContent before after
   pub calls : length after.reads ≤ length before.reads + 1
   pub answers : IsBeginAnswers d offset old new before after result
+
+-- ---- where the nth frame begins
+
+-- in every content with this seal: behind so many frames from one on that begins at `first`, the
+-- next one begins there, unless a second preimage is at hand
+abbrev pub CountsTo : (List ℕ → List ℕ) → (P : ℕ) → Seal → (first frames there : ℕ) → Type 0
+CountsTo d P seal first frames there = (content : List ℕ) → IsSealOf d P content seal
+    → ((n : ℕ) → frame_begin content n ≡ first → frame_begin content (n + frames) ≡ there)
+    ⊎ HasSecondPreimage d P content
+
+-- frames are counted, by the answer: how many are left of those that were to be, since the next one
+-- begins at the content's last byte or behind it, and where that is
+abbrev pub CountAnswers : (List ℕ → List ℕ) → (first count : ℕ) → (old new : PagedState)
+    → Result (ℕ × ℕ) Error → Type 0
+CountAnswers d first count old new (Ok r) = (r.0 ≤ count) × (first ≤ r.1)
+    × (0 < r.0 → old.seal.len ≤ r.1 + 1)
+    × CountsTo d old.page_size old.seal first (count - r.0) r.1
+CountAnswers d first count old new (Err e) = (at : ℕ) × (first ≤ at) × RangeFails d at 2 old new e
+
+pub record CountGoes (d : List ℕ → List ℕ) (first count : ℕ) (old new : PagedState)
+    (result : Result (ℕ × ℕ) Error) : Type 0 where
+  pub same : IsSameContent old new
+  pub answers : CountAnswers d first count old new result
+
+-- frame n begins there; or the content has no such frame
+abbrev pub IsNthBegin : (content : List ℕ) → (n : ℕ) → Option Begin → Type 0
+IsNthBegin content n (Some b) = (b.number ≡ n) × (b.offset ≡ frame_begin content n)
+    × (b.offset < length content)
+IsNthBegin content n None = length content ≤ frame_begin content n
+
+-- where frame n begins is found, by the answer; or a mark can't be read, or a frame's length
+abbrev pub NthBeginAnswers : (List ℕ → List ℕ) → (n : ℕ) → (old new : MarksState)
+    → (before after : PagedState) → Result (Option Begin) Error → Type 0
+NthBeginAnswers d n old new before after (Ok found) =
+    IsOfMarked d before.seal old (λ P content. IsNthBegin content n found)
+NthBeginAnswers d n old new before after (Err e) = ((i : ℕ) × MarkFails d i old new e)
+    ⊎ ((at : ℕ) × RangeFails d at 2 before after e)
+
+pub record NthBeginGoes (d : List ℕ → List ℕ) (n : ℕ) (old new : MarksState)
+    (before after : PagedState) (result : Result (Option Begin) Error) : Type 0 where
+  pub same : AreSameMarks old new
+  pub content : IsSameContent before after
+  pub answers : NthBeginAnswers d n old new before after result

@@ -1,14 +1,15 @@
 // The marks of a content, which are read by their pages.
 ghost use Rattle.std.specs.Prelude.{◌≡◌, ◌<◌, ◌≤◌, ◌+◌, ◌*◌, ◌^◌, true, false, IfErr, IfOk};
+ghost use Rattle.std.specs.Prelude.{None, IfSome};
 ghost use Rattle.std.specs.Int.NonZero.{non_zero_u16_get};
 ghost use Rattle.page_digests.specs.PagedBytes.{RootFails};
 ghost use Rattle.page_digests.specs.Pages.{list_len};
 ghost use Rattle.segments.specs.MarkReads.{AreOpenedMarks, FirstGoes, MarkGoes, NthGoes};
 ghost use Rattle.segments.specs.MarkReads.{marks_len, marks_start};
-ghost use Rattle.segments.specs.Seeks.{BehindGoes, IsBeginGoes};
+ghost use Rattle.segments.specs.Seeks.{BehindGoes, IsBeginGoes, NthBeginGoes};
 
 use crate::mark::{Mark, mark_of};
-use crate::seeking::pass_to;
+use crate::seeking::{count_to, pass_to};
 use digest::Digest;
 use page_digests::{Error, LEN_LIMIT, PagedBytes, PagedContent, Source, UnopenedBytes};
 use std::alloc::Global;
@@ -47,6 +48,21 @@ fn leads_on(mark: Mark, page_size: usize, i: usize, count: usize) -> bool
     ensures last { result ≡ false → mark.skip ≡ page_size → count ≤ i + 1 }
 {
     usize::from(mark.skip) == page_size && i + 1 < count
+}
+
+// Frame `n`, if none is left before it, and it begins before the end of so many bytes.
+fn begin_at(n: u64, left: u64, there: u64, len: u64) -> Option<Begin>
+    ensures found { IfSome result (λ b. b ≡ record { number = n; offset = there }) }
+    ensures some { IfSome result (λ b. (left ≡ 0) × (there < len)) }
+    ensures none { result ≡ None → left ≡ 0 → len ≤ there }
+{
+    if left > 0 || len <= there {
+        return None;
+    }
+    Some(Begin {
+        number: n,
+        offset: there,
+    })
 }
 
 impl<S: Source, D: Digest> Model for Marks<S, D> {
@@ -150,8 +166,8 @@ impl<S: Source + Drop, D: Digest> Marks<S, D> {
         Ok(low)
     }
     /// Where the first frame begins at byte `offset` of a content or behind it. `content` is that
-    /// content, of which `self` has the marks. Where it ends counts as a begin. This asks for marks,
-    /// and of the content for the offset's page at most, if a frame begins in it before the offset.
+    /// content, of which `self` has the marks. Where it ends counts as a begin. This asks for marks
+    /// and, if a frame begins in the offset's page before the offset, for that page of the content.
     pub fn first_behind<F: Source + Drop>(
         &mut self,
         alloc: Global,
@@ -193,5 +209,27 @@ impl<S: Source + Drop, D: Digest> Marks<S, D> {
         let _ = &self.root;
         let first = self.first_behind(alloc, content, offset)?;
         Ok(first.offset == offset)
+    }
+    /// Where frame `n` of a content begins; `None` if the content has no such frame. `content` is
+    /// that content, of which `self` has the marks. This searches the frame's page as
+    /// [`nth`](Marks::nth) does, and reads the lengths of the frames before it in that page.
+    pub fn begin_of<F: Source + Drop>(
+        &mut self,
+        alloc: Global,
+        content: &mut PagedContent<F, D>,
+        n: u64,
+    ) -> Result<Option<Begin>, Error>
+        requires some { 0 < self.old.len }
+        requires len { content.old.seal.len ≡ self.old.len }
+        requires page_size { content.old.page_size ≡ self.old.bytes.page_size }
+        ensures { NthBeginGoes D.digest_of n self.old self.new content.old content.new result }
+    {
+        // This use opens the invariant, from which the proof takes that a page has a byte.
+        let _ = &self.root;
+        let page = self.nth(n)?;
+        let first = self.first_from(page)?;
+        let count = n.saturating_sub(first.number);
+        let (left, there) = count_to(alloc, content, first.offset, count)?;
+        Ok(begin_at(n, left, there, content.len()))
     }
 }

@@ -1,11 +1,20 @@
 // Frames of a content that is read by its pages, which are passed.
-ghost use Rattle.std.specs.Prelude.{◌<◌, ◌+◌, ◌≤◌, ◌^◌};
-ghost use Rattle.segments.specs.Seeks.{PassGoes};
+ghost use Rattle.std.specs.Prelude.{◌≡◌, ◌<◌, ◌^◌};
+ghost use Rattle.journal.specs.Frame.{frame_len};
+ghost use Rattle.segments.specs.Seeks.{CountGoes, PassGoes};
 
 use digest::Digest;
 use journal::{AFTER, IN_FRONT, record_len_of};
 use page_digests::{Error, PagedContent, Source};
 use std::alloc::Global;
+
+// How many bytes a frame has, by its first two bytes.
+fn frame_len_of(front: &[u8]) -> u64
+    ensures len { result ≡ frame_len front.now }
+    ensures small { result < 2 ^ 17 }
+{
+    (IN_FRONT + record_len_of(front) + AFTER) as u64
+}
 
 /// Passes the frames of a content from the one on that begins at byte `first`, as far as they begin
 /// before byte `offset`. Answers how many, and where the next one begins. Their lengths alone are
@@ -24,8 +33,33 @@ pub fn pass_to<F: Source + Drop, D: Digest>(
     let mut at = first;
     while at < offset {
         let front = content.read(alloc, at, IN_FRONT)?;
-        at += (IN_FRONT + record_len_of(&front) + AFTER) as u64;
+        at += frame_len_of(&front);
         frames += 1;
     }
     Ok((frames, at))
+}
+
+/// Passes so many frames of a content from the one on that begins at byte `first`, as far as both
+/// bytes of their lengths are in it. Answers how many are left, and where the next one begins.
+pub fn count_to<F: Source + Drop, D: Digest>(
+    alloc: Global,
+    content: &mut PagedContent<F, D>,
+    first: u64,
+    count: u64,
+) -> Result<(u64, u64), Error>
+    requires { content.old.seal.len < 2 ^ 50 }
+    ensures { CountGoes D.digest_of first count content.old content.new result }
+{
+    let last = content.len().saturating_sub(1);
+    let mut left = count;
+    let mut at = first;
+    while at < last {
+        if left == 0 {
+            return Ok((0, at));
+        }
+        let front = content.read(alloc, at, IN_FRONT)?;
+        at += frame_len_of(&front);
+        left -= 1;
+    }
+    Ok((left, at))
 }

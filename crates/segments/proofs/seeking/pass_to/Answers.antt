@@ -1,6 +1,6 @@
 use Rattle.std.proofs.Common.{◌≡◌, ◌∙◌, ap}
 use Rattle.std.proofs.lemmas.Result.{err_from_is_err_and}
-use Rattle.journal.specs.Frame.{record_len}
+use Rattle.journal.specs.Frame.{frame_len}
 use Rattle.segments.proofs.Behind.{passing_fails, passing_more}
 use Rattle.segments.proofs.seeking.pass_to.Goals as goal
 
@@ -12,6 +12,6 @@ returns-in_err-front g c =
 
 pub loop-at-preserved : goal.loop-at-preserved
 loop-at-preserved g c =
-    let says : c.record_len_of.result ≡ record_len c.in_ok-front.front.items = c.record_len_of.ensures.len ∙ ap record_len c.deref.ensures.value in
-    passing_more g.D.Digest.digest_of c.args.first c.args.offset c.args.content.now c.loop-at.content c.read.new.self c.loop-at.frames c.loop-at.at c.record_len_of.result c.in_ok-front.front c.loop-at-test.true says
+    let says : c.frame_len_of-at.result ≡ frame_len c.in_ok-front.front.items = c.frame_len_of-at.ensures.len ∙ ap frame_len c.deref.ensures.value in
+    passing_more g.D.Digest.digest_of c.args.first c.args.offset c.args.content.now c.loop-at.content c.read.new.self c.loop-at.frames c.loop-at.at c.frame_len_of-at.result c.in_ok-front.front c.loop-at-test.true says
     c.loop-at.invariant c.in_ok-front.ensures
