@@ -1,5 +1,5 @@
 -- Where the nth frame begins.
-use Rattle.std.proofs.Common.{◌≡◌, ◌⊎◌, ◌<◌, ◌≤◌, ◌*◌, ◌+◌, ◌-◌, ◌∙◌, ℕ, suc, List, [], length, drop, append-nil, ap, refl, sym, subst, inl, inr, min, arith}
+use Rattle.std.proofs.Common.{◌≡◌, ◌<◌, ◌≤◌, ◌*◌, ◌+◌, ◌-◌, ◌∙◌, ℕ, List, length, drop, ap, refl, sym, subst, inl, inr, min, arith}
 use Rattle.std.specs.Prelude.{Option, Some, None, IfSome, Ok, Err, Vec}
 use Rattle.std.specs.declared.alloc.Global.{Global}
 use Rattle.std.proofs.lemmas.Bool.{cases_lt}
@@ -10,7 +10,7 @@ use Rattle.page_digests.specs.Contents.{IsSameContent, PagedReadGoes, PagedState
 use Rattle.page_digests.specs.Pages.{pages_of_len, range_at}
 use Rattle.page_digests.proofs.ContentReads.{content_after}
 use Rattle.segments.specs.Marks.{begins_before, frame_begin}
-use Rattle.segments.specs.MarkReads.{AreSameMarks, FirstGoes, IsFirstFrom, IsPageOfNth, MarksState, NthGoes}
+use Rattle.segments.specs.MarkReads.{FirstGoes, IsFirstFrom, IsPageOfNth, MarksState, NthGoes}
 use Rattle.segments.specs.Seeks.{CountGoes, CountsTo, IsNthBegin, NthBeginGoes}
 use Rattle.segments.specs.declared.marked.Begin.{Begin}
 use Rattle.segments.proofs.Begins.{begins_apart, begins_in_order, begun_before}
