@@ -127,8 +127,9 @@ impl<S: Source + Drop, D: Digest> Marks<S, D> {
         Ok(mark_of(bytes))
     }
 
-    /// Where the first frame begins at the begin of page `i` or behind it. Where the content ends
-    /// counts as a begin. This asks for marks: for one, unless a record is longer than a page.
+    /// Where the first frame begins at the begin of a page or behind it. Where the content ends
+    /// counts as a begin. This asks for the marks from that page's on to that of the page in which
+    /// the frame begins: for one, unless none begins in the page.
     pub fn first_from(&mut self, page: usize) -> Result<Begin, Error>
         requires { page * self.old.bytes.page_size < self.old.len }
         ensures { FirstGoes D.digest_of page self.old self.new result }
@@ -146,6 +147,7 @@ impl<S: Source + Drop, D: Digest> Marks<S, D> {
             offset: (i * page_size + usize::from(mark.skip)) as u64,
         })
     }
+
     /// The page in which frame `n` begins; the last page if the content has no such frame. By each
     /// mark that is read, half of the pages are left.
     pub fn nth(&mut self, n: u64) -> Result<usize, Error>
@@ -165,6 +167,7 @@ impl<S: Source + Drop, D: Digest> Marks<S, D> {
         }
         Ok(low)
     }
+
     /// Where the first frame begins at byte `offset` of a content or behind it. `content` is that
     /// content, of which `self` has the marks. Where it ends counts as a begin. This asks for marks
     /// and, if a frame begins in the offset's page before the offset, for that page of the content.
@@ -210,6 +213,7 @@ impl<S: Source + Drop, D: Digest> Marks<S, D> {
         let first = self.first_behind(alloc, content, offset)?;
         Ok(first.offset == offset)
     }
+
     /// Where frame `n` of a content begins; `None` if the content has no such frame. `content` is
     /// that content, of which `self` has the marks. This searches the frame's page as
     /// [`nth`](Marks::nth) does, and reads the lengths of the frames before it in that page.
