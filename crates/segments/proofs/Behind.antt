@@ -287,6 +287,3 @@ begin_is d offset s t c u b is positive within says goes = record {
         )
   ];
 }
-
-pub begin_fails : (d : List ℕ → List ℕ) (offset : ℕ) (s t : MarksState) (c u : PagedState) (e : Error) → BehindGoes d offset s t c u (Err e) → IsBeginGoes d offset s t c u (Err e)
-begin_fails d offset s t c u e goes = record { same = goes.same; content = goes.content; calls = goes.calls; answers = goes.answers }

@@ -1,18 +1,17 @@
 -- The page of a frame is searched by halves.
 use Rattle.std.proofs.Common.{◌≡◌, ◌<◌, ◌≤◌, ◌*◌, ◌+◌, ◌-◌, ◌/◌, ◌^◌, ℕ, List, length, ap, sym, subst, inl, inr, arith}
 use Rattle.std.specs.Prelude.{Ok, Err}
-use Rattle.std.proofs.lemmas.Grind.{div_ceil_times}
 use Rattle.std.proofs.lemmas.Nat.{pow-add}
 use Rattle.std.proofs.Math.Nat.{mul-le-mul_right}
 use Rattle.page_digests.specs.declared.error.Error.{Error}
 use Rattle.page_digests.specs.Pages.{pages_of_len}
 use Rattle.page_digests.specs.Reads.{pages_touched}
-use Rattle.page_digests.proofs.Paging.{page_below, page_within}
+use Rattle.page_digests.proofs.Paging.{page_within}
 use Rattle.segments.specs.Marks.{begins_before, frame_begin, mark_at}
 use Rattle.segments.specs.MarkReads.{AreSameMarks, HalvesRead, IsOfMarks, MarkGoes, MarksState, NthGoes, mark_reads}
 use Rattle.segments.specs.declared.mark.Mark.{Mark}
 use Rattle.segments.proofs.Begins.{begins_in_order, begun_before, next_begin}
-use Rattle.segments.proofs.MarksRead.{mark_costs_few, mark_fails_since, marks_before, same_after, same_marks}
+use Rattle.segments.proofs.MarksRead.{mark_costs_few, mark_fails_since, marks_before, same_after}
 
 -- ---- how many marks are read
 
@@ -22,9 +21,6 @@ pub record IsHalved (spare pages each old new : ℕ) : Type 0 where
   pub left : spare * 2 ^ marks < pages
   pub few : 2 ^ marks ≤ 2 * pages
   pub reads : new ≤ old + marks * each
-
-halves_begin : (pages each old : ℕ) → 0 < pages → IsHalved (pages - 1) pages each old old
-halves_begin pages each old some = record { marks = 0; left = omega arith; few = omega arith; reads = omega arith }
 
 -- what a power of two is multiplied by
 halves_left : (spare next pages power : ℕ) → 2 * next ≤ spare → spare * power < pages → next * (power * 2) < pages
@@ -57,21 +53,6 @@ pub record IsHalving (d : List ℕ → List ℕ) (n : ℕ) (old now : MarksState
   pub least : IsOfMarks d old (λ P content. low * P ≤ frame_begin content n)
   pub most : IsOfMarks d old (λ P content. high * P < length content → frame_begin content n < high * P)
   pub halved : IsHalved (high - low - 1) (pages_of_len old.bytes.page_size old.len) (mark_reads old.bytes.page_size) (length old.bytes.reads) (length now.bytes.reads)
-
-pub halving_begins : (d : List ℕ → List ℕ) (n : ℕ) (s : MarksState) → 0 < s.bytes.page_size → 0 < s.len → IsHalving d n s s 0 (pages_of_len s.bytes.page_size s.len)
-halving_begins d n s positive some =
-    let count = pages_of_len s.bytes.page_size s.len in
-    let least : 0 < count = page_below s.bytes.page_size s.len 0 positive (omega arith) in
-    let all : s.len ≤ count * s.bytes.page_size = (div_ceil_times s.len s.bytes.page_size positive).0 in
-    record {
-      order = least;
-      within = omega arith;
-      same = same_marks s;
-      least = λ content its. inl (omega arith);
-      most = λ content its. inl (λ more. absurd (let len = its.len in omega arith));
-      halved = subst (λ (k : ℕ). IsHalved k count (mark_reads s.bytes.page_size) (length s.bytes.reads) (length s.bytes.reads)) (let e : count - 1 ≡ count - 0 - 1 = omega arith in e)
-          (halves_begin count (mark_reads s.bytes.page_size) (length s.bytes.reads) least);
-    }
 
 -- the next mark is one of the content's
 pub halving_reads : (d : List ℕ → List ℕ) (n : ℕ) (s t : MarksState) (low high middle : ℕ) → 0 < s.bytes.page_size → middle < high → IsHalving d n s t low high → middle * t.bytes.page_size < t.len
