@@ -36,7 +36,7 @@ import time
 from collections import namedtuple
 
 import usage
-from client import APPEND, APPEND_RECORDS_SYNC, CLOSE, READ, SYNC, VERSION, batch
+from served import VERSION, BlobRequest, batch, frame
 
 try:
     import sqlite3
@@ -56,12 +56,6 @@ GREETING, APPENDED, SYNCED, BATCHED = 14, 13, 5, 5 + 8 * GROUP
 
 # What a run took: the seconds of each operation that was timed, the most memory in bytes, and the page faults.
 Run = namedtuple("Run", "times memory faults")
-
-
-def frame(kind, *numbers, data=b""):
-    """A request."""
-    fields = struct.pack(f"<{len(numbers)}Q", *numbers) + data
-    return struct.pack("<IB", 1 + len(fields), kind) + fields
 
 
 def receive(stream, count, framed=False):
@@ -215,7 +209,7 @@ class Sync(Job):
     does = "append 100 B and sync, by a pipe"
 
     def pagedd(self):
-        request = frame(APPEND, data=bytes(self.length)) + frame(SYNC)
+        request = frame(BlobRequest.APPEND, data=bytes(self.length)) + frame(BlobRequest.SYNC)
         blob = self.room.fresh("blob")
         return self.room.by_pipe(request, APPENDED + SYNCED, VERSION, self.room.pagedd, "serve", blob)
 
@@ -246,7 +240,7 @@ class Batch(Sync):
     does = "append a batch of {group:,} times {length:,} B and sync, by a pipe"
 
     def pagedd(self):
-        request = frame(APPEND_RECORDS_SYNC, data=batch([bytes(self.length)] * GROUP))
+        request = frame(BlobRequest.APPEND_RECORDS_SYNC, data=batch([bytes(self.length)] * GROUP))
         blob = self.room.fresh("blob")
         return self.room.by_pipe(request, BATCHED, OFFER, self.room.pagedd, "serve", blob)
 
@@ -296,8 +290,8 @@ class Bulk(Job):
 
     def prepare(self):
         self.room.fill("content", self.pieces())
-        appends = (frame(APPEND, data=piece) for piece in self.pieces())
-        self.room.fill("requests", itertools.chain([VERSION], appends, [frame(SYNC)]))
+        appends = (frame(BlobRequest.APPEND, data=piece) for piece in self.pieces())
+        self.room.fill("requests", itertools.chain([VERSION], appends, [frame(BlobRequest.SYNC)]))
 
     def pagedd(self):
         answered = GREETING + self.count * APPENDED + SYNCED
@@ -322,7 +316,7 @@ class Stored(Job):
     def prepare(self):
         piece = os.urandom(self.length)
         self.room.fill("file", (piece for _ in range(self.count)))
-        self.room.fill("close", [VERSION + frame(CLOSE)])
+        self.room.fill("close", [VERSION + frame(BlobRequest.CLOSE)])
         self.room.from_file("file", None, self.room.pagedd, "append", self.room.fresh("blob"))
 
     def sides(self):
@@ -347,8 +341,8 @@ class Read(Stored):
 
     def prepare(self):
         super().prepare()
-        reads = (frame(READ, number * self.length, self.length) for number in range(self.count))
-        self.room.fill("reads", itertools.chain([VERSION], reads, [frame(CLOSE)]))
+        reads = (frame(BlobRequest.READ, number * self.length, self.length) for number in range(self.count))
+        self.room.fill("reads", itertools.chain([VERSION], reads, [frame(BlobRequest.CLOSE)]))
 
     def pagedd(self):
         answered = GREETING + self.count * (5 + self.length)

@@ -15,7 +15,6 @@ import tempfile
 
 import reader
 import usage
-from client import APPEND, READ, SYNC
 from served import Served, opened
 
 TOP = os.path.dirname(os.path.dirname(os.path.abspath(__file__)))
@@ -173,7 +172,7 @@ def recovers(program, image, synced, folder):
     _, text = reader.read(image, 4084, reader.crc32c)
     written = subprocess.run([program, "cat", path], capture_output=True, check=False).stdout
     blob = opened(program, path, synced)
-    content = blob.ask(READ, 0, blob.size)
+    content = blob.read(0, blob.recovered)
     blob.kill()
     return content == text == written
 
@@ -187,11 +186,11 @@ def read_files(program, rng):
         for turn in range(24):
             before = synced
             if turn % 3 == 2:
-                blob.ask(SYNC)
+                blob.sync()
                 synced = len(sent)
             else:
                 data = rng.randbytes(rng.choice([5, 3000, 9000, 80_000]))
-                blob.ask(APPEND, data=data)
+                blob.append(data)
                 sent += data
             with open(path, "rb") as file:
                 states.append(file.read())

@@ -24,9 +24,7 @@ import log_statuses
 import reader
 import survey
 import usage
-from client import APPEND, CLOSE, READ, SIZE
-from log_client import Log
-from served import Refused, Served
+from served import BlobRequest, Locked, Refusal, Served, ServedLog, frame
 from statuses import (CLOSING, PAGE, PAYLOAD, README, a_blob, a_page, a_torn_blob, contents, flipped, play, put, some,
                       table)
 
@@ -188,7 +186,7 @@ def outputs(program, folder):
     expect(status == 1 and contents(path) == before, "with its output closed it ends with status 1, and the"
            " file stays", "the file gets no descriptor of a standard stream")
     blob = Served(program, path)
-    expect(blob.ask(READ, 0, blob.size) == data, "its 300,000 synced bytes are there", "nothing was written over")
+    expect(blob.read(0, blob.recovered) == data, "its 300,000 synced bytes are there", "nothing was written over")
     blob.kill()
     with open("/dev/full", "wb") as full:
         ended = subprocess.run([program, "cat", path], stdout=full, stderr=subprocess.PIPE, timeout=60, check=False)
@@ -235,10 +233,9 @@ def reading_alone(program, folder):
            "669 pages with a value would be hidden", "408,400 bytes, with status 0")
     before = contents(path)
     blob = Served(program, path, "--read-only", "--cut")
-    content = blob.ask(READ, 0, blob.size)
-    blob.ask(CLOSE)
-    blob.process.wait()
-    said = blob.process.stderr.read().decode()
+    content = blob.read(0, blob.recovered)
+    blob.close()
+    said = blob.said
     expect(content == data[:100 * PAYLOAD] and tells(said, 670 * PAGE, 100 * PAGE) and contents(path) == before
            and not beside(path), "with --cut the first 408,400 bytes are served, a line says what isn't, and nothing"
            " is changed", "it was asked for them", "no line")
@@ -294,23 +291,21 @@ def a_good_blob(program, folder):
     try:
         Served(program, path)
         raise SystemExit("NOT SO: two programs serve one file")
-    except Refused as second:
-        expect(second.status == 1 and second.words.count("\n") == 1, "a second program is refused",
+    except Locked as second:
+        expect(second.exit_status == 1 and second.words.count("\n") == 0, "a second program is refused",
                "the file is locked")
     blob.kill()
 
 
 def a_part_of_a_request(program, folder):
     blob = Served(program, os.path.join(folder, "waits"))
-    request = struct.pack("<IB", 1, SIZE)
-    blob.process.stdin.write(request + request[:2])
-    blob.process.stdin.flush()
+    request = frame(BlobRequest.SIZE)
+    blob.send(request + request[:2])
     ready, _, _ = select.select([blob.process.stdout], [], [], 20)
     expect(bool(ready) and blob.answer() == bytes(8),
            "who has sent a request and two bytes of the next gets an answer to the first",
            "no whole request is waiting")
-    blob.process.stdin.write(request[2:])
-    blob.process.stdin.flush()
+    blob.send(request[2:])
     expect(blob.answer() == bytes(8), "with the other bytes of the next it gets the second", "that is whole then")
     blob.kill()
 
@@ -331,12 +326,13 @@ def a_lost_writer(program, folder):
     limited(blob.process, 16 * MIB)
     statuses = []
     while len(statuses) < 4000 and (not statuses or statuses[-1] == 0):
-        blob.send(struct.pack("<IB", 1 + len(data), APPEND) + data)
-        (length,) = struct.unpack("<I", blob.receive(4))
-        statuses.append(blob.receive(length)[0])
-    blob.ask(CLOSE)
-    status = blob.process.wait()
-    said = blob.process.stderr.read().decode()
+        try:
+            blob.append(data)
+            statuses.append(0)
+        except Refusal as refused:
+            statuses.append(refused.status)
+    blob.close()
+    status, said = blob.exit_status, blob.said
     words = "the writer ended with OutOfMemory"
     expect(statuses[-1] == 8 and status == 1 and tells(said, words),
            "a session in which memory was refused to an append ends with status 1, and a line",
@@ -524,7 +520,7 @@ def a_salvage(program, folder):
            "so do its lines", "they are for a reader")
     flipped(path, 100)
     first = contents(os.path.join(log, log_statuses.segment(0)))
-    served = Log(program, log)
+    served = ServedLog(program, log)
     served.drop_before(1)
     served.close()
     put(os.path.join(log, log_statuses.segment(0)), first)

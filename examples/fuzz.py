@@ -39,7 +39,7 @@ from collections import Counter
 
 import reader
 import usage
-from client import batch
+from served import batch
 
 HERE = os.path.dirname(os.path.abspath(__file__))
 PROGRAM = os.path.join(HERE, "..", "crates", "conformance", "out", "conformance")

@@ -14,8 +14,7 @@ import tempfile
 import threading
 
 import usage
-from client import APPEND, BEGIN, READ, SYNC, TRUNCATE
-from served import opened
+from served import ProgramLost, opened
 
 
 def record(number):
@@ -39,12 +38,12 @@ def work(blob, number, sent, synced, rng):
         while True:
             data = record(number)
             sent += data
-            blob.ask(APPEND, data=data)
+            blob.append(data)
             number += 1
             if rng.random() < 0.3:
-                blob.ask(SYNC)
+                blob.sync()
                 synced = len(sent)
-    except (OSError, EOFError, struct.error, IndexError):
+    except ProgramLost:
         return sent, synced
 
 
@@ -55,7 +54,7 @@ def main():
         path = os.path.join(folder, "log")
         for kill in range(kills + 1):
             blob = opened(program, path, synced)
-            content = blob.ask(READ, 0, blob.size)
+            content = blob.read(0, blob.recovered)
             if content[:synced] != sent[:synced]:
                 raise SystemExit(f"kill {kill}: synced bytes are gone: {len(content)} of {synced}")
             if content != sent[:len(content)]:
@@ -63,13 +62,12 @@ def main():
             most = max(most, len(content) - synced)
             number, end = whole_records(content)
             # A record may have been torn off within; what is left of it is cut.
-            blob.ask(TRUNCATE, end)
-            blob.ask(BEGIN)
+            blob.truncate(end)
+            blob.begin()
             timer = threading.Timer(rng.random() * 0.05, blob.process.kill)
             timer.start()
             sent, synced = work(blob, number, content[:end], end, rng)
             timer.join()
-            blob.process.wait()
             if end > 4_000_000:
                 os.remove(path)
                 sent, synced = b"", 0

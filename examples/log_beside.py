@@ -43,11 +43,12 @@ import time
 from collections import namedtuple
 
 import usage
-from beside import GREETING, MIB, OFFER, Room, frame, machine, meet, receive
-from client import CLOSE, READ, batch
-from log_client import APPEND_RECORDS, APPEND_RECORDS_SYNC, AT_END, NEXT_MANY, SCAN, SYNC_SIZE
+from beside import GREETING, MIB, OFFER, Room, machine, meet, receive
+from served import BlobInsufficientLength, LogRequest, batch, frame
 
 RECORD, FRAME = 1000, 1007
+# How many bytes of an answer a scan asks for.
+SCAN = 1 << 20
 # The records of a batch, how many batches with a sync are timed, and how many reads; how many of these are at once, and
 # how many of those that open a segment.
 GROUP, SYNCS, READS, WINDOW, FIRSTS = 1000, 64, 10_000, 500, 20
@@ -116,17 +117,17 @@ class Log:
     def append_all(self):
         """Appends all records, and answers the seconds until they are durable."""
         shutil.rmtree(self.folder, ignore_errors=True)
-        request = frame(APPEND_RECORDS, data=batch(self.records))
+        request = frame(LogRequest.APPEND_RECORDS, data=batch(self.records))
         with self.serve() as log:
             begin(log)
             watch, waits = Watch(log), 0
             for records in self.batches():
                 whole = len(records) == GROUP
-                log.stdin.write(request if whole else frame(APPEND_RECORDS, data=batch(records)))
+                log.stdin.write(request if whole else frame(LogRequest.APPEND_RECORDS, data=batch(records)))
                 log.stdin.flush()
                 receive(log.stdout, waits, framed=waits > 0)
                 waits = 5 + 16 * len(records)
-            log.stdin.write(frame(SYNC_SIZE))
+            log.stdin.write(frame(LogRequest.SYNC_SIZE))
             log.stdin.flush()
             receive(log.stdout, waits, framed=True)
             if log.stdout.read(13) != struct.pack("<IBQ", 9, 0, self.count):
@@ -201,7 +202,7 @@ class Sync(Job):
     def pagedd(self):
         log = self.log
         shutil.rmtree(log.folder, ignore_errors=True)
-        request = frame(APPEND_RECORDS_SYNC, data=batch(log.records))
+        request = frame(LogRequest.APPEND_RECORDS_SYNC, data=batch(log.records))
         with log.serve() as served:
             begin(served)
             watch = Watch(served)
@@ -284,19 +285,19 @@ class Many(Job):
         with self.log.serve() as served:
             begin(served)
             watch, found = Watch(served), 0
-            served.stdin.write(frame(NEXT_MANY, 0, 0, SCAN))
+            served.stdin.write(frame(LogRequest.NEXT_MANY, 0, 0, SCAN))
             served.stdin.flush()
             while True:
                 length, status = struct.unpack("<IB", served.stdout.read(5))
                 if status != 0:
                     break
                 segment, offset, count = struct.unpack("<3Q", served.stdout.read(24))
-                served.stdin.write(frame(NEXT_MANY, segment, offset, SCAN))
+                served.stdin.write(frame(LogRequest.NEXT_MANY, segment, offset, SCAN))
                 served.stdin.flush()
                 receive(served.stdout, length - 25)
                 found += count
             took = watch.stop()
-            if (status, found) != (AT_END, self.count):
+            if (status, found) != (BlobInsufficientLength.status, self.count):
                 raise SystemExit(f"log_beside: {found} records came, and then status {status}")
             receive(served.stdout, length - 1)
             served.stdin.close()
@@ -322,11 +323,11 @@ class Reads(Job):
 
     def pagedd(self):
         log, numbers = self.log, self.numbers
-        requests = [frame(READ, *log.place(number)) for number in numbers]
+        requests = [frame(LogRequest.READ, *log.place(number)) for number in numbers]
         with log.serve() as served:
             begin(served)
             if self.before is not None:
-                self.ask(served, [frame(READ, *log.place(self.before))])
+                self.ask(served, [frame(LogRequest.READ, *log.place(self.before))])
             watch = Watch(served)
             for start in range(0, len(requests), self.window):
                 self.ask(served, requests[start:start + self.window])
@@ -444,7 +445,7 @@ def main():
     with tempfile.TemporaryDirectory(dir=given.folder, prefix="log-beside-") as folder:
         folder = os.path.abspath(folder)
         room = Room(folder, given.PAGEDD, 0)
-        room.fill("close", [OFFER + frame(CLOSE)])
+        room.fill("close", [OFFER + frame(LogRequest.CLOSE)])
         log = Log(room, given.mib, given.segment, given.digest)
         print(f"{machine(folder)}\n{given.mib:,} MiB of records of {RECORD:,} B, with their frames, in segments of"
               f" {given.segment:,} MiB, with {given.digest}; medians of {given.turns} turns, and the least in brackets\n")

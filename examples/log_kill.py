@@ -19,9 +19,8 @@ import tempfile
 import threading
 
 import usage
-from client import APPEND, SYNC, batch
-from log_client import APPEND_RECORDS_SYNC, DROP_BEFORE
 from log_served import Session, play
+from served import OpenRefused, ProgramLost
 from statuses import contents, put
 
 SMALL = "--segment-size=300"
@@ -52,40 +51,37 @@ def work(log, kept, rng):
         while True:
             what = rng.random()
             if what < 0.25:
-                log.ask(SYNC)
+                log.sync()
                 kept.committed = kept.next
             elif what < 0.35:
                 count = rng.randrange(1, 9)
                 first, kept.next = kept.next, kept.next + count
-                data = batch([record(first + at) for at in range(count)])
-                answer = log.ask(APPEND_RECORDS_SYNC, data=data)
-                for at, place in enumerate(struct.iter_unpack("<QQ", answer)):
-                    kept.places[first + at] = place
+                places = log.append_many([record(first + at) for at in range(count)], sync=True)
+                kept.places.update(enumerate(places, first))
                 kept.committed = kept.next
             elif what < 0.37 and kept.committed:
                 oldest, newest = kept.dropped, max(place[0] for place in kept.places.values())
                 kept.tried = rng.randrange(oldest, newest + 1)
-                log.ask(DROP_BEFORE, kept.tried)
+                log.drop_before(kept.tried)
                 kept.dropped = kept.tried
             else:
                 kept.next += 1
-                answer = log.ask(APPEND, data=record(kept.next - 1))
-                kept.places[kept.next - 1] = struct.unpack("<QQ", answer)
-    except (OSError, EOFError, struct.error, IndexError):
+                kept.places[kept.next - 1] = log.append(record(kept.next - 1))
+    except ProgramLost:
         return
 
 
 def compare(kill, log, kept):
     """Holds the records of a log against what was asked of it before; answers how many more there are than were
     committed."""
-    found = list(log.records())
+    found = list(log)
     numbers = [number_of(data) for _, data in found]
     if any(data != record(number) for number, (_, data) in zip(numbers, found)):
         raise SystemExit(f"kill {kill}: a record has other bytes than were appended")
     if numbers != list(range(numbers[0], numbers[0] + len(numbers)) if numbers else []):
         raise SystemExit(f"kill {kill}: records are missing within, or repeated: {numbers}")
-    if log.size != len(numbers):
-        raise SystemExit(f"kill {kill}: the greeting tells {log.size} records, and there are {len(numbers)}")
+    if log.recovered != len(numbers):
+        raise SystemExit(f"kill {kill}: the greeting tells {log.recovered} records, and there are {len(numbers)}")
     end = numbers[-1] + 1 if numbers else 0
     wanted = [number for number in range(kept.committed) if kept.places[number][0] >= kept.tried]
     if wanted and (not numbers or numbers[0] > wanted[0] or end < kept.committed):
@@ -107,7 +103,7 @@ def compare(kill, log, kept):
         kept.dropped = kept.tried
     kept.tried = kept.dropped
     kept.next = max(end, 0)
-    log.commit()
+    log.sync()
     kept.committed = kept.next
     return more
 
@@ -127,7 +123,7 @@ def damaged(kill, program, folder, room, kept, rng):
     if status not in (0, 3):
         raise SystemExit(f"kill {kill}: salvage ends with {status}: {said}")
     log = Session(program, out)
-    found = [data for _, data in log.records()]
+    found = [data for _, data in log]
     log.end()
     if any(data != record(number_of(data)) for data in found):
         raise SystemExit(f"kill {kill}: a record was salvaged that wasn't appended")
@@ -149,7 +145,7 @@ def copied(kill, program, folder, room, kept):
     if status != 0 or play(program, "check", out)[0] != 0:
         raise SystemExit(f"kill {kill}: copy ends with {status}: {said}")
     log = Session(program, out, "--read-only")
-    numbers = {number_of(data) for _, data in log.records()}
+    numbers = {number_of(data) for _, data in log}
     log.end()
     wanted = {it for it in range(kept.committed) if kept.places[it][0] >= kept.tried}
     if wanted - numbers:
@@ -164,15 +160,13 @@ def main():
         for kill in range(kills + 1):
             try:
                 log = Session(program, folder, SMALL)
-            except EOFError:
-                said = play(program, "serve-log", SMALL, folder)[2]
-                raise SystemExit(f"kill {kill}: it is refused: {said}") from None
+            except OpenRefused as refused:
+                raise SystemExit(f"kill {kill}: it is refused: {refused}") from None
             most = max(most, compare(kill, log, kept))
             timer = threading.Timer(rng.random() * 0.2, log.process.kill)
             timer.start()
             work(log, kept, rng)
             timer.join()
-            log.process.wait()
             if kept.places:
                 missing += damaged(kill, program, folder, room, kept, rng)
                 copied(kill, program, folder, room, kept)

@@ -18,41 +18,46 @@ import tempfile
 
 import reader
 import usage
-from client import APPEND, CLOSE, READ, SIZE, SYNC, Refusal, batch
-from log_client import (APPEND_RECORDS, APPEND_RECORDS_SYNC, AT_END, CLOSED, DAMAGED, DROP_BEFORE, FLUSH, GREATEST, NEXT,
-                        NEXT_MANY, NO_RECORDS, NO_SEGMENT, READ_ONLY, SYNC_SIZE, SYSTEM, WHERE, Closed, Log, Where)
+from served import (BlobInsufficientLength, Closed, Damaged, LogRequest, NoFrame, NoSegment, ReadOnly, Refusal, ServedLog,
+                    SystemFailed, Unlisted, Unmarked, Where, WriterGone, WrongFields, batch)
 from statuses import contents, put
 
 SMALL = "--segment-size=300"
 MOST = 65535
 PAGE = os.path.join(os.path.dirname(os.path.abspath(__file__)), "..", "docs", "LOG_PROTOCOL.md")
 OFFER = b"\x02\x02\x01\x02"
-UNLISTED = 41
+GREATEST = 2 ** 64 - 1
+
+# The requests, and the statuses of some refusals.
+APPEND, SYNC, SIZE, READ, NEXT, CLOSE, APPEND_RECORDS, APPEND_RECORDS_SYNC, SYNC_SIZE, FLUSH, DROP_BEFORE, WHERE, \
+    NEXT_MANY, NTH, PASS_DAMAGE = LogRequest
+AT_END, CLOSED, READ_ONLY, NO_RECORDS = (it.status for it in (BlobInsufficientLength, WriterGone, ReadOnly, WrongFields))
+NO_SEGMENT, DAMAGED, SYSTEM = NoSegment.status, Damaged.status, SystemFailed.status
+UNLISTED, NO_FRAME, UNMARKED = Unlisted.status, NoFrame.status, Unmarked.status
 
 
-class Session(Log):
+class Session(ServedLog):
     """A log that is served in a version; what it says on standard error is kept."""
 
-    def __init__(self, program, folder, *options, version=2, **streams):
-        command = [program, "serve-log", *options, folder]
-        if version == 2:
-            self.open(command, stderr=subprocess.PIPE, **streams)
-        else:
-            self.start(command, stderr=subprocess.PIPE, **streams)
-            self.send(b"\x01")
+    def __init__(self, program, folder, *options, version=2, limit=None):
+        self.limit = limit
+        super().__init__(program, folder, *options, version=None if version == 2 else version)
 
-    def ended(self):
-        raise EOFError
+    def start_process(self, command):
+        if self.limit is None:
+            return super().start_process(command)
+        return subprocess.Popen(command, stdin=subprocess.PIPE, stdout=subprocess.PIPE, stderr=subprocess.PIPE,
+                                preexec_fn=self.limit)
 
     def end(self):
         """Closes it, and answers its exit status and what it said."""
-        status = self.close()
-        return status, self.process.stderr.read().decode()
+        self.close()
+        return self.exit_status, self.said
 
     def refusal(self, kind, *numbers, data=b""):
         """The refusal of a request: its status, and in version 2 what to do next, and how much was taken."""
         try:
-            self.ask(kind, *numbers, data=data)
+            self.request(kind, *numbers, data=data)
         except Refusal as refused:
             return refused
         raise SystemExit(f"NOT SO: the request of kind {kind} is refused")
@@ -96,31 +101,31 @@ def some(number):
 def a_log(program, folder, count=20):
     """A log of so many records, which fill several segments, and their places."""
     log = Session(program, folder, SMALL)
-    places = log.append_all([some(number) for number in range(count)])
+    places = log.append_many([some(number) for number in range(count)], sync=True)
     log.end()
     return places
 
 
 def version_one(program, folder):
     log = Session(program, folder, SMALL, version=1)
-    expect(log.size == 0, "a new log has no record, says the greeting")
+    expect(log.recovered == 0, "a new log has no record, says the greeting")
     places = [log.append(some(number)) for number in range(20)]
     expect(places == sorted(set(places)) and places[0] == (0, 0) and places[-1][0] > 2,
            "appends answer places that go on, over several segments")
-    expect(log.ask(SYNC) == b"" and log.count() == 20, "a sync answers nothing, and size counts the records")
-    expect(all(log.read(place)[0] == some(number) for number, place in enumerate(places)),
+    expect(log.request(SYNC) == b"" and log.size() == 20, "a sync answers nothing, and size counts the records")
+    expect(all(log.read_frame(place)[0] == some(number) for number, place in enumerate(places)),
            "each record is read at its place")
-    ends = [log.read(place)[1] for place in places]
+    ends = [log.read_frame(place)[1] for place in places]
     expect(all(end == after or after == (end[0] + 1, 0) for end, after in zip(ends, places[1:])),
            "a read tells where the next frame begins, or where the segment ends")
     expect(log.status(READ, *ends[-1]) == AT_END, "a read at the end of the log is refused with 6")
     expect(list(log.records()) == [(place, some(number)) for number, place in enumerate(places)],
            "next goes over all records, from the place 0, 0 on")
     expect(log.status(NEXT, *ends[-1]) == AT_END, "next at the end of the log is refused with 6")
-    expect(log.status(APPEND, data=bytes(MOST + 1)) == NO_RECORDS and log.count() == 20,
+    expect(log.status(APPEND, data=bytes(MOST + 1)) == NO_RECORDS and log.size() == 20,
            "a record of 65,536 bytes is refused with 23, and not appended")
     place = log.append(bytes(MOST))
-    expect(log.read(place)[0] == bytes(MOST) and log.read(log.append(b""))[0] == b"",
+    expect(log.read_frame(place)[0] == bytes(MOST) and log.read_frame(log.append(b""))[0] == b"",
            "a record of 65,535 bytes is appended, and so is one of none")
     log.drop_before(2)
     expect(not os.path.exists(segment(folder, 0)) and log.status(READ, 0, 0) == NO_SEGMENT
@@ -131,24 +136,24 @@ def version_one(program, folder):
            "a drop before a segment that isn't there yet is refused with 38")
     expect(log.end() == (0, ""), "a close ends it with status 0")
     log = Session(program, folder, SMALL, version=1)
-    expect(log.size == sum(at[0] >= 2 for at in places) + 1,
+    expect(log.recovered == sum(at[0] >= 2 for at in places) + 1,
            "what was committed comes back, by a sync or a rotation; a close commits nothing")
     expect(log.end() == (0, ""), "and it ends well")
 
 
 def version_two(program, folder):
     log = Session(program, folder, SMALL)
-    expect((log.version, log.size, log.page_size, log.checksum, log.read_only, log.cut, log.given_up, log.copy)
-           == (2, 0, 4084, "crc32c", False, 0, 0, "")
-           and tuple(log.limits) == (4294967294, 4294967294, MOST, 268435455), "the hello has the fields of a log")
+    expect(log.recovered == 0 and log.hello[:4] == (2, False, 0, 4084) and log.hello[4:8]
+           == (4294967294, 4294967294, MOST, 268435455) and log.hello[8:12] == (0, 0, "crc32c", ""),
+           "the hello has the fields of a log")
     records = [some(number) for number in range(12)] + [b""]
-    places = list(struct.iter_unpack("<QQ", log.ask(APPEND_RECORDS, data=batch(records))))
-    expect([log.read(place)[0] for place in places] == records, "append_records answers the place of each record")
-    more = list(struct.iter_unpack("<QQ", log.ask(APPEND_RECORDS_SYNC, data=batch([b"one", b"two"]))))
-    expect([log.read(place)[0] for place in more] == [b"one", b"two"], "so does append_records_sync")
-    expect(log.ask(APPEND_RECORDS, data=batch([])) == b"", "there may be no record")
-    expect(struct.unpack("<Q", log.ask(SYNC_SIZE)) == (15,), "sync_size tells the number of records")
-    expect(log.ask(FLUSH) == b"" and log.ask(SYNC) == b"" and log.count() == 15,
+    places = list(struct.iter_unpack("<QQ", log.request(APPEND_RECORDS, data=batch(records))))
+    expect([log.read_frame(place)[0] for place in places] == records, "append_records answers the place of each record")
+    more = list(struct.iter_unpack("<QQ", log.request(APPEND_RECORDS_SYNC, data=batch([b"one", b"two"]))))
+    expect([log.read_frame(place)[0] for place in more] == [b"one", b"two"], "so does append_records_sync")
+    expect(log.request(APPEND_RECORDS, data=batch([])) == b"", "there may be no record")
+    expect(struct.unpack("<Q", log.request(SYNC_SIZE)) == (15,), "sync_size tells the number of records")
+    expect(log.request(FLUSH) == b"" and log.request(SYNC) == b"" and log.size() == 15,
            "flush, sync and size are as they were")
     wrong = {"no count": b"\1\0\0", "a length that is missing": struct.pack("<II", 2, 0),
              "too few bytes": batch([b"abc"])[:-1], "too many bytes": batch([b"abc"]) + b"d",
@@ -157,7 +162,7 @@ def version_two(program, folder):
         for kind in (APPEND_RECORDS, APPEND_RECORDS_SYNC):
             refused = log.refusal(kind, data=fields)
             expect((refused.status, refused.next, refused.taken, refused.errno, refused.words)
-                   == (NO_RECORDS, 0, 0, 0, "") and log.count() == 15,
+                   == (NO_RECORDS, 0, 0, 0, "") and log.size() == 15,
                    f"{what} is refused with 23, and nothing is appended")
     refused = log.refusal(APPEND, data=bytes(MOST + 1))
     expect((refused.status, refused.next) == (NO_RECORDS, 0), "a refusal tells the client to ask for something else")
@@ -165,7 +170,7 @@ def version_two(program, folder):
            "so do those of places that aren't there")
     log.drop_before(1)
     expect(log.status(READ, 0, 0) == NO_SEGMENT and next(log.records())[0] == (1, 0), "a drop is as in version 1")
-    expect(tuple(log.kinds) == (1, 2, 5, 6, 7, 16, 17, 18, 21, 25, 27, 28, 29), "the hello lists the kinds of requests")
+    expect(tuple(log.hello.kinds) == (1, 2, 5, 6, 7, 16, 17, 18, 21, 25, 27, 28, 29, 30, 31), "the hello lists the kinds of requests")
     expect(log.end() == (0, ""), "a close ends it with status 0")
 
 
@@ -173,8 +178,8 @@ def wheres(program, folder):
     """What where answers, and the command of that name."""
     log = Session(program, folder, SMALL)
     expect(log.where() == Where(0, 0, (0, 0), 0, {}), "where says that a new log begins and ends at 0, 0")
-    places = log.append_all([some(number) for number in range(18)])
-    last, ends = places[-1][0], [log.read(place)[1] for place in places]
+    places = log.append_many([some(number) for number in range(18)], sync=True)
+    last, ends = places[-1][0], [log.read_frame(place)[1] for place in places]
     closed = {number: Closed(sum(place[0] == number for place in places),
                              max(end for at, end in ends if at == number), False) for number in range(last)}
     inside = sum(place[0] == last for place in places)
@@ -193,7 +198,7 @@ def wheres(program, folder):
     for number in (0, 1):
         del closed[number]
     expect(log.where() == Where(2, last, end, inside, closed) == log.where(0, last), "dropped segments aren't among them")
-    log.ask(SYNC)
+    log.request(SYNC)
     expect(log.end() == (0, ""), "and it ends well")
     told = json.loads(play(program, "where", "--json", folder)[1])
     expect((told["first"], told["last"], told["open"], told["records"])
@@ -217,9 +222,11 @@ def scans(program, folder):
     log = Session(program, folder, SMALL)
     expect(log.status(NEXT_MANY, 0, 0, 100) == AT_END, "a log without records has none")
     records = [some(number) for number in range(20)] + [b""] * 3 + [bytes(MOST)]
-    places = log.append_all(records)
+    places = log.append_many(records, sync=True)
     pairs, end = list(zip(places, records)), log.where().end
-    expect(list(log.records()) == pairs == list(log.one_by_one((0, 0))), "many at once are those that come one by one")
+    hello, log.hello = log.hello, log.hello._replace(kinds=b"")
+    one_by_one, log.hello = list(log.records()), hello
+    expect(list(log.records()) == pairs == one_by_one, "many at once are those that come one by one")
     size = [20 + len(data) for data in records]
     for most, count in ((0, 1), (1, 1), (size[0], 1), (size[0] + size[1] - 1, 1), (size[0] + size[1], 2),
                         (sum(size[:9]), 9), (sum(size[:23]), 23), (sum(size) - 1, 23), (sum(size), 24), (GREATEST, 24)):
@@ -240,7 +247,7 @@ def scans(program, folder):
     expect(log.status(NEXT_MANY, 0, 7, 100) == NO_SEGMENT and log.next_many((0, 0))[0][0][0] == (1, 0),
            "from a dropped segment it is refused with 38, and from 0, 0 on it begins at the first that is left")
     many = [bytes(MOST)] * 300
-    log.append_all(many)
+    log.append_many(many, sync=True)
     found, behind = log.next_many(end, GREATEST)
     expect(sum(20 + len(data) for _, data in found) <= 1 << 24 < sum(20 + len(data) for _, data in found) + 20 + MOST,
            "however many bytes are asked for, the records of an answer have 16 MiB at most")
@@ -263,13 +270,13 @@ def reads_once(program, folder):
         print("how much an opening reads isn't told by this system")
         return
     log = Session(program, folder, "--segment-size=3000000")
-    log.append_all([bytes(MOST)] * 100)
+    log.append_many([bytes(MOST)] * 100, sync=True)
     log.end()
     length = os.path.getsize(segment(folder, log_end(program, folder)))
     for options in ([], ["--read-only"]):
         for _ in range(2):
             log = Session(program, folder, *options)
-            with open(f"/proc/{log.process.pid}/io", encoding="ascii") as told:
+            with open(f"/proc/{log.process_id}/io", encoding="ascii") as told:
                 count = int(told.readline().split()[1])
             expect(length <= count < 1.1 * length + (1 << 16) and log.end() == (0, ""),
                    f"an opening of {length} bytes reads {count}")
@@ -282,7 +289,7 @@ def log_end(program, folder):
 
 def wrong_frames(program, folder):
     shutil.rmtree(folder, ignore_errors=True)
-    kinds = {1: (1, 2, 5, 6, 7, 16, 27), 2: (1, 2, 5, 6, 7, 16, 17, 18, 21, 25, 27, 28, 29)}
+    kinds = {1: (1, 2, 5, 6, 7, 16, 27), 2: (1, 2, 5, 6, 7, 16, 17, 18, 21, 25, 27, 28, 29, 30, 31)}
     for version, begun in ((1, b"\x01"), (2, OFFER)):
         hello = len(play(program, "serve-log", folder, given=begun)[1])
         for kind in range(256):
@@ -327,7 +334,7 @@ def wrong_frames(program, folder):
 def in_order(program, folder):
     log = Session(program, folder, SMALL)
     log.send(struct.pack("<IB", 1, SIZE) + b"\1\0")
-    expect(struct.unpack("<Q", log.answer()) == (log.size,),
+    expect(struct.unpack("<Q", log.answer()) == (log.recovered,),
            "an answer is out before the rest of the next request has come")
     log.send(b"\0\0\x05" + struct.pack("<IB", 1, SIZE) * 5000)
     expect(all(log.answer() for _ in range(5001)), "many requests are answered in order")
@@ -354,7 +361,7 @@ def alone(program, folder):
         expect(all(log.status(kind, data=fields) == READ_ONLY for kind, fields in changes),
                f"for reading alone each change of version {version} is refused with 22")
         expect([data for _, data in log.records()] == [some(number) for number in range(20)]
-               and log.read(places[3])[0] == some(3) and log.count() == 20, "and all records are read")
+               and log.read_frame(places[3])[0] == some(3) and log.size() == 20, "and all records are read")
         expect(log.end() == (0, ""), "and it ends well")
     expect(image(folder) == before, "and no file changed")
     status, out, _ = play(program, "serve-log", "--read-only", folder, given=OFFER)
@@ -389,10 +396,14 @@ def unread(program, folder, back, places):
     cases = {"a segment is cut behind its content": (segment(folder, 1), whole[:-1], "whole"),
              "a segment is grown": (segment(folder, 1), whole + b"\0", "whole"),
              "a list is missing": (listed(folder, 1), None, "missing"), "a list is emptied": (listed(folder, 1), b"", "wrong"),
-             "a list is cut": (listed(folder, 1), held[:-1], "wrong"),
+             "a list is cut": (listed(folder, 1), held[:63], "wrong"),
+             "the marks behind a list are missing": (listed(folder, 1), held[:64], "unmarked"),
+             "the marks behind a list are cut": (listed(folder, 1), held[:-1], "unmarked"),
+             "one bit of the marks is changed": (listed(folder, 1), flipped(held, 66), "unmarked"),
+             "one bit of the marks' top is changed": (listed(folder, 1), flipped(held, len(held) - 1), "unmarked"),
              "a list is grown": (listed(folder, 1), held + b"\0", "whole"),
              "one bit of a list is changed": (listed(folder, 1), flipped(held, 3), "wrong"),
-             "one bit of a list's top is changed": (listed(folder, 1), flipped(held, len(held) - 3), "wrong"),
+             "one bit of a list's top is changed": (listed(folder, 1), flipped(held, 61), "wrong"),
              "a list is that of another segment": (listed(folder, 1), contents(listed(folder, 0)), "wrong")}
     for what, (path, data, state) in cases.items():
         back()
@@ -401,16 +412,174 @@ def unread(program, folder, back, places):
             put(path, data)
         before = image(folder)
         log = Session(program, folder, "--read-only")
-        found = [log.read(place)[0] for place in places]
+        found = [log.read_frame(place)[0] for place in places]
         status, out, _ = play(program, "check", folder)
         told = json.loads(play(program, "check", "--json", folder)[1])["closed"][1]
         mapped = play(program, "map", folder)[1].decode().split()[-1]
         if (found != [some(number) for number in range(len(places))] or log.end() != (0, "") or status != 0
                 or (told["state"], told["list"], told["wrong_pages"]) != ("whole", state, [])
-                or (f"segment 1: its list is {state}" in out.decode()) != (state != "whole")
+                or (f"segment 1: its list is {state}" in out.decode()) != (state in ("missing", "wrong"))
+                or ("segment 1: its marks are wrong" in out.decode()) != (state == "unmarked")
                 or mapped != "#" + ("#" if state == "whole" else "~") + "#" * (last - 2) + "+" or image(folder) != before):
             raise SystemExit(f"NOT SO: where {what}, all is read: {status} {out} {told} {mapped}")
         print(f"where {what}, all is read, and check and map tell it")
+
+
+def marks_at(count, size):
+    """Where in its list's file the marks of a segment of so many pages begin: behind the list and the top."""
+    return 32 * (count + -(-32 * count // size))
+
+
+def scan(log, place=(0, 0)):
+    """All records that are read, and what is passed where a page is damaged."""
+    found, passed = [], []
+    while True:
+        try:
+            got = log.next(place)
+            if got is None:
+                return found, passed
+            found.append(got[0])
+            place = got[2]
+        except Refusal as refusal:
+            if refusal.status != DAMAGED:
+                raise
+            passed.append(log.pass_damage(place))
+            place = passed[-1].place
+
+
+def marks(program, folder):
+    """A place in the midst of a frame, the nth record of a segment, and what goes on behind damage, by the marks."""
+    shutil.rmtree(folder, ignore_errors=True)
+    small = ("--page-size=100", "--segment-size=2000")
+    log = Session(program, folder, *small)
+    places = log.append_many([some(number) for number in range(60)], sync=True)
+    last = places[-1][0]
+    by_segment = {number: [place for place in places if place[0] == number] for number in range(last + 1)}
+    expect(all([log.nth(number, at) for at in range(len(held) + 2)] == held + [None, None]
+               for number, held in by_segment.items()), "nth answers where each record of a segment stands, also of the open one")
+    refused = [log.refusal(NTH, last, GREATEST), log.refusal(NTH, last + 1, 0)]
+    expect([(it.status, it.next) for it in refused] == [(AT_END, 0), (NO_SEGMENT, 0)], "or that there is none")
+    begins = {offset for number, offset in places if number == 0}
+    ends = by_segment[0][-1][1] + len(some(len(begins) - 1)) + 7
+    told = {kind: {log.refusal(kind, 0, offset).status for offset in range(ends) if offset not in begins}
+            for kind in (READ, NEXT)}
+    expect(told == {READ: {NO_FRAME}, NEXT: {NO_FRAME}} and log.refusal(READ, 0, 1).next == 0,
+           "each place in the midst of a frame of a closed segment is refused with 44")
+    expect(log.pass_damage(places[-1]) == (places[-1], 0, 0) and log.status(PASS_DAMAGE, last + 1, 0) == NO_SEGMENT,
+           "in the open segment nothing is passed")
+    log.end()
+    path, whole, held = segment(folder, 0), contents(segment(folder, 0)), contents(listed(folder, 0))
+    count = -(-ends // 100)
+    for bad in ({5}, {0}, {3, 4}, {count - 1}, set(range(count))):
+        data = bytearray(whole)
+        for page in bad:
+            data[page * 112 + 2] ^= 4
+        put(path, data)
+        touched = [place for place, after in zip(by_segment[0], by_segment[0][1:] + [(0, ends)])
+                   if bad & set(range(place[1] // 100, (after[1] - 1) // 100 + 1))]
+        log = Session(program, folder, *small)
+        found, passed = scan(log)
+        lost = sum(it.records or 0 for it in passed)
+        by_many = []
+        if [place for place, _ in log.records(passed=lambda place, behind: by_many.append(behind))] != found or by_many[-1:] \
+                != passed[-1:]:
+            raise SystemExit(f"NOT SO: so does a scan of many records: {by_many}")
+        if found != [place for place in places if place not in touched] or log.end() != (0, ""):
+            raise SystemExit(f"NOT SO: behind the damaged pages {sorted(bad)} it goes on: {found} {passed}")
+        expect(lost == len(touched) or count - 1 in bad, f"by pass_damage all records are read but those in pages {sorted(bad)}, "
+               f"which are {len(touched)}, and {lost} are told")
+        status, out, said = play(program, "cat", "--page-size=100", folder)
+        kept = [some(number) for number, place in enumerate(places) if place not in touched]
+        expect(status == 3 and out == b"".join(it + b"\n" for it in kept) and "left out" in said, "cat writes the same")
+        out = folder + "-out"
+        shutil.rmtree(out, ignore_errors=True)
+        status, told, said = play(program, "salvage", "--json", "--page-size=100", folder, out)
+        losses = json.loads(told)["losses"]
+        missing = 60 - json.loads(told)["records"]
+        expect(status == 3 and sum(it["lost"] for it in losses) == missing and all(it["segment"] == 0 for it in losses)
+               and ("are lost" in said) == bool(losses), f"salvage takes all but {missing}, and tells how many are lost where")
+    put(path, whole)
+    at = marks_at(count, 100)
+    for what, data in (("changed", flipped(held, at)), ("cut", held[:at + 3]), ("of another segment", held[:at] + bytes(
+            len(held) - at)), ("without their top", held[:at + 8 * count])):
+        put(listed(folder, 0), data)
+        status, out, _ = play(program, "check", "--page-size=100", folder)
+        told = json.loads(play(program, "check", "--json", "--page-size=100", folder)[1])["closed"][0]
+        expect((status, told["state"], told["list"]) == (0, "whole", "unmarked") and b"segment 0: its marks are wrong" in out
+               and play(program, "map", "--page-size=100", folder)[1].split()[-1][:2] == b"~#",
+               f"check and map tell marks that are {what}")
+        log = Session(program, folder, *small)
+        expect(list(log.records()) == [(place, some(number)) for number, place in enumerate(places)]
+               and [log.nth(0, at) for at in range(len(by_segment[0]) + 1)] == by_segment[0] + [None]
+               and log.refusal(PASS_DAMAGE, 0, 0).next == 0 and log.end() == (0, ""),
+               "reads and nth go on without them, and a pass_damage is refused")
+        put(path, flipped(whole, 300))
+        told = json.loads(play(program, "check", "--json", "--page-size=100", folder)[1])["closed"][0]
+        expect((told["state"], told["list"]) == ("damaged", "unmarked"), "check tells it of a damaged segment too")
+        put(path, whole)
+        out = folder + "-copy"
+        shutil.rmtree(out, ignore_errors=True)
+        expect(play(program, "copy", "--page-size=100", folder, out)[0] == 0 and contents(listed(out, 0)) == held,
+               "a copy has them as they were")
+    put(listed(folder, 0), held)
+    printed = [play(program, "nth", "--page-size=100", folder, str(number), str(at)) for number, at in
+               ((0, 3), (last, 1), (0, len(by_segment[0])), (last + 1, 0))]
+    expect(printed == [(0, f"segment {number}: record {at} stands at offset {by_segment[number][at][1]}\n".encode(), "")
+                       for number, at in ((0, 3), (last, 1))]
+           + [(1, b"", f"pagedd: {folder}: segment 0 has no record {len(by_segment[0])}\n"),
+              (1, b"", f"pagedd: {folder}: there is no segment {last + 1}\n")], "pagedd nth prints where a record stands")
+    put(path, flipped(whole, 3))
+    ended = play(program, "nth", "--page-size=100", folder, "0", "1")
+    expect(ended[:2] == (3, b"") and "segment 0 doesn't hold" in ended[2], "or that what it reads for that is damaged")
+    put(path, whole)
+    log = Session(program, folder, *small, version=1)
+    expect(log.status(READ, 0, 1) == NO_FRAME and log.end() == (0, ""), "version 1 has the same status")
+
+
+def unmarked(program, folder):
+    """A log whose segments have no marks, as versions 0.11 and 0.12 closed them."""
+    shutil.rmtree(folder, ignore_errors=True)
+    places = a_log(program, folder)
+    last = places[-1][0]
+    manifest, text = entry(struct.pack(">BQH", 0, 0, 4084)), reader.read(contents(os.path.join(folder, "manifest")), 4084,
+                                                                         reader.crc32c)[1]
+    for number in range(last):
+        at = 18 + 89 * number + 2
+        manifest += entry(b"\2" + text[at + 1:at + 50])
+        held = contents(listed(folder, number))
+        put(listed(folder, number), held[:64])
+    page = manifest.ljust(4084, b"\0") + struct.pack(">HIHI", len(manifest), reader.crc32c(manifest), 0, 0)
+    put(os.path.join(folder, "manifest"), page)
+    os.remove(os.path.join(folder, "manifest.copy"))
+    before = image(folder)
+    told = json.loads(play(program, "check", "--json", folder)[1])["closed"]
+    expect({(it["state"], it["list"]) for it in told} == {("whole", "whole")} and play(program, "map", folder)[1].split()[-1]
+           == b"#" * last + b"+", "segments without marks are whole")
+    log = Session(program, folder, "--read-only")
+    expect(list(log.records()) == [(place, some(number)) for number, place in enumerate(places)]
+           and {log.status(kind, 0, 0) for kind in (NTH, PASS_DAMAGE)} == {UNMARKED} and log.read_frame((0, 1))[0] is None
+           and log.end() == (0, "") and image(folder) == before,
+           "they are read, also in the midst of a frame; nth and pass_damage are refused with 45")
+    status, out, said = play(program, "nth", folder, "0", "0")
+    expect((status, out) == (1, b"") and "segment 0 has no marks" in said, f"nor does pagedd nth find one: {said.strip()}")
+    log = Session(program, folder, SMALL)
+    more = log.append_many([some(number) for number in range(20, 40)], sync=True)
+    expect([data for _, data in log.records()] == [some(number) for number in range(40)]
+           and log.nth(last, 0) == (last, 0) and log.status(READ, last, 1) == NO_FRAME and log.end() == (0, ""),
+           "it is appended to, and segments that are closed from then on have marks")
+    out = folder + "-out"
+    shutil.rmtree(out, ignore_errors=True)
+    status, now, copied = play(program, "copy", folder, out)[0], image(folder), image(out)
+    expect((status, play(program, "check", out)[0]) == (0, 0) and all(
+        copied[name] == now[name] for name in now if name[:20].isdigit() and int(name[:20]) < more[-1][0]), "it is copied as it is")
+    put(segment(folder, 1), flipped(contents(segment(folder, 1)), 4))
+    status, out, said = play(program, "cat", folder)
+    expect((status, out) == (3, b"".join(some(number) + b"\n" for number, place in enumerate(places + more) if place[0] != 1))
+           and "its other records are left out" in said, "at a damaged page cat leaves out what follows in that segment")
+    log = Session(program, folder, SMALL)
+    log.drop_before(last + 1)
+    expect(log.end() == (0, "") and not {name for name in image(folder) if name[:20].isdigit() and int(name[:20]) <= last},
+           "segments of both kinds are dropped")
 
 
 def pages(program, folder):
@@ -418,14 +587,14 @@ def pages(program, folder):
     shutil.rmtree(folder, ignore_errors=True)
     small = ("--page-size=100", "--segment-size=2000")
     log = Session(program, folder, *small)
-    places = log.append_all([some(number) for number in range(60)])
+    places = log.append_many([some(number) for number in range(60)], sync=True)
     log.end()
     path, whole, held = segment(folder, 0), contents(segment(folder, 0)), contents(listed(folder, 0))
     size = json.loads(play(program, "check", "--json", "--page-size=100", folder)[1])["closed"][0]["content_bytes"]
     count = -(-size // 100)
     # The digests of pages 0 to 2 and a part of that of page 3 are in the list's first page.
     for bad, at, rows, unknown in (({3}, None, [[3, 3]], 0), ({0, 1, 2, 7, count - 1}, None, [[0, 2], [7, 7], [count - 1] * 2], 0),
-                                   ({5}, 5, [[5, 5]], 4), ({5}, len(held) - 1, [], count)):
+                                   ({5}, 5, [[5, 5]], 4), ({5}, marks_at(count, 100) - 1, [], count)):
         data = bytearray(whole)
         for page in bad:
             data[page * 112 + 2] ^= 4
@@ -445,7 +614,7 @@ def pages(program, folder):
         if at == 0 and 5 in touches:
             if log.status(READ, at, offset) != DAMAGED:
                 raise SystemExit(f"NOT SO: record {number} is in a damaged page")
-        elif log.read((at, offset))[0] != some(number):
+        elif log.read_frame((at, offset))[0] != some(number):
             raise SystemExit(f"NOT SO: record {number} is in no damaged page")
     expect(log.end() == (0, ""), "the records in that page are refused with 39, and all others are read")
     out = folder + "-out"
@@ -461,7 +630,7 @@ def digests(program, folder):
     for made, wrong, name in (((), other, "sha512-256"), (other, (), "poly61")):
         shutil.rmtree(folder, ignore_errors=True)
         log = Session(program, folder, SMALL, *made)
-        places = log.append_all([some(number) for number in range(20)])
+        places = log.append_many([some(number) for number in range(20)], sync=True)
         log.end()
         before, out = image(folder), folder + "-out"
         for words in (["serve-log"], ["serve-log", "--read-only"], ["check"], ["cat"], ["map"], ["salvage"], ["copy"],
@@ -524,7 +693,7 @@ def older_log(program, folder):
            and log.end() == (0, "") and [it["bytes"] for it in json.loads(play(program, "where", "--json", folder)[1])["closed"]]
            == lengths, "so does where, which says that they are those of files")
     log = Session(program, folder, SMALL)
-    more = log.append_all([some(number) for number in range(20, 40)])
+    more = log.append_many([some(number) for number in range(20, 40)], sync=True)
     expect([data for _, data in log.records()] == [some(number) for number in range(40)] and log.end() == (0, ""),
            "it is appended to")
     there = {int(name[:20]) for name in image(folder) if name.endswith(".digests")}
@@ -581,7 +750,7 @@ def tampering(program, folder):
             refused = [log.refusal(READ, 1, 0), log.refusal(NEXT, 1, 0)]
             first, second = [(it.status, it.next, it.errno) for it in refused]
             wanted = (DAMAGED, 0, 0) if data is not None else (SYSTEM, 1, 2)
-            others = [log.read(place)[0] for place in places if place[0] != 1]
+            others = [log.read_frame(place)[0] for place in places if place[0] != 1]
             if (first, second) != (wanted, wanted) or others != inside or log.end() != (0, ""):
                 raise SystemExit(f"NOT SO: a segment that is {what} is refused with {expected}: {first} {second}")
         state = "damaged" if data is not None else "missing"
@@ -632,7 +801,7 @@ def older_manifest(program, folder):
     a_log(program, folder, 5)
     old = contents(os.path.join(folder, "manifest"))
     log = Session(program, folder, SMALL)
-    log.append_all([some(number) for number in range(30)])
+    log.append_many([some(number) for number in range(30)], sync=True)
     log.end()
     put(os.path.join(folder, "manifest"), old)
     status, out, said = play(program, "serve-log", folder)
@@ -643,7 +812,7 @@ def short_open(program, folder):
     """An open segment that has less than it had at the last opening is refused, except where a cut is asked for."""
     shutil.rmtree(folder, ignore_errors=True)
     log = Session(program, folder)
-    log.append_all([bytes(3000)] * 4)
+    log.append_many([bytes(3000)] * 4, sync=True)
     log.end()
     Session(program, folder).end()
     path, good = segment(folder, 0), image(folder)
@@ -668,7 +837,7 @@ def short_open(program, folder):
             put(os.path.join(folder, name), held)
     shutil.copytree(folder, folder + "-old")
     log = Session(program, folder, "--segment-size=1")
-    log.append_all([b"a", b"b"])
+    log.append_many([b"a", b"b"], sync=True)
     log.end()
     kept = image(folder)["manifest.copy"]
     shutil.rmtree(folder)
@@ -689,7 +858,7 @@ def torn(program, folder):
     """What an opening cuts of the open segment is said, and set aside first."""
     shutil.rmtree(folder, ignore_errors=True)
     log = Session(program, folder)
-    log.append_all([bytes(3000), bytes(3000)])
+    log.append_many([bytes(3000), bytes(3000)], sync=True)
     log.end()
     path = segment(folder, 0)
     whole = contents(path)
@@ -700,20 +869,20 @@ def torn(program, folder):
     # The second record begins in page 0, so from there on all goes.
     goes = len(before) - (3000 + 7)
     log = Session(program, folder, "--read-only")
-    expect((log.size, log.cut) == (1, goes) and contents(path) == before and log.copy == "",
+    expect((log.recovered, log.hello.cut) == (1, goes) and contents(path) == before and log.hello.copy == "",
            "for reading alone it is served as a recovery would leave it, and the hello says how much is hidden")
     expect("aren't served" in log.end()[1], "and so does standard error")
     log = Session(program, folder)
-    expect((log.size, log.cut, log.given_up) == (1, goes, goes) and contents(log.copy) == before,
+    expect((log.recovered, log.hello.cut, log.hello.given_up) == (1, goes, goes) and contents(log.hello.copy) == before,
            "an opening cuts it, and sets aside first what it cuts, from the page on in which a record begins")
-    expect(log.read((0, 0))[0] == bytes(3000) and log.copy in log.end()[1], "what was before it is read")
+    expect(log.read_frame((0, 0))[0] == bytes(3000) and log.hello.copy in log.end()[1], "what was before it is read")
     # The file ends with a whole page, in which a record began: no page tells that something is missing.
     put(path, whole[:4096])
     status, out, _ = play(program, "check", folder)
     expect(status == 3 and b"not whole" in out, "check tells a record whose last page is lost")
     log = Session(program, folder)
-    expect((log.size, log.cut) == (1, 4096 - (3000 + 7)) and contents(log.copy) == whole[:4096] and log.end()[0] == 0,
-           "an opening cuts what is left of it, after a copy was made")
+    expect((log.recovered, log.hello.cut) == (1, 4096 - (3000 + 7)) and contents(log.hello.copy) == whole[:4096]
+           and log.end()[0] == 0, "an opening cuts what is left of it, after a copy was made")
 
 
 def begun(program, folder):
@@ -727,18 +896,19 @@ def begun(program, folder):
         put(segment(folder, last), data)
         log = Session(program, folder, SMALL)
         copy = b"" if not any(data) else data
-        expect((log.size, log.cut, contents(log.copy) if log.copy else b"") == (inside, len(data), copy),
+        hello = log.hello
+        expect((log.recovered, hello.cut, contents(hello.copy) if hello.copy else b"") == (inside, len(data), copy),
                f"an open segment with {what} alone is cut" + (", after a copy was made" if copy else ""))
         expect(log.append(b"more") == (last, 0) and log.end()[0] == 0, "and the log goes on")
     shutil.rmtree(folder, ignore_errors=True)
     os.mkdir(folder)
     put(os.path.join(folder, "manifest"), bytes(4096))
     log = Session(program, folder, SMALL)
-    expect(log.size == 0 and log.append(b"first") == (0, 0) and log.end()[0] == 0,
+    expect(log.recovered == 0 and log.append(b"first") == (0, 0) and log.end()[0] == 0,
            "and so does a log that was just begun")
     shutil.rmtree(folder, ignore_errors=True)
     log = Session(program, folder)
-    log.append_all([bytes(MOST)] * 20)
+    log.append_many([bytes(MOST)] * 20, sync=True)
     log.end()
     whole = contents(segment(folder, 0))
     put(segment(folder, 0), whole[:5000] + b"\1" + whole[5001:])
@@ -748,13 +918,14 @@ def begun(program, folder):
            f"an open segment of which more than 1 MiB would go is refused with status 3: {said.strip()}")
     log = Session(program, folder, "--cut")
     cut = before[os.path.basename(segment(folder, 0))]
-    expect(log.size == 0 and contents(log.copy) == cut and log.end()[0] == 0, "--cut goes on, after a copy was made")
+    expect(log.recovered == 0 and contents(log.hello.copy) == cut and log.end()[0] == 0,
+           "--cut goes on, after a copy was made")
 
 
 def closed_by_a_failure(program, folder):
     shutil.rmtree(folder, ignore_errors=True)
     log = Session(program, folder, SMALL)
-    places = log.append_all([some(number) for number in range(5)])
+    places = log.append_many([some(number) for number in range(5)], sync=True)
     last = places[-1][0]
     put(segment(folder, last + 1), b"bytes of somebody else")
     refused = log.refusal(APPEND_RECORDS_SYNC, data=batch([some(number) for number in range(9)]))
@@ -763,7 +934,7 @@ def closed_by_a_failure(program, folder):
     asked = [log.refusal(kind, data=fields) for kind, fields in (
         (APPEND, b"a"), (SYNC, b""), (SIZE, b""), (SYNC_SIZE, b""), (APPEND_RECORDS, batch([b"a"])))]
     expect(all((it.status, it.next) == (CLOSED, 2) for it in asked), "the log is closed then: 17")
-    expect(log.read(places[0])[0] == some(0) and log.refusal(READ, last, 0).status == CLOSED,
+    expect(log.read_frame(places[0])[0] == some(0) and log.refusal(READ, last, 0).status == CLOSED,
            "records of closed segments are read all the same")
     status, said = log.end()
     expect(status == 1 and said.count("\n") == 1, f"it ends with status 1: {said.strip()}")
@@ -782,8 +953,8 @@ def full(program, folder):
         resource.setrlimit(resource.RLIMIT_FSIZE, (8192, 8192))
         signal.signal(signal.SIGXFSZ, signal.SIG_IGN)
 
-    log = Session(program, folder, preexec_fn=limit)
-    log.append_all([b"kept"])
+    log = Session(program, folder, limit=limit)
+    log.append_many([b"kept"], sync=True)
     refused = log.refusal(APPEND_RECORDS_SYNC, data=batch([bytes(20000)]))
     expect(refused.status in (2, 3) and refused.next == 2 and refused.errno == errno.EFBIG
            and refused.words.startswith(os.strerror(errno.EFBIG)),
@@ -806,14 +977,15 @@ def commands(program, folder):
                   ["salvage", folder, out, "CUT"], ["salvage", "--json", file, out], ["rebuild", file],
                   ["copy", file, out], ["copy", folder, os.path.join(folder, "in")], ["copy", folder, file],
                   ["serve", folder], [folder], ["cat", "--from", "3", folder], ["cat", "--len", "3", folder],
-                  ["map", "--from", "99", folder], ["where", file], ["where", folder + "-not"]):
+                  ["map", "--from", "99", folder], ["where", file], ["where", folder + "-not"], ["nth", file, "0", "0"],
+                  ["nth", folder + "-not", "0", "0"]):
         status, out, said = play(program, *words)
         expect((status, out, said.count("\n")) == (1, b"", 1), f"pagedd {words[0]} is refused: {said.strip()}")
     status, out, said = play(program, "serve-log", "--segment-size=0", folder)
     expect((status, out) == (1, b"") and "--segment-size" in said, f"a segment has a byte at least: {said.strip()}")
     for size in ("1", "18446744073709551615"):
         log = Session(program, folder, f"--segment-size={size}", "--read-only")
-        expect(log.size == 20 and log.end() == (0, ""), f"and it may have {size}")
+        expect(log.recovered == 20 and log.end() == (0, ""), f"and it may have {size}")
     expect(play(program, "map", "--from", "2", "--to", "4", folder)[1].split()[-2:] == [b"2", b"##"],
            "map draws the segments from one to before another")
     expect(image(folder) == before, "and nothing changed")
@@ -835,8 +1007,8 @@ def main():
     made.add_argument("PAGEDD", type=usage.program)
     program = made.parse_args().PAGEDD
     with tempfile.TemporaryDirectory() as room:
-        parts = (version_one, version_two, wheres, scans, reads_once, wrong_frames, in_order, alone, tampering, pages, digests,
-                 older_log, older_manifest, short_open, torn, begun, closed_by_a_failure, full, commands, documented)
+        parts = (version_one, version_two, wheres, scans, reads_once, wrong_frames, in_order, alone, tampering, pages, marks, digests,
+                 unmarked, older_log, older_manifest, short_open, torn, begun, closed_by_a_failure, full, commands, documented)
         for number, part in enumerate(parts):
             part(program, os.path.join(room, f"log-{number}"))
     print("all is so")

@@ -4,14 +4,13 @@ import shutil
 import tempfile
 
 import usage
-from client import SIZE
-from log_client import Log
+from served import LogRequest, ServedLog
 from statuses import PAGE, contents, play, put
 
 PAGE_OF_TABLE = os.path.join(os.path.dirname(os.path.abspath(__file__)), "..", "docs", "LOG_PROTOCOL.md")
 
 # A client that offers version 2, asks for the number of records, and closes.
-ASKS = b"\x02\x01\x02" + bytes([1, 0, 0, 0, SIZE]) + b"\x01\x00\x00\x00\x10"
+ASKS = b"\x02\x01\x02" + bytes([1, 0, 0, 0, LogRequest.SIZE]) + b"\x01\x00\x00\x00\x10"
 
 # Segments of one record, so that the manifest has three pages, and then longer ones.
 MANY, LONG = 150, 330
@@ -31,13 +30,13 @@ class Made:
 
     def __init__(self, program, folder):
         self.folder, self.records = folder, [record(number) for number in range(MANY + LONG)]
-        log = Log(program, folder, "--segment-size=1")
-        log.append_all(self.records[:MANY])
+        log = ServedLog(program, folder, "--segment-size=1")
+        log.append_many(self.records[:MANY], sync=True)
         log.close()
-        log = Log(program, folder, "--segment-size=20000")
+        log = ServedLog(program, folder, "--segment-size=20000")
         self.old = {}
         for at in range(MANY, MANY + LONG, 10):
-            log.append_all(self.records[at:at + 10])
+            log.append_many(self.records[at:at + 10], sync=True)
             for name in os.listdir(folder):
                 data = contents(os.path.join(folder, name))
                 if data != self.old.setdefault(name, [data])[-1]:
@@ -50,7 +49,7 @@ class Made:
 
     def open_again(self, program):
         """Opens the log once more, so that the copy of its manifest knows how much the open segment has."""
-        Log(program, self.folder, "--segment-size=20000").close()
+        ServedLog(program, self.folder, "--segment-size=20000").close()
         self.names = {"the open segment, opened since": self.open, "the manifest's copy": "manifest.copy"}
 
     def data(self, name):

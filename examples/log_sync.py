@@ -12,40 +12,45 @@ import sys
 import tempfile
 
 import usage
-from client import Refusal
-from log_client import Log
+from served import Error, Next, ProgramLost, Refusal, ServedLog
 
 OPTIONS = ("--page-size", "100", "--segment-size", "150")
 
-# What a client may do next, by the byte of a refusal: to open the log anew, or to replace its files first.
-ANEW, REPLACE = 2, 3
 
-class Failing(Log):
+class Failing(ServedLog):
     """A log whose program runs under strace, by which the sync of this number fails, or that and all later ones."""
 
     def __init__(self, program, folder, trace, when):
-        self.trace = trace
-        self.command = ["strace", "-f", "-y", "-o", trace, "-e", "trace=fsync", "-e",
-                        f"inject=fsync:error=EIO:when={when}", program, "serve-log", *OPTIONS, folder]
+        self.trace, self.when = trace, when
+        super().__init__(program, folder, *OPTIONS)
 
-    def play(self, kept):
-        """Plays the session, up to its first refusal; what was committed goes to `kept`. Answers what the client was
-        told: a refusal, or what the program said as it ended."""
-        try:
-            self.open(self.command, stderr=subprocess.PIPE)
-            for at in range(9):
-                new = [b"record %d.%d" % (at, one) * 3 for one in range(2)]
-                self.append_all(new)
-                kept += new
-                if at in (4, 7):
-                    self.drop_before(at // 3)
-            self.close()
-        except Refusal as refusal:
-            self.process.stdin.close()
-            return refusal
-        except SystemExit:
-            pass
-        return None
+    def start_process(self, command):
+        return super().start_process(["strace", "-f", "-y", "-o", self.trace, "-e", "trace=fsync", "-e",
+                                      f"inject=fsync:error=EIO:when={self.when}", *command])
+
+
+def play(program, folder, trace, when, kept):
+    """Plays the session, up to its first refusal; what was committed goes to `kept`. Answers that refusal, if there is
+    one, and what the program said."""
+    try:
+        log = Failing(program, folder, trace, when)
+    except Error as error:
+        # (a greeting says no more than a status: what to do next stands in the program's words)
+        return None, error.words
+    refusal = None
+    try:
+        for at in range(9):
+            new = [b"record %d.%d" % (at, one) * 3 for one in range(2)]
+            log.append_many(new, sync=True)
+            kept += new
+            if at in (4, 7):
+                log.drop_before(at // 3)
+    except Refusal as error:
+        refusal = error
+    except ProgramLost:
+        pass
+    log.close()
+    return refusal, log.said.strip()
 
 
 def failed_in(trace):
@@ -66,10 +71,11 @@ def read_again(program, folder, kept):
     """Replaces the files, opens the log, and compares."""
     if os.listdir(folder):
         subprocess.run([program, "rewrite", folder], check=True, stdout=subprocess.DEVNULL)
-    log = Log(program, folder, *OPTIONS)
-    found = [data for _, data in log.records()]
-    log.append_all([b"one more"])
-    status = log.close()
+    log = ServedLog(program, folder, *OPTIONS)
+    found = [data for _, data in log]
+    log.append_many([b"one more"], sync=True)
+    log.close()
+    status = log.exit_status
     # Records that weren't answered may be there, after those that were.
     first = next((at for at, data in enumerate(kept) if found and data == found[0]), len(kept))
     if status or kept[first:] != found[:len(kept) - first]:
@@ -81,9 +87,9 @@ def is_told(refusal, told, what):
     """Whether the client was told to replace the files, or the line says so. A list may fail: the log is to be opened
     anew, and reads compute a list that isn't whole. The manifest's copy may fail: the next entry writes it anew, and a
     line at an opening says so."""
-    if refusal and refusal.next == REPLACE or "pagedd rewrite" in told or "rename it and back" in told:
+    if refusal and refusal.next is Next.REPLACE or "pagedd rewrite" in told or "rename it and back" in told:
         return True
-    if what.endswith(".digests") and refusal and refusal.next == ANEW:
+    if what.endswith(".digests") and refusal and refusal.next is Next.OPEN_ANEW:
         return True
     return what == "manifest.copy" or "manifest.copy:" in told
 
@@ -93,10 +99,8 @@ def fail(program, room, sync, for_good):
     folder, trace = os.path.join(room, "log"), os.path.join(room, "trace")
     shutil.rmtree(folder, ignore_errors=True)
     os.mkdir(folder)
-    kept, log = [], Failing(program, folder, trace, f"{sync}+" if for_good else str(sync))
-    refusal = log.play(kept)
-    log.process.wait()
-    told = log.process.stderr.read().decode().strip()
+    kept = []
+    refusal, told = play(program, folder, trace, f"{sync}+" if for_good else str(sync), kept)
     what = failed_in(trace)
     if what is None:
         return None

@@ -42,9 +42,9 @@ from collections import Counter, namedtuple
 import reader
 import survey
 import usage
-from client import APPEND, READ, SYNC, Refusal, batch, records
-from log_client import APPEND_RECORDS, APPEND_RECORDS_SYNC, DROP_BEFORE, NO_SEGMENT, SYNC_SIZE
+from journal import records
 from log_served import Session, image, put, segment
+from served import Error, NoSegment, OpenRefused, Refusal
 from tear import torn
 
 # How a log is kept: the size of a page, how much is held back, from how many bytes on a segment is closed; and how many
@@ -80,7 +80,7 @@ class Wrong(Exception):
 
 
 # How a program shows that it doesn't do what it is to.
-FAILURES = (Wrong, Refusal, EOFError, struct.error)
+FAILURES = (Wrong, Error, struct.error)
 
 
 def unhex(text):
@@ -255,13 +255,17 @@ class Traced(Session):
     """A log whose program runs under strace. It counts its answers."""
 
     def __init__(self, program, folder, trace, options):
-        self.count = 0
-        self.open([*STRACE, "-o", trace, program, "serve-log", *options, folder], stderr=subprocess.PIPE)
+        self.count, self.trace = 0, trace
+        super().__init__(program, folder, *options)
 
-    def answer(self):
-        # (a refusal is an answer too)
+    def start_process(self, command):
+        return super().start_process([*STRACE, "-o", self.trace, *command])
+
+    def _frame(self, *given):
+        # (a refusal is an answer too, and so are the greeting and the hello)
+        found = super()._frame(*given)
         self.count += 1
-        return super().answer()
+        return found
 
 
 class Asked:
@@ -291,28 +295,28 @@ class Asked:
 def play(log, asked, dues, requests, shape, rng):
     """Plays so many requests. Of each, what is asked while it isn't answered is in `dues`, by the answers before it."""
 
-    def ask(kind, *numbers, data=b""):
+    def ask(call, *given, **more):
         dues[log.count] = asked.due()
-        return log.ask(kind, *numbers, data=data)
+        return call(*given, **more)
 
     for _ in range(requests):
         what = rng.random()
         if what < 0.2:
-            ask(rng.choice((SYNC, SYNC_SIZE)))
+            ask(rng.choice((log.sync, log.sync_size)))
             asked.committed = len(asked.records)
         elif what < 0.4:
             made = asked.send(rng.randrange(1, 9), shape, rng)
-            kind = rng.choice((APPEND_RECORDS, APPEND_RECORDS_SYNC))
-            asked.answered(list(struct.iter_unpack("<QQ", ask(kind, data=batch(made)))))
-            if kind == APPEND_RECORDS_SYNC:
+            sync = rng.random() < 0.5
+            asked.answered(ask(log.append_many, made, sync=sync))
+            if sync:
                 asked.committed = len(asked.records)
         elif what < 0.47 and asked.records:
             asked.tried = rng.randint(asked.dropped, asked.records[-1][0][0])
-            ask(DROP_BEFORE, asked.tried)
+            ask(log.drop_before, asked.tried)
             asked.dropped = asked.tried
         else:
             made = asked.send(1, shape, rng)
-            asked.answered([struct.unpack("<QQ", ask(APPEND, data=made[0]))])
+            asked.answered([ask(log.append, made[0])])
     dues[log.count] = asked.due()
 
 
@@ -320,14 +324,16 @@ def compare(due, log):
     """Holds the records of a log against what was asked of it. Answers them, and the segment before which all are
     dropped."""
     found = list(log.records())
-    if log.size != len(found):
-        raise Wrong(f"the greeting tells {log.size} records, and there are {len(found)}")
+    if log.recovered != len(found):
+        raise Wrong(f"the greeting tells {log.recovered} records, and there are {len(found)}")
     dropped = due.dropped
     if due.tried > due.dropped:
         try:
-            log.ask(READ, due.dropped, 0)
-        except Refusal as refused:
-            dropped = due.tried if refused.status == NO_SEGMENT else due.dropped
+            log.read_frame((due.dropped, 0))
+        except NoSegment:
+            dropped = due.tried
+        except Refusal:
+            pass
     wanted = [(at, data) for at, data in due.records[:due.sent] if at is None or at[0] >= dropped]
     gone = due.sent - len(wanted)
     for number, ((at, data), (place, other)) in enumerate(zip(wanted, found), gone):
@@ -400,10 +406,8 @@ def opened(program, folder, shape, *words):
     """A log that is never refused."""
     try:
         return Session(program, folder, *options(shape), *words)
-    except EOFError:
-        said = subprocess.run([program, "serve-log", *options(shape), folder], stdin=subprocess.DEVNULL,
-                              capture_output=True, check=False).stderr
-        raise Wrong(f"it is refused: {said.decode()}") from None
+    except OpenRefused as refused:
+        raise Wrong(f"it is refused: {refused}") from None
 
 
 def options(shape):
@@ -416,8 +420,7 @@ def hold(program, folder, shape, files, due):
     place_in(folder, files)
     log = opened(program, folder, shape)
     found, dropped = compare(due, log)
-    status = log.close()
-    said = log.process.stderr.read().decode()
+    status, said = log.end()
     if status != 0:
         raise Wrong(f"it ends with status {status}: {said}")
     check_copy(shape, image(folder))
@@ -434,7 +437,7 @@ def go_on(program, folder, shape, found, dropped, rng):
     log = opened(program, folder, shape)
     asked = Asked(found, dropped)
     made = asked.send(4, shape, rng)
-    asked.answered(log.append_all(made))
+    asked.answered(log.append_many(made, sync=True))
     asked.committed = len(asked.records)
     asked.dropped = asked.tried = rng.randint(dropped, asked.records[-1][0][0])
     log.drop_before(asked.dropped)
@@ -442,7 +445,7 @@ def go_on(program, folder, shape, found, dropped, rng):
         raise Wrong("it doesn't end well after it went on")
     log = opened(program, folder, shape)
     compare(asked.due(), log)
-    if log.cut or log.given_up or log.end() != (0, ""):
+    if log.hello.cut or log.hello.given_up or log.end() != (0, ""):
         raise Wrong("it isn't whole after it went on")
     whole = subprocess.run([program, "check", *options(shape)[:1], folder], capture_output=True, check=False)
     if whole.returncode != 0:
@@ -519,8 +522,9 @@ class Run:
         asked = Asked(found, dropped)
         dues = {0: due, 1: asked.due()}
         play(log, asked, dues, requests, self.shape, self.rng)
-        if log.close() != 0:
-            raise Wrong(f"a session ends badly: {log.process.stderr.read().decode()}")
+        status, said = log.end()
+        if status != 0:
+            raise Wrong(f"a session ends badly: {said}")
         begun, answers = len(self.moments) - 1, Answers()
         for name, number, words, texts, result in traced(self.trace):
             if name == "write" and number == 1:

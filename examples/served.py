@@ -1,38 +1,67 @@
-"""A blob that `pagedd` serves with options, for the other scripts."""
-import subprocess
+"""Blobs and logs that `pagedd` serves, for the other scripts: by the package of clients/python, which needn't be
+installed."""
+import os
+import sys
+import warnings
 
 import usage
-from client import Blob
+
+sys.path.insert(0, os.path.join(os.path.dirname(os.path.abspath(__file__)), "..", "clients", "python", "src"))
+
+from pagedd_client import (Blob, BlobInsufficientLength, BlobRequest, Closed, Damaged, Error, Locked, Log, LogRequest,
+                           Next, NoFrame, NoSegment, OpenRefused, ProgramLost, ProgramWarning, ReadOnly, Refusal,
+                           SystemFailed, Unlisted, Unmarked, Where, WriterGone, WrongAnswer, WrongFields)
+from pagedd_client.frames import frame, records_frame
+
+# What a client of version 1 begins with.
+VERSION = b"\x01"
+
+# What an opening says is looked at by the scripts, where it matters.
+warnings.simplefilter("ignore", ProgramWarning)
 
 
-class Refused(Exception):
-    """The program served nothing: its exit status, and what it said."""
-
-    def __init__(self, status, words):
-        super().__init__(f"status {status}: {words}")
-        self.status, self.words = status, words
+def batch(records):
+    """The fields of a request with these records: their number, their lengths, their bytes."""
+    return records_frame(BlobRequest.APPEND_RECORDS, records)[5:]
 
 
-class Served(Blob):
-    """A blob that is served with these options, in version 2 where the program knows it. `ask` takes the requests of
-    both versions. What the hello told is in `size`, `page_size`, `checksum`, `read_only`, `cut`, `given_up`, `copy` and
-    `limits`; in version 1 `size` alone is known."""
+class Frames:
+    """What a script that plays single bytes asks of a session."""
 
-    def __init__(self, program, path, *options):
-        try:
-            self.open([program, "serve", *options, path], stderr=subprocess.PIPE)
-        except EOFError:
-            words = self.process.stderr.read().decode()
-            raise Refused(self.process.wait(), words) from None
-
-    def ended(self):
-        """The program is gone."""
-        raise EOFError
+    @property
+    def process(self):
+        """The program's process, while it runs."""
+        return self._process
 
     def kill(self):
         """Kills the program, and waits until it is gone."""
-        self.process.kill()
-        self.process.wait()
+        super().kill()
+        self._end()
+
+    def send(self, data):
+        """Writes bytes to the program, whatever they are."""
+        self._write(data)
+
+    def answer(self):
+        """The payload of the next answer."""
+        refusal, payload = self._take("a request", 0, 4_294_967_294)
+        if refusal is not None:
+            raise refusal
+        return payload
+
+
+class Served(Frames, Blob):
+    """A blob that is served with these options."""
+
+    def __init__(self, program, path, *options, **more):
+        super().__init__(path, program=program, options=options, **more)
+
+
+class ServedLog(Frames, Log):
+    """A log that is served with these options."""
+
+    def __init__(self, program, folder, *options, **more):
+        super().__init__(folder, program=program, options=options, **more)
 
 
 def opened(program, path, synced):
@@ -40,11 +69,11 @@ def opened(program, path, synced):
     there may be nothing to keep, and then it is cut by `--cut`."""
     try:
         return Served(program, path)
-    except Refused as refused:
-        if refused.status != 3 or synced:
+    except OpenRefused as refused:
+        if refused.exit_status != 3 or synced:
             raise SystemExit(f"{synced} bytes were synced, and it is refused: {refused}") from refused
         return Served(program, path, "--cut")
 
 
 if __name__ == "__main__":
-    usage.module("kill.py, tear.py, check.py and faults.py")
+    usage.module("the scripts that start pagedd")

@@ -7,7 +7,6 @@ import tempfile
 import reader
 import survey
 import usage
-from client import APPEND, CLOSE, SYNC
 from served import Served
 
 PAYLOAD, PAGE = 4084, 4096
@@ -46,11 +45,9 @@ def some(length):
 def a_blob(program, path, length, *options):
     """A file with so many synced bytes, and those bytes."""
     data = some(length)
-    blob = Served(program, path, *options)
-    blob.ask(APPEND, data=data)
-    blob.ask(SYNC)
-    blob.ask(CLOSE)
-    blob.process.wait()
+    with Served(program, path, *options) as blob:
+        blob.append(data)
+        blob.sync()
     return data
 
 
@@ -64,8 +61,8 @@ def a_torn_blob(program, path):
     1,500 bytes and fails."""
     data = a_blob(program, path, PAYLOAD + 1000)
     blob = Served(program, path)
-    blob.ask(APPEND, data=b"\x55" * 500)
-    blob.ask(SYNC)
+    blob.append(b"\x55" * 500)
+    blob.sync()
     blob.kill()
     image = bytearray(contents(path))
     image[PAGE + 1100] ^= 1

@@ -15,7 +15,6 @@ import tempfile
 
 import survey
 import usage
-from client import APPEND, READ, SYNC
 from served import Served, opened
 
 SECTOR = 512
@@ -29,11 +28,11 @@ def run(program, path, rng, calls):
     for _ in range(calls):
         kind = rng.random()
         if kind < 0.4:
-            blob.ask(SYNC)
+            blob.sync()
         else:
             # Now and then more than is held back, which is written with no sync.
             data = rng.randbytes(rng.randrange(90_000) if kind < 0.5 else rng.randrange(3000))
-            blob.ask(APPEND, data=data)
+            blob.append(data)
             sent += data
         with open(path, "rb") as file:
             states.append(file.read())
@@ -97,9 +96,9 @@ def main():
             with open(path, "wb") as file:
                 file.write(image)
             blob = opened(program, path, synced)
-            content = blob.ask(READ, 0, blob.size)
+            content = blob.read(0, blob.recovered)
             blob.kill()
-            beside += check_told(path, image, blob.process.stderr.read().decode())
+            beside += check_told(path, image, blob.said)
             os.remove(path)
             if content[:synced] != sent[:synced] or content != sent[:len(content)]:
                 raise SystemExit(f"image {number}, by {how}: {len(content)} bytes, {synced} synced")

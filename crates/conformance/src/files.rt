@@ -1,8 +1,7 @@
 // Files in memory, whose names and bytes can be lost in a crash.
 use crate::words::out_of_memory;
 use disk::{Blob, Error, IoBufs, MemBlob, WriteOptions};
-use page_digests::Levels;
-use segments::{Asked, Known, copy_of};
+use segments::{Asked, Known, SegmentLevels, copy_of};
 use std::alloc::Global;
 use std::io;
 use std::io::{ErrorKind, Write};
@@ -287,11 +286,10 @@ impl Files {
         self.write_whole(Name::Copy, copy, noted)
     }
 
-    /// Writes the list of a segment and its top, which are durable then. Half of that is there after
-    /// a call that failed.
-    pub fn write_list(&mut self, segment: u64, levels: &Levels) -> io::Result<()> {
-        let mut bytes = Vec::from_slice(self.alloc, &levels.list)?;
-        bytes.extend_from_slice(&levels.top)?;
+    /// Writes the file of a segment's list, which is durable then. Half of that is there after a call
+    /// that failed.
+    pub fn write_list(&mut self, segment: u64, levels: &SegmentLevels) -> io::Result<()> {
+        let bytes = levels.bytes(self.alloc)?;
         let noted = self.note(FileCall::WriteList(segment, bytes.len()));
         self.write_whole(Name::List(segment), bytes, noted)
     }

@@ -14,7 +14,7 @@ use disk::IoBuf;
 use journal::Found;
 use page::Sum;
 use scripts::Hex;
-use segments::{ClosedSegment, Error, Options, Place, SegmentedLog};
+use segments::{ClosedSegment, Error, Options, Passed, Place, SegmentedLog};
 use std::alloc::Global;
 use std::cell::RefCell;
 use std::io;
@@ -51,8 +51,12 @@ enum Verb {
     Read,
     Records,
     Many,
+    Nth,
+    Pass,
     Reader,
     ReaderRead,
+    ReaderNth,
+    ReaderPass,
     Rotate,
     DigestAhead,
     DropBefore,
@@ -71,7 +75,7 @@ enum Verb {
     TornOpen,
 }
 
-const STEPS: [Form<Verb>; 27] = [
+const STEPS: [Form<Verb>; 31] = [
     (b"open", &[], Verb::Open),
     (b"close", &[], Verb::Close),
     (b"append", &[Bytes], Verb::Append),
@@ -81,8 +85,12 @@ const STEPS: [Form<Verb>; 27] = [
     (b"read", &[Number, Number], Verb::Read),
     (b"records", &[], Verb::Records),
     (b"many", &[Number, Number, Number], Verb::Many),
+    (b"nth", &[Number, Number], Verb::Nth),
+    (b"pass", &[Number, Number], Verb::Pass),
     (b"reader", &[Number], Verb::Reader),
     (b"reader-read", &[Number], Verb::ReaderRead),
+    (b"reader-nth", &[Number], Verb::ReaderNth),
+    (b"reader-pass", &[Number], Verb::ReaderPass),
     (b"rotate", &[], Verb::Rotate),
     (b"digest-ahead", &[Number], Verb::DigestAhead),
     (b"drop-before", &[Number], Verb::DropBefore),
@@ -265,6 +273,41 @@ fn say_many(
     }
 }
 
+// Writes where a frame begins, if there is one.
+fn say_place_of(place: Result<Option<Place>, Error>, said: &mut Vec<u8>) -> io::Result<()> {
+    match place {
+        Ok(Some(place)) => say_place(Ok(place), said),
+        Ok(None) => write!(said, "none"),
+        Err(error) => say_log_error(&error, said),
+    }
+}
+
+// The same by its offset alone.
+fn say_offset(offset: Result<Option<u64>, Error>, said: &mut Vec<u8>) -> io::Result<()> {
+    match offset {
+        Ok(Some(offset)) => write!(said, "at {offset}"),
+        Ok(None) => write!(said, "none"),
+        Err(error) => say_log_error(&error, said),
+    }
+}
+
+// Writes what was passed: how many frames, if that is known, and how many bytes.
+fn say_passed(passed: Result<Passed, Error>, said: &mut Vec<u8>) -> io::Result<bool> {
+    match passed {
+        Ok(passed) => {
+            write!(said, "passed {}", passed.bytes)?;
+            if let Some(frames) = passed.frames {
+                write!(said, " frames {frames}")?;
+            }
+            Ok(true)
+        }
+        Err(error) => {
+            say_log_error(&error, said)?;
+            Ok(false)
+        }
+    }
+}
+
 // Writes the files with their sizes: the manifest, its copy, the segments, and then the lists.
 fn say_files(files: &Files, said: &mut Vec<u8>) -> io::Result<()> {
     write!(said, "files")?;
@@ -282,6 +325,34 @@ fn say_files(files: &Files, said: &mut Vec<u8>) -> io::Result<()> {
         write!(said, " {number}.digests:{len}")?;
     }
     Ok(())
+}
+
+// A step of a log at a place in a segment, or about a frame of it by its number.
+fn go_at<H: Sum>(
+    log: &mut Log<H>,
+    verb: Verb,
+    words: &Arguments,
+    said: &mut Vec<u8>,
+) -> io::Result<()>
+    requires log { IsLog H.sum_of H.sum_of log.old }
+    ensures log { IsLog H.sum_of H.sum_of log.new }
+{
+    let (segment, offset) = (words.number(0), words.number(1));
+    let mut place = Place { segment, offset };
+    match verb {
+        Verb::Read => say_found(log.read(place), said),
+        Verb::Many => {
+            let found = log.next_many(&mut place, words.length(2));
+            say_many(found, place, said)
+        }
+        Verb::Nth => say_place_of(log.nth(segment, offset), said),
+        _ => {
+            if say_passed(log.pass_damage(&mut place), said)? {
+                write!(said, " to {} {}", place.segment, place.offset)?;
+            }
+            Ok(())
+        }
+    }
 }
 
 // What is done to a log while a call fails.
@@ -383,7 +454,7 @@ impl<H: Sum> Logs<H> {
         words: &Arguments,
         said: &mut Vec<u8>,
     ) -> io::Result<()> {
-        let (first, second) = (words.number(0), words.number(1));
+        let first = words.number(0);
         let bytes = words.bytes();
         let Some(log) = &mut self.log else {
             return write!(said, "closed");
@@ -396,22 +467,8 @@ impl<H: Sum> Logs<H> {
                 Err(error) => say_log_error(&error, said),
             },
             Verb::Wait => say_log_done(log.wait_for_commit(), said),
-            Verb::Read => {
-                let place = Place {
-                    segment: first,
-                    offset: second,
-                };
-                say_found(log.read(place), said)
-            }
+            Verb::Read | Verb::Many | Verb::Nth | Verb::Pass => go_at::<H>(log, verb, words, said),
             Verb::Records => say_records(records_of::<H>(alloc, log), said),
-            Verb::Many => {
-                let mut place = Place {
-                    segment: first,
-                    offset: second,
-                };
-                let found = log.next_many(&mut place, words.length(2));
-                say_many(found, place, said)
-            }
             Verb::Reader => match log.closed_reader(first) {
                 Ok(reader) => {
                     self.reader = Some(reader);
@@ -426,11 +483,22 @@ impl<H: Sum> Logs<H> {
         }
     }
 
-    // Reads by the reader that was opened last, whether the log is open or not.
-    fn read_by(&mut self, offset: u64, said: &mut Vec<u8>) -> io::Result<()> {
-        match &mut self.reader {
-            Some(old) => say_found(old.read(offset), said),
-            None => write!(said, "closed"),
+    // A step of the reader that was opened last, whether the log is open or not: `number` is an
+    // offset, or which frame is asked for.
+    fn read_by(&mut self, verb: Verb, number: u64, said: &mut Vec<u8>) -> io::Result<()> {
+        let Some(old) = &mut self.reader else {
+            return write!(said, "closed");
+        };
+        match verb {
+            Verb::ReaderNth => say_offset(old.nth(number), said),
+            Verb::ReaderPass => {
+                let mut offset = number;
+                if say_passed(old.pass_damage(&mut offset), said)? {
+                    write!(said, " to {offset}")?;
+                }
+                Ok(())
+            }
+            _ => say_found(old.read(number), said),
         }
     }
 
@@ -576,6 +644,26 @@ impl<H: Sum> Logs<H> {
         }
         Ok(())
     }
+
+    // A step about the files as they are, or about how they answer from then on.
+    fn on_files(&mut self, verb: Verb, words: &Arguments, said: &mut Vec<u8>) -> io::Result<()> {
+        match verb {
+            Verb::Files => return say_files(&*lent(&self.files)?, said),
+            Verb::Dump => {
+                return match lent(&self.files)?.bytes(file_of(words.piece(0))?) {
+                    Ok(bytes) => say_bytes("blob", &bytes, said),
+                    Err(_) => write!(said, "none"),
+                };
+            }
+            Verb::Fail => lent(&self.files)?.fail_at(words.length(0), false),
+            Verb::Full => lent(&self.files)?.fill(),
+            _ => {
+                let bytes = words.piece(1).unwrap_or_default();
+                lent(&self.files)?.give(file_of(words.piece(0))?, bytes)?;
+            }
+        }
+        write!(said, "ok")
+    }
 }
 
 impl<H: Sum> Subject for Logs<H> {
@@ -589,33 +677,18 @@ impl<H: Sum> Subject for Logs<H> {
                 self.log = None;
                 write!(said, "ok")
             }
-            Verb::Fail => {
-                lent(&self.files)?.fail_at(words.length(0), false);
-                write!(said, "ok")
-            }
-            Verb::Full => {
-                lent(&self.files)?.fill();
-                write!(said, "ok")
-            }
             Verb::Crash => {
                 self.crash(alloc, &words)?;
                 write!(said, "ok")
             }
-            Verb::ReaderRead => self.read_by(words.number(0), said),
-            Verb::Files => say_files(&*lent(&self.files)?, said),
-            Verb::Dump => {
-                match lent(&self.files)?.bytes(file_of(words.piece(0))?) {
-                    Ok(bytes) => say_bytes("blob", &bytes, said),
-                    Err(_) => write!(said, "none"),
-                }
+            Verb::ReaderRead | Verb::ReaderNth | Verb::ReaderPass => {
+                self.read_by(verb, words.number(0), said)
+            }
+            Verb::Fail | Verb::Full | Verb::Files | Verb::Dump | Verb::Give => {
+                self.on_files(verb, &words, said)
             }
             Verb::Change | Verb::Cut | Verb::Copy | Verb::Lose => {
                 self.harm(verb, &words)?;
-                write!(said, "ok")
-            }
-            Verb::Give => {
-                let bytes = words.piece(1).unwrap_or_default();
-                lent(&self.files)?.give(file_of(words.piece(0))?, bytes)?;
                 write!(said, "ok")
             }
             Verb::Torn => self.tear(alloc, Act::Append(words.bytes()), said),

@@ -8,8 +8,8 @@ ghost use Rattle.segments.specs.Folders.{call_for};
 use crate::files::{Files, Name};
 use disk::{IoBufs, Past, VecBlob};
 use file::{Host, Mirror, OpenError};
-use page_digests::{Levels, Source, SourcePast};
-use segments::{Asked, Folder, FolderCall, FolderPast, Known};
+use page_digests::{Source, SourcePast};
+use segments::{Asked, Folder, FolderCall, FolderPast, Known, SegmentLevels};
 use std::cell::{RefCell, RefMut};
 use std::io;
 use std::io::ErrorKind;
@@ -254,7 +254,7 @@ impl Folder<MemoryFile> for MemoryFolder {
         MemorySource::new(&self.files, Name::List(segment))
     }
 
-    fn write_list(&mut self, segment: u64, levels: &Levels) -> io::Result<()> {
+    fn write_list(&mut self, segment: u64, levels: &SegmentLevels) -> io::Result<()> {
         let written = match lent(&self.files) {
             Ok(mut files) => files.write_list(segment, levels),
             Err(error) => Err(error),

@@ -2,14 +2,14 @@
 -- opened, its page is compared, and ranges of it are read.
 use Rattle.std.proofs.Common.{◌≡◌, ◌⊎◌, ◌*◌, ◌++◌, ◌∷◌, ◌∙◌, [], ℕ, zero, suc, List, length, get_or}
 use Rattle.std.proofs.Common.{refl, ap, sym, subst, inl, inr, arith, lit<, lit≤, true, false}
-use Rattle.std.specs.Prelude.{codes, Some, None, Result, Ok, Err, Bool, Vec}
+use Rattle.std.specs.Prelude.{◌+◌, codes, min, Some, None, Result, Ok, Err, Bool, Vec}
 use Rattle.std.specs.declared.alloc.Global.{Global}
 use Rattle.std.specs.declared.io.Error.{Error as IoError}
 use Rattle.std.proofs.lemmas.List.{same_from_push}
 use Rattle.std.proofs.lemmas.Option.{same_Some}
 use Rattle.page_digests.specs.declared.error.Error.{Error}
 use Rattle.page_digests.specs.declared.error.Error.TheVariants.{Damaged, System}
-use Rattle.page_digests.specs.Contents.{AppendsRange, HoldsLast, IsInCached, IsOpenedContent, IsSameContent, PagedState, PageFails, RangeAsks, RangeFails, unread}
+use Rattle.page_digests.specs.Contents.{AppendsRange, HoldsFrom, HoldsLast, IsInCached, IsOpenedContent, IsSameContent, PagedState, PageFails, RangeAsks, RangeFails, unread}
 use Rattle.page_digests.specs.Contents.{ReadAnswers, PagedReadGoes, ReadIntoAnswers, PagedReadIntoGoes, SoundAnswers, SoundGoes}
 use Rattle.page_digests.specs.Pages.{list_of, content_page, range_at, top_of}
 use Rattle.page_digests.specs.Reads.{DigestFails, IsReadOn, ReadsDigestOn}
@@ -288,3 +288,32 @@ nothing_more = (refl, a_touched_page_is_wrong)
 -- after an error the buffer is as it was
 pub a_part_more : ReadIntoAnswers first 1 2 opened damaged (codes "xy") (codes "xyb") (Err Damaged) → ⊥
 a_part_more (same, fails) = omega (arith, ap length same)
+
+-- ---- the page that is held
+
+pub its_end_is_held : HoldsFrom first 1 read (codes "bc")
+its_end_is_held = record {
+  verified = λ content is. inl (ap (range_at 1 2) (sym (it_is_abc content is)));
+  cached = λ some. record { page = 0; cached = refl; begins = lit≤ tt; ends = lit≤ tt };
+  all = λ page held begins ends. subst (λ (k : ℕ). 1 + 2 ≡ min (k * 32 + 32) 3) (same_Some 0 page held) refl;
+}
+
+-- nothing, though its end is held
+pub its_end_is_left_out : HoldsFrom first 1 read [] → ⊥
+its_end_is_left_out holds = omega (arith, holds.all 0 refl (lit≤ tt) (lit< tt))
+
+-- the page from its begin on
+pub its_begin_is_held : HoldsFrom first 1 read abc → ⊥
+its_begin_is_held holds = omega (arith, holds.all 0 refl (lit≤ tt) (lit< tt))
+
+-- as many other bytes
+pub others_are_held : HoldsFrom first 1 read (codes "xy") → ⊥
+others_are_held holds = differs (holds.verified abc it_is_its_seal)
+  where
+    differs : (codes "xy" ≡ range_at 1 2 abc) ⊎ HasSecondPreimage first 32 abc → ⊥
+    differs (inl same) = omega (arith, ap (λ (l : List ℕ). get_or l 0 0) same)
+    differs (inr twin) = it_has_no_twin twin
+
+-- nothing is held before a page is read
+pub it_is_held_unread : HoldsFrom first 0 opened abc → ⊥
+it_is_held_unread holds = cc (holds.cached (lit< tt)).cached

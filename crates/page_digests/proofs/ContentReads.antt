@@ -5,11 +5,12 @@ use Rattle.std.specs.Prelude.{Option, None, Some, IfSome, Result, Ok, Err, OnOk,
 use Rattle.std.specs.declared.alloc.Global.{Global}
 use Rattle.std.proofs.Math.Nat.{div-eq_of_lt-le, mod-lt, suc-mul}
 use Rattle.std.proofs.lemmas.Bool.{cases_lt}
+use Rattle.std.proofs.lemmas.List.{length-drop, length-take-le}
 use Rattle.std.proofs.lemmas.Nat.{div-add-mod'}
 use Rattle.page_digests.specs.declared.error.Error.{Error}
 use Rattle.page_digests.specs.declared.error.Error.TheVariants.{Damaged, OutOfMemory, System}
 use Rattle.page_digests.specs.declared.seal.Seal.{Seal}
-use Rattle.page_digests.specs.Contents.{AppendsRange, IsInCached, IsSameContent, PagedState, PageFails}
+use Rattle.page_digests.specs.Contents.{AppendsRange, HoldsFrom, IsInCached, IsSameContent, PagedState, PageFails}
 use Rattle.page_digests.specs.Steps.{AsksForPage, AsksForRange, IsAppending, IsContentPage, IsPaged, LoadGoes, PieceGoes}
 use Rattle.page_digests.specs.Contents.{RangeFails, PagedReadGoes, SoundGoes}
 use Rattle.page_digests.specs.Steps.{RangeAppendGoes}
@@ -488,3 +489,39 @@ range_read d offset len s t before bytes empty goes = record {
     subst (IsVerified d s.page_size s.seal (range_at offset len)) (sym (goes.answers.1.1 ∙ ap (λ (l : List ℕ). l ++ goes.answers.1.0) empty)) goes.answers.1.2,
   );
 }
+
+-- ---- of the page that is held
+
+abbrev number_of : Option ℕ → ℕ
+number_of None = 0
+number_of (Some i) = i
+
+-- the bytes of the page that is held from an offset on
+pub held_from : (d : List ℕ → List ℕ) (l : ListState) (seal : Seal) (P : ℕ) (cached : Option ℕ) (page : List ℕ) (reads : List SourceRead) (s : PagedState) (offset i skip : ℕ)
+    → seen seal P cached l reads ≡ s → IsPaged d l seal P cached page → cached ≡ Some i → i * P + skip ≡ offset → skip < length page
+    → HoldsFrom d offset s (take (length page - skip) (drop skip page))
+held_from d l seal P cached page reads s offset i skip same is there place within =
+    subst (λ (v : PagedState). HoldsFrom d offset v bytes) same (record {
+      verified = subst (λ (k : ℕ). IsVerified d P seal (range_at offset k) bytes) (sym count) (piece_verified d P seal offset n i skip page fits place its.verified);
+      cached = λ some. record { page = i; cached = there; begins = omega (arith, place); ends = omega (arith, place, count, fits) };
+      all = λ other held begins ends.
+          let one : i ≡ other = ap number_of (sym there ∙ held) in
+          subst (λ (k : ℕ). offset + length bytes ≡ min (k * P + P) seal.len) one (omega (arith, count, its.len, its.within, place, within));
+    })
+  where
+    n : ℕ
+    n = length page - skip
+
+    bytes : List ℕ
+    bytes = take (length page - skip) (drop skip page)
+
+    its : IsContentPage d P seal i page
+    its = cached_page d l seal P i cached page is there
+
+    fits : skip + n ≤ P
+    fits = omega (arith, its.len, within)
+
+    count : length bytes ≡ n
+    count =
+        let rest : length (drop skip page) ≡ n = length-drop skip page in
+        length-take-le n (drop skip page) (omega (arith, rest))

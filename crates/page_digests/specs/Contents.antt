@@ -1,6 +1,7 @@
 -- A content in a file, and its list in another, of which nothing is believed.
 use Rattle.std.specs.Prelude.{◌≡◌, ◌⊎◌, ◌<◌, ◌≤◌, ◌+◌, ◌-◌, ◌*◌, ◌/◌, ◌++◌, ◌∷◌, [], ℕ, List}
-use Rattle.std.specs.Prelude.{length, Option, Some, None, Vec, Result, Ok, Err, Bool, true, false}
+use Rattle.std.specs.Prelude.{length, min, Option, Some, None, Vec, Result, Ok, Err, Bool, true}
+use Rattle.std.specs.Prelude.{false}
 use Rattle.std.specs.declared.alloc.Global.{Global}
 use Rattle.page_digests.specs.Pages.{list_len, content_page, range_at, top_of}
 use Rattle.page_digests.specs.Reads.{DigestFails, IsTouched, PageIsRefused, PageIsWrong}
@@ -96,6 +97,16 @@ pub record IsInCached (offset len : ℕ) (s : PagedState) : Type 0 where
   pub cached : s.cached ≡ Some page
   pub begins : page * s.page_size ≤ offset
   pub ends : offset + len ≤ page * s.page_size + s.page_size
+
+-- these bytes are those from an offset on that lie in the page that is held, all of them; none if
+-- the offset isn't in it, or no page is held
+pub record HoldsFrom (d : List ℕ → List ℕ) (offset : ℕ) (s : PagedState) (bytes : List ℕ)
+    : Type 0 where
+  pub verified : IsVerified d s.page_size s.seal (range_at offset (length bytes)) bytes
+  pub cached : 0 < length bytes → IsInCached offset (length bytes) s
+  pub all : (page : ℕ) → s.cached ≡ Some page → page * s.page_size ≤ offset
+      → offset < min (page * s.page_size + s.page_size) s.seal.len
+      → offset + length bytes ≡ min (page * s.page_size + s.page_size) s.seal.len
 
 -- what a read of a range asks for, whatever it answers: each page that the range touches once at
 -- most, and each page of the list that has bytes of these pages' digests once at most. If all of

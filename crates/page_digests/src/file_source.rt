@@ -1,18 +1,21 @@
 // A file of the system as a source.
 ghost use Rattle.std.specs.Prelude.{◌≡◌, []};
 
+use crate::ahead::Ahead;
 use crate::past::SourcePast;
 use crate::source::Source;
+use std::alloc::Global;
 use std::fs::File;
 use std::io;
 use std::marker::Model;
-use std::os::unix::fs::FileExt;
 use std::snapshot::Snapshot;
 
-/// A file of the system of which ranges are read. It is only read.
+/// A file of the system of which ranges are read. It is only read. Once a few reads of pages
+/// followed one another, 64 KiB are read at once, and held.
 #[derive(Drop)]
 pub struct FileSource {
     file: File,
+    ahead: Ahead,
     past: Snapshot<SourcePast>,
 }
 
@@ -27,11 +30,12 @@ impl Model for FileSource {
 
 impl FileSource {
     /// A file of which nothing was read yet.
-    pub fn new(file: File) -> Self
+    pub fn new(alloc: Global, file: File) -> Self
         ensures { result ≡ [] }
     {
         FileSource {
             file,
+            ahead: Ahead::new(alloc),
             past: SourcePast::begun(),
         }
     }
@@ -41,7 +45,7 @@ impl Source for FileSource {
     ghost reads = { λ s. s };
 
     fn read_at(&mut self, bytes: &mut [u8], offset: u64) -> io::Result<()> {
-        let result = self.file.read_exact_at(bytes, offset);
+        let result = self.ahead.fill(&self.file, bytes, offset);
         self.past = SourcePast::after(&self.past, offset, bytes, result.is_err());
         result
     }

@@ -2,6 +2,7 @@
 //! which nothing is believed.
 #![tactic(auto)]
 
+mod ahead;
 mod catching;
 mod digesting;
 mod error;

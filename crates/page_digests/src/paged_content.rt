@@ -2,7 +2,7 @@
 ghost use Rattle.std.specs.Prelude.{◌≡◌, ◌↔◌, ◌<◌, ◌≤◌, ◌+◌, ◌*◌, IfErr, IfOk, length};
 ghost use Rattle.std.specs.Prelude.{true};
 ghost use Rattle.std.specs.Int.NonZero.{non_zero_u16_get};
-ghost use Rattle.page_digests.specs.Contents.{IsOpenedContent, unread};
+ghost use Rattle.page_digests.specs.Contents.{HoldsFrom, IsOpenedContent, unread};
 ghost use Rattle.page_digests.specs.Steps.{LoadGoes, PieceGoes, RangeAppendGoes};
 ghost use Rattle.page_digests.specs.Contents.{PagedReadGoes, PagedReadIntoGoes, SoundGoes};
 ghost use Rattle.page_digests.specs.Reads.{TopFails};
@@ -158,9 +158,10 @@ impl<F: Source + Drop, D: Digest> PagedContent<F, D> {
         self.seal
     }
 
-    /// How many bytes the content has.
+    /// How many bytes the content has, fewer than [`LEN_LIMIT`].
     pub fn len(&self) -> u64
-        ensures { result ≡ self.now.seal.len }
+        ensures len { result ≡ self.now.seal.len }
+        ensures fits { result < LEN_LIMIT }
     {
         self.seal.len
     }
@@ -197,6 +198,20 @@ impl<F: Source + Drop, D: Digest> PagedContent<F, D> {
         ensures { (result ≡ true) ↔ (self.now.cached ≡ Some number) }
     {
         self.cached == Some(number)
+    }
+
+    /// The bytes of the content from byte `offset` on that are in the page that was read last, up to
+    /// the page's end. None if no page was read yet, or the byte isn't in it. This reads nothing.
+    pub fn held(&self, offset: u64) -> &[u8]
+        ensures { HoldsFrom D.digest_of offset self.now result.now }
+    {
+        let Some(number) = self.cached else {
+            return &[];
+        };
+        match (offset as usize).checked_sub(number * self.page_size) {
+            Some(skip) if skip < self.page.len() => &self.page[skip..],
+            _ => &[],
+        }
     }
 
     // Reads page `number`, unless it was read last.

@@ -72,7 +72,7 @@ fn run(rt: &HostRuntime) -> io::Result<u8> {
             Ok(0)
         }
         Task::Version => {
-            println!(rt; "pagedctl 0.12.0")?;
+            println!(rt; "pagedctl 0.13.0")?;
             Ok(0)
         }
     }

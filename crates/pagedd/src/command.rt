@@ -4,7 +4,7 @@ use clap::{Arg, ArgAction, Command, value_parser};
 use std::alloc::{AllocError, Global};
 
 /// The version of the program.
-pub const VERSION: &str = "0.12.0";
+pub const VERSION: &str = "0.13.0";
 
 /// The greatest buffer, and the most pages of a cache.
 const MOST: i64 = 0xFFFF_FFFF;
@@ -19,7 +19,7 @@ Exit status:
   141  the output was closed by its reader";
 
 /// The commands, and what each does.
-const COMMANDS: [(&str, &str); 12] = [
+const COMMANDS: [(&str, &str); 13] = [
     ("serve", "serves FILE, and makes it where it is missing"),
     (
         "serve-log",
@@ -40,6 +40,10 @@ const COMMANDS: [(&str, &str); 12] = [
     (
         "where",
         "tells where the log in FOLDER begins and ends, and what its segments have",
+    ),
+    (
+        "nth",
+        "tells where record N of segment SEGMENT of the log in FOLDER stands",
     ),
     (
         "cat",
@@ -76,6 +80,8 @@ enum Takes {
     Nothing,
     /// A number.
     Number,
+    /// The option has no name, and is a number.
+    NumberAlone,
     /// A number of bytes or pages, at least one.
     Size,
     /// A number of bytes, at least one, and as great as a number may be.
@@ -99,7 +105,7 @@ struct Row {
 }
 
 /// The options, in the order in which help has them.
-const ROWS: [Row; 24] = [
+const ROWS: [Row; 26] = [
     Row {
         name: "FILE",
         takes: Takes::Word,
@@ -119,7 +125,21 @@ const ROWS: [Row; 24] = [
         takes: Takes::Word,
         default: None,
         help: "the folder of the log",
-        commands: &["serve-log", "where", "rebuild", "copy"],
+        commands: &["serve-log", "where", "nth", "rebuild", "copy"],
+    },
+    Row {
+        name: "SEGMENT",
+        takes: Takes::NumberAlone,
+        default: None,
+        help: "the number of the segment",
+        commands: &["nth"],
+    },
+    Row {
+        name: "N",
+        takes: Takes::NumberAlone,
+        default: None,
+        help: "the number of the record in its segment, from 0 on",
+        commands: &["nth"],
     },
     Row {
         name: "page-size",
@@ -152,6 +172,7 @@ const ROWS: [Row; 24] = [
             "check",
             "map",
             "where",
+            "nth",
             "cat",
             "salvage",
             "rebuild",
@@ -280,7 +301,7 @@ const ROWS: [Row; 24] = [
 ];
 
 /// The commands that are about a file or a folder.
-const WITH_PAGES: [&str; 11] = [
+const WITH_PAGES: [&str; 12] = [
     "pagedd",
     "serve",
     "serve-log",
@@ -288,6 +309,7 @@ const WITH_PAGES: [&str; 11] = [
     "check",
     "map",
     "where",
+    "nth",
     "cat",
     "salvage",
     "rebuild",
@@ -352,6 +374,7 @@ fn option_of<'a>(alloc: Global, row: Row) -> Arg<'a> {
         Takes::Word => option.required(true),
         Takes::Words => option.num_args(0..).action(ArgAction::Append),
         Takes::Nothing => option.long(row.name).action(ArgAction::SetTrue),
+        Takes::NumberAlone => option.required(true).value_parser(value_parser!(u64)),
         Takes::Number => with_number(option, row.name, value_parser!(u64)),
         Takes::Size => with_number(option, row.name, value_parser!(usize).range(1..=MOST)),
         Takes::Length => with_number(option, row.name, value_parser!(u64).range(1..)),

@@ -8,12 +8,18 @@ use crate::log_told::LogCopy;
 use crate::request::Request;
 use crate::status::Status;
 use digest::Digest;
+use journal::Found;
 use page::Sum;
-use segments::{Error, Place};
+use page_digests::Source;
+use segments::{ClosedSegment, Error, Passed, Place};
 use std::io::{self, BufWriter, Stdout, Write};
 
-/// Writes the bytes of each record of a log to standard output, with a line end after it. Of a segment
-/// those behind a record that can't be read are left out, with a line on standard error.
+/// So many bytes of records are given by one call of the system.
+const OUTPUT_PIECE: usize = 1 << 16;
+
+/// Writes the bytes of each record of a log to standard output, with a line end after it. Behind a
+/// page that can't be read the records go on, if their segment has marks; else its other records
+/// are left out. A line on standard error says what is.
 pub fn cat_log<H: Sum, D: Digest>(
     rt: &HostRuntime,
     request: &Request,
@@ -22,7 +28,10 @@ pub fn cat_log<H: Sum, D: Digest>(
     requires log { IsLog H.sum_of H.sum_of log.old }
 {
     let keeps_all = keeps_all::<H, D>(rt, request, log)?;
-    let mut out = or_end(rt, BufWriter::new(rt.alloc(), rt.stdout()))?;
+    let mut out = or_end(
+        rt,
+        BufWriter::with_capacity(rt.alloc(), OUTPUT_PIECE, rt.stdout()),
+    )?;
     let are_read = write_segments::<H, D>(rt, request, log, &mut out)?;
     or_end(rt, out.flush())?;
     Ok(Status::of_file(are_read && keeps_all))
@@ -71,41 +80,128 @@ fn write_segments<H: Sum, D: Digest>(
 {
     let mut are_read = true;
     for segment in log.first_segment()..=log.last_segment() {
-        if let Some(error) = write_segment::<H, D>(rt, log, segment, out)? {
-            let words = "its other records are left out";
-            tell(
-                rt,
-                format_args!("{}: segment {segment}: {error}: {words}", request.file),
-            );
-            are_read = false;
-        }
+        let is_read = write_segment::<H, D>(rt, request, log, segment, out)?;
+        are_read = are_read && is_read;
     }
     Ok(are_read)
 }
 
-// Writes the records of a segment, up to an error of the log.
+// Writes the records of a segment, and answers whether all were read.
 fn write_segment<H: Sum, D: Digest>(
     rt: &HostRuntime,
+    request: &Request,
     log: &mut LogCopy<H, D>,
     segment: u64,
     out: &mut BufWriter<Stdout>,
-) -> Result<Option<Error>, Status>
+) -> Result<bool, Status>
+    requires log { IsLog H.sum_of H.sum_of log.old }
+    ensures log { IsLog H.sum_of H.sum_of log.new }
+{
+    if segment == log.last_segment() {
+        return write_open::<H, D>(rt, request, log, segment, out);
+    }
+    // A reader looks its segment up once, and not for each record.
+    match log.closed_reader(segment) {
+        Ok(mut reader) => write_closed(rt, request, segment, &mut reader, out),
+        Err(error) => Ok(tell_end(rt, request, segment, &error)),
+    }
+}
+
+// Writes the records of the open segment.
+fn write_open<H: Sum, D: Digest>(
+    rt: &HostRuntime,
+    request: &Request,
+    log: &mut LogCopy<H, D>,
+    segment: u64,
+    out: &mut BufWriter<Stdout>,
+) -> Result<bool, Status>
     requires log { IsLog H.sum_of H.sum_of log.old }
     ensures log { IsLog H.sum_of H.sum_of log.new }
 {
     let mut offset = 0;
     for _ in 0..u64::MAX {
-        let found = match log.read(Place { segment, offset }) {
-            Ok(Some(found)) => found,
+        match log.read(Place { segment, offset }) {
+            Ok(Some(found)) => offset = or_end(rt, write_found(out, &found))?,
             Ok(None) => break,
-            Err(error) => return Ok(Some(error)),
-        };
-        if let Some(bytes) = &found.bytes {
-            or_end(rt, write_line(out, bytes.as_ref()))?;
+            Err(error) => return Ok(tell_end(rt, request, segment, &error)),
         }
-        offset = found.end;
     }
-    Ok(None)
+    Ok(true)
+}
+
+// Writes the records of a closed segment. Behind what can't be read it goes on by the marks.
+fn write_closed<S: Source + Drop, H: Sum, D: Digest>(
+    rt: &HostRuntime,
+    request: &Request,
+    segment: u64,
+    reader: &mut ClosedSegment<S, H, H, D>,
+    out: &mut BufWriter<Stdout>,
+) -> Result<bool, Status> {
+    let mut offset = 0;
+    let mut is_read = true;
+    for _ in 0..u64::MAX {
+        let error = match reader.read(offset) {
+            Ok(Some(found)) => {
+                offset = or_end(rt, write_found(out, &found))?;
+                continue;
+            }
+            Ok(None) => break,
+            Err(error) => error,
+        };
+        if !matches!(error, Error::Damaged(_) | Error::System(_)) {
+            return Ok(tell_end(rt, request, segment, &error));
+        }
+        is_read = false;
+        let from = offset;
+        match reader.pass_damage(&mut offset) {
+            Ok(passed) if passed.bytes > 0 => tell_passed(
+                rt, request, segment, &error, from, passed,
+            ),
+            _ => return Ok(tell_end(rt, request, segment, &error)),
+        }
+    }
+    Ok(is_read)
+}
+
+// Says that the records of a segment from an error on are left out, so that it isn't read.
+fn tell_end(rt: &HostRuntime, request: &Request, segment: u64, error: &Error) -> bool {
+    let words = "its other records are left out";
+    tell(
+        rt,
+        format_args!("{}: segment {segment}: {error}: {words}", request.file),
+    );
+    false
+}
+
+// Says what was passed from an offset on, where an error came.
+fn tell_passed(
+    rt: &HostRuntime,
+    request: &Request,
+    segment: u64,
+    error: &Error,
+    offset: u64,
+    passed: Passed,
+) {
+    let (file, bytes) = (request.file, passed.bytes);
+    let left_out = format_args!("{bytes} bytes from offset {offset} on are left out");
+    match passed.frames {
+        Some(frames) => tell(
+            rt,
+            format_args!("{file}: segment {segment}: {error}: {frames} records in {left_out}"),
+        ),
+        None => tell(
+            rt,
+            format_args!("{file}: segment {segment}: {error}: the records in {left_out}"),
+        ),
+    }
+}
+
+// Writes the record of a frame, if it is one, and answers where the frame ends.
+fn write_found(out: &mut BufWriter<Stdout>, found: &Found) -> io::Result<u64> {
+    if let Some(bytes) = &found.bytes {
+        write_line(out, bytes.as_ref())?;
+    }
+    Ok(found.end)
 }
 
 // Writes a record, and a line end after it.

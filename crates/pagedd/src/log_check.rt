@@ -153,11 +153,14 @@ fn tell_closed(
         )?;
     }
     match checked.list {
-        Some(list) if list != ListState::Whole => println!(rt;
+        None | Some(ListState::Whole) => Ok(()),
+        Some(ListState::Unmarked) => {
+            println!(rt; "segment {number}: its marks are wrong: reads go on without them")
+        }
+        Some(list) => println!(rt;
             "segment {number}: its list is {}: reads compute it again, as long as the segment is whole",
             list.name()
         ),
-        _ => Ok(()),
     }
 }
 

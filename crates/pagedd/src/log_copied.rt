@@ -240,7 +240,7 @@ impl<'a, 'b> Target<'a, 'b> {
     // Writes the list of a closed segment, if it has one.
     fn put_list_of(&self, rt: &HostRuntime, number: u64, held: &Held) -> Result<(), Status> {
         match held {
-            Held::Paged(levels) => put_list(rt, self.out, number, levels),
+            Held::Paged(list) => put_list(rt, self.out, number, list),
             _ => Ok(()),
         }
     }

@@ -6,8 +6,7 @@ ghost use Rattle.segments.specs.Folders.{call_for};
 
 use disk::{Blob, VecBlob};
 use file::OpenError;
-use page_digests::Levels;
-use segments::{Asked, Folder, FolderCall, FolderPast, Known};
+use segments::{Asked, Folder, FolderCall, FolderPast, Known, SegmentLevels};
 use std::alloc::Global;
 use std::io;
 use std::marker::Model;
@@ -199,7 +198,7 @@ impl<F: Folder<B> + Drop, B: Blob + Drop> Folder<B> for HeldFolder<F, B> {
         self.folder.list_source(segment)
     }
 
-    fn write_list(&mut self, segment: u64, levels: &Levels) -> io::Result<()> {
+    fn write_list(&mut self, segment: u64, levels: &SegmentLevels) -> io::Result<()> {
         let written = self.folder.write_list(segment, levels);
         self.past = FolderPast::wrote(&self.past, segment, levels, written.is_err());
         written

@@ -1,6 +1,7 @@
 // The states of a log's files.
 use crate::census::Census;
 use crate::log_closed::{Held, ListState};
+use crate::log_marks::Marked;
 use crate::look::{looked, read};
 use crate::request::Request;
 use crate::status::Status;
@@ -8,7 +9,7 @@ use digest::Digest;
 use disk::VecBlob;
 use page::Sum;
 use page_digests::{Error as PageError, LEN_LIMIT, PagedContent, Seal, Source};
-use segments::{Asked, Closed, Fingerprint, Folder, FolderCopy};
+use segments::{Asked, Closed, Fingerprint, Folder, FolderCopy, PagedSeal};
 use std::alloc::{AllocError, Global};
 use std::fmt;
 use std::io::ErrorKind;
@@ -106,14 +107,14 @@ impl Checked {
         let mut checked = Checked::plain(rt.alloc(), Kept::Whole);
         match (&held, &closed.fingerprint) {
             (Held::Whole, _) => {}
-            (Held::Paged(levels), _) => {
-                let list = ListState::of(rt, request.file, number, levels)?;
-                checked.list = Some(list);
+            (Held::Paged(list), _) => {
+                checked.list = Some(ListState::of(rt, request.file, number, list)?);
             }
             (Held::Other, Fingerprint::Whole(_)) => checked.kept = Kept::Damaged,
             (Held::Other, Fingerprint::Paged(kept)) => {
                 checked.kept = Kept::Damaged;
                 checked.look::<D>(rt.alloc(), page_size, folder, number, kept.seal)?;
+                checked.look_at_marks::<D>(rt, request, number, kept)?;
             }
         }
         Ok(checked)
@@ -146,6 +147,25 @@ impl Checked {
             Ok(mut content) => self.count(&mut content),
             Err(_) => Ok(self.lack(false, page_size, seal)),
         }
+    }
+
+    // Looks whether the file of a damaged segment's list holds its marks, if it has some.
+    fn look_at_marks<D: Digest>(
+        &mut self,
+        rt: &HostRuntime,
+        request: &Request,
+        number: u64,
+        kept: &PagedSeal,
+    ) -> Result<(), AllocError> {
+        if kept.marks.is_none() || self.list != Some(ListState::Whole) {
+            return Ok(());
+        }
+        let page_size = request.shape.page_size;
+        let marked = Marked::of::<D>(rt, request.file, number, page_size, kept)?;
+        if !marked.is_some_and(|marked: Marked| marked.has_top) {
+            self.list = Some(ListState::Unmarked);
+        }
+        Ok(())
     }
 
     // Counts all pages as such of which nobody knows, since the list is missing or wrong.
@@ -193,7 +213,7 @@ impl Checked {
     /// One mark for the states.
     pub fn mark(&self) -> char {
         match (self.kept, self.list) {
-            (Kept::Whole, Some(ListState::Missing | ListState::Wrong)) => '~',
+            (Kept::Whole, Some(ListState::Missing | ListState::Wrong | ListState::Unmarked)) => '~',
             (kept, _) => kept.mark(),
         }
     }

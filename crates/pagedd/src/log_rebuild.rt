@@ -222,8 +222,8 @@ fn closed_of<H: Sum, D: Digest>(
         return Err(Status::NotWhole);
     }
     let page_size = request.shape.page_size;
-    let (closed, levels) = sealed::<D>(rt.alloc(), page_size, front.records, &text.bytes)?;
-    put_list(rt, request.file, number, &levels)?;
+    let (closed, list) = sealed::<D>(rt.alloc(), page_size, front.records, &text.bytes)?;
+    put_list(rt, request.file, number, &list)?;
     tell(
         rt,
         format_args!(

@@ -31,6 +31,10 @@ pub enum LogTask {
     Where { from: u64, to: u64 },
     /// The next records from a place on, as many as an answer of so many bytes holds.
     NextMany { place: Place, most: u64 },
+    /// Where frame `n` of a segment begins.
+    Nth { segment: u64, n: u64 },
+    /// Where to go on behind the damaged page that a place is in.
+    PassDamage(Place),
     /// To send all answers.
     Flush,
 }
@@ -50,6 +54,8 @@ impl LogTask {
             | LogTask::Next(_)
             | LogTask::Where { .. }
             | LogTask::NextMany { .. }
+            | LogTask::Nth { .. }
+            | LogTask::PassDamage(_)
             | LogTask::Flush => false,
         }
     }
@@ -116,6 +122,8 @@ fn read_body<R: BufRead>(
         27 => LogTask::DropBefore(read_number(input)?),
         28 => read_where(input)?,
         29 => read_next_many(input)?,
+        30 => read_nth(input)?,
+        31 => LogTask::PassDamage(read_place(input)?),
         _ => return Ok(None),
     };
     let bytes = Vec::new(alloc);
@@ -136,13 +144,13 @@ pub fn lent_request(version: Version, held: &[u8]) -> Option<(LogTask, &[u8])> {
 }
 
 /// The kinds of requests of version 2, as the hello lists them.
-pub const KINDS: [u8; 13] = [1, 2, 5, 6, 7, 16, 17, 18, 21, 25, 27, 28, 29];
+pub const KINDS: [u8; 15] = [1, 2, 5, 6, 7, 16, 17, 18, 21, 25, 27, 28, 29, 30, 31];
 
 // Whether there is a kind of this number.
 fn is_known(version: Version, kind: u8) -> bool {
     match kind {
         1 | 2 | 5 | 6 | 7 | 16 | 27 => true,
-        17 | 18 | 21 | 25 | 28 | 29 => version == Version::Two,
+        17 | 18 | 21 | 25 | 28 | 29 | 30 | 31 => version == Version::Two,
         _ => false,
     }
 }
@@ -169,7 +177,7 @@ fn task_of_bytes(kind: u8) -> LogTask {
 // How many bytes the fields of any other kind have.
 fn fields_len(kind: u8) -> usize {
     match kind {
-        6 | 7 | 28 => 16,
+        6 | 7 | 28 | 30 | 31 => 16,
         27 => 8,
         29 => 24,
         _ => 0,
@@ -217,4 +225,11 @@ fn read_next_many<R: BufRead>(input: &mut R) -> Result<LogTask, Unread> {
     let place = read_place(input)?;
     let most = read_number(input)?;
     Ok(LogTask::NextMany { place, most })
+}
+
+// Reads which frame is asked for.
+fn read_nth<R: BufRead>(input: &mut R) -> Result<LogTask, Unread> {
+    let segment = read_number(input)?;
+    let n = read_number(input)?;
+    Ok(LogTask::Nth { segment, n })
 }

@@ -6,18 +6,19 @@ use crate::log_closed::Held;
 use crate::log_files::{open_log, segment_in};
 use crate::log_known::Sources;
 use crate::log_lock::{begin_folder, lock_folder};
+use crate::log_marks::{Marked, Stretch};
 use crate::log_names::FolderNames;
 use crate::log_refusing::{refuse_log, refuse_other_shape};
 use crate::log_salvaged::{Fate, Gap, Listed, Part, Salvaged};
 use crate::log_serving::keep_name;
-use crate::log_text::{Frames, Text};
+use crate::log_text::{Frames, Piece, Text};
 use crate::request::Request;
 use crate::status::Status;
 use digest::Digest;
 use file::FileBlob;
 use journal::MOST_BYTES;
 use page::Sum;
-use segments::{Closed, Error, FileFolder, SegmentedLog};
+use segments::{Closed, Error, FileFolder, Fingerprint, SegmentedLog};
 use std::alloc::AllocError;
 use std::fs;
 
@@ -234,27 +235,50 @@ fn salvage_segment<H: Sum, D: Digest>(
             return skip(rt, request, number, Fate::Unread, salvaged);
         }
     };
-    let text = Text::of::<H>(rt.alloc(), request.shape, bytes.as_slice())?;
+    salvage_bytes::<H, D>(rt, request, source, number, &bytes, log, salvaged)
+}
+
+// Appends the records of a segment whose file has these bytes to the new log.
+fn salvage_bytes<H: Sum, D: Digest>(
+    rt: &HostRuntime,
+    request: &Request,
+    source: &Source<'_>,
+    number: u64,
+    bytes: &[u8],
+    log: &mut NewLog<H, D>,
+    salvaged: &mut Salvaged,
+) -> Result<(), Status>
+    requires log { IsLog H.sum_of H.sum_of log.old }
+    ensures log { IsLog H.sum_of H.sum_of log.new }
+{
     let before = salvaged.records;
-    append_text::<H, D>(
-        rt,
-        request,
-        source,
+    let text = Text::of::<H>(rt.alloc(), request.shape, bytes)?;
+    let text = text.bytes.as_slice();
+    let closed = source
+        .sources
+        .best()
+        .and_then(|known| known.listing.closed(number));
+    let segment = Segment {
         number,
-        text.bytes.as_slice(),
-        log,
-        salvaged,
-    )?;
-    tell_short(rt, request, source, number, text.bytes.len(), salvaged)?;
-    end_segment::<D>(
-        rt,
-        request,
-        source,
-        number,
-        bytes.as_slice(),
-        before,
-        salvaged,
-    )
+        is_whole: is_whole::<D>(rt, request, closed.as_ref(), bytes)?,
+        closed,
+        len: bytes.len(),
+    };
+    append_text::<H, D>(rt, request, source, &segment, text, log, salvaged)?;
+    tell_short(rt, request, source, number, text.len(), salvaged)?;
+    end_segment(rt, request, source, &segment, before, salvaged)
+}
+
+// A segment whose file is read.
+#[derive(Clone, Copy)]
+struct Segment {
+    number: u64,
+    // How many bytes the file has.
+    len: usize,
+    // What was kept of the segment, if it is listed as a closed one.
+    closed: Option<Closed>,
+    // Whether it is what it was when it was closed.
+    is_whole: bool,
 }
 
 // What becomes of a segment whose file is there, by what lists it.
@@ -298,12 +322,13 @@ fn skip_dropped(
     skip(rt, request, number, Fate::Dropped, salvaged)
 }
 
-// Appends the records of a text to the new log.
+// Appends the records of a segment's text to the new log. Behind damage the text of a segment that
+// has marks goes on where they say that a frame begins.
 fn append_text<H: Sum, D: Digest>(
     rt: &HostRuntime,
     request: &Request,
     source: &Source<'_>,
-    number: u64,
+    segment: &Segment,
     text: &[u8],
     log: &mut NewLog<H, D>,
     salvaged: &mut Salvaged,
@@ -311,12 +336,64 @@ fn append_text<H: Sum, D: Digest>(
     requires log { IsLog H.sum_of H.sum_of log.old }
     ensures log { IsLog H.sum_of H.sum_of log.new }
 {
-    let mut frames = Frames::of(text);
+    for stretch in &stretches_of::<D>(rt, request, segment, text)? {
+        let before = salvaged.records;
+        append_stretch::<H, D>(rt, request, source, segment, text, *stretch, log, salvaged)?;
+        salvaged.count(rt, request.file, segment.number, *stretch, before)?;
+    }
+    Ok(())
+}
+
+// The stretches of a segment's text: one, unless the segment is damaged, and has marks that aren't.
+fn stretches_of<D: Digest>(
+    rt: &HostRuntime,
+    request: &Request,
+    segment: &Segment,
+    text: &[u8],
+) -> Result<Vec<Stretch>, AllocError> {
+    if let (Some(closed), false) = (&segment.closed, segment.is_whole) {
+        if let Fingerprint::Paged(kept) = &closed.fingerprint {
+            let page_size = request.shape.page_size;
+            let number = segment.number;
+            if let Some(marked) = Marked::of::<D>(rt, request.file, number, page_size, kept)? {
+                return marked.stretches::<D>(rt.alloc(), text, closed.records);
+            }
+        }
+    }
+    let mut all = Vec::new(rt.alloc());
+    all.push(Stretch {
+        offset: 0,
+        end: text.len(),
+        frames: None,
+    })?;
+    Ok(all)
+}
+
+// Appends the records of a stretch of a text to the new log.
+fn append_stretch<H: Sum, D: Digest>(
+    rt: &HostRuntime,
+    request: &Request,
+    source: &Source<'_>,
+    segment: &Segment,
+    text: &[u8],
+    stretch: Stretch,
+    log: &mut NewLog<H, D>,
+    salvaged: &mut Salvaged,
+) -> Result<(), Status>
+    requires log { IsLog H.sum_of H.sum_of log.old }
+    ensures log { IsLog H.sum_of H.sum_of log.new }
+{
+    let end = stretch.end.min(text.len());
+    let mut frames = Frames::of(text.get(stretch.offset..end).unwrap_or_default());
     for _ in 0..u64::MAX {
         let Some(piece) = frames.next::<H>() else {
             break;
         };
-        salvaged.add(rt, request.file, number, &piece)?;
+        let piece = Piece {
+            offset: piece.offset.saturating_add(stretch.offset),
+            ..piece
+        };
+        salvaged.add(rt, request.file, segment.number, &piece)?;
         append_record::<H, D>(rt, source, piece.record, log)?;
     }
     Ok(())
@@ -380,21 +457,17 @@ fn is_whole<D: Digest>(
     Ok(!matches!(held, Held::Other))
 }
 
-// Counts a segment whose file has these bytes. Before it so many records had been salvaged.
-fn end_segment<D: Digest>(
+// Counts a segment whose file was read. Before it so many records had been salvaged.
+fn end_segment(
     rt: &HostRuntime,
     request: &Request,
     source: &Source<'_>,
-    number: u64,
-    bytes: &[u8],
+    segment: &Segment,
     before: u64,
     salvaged: &mut Salvaged,
 ) -> Result<(), Status> {
-    let closed = source
-        .sources
-        .best()
-        .and_then(|known| known.listing.closed(number));
-    let fate = if is_whole::<D>(rt, request, closed.as_ref(), bytes)? {
+    let number = segment.number;
+    let fate = if segment.is_whole {
         Fate::Whole
     } else {
         fate_of(source, number)
@@ -405,9 +478,9 @@ fn end_segment<D: Digest>(
         records: salvaged.records.saturating_sub(before),
     };
     let is_last = source.names.numbers.last() == Some(&number);
-    if fate == Fate::Unlisted && bytes.is_empty() && !is_last {
+    if fate == Fate::Unlisted && segment.len == 0 && !is_last {
         salvaged.lack_all(rt, request.file, number);
     }
-    salvaged.end(rt, request.file, part, closed)?;
+    salvaged.end(rt, request.file, part, segment.closed)?;
     Ok(())
 }

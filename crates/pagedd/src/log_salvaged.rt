@@ -1,5 +1,6 @@
 // What was salvaged of a log, and what of it is missing.
 use crate::ending::{or_end, tell};
+use crate::log_marks::Stretch;
 use crate::log_text::Piece;
 use crate::report::quoted;
 use crate::request::Request;
@@ -72,6 +73,34 @@ impl fmt::Display for Gap {
     }
 }
 
+/// A stretch of a segment's text of which records are lost. By the segment's marks it had
+/// `records`.
+#[derive(Clone, Copy)]
+pub struct Loss {
+    pub segment: u64,
+    pub offset: u64,
+    pub bytes: u64,
+    pub records: u64,
+    pub lost: u64,
+}
+
+impl fmt::Display for Loss {
+    fn fmt<W: fmt::Write>(&self, f: &mut fmt::Formatter<W>) -> fmt::Result {
+        let Loss {
+            segment,
+            offset,
+            bytes,
+            records,
+            lost,
+        } = self;
+        write!(
+            f,
+            "segment {segment}: of {records} records in {bytes} bytes from offset {offset} on {lost} \
+             are lost"
+        )
+    }
+}
+
 /// What lists the segments of a log.
 #[derive(Clone, Copy)]
 pub struct Listed {
@@ -97,6 +126,7 @@ impl fmt::Display for Listed {
 pub struct Salvaged {
     parts: Vec<Part>,
     gaps: Vec<Gap>,
+    losses: Vec<Loss>,
     /// How many records.
     pub records: u64,
     /// Whether records that were listed are missing.
@@ -110,6 +140,7 @@ impl Drop for Salvaged {
         let Salvaged {
             parts: _,
             gaps: _,
+            losses: _,
             records: _,
             lacks: _,
         } = self;
@@ -122,6 +153,7 @@ impl Salvaged {
         Salvaged {
             parts: Vec::new(alloc),
             gaps: Vec::new(alloc),
+            losses: Vec::new(alloc),
             records: 0,
             lacks: false,
         }
@@ -154,6 +186,32 @@ impl Salvaged {
     pub fn lack(&mut self, rt: &HostRuntime, folder: &str, gap: Gap) -> Result<(), AllocError> {
         tell(rt, format_args!("{folder}: {gap}"));
         self.gaps.push(gap)?;
+        Ok(())
+    }
+
+    /// Says how many records of a stretch of a segment's text are lost, if that is known, and some
+    /// are. Before it so many records had been salvaged.
+    pub fn count(
+        &mut self,
+        rt: &HostRuntime,
+        folder: &str,
+        segment: u64,
+        stretch: Stretch,
+        before: u64,
+    ) -> Result<(), AllocError> {
+        let found = self.records.saturating_sub(before);
+        let records = stretch.frames.unwrap_or(0);
+        if found < records {
+            let loss = Loss {
+                segment,
+                offset: stretch.offset as u64,
+                bytes: stretch.end.saturating_sub(stretch.offset) as u64,
+                records,
+                lost: records.saturating_sub(found),
+            };
+            tell(rt, format_args!("{folder}: {loss}"));
+            self.losses.push(loss)?;
+        }
         Ok(())
     }
 
@@ -204,7 +262,7 @@ impl Salvaged {
 
     /// Whether nothing is missing.
     pub fn is_whole(&self) -> bool {
-        !self.lacks && self.gaps.is_empty()
+        !self.lacks && self.gaps.is_empty() && self.losses.is_empty()
     }
 
     // How many bytes are in no record.
@@ -267,6 +325,8 @@ impl Salvaged {
         or_end(rt, self.print_parts(rt))?;
         or_end(rt, print!(rt; "],\"gaps\":["))?;
         or_end(rt, self.print_gaps(rt))?;
+        or_end(rt, print!(rt; "],\"losses\":["))?;
+        or_end(rt, self.print_losses(rt))?;
         let printed = println!(rt;
             "],\"records\":{},\"missing_bytes\":{},\"whole\":{}}}",
             self.records,
@@ -296,6 +356,18 @@ impl Salvaged {
             print!(rt;
                 "{mark}{{\"segment\":{},\"offset\":{},\"bytes\":{}}}",
                 gap.segment, gap.offset, gap.bytes
+            )?;
+            mark = ",";
+        }
+        Ok(())
+    }
+
+    fn print_losses(&self, rt: &HostRuntime) -> io::Result<()> {
+        let mut mark = "";
+        for loss in &self.losses {
+            print!(rt;
+                "{mark}{{\"segment\":{},\"offset\":{},\"bytes\":{},\"records\":{},\"lost\":{}}}",
+                loss.segment, loss.offset, loss.bytes, loss.records, loss.lost
             )?;
             mark = ",";
         }

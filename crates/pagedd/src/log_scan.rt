@@ -5,11 +5,11 @@ use crate::log_answer::{MOST_PAYLOAD, write_head, write_numbers};
 use crate::log_status::AT_END;
 use crate::log_taking::{Client, begun_at, failure_of, refuse, refuse_kept, refuse_lost};
 use digest::Digest;
-use disk::{Blob, IoBuf};
+use disk::Blob;
 use page::Sum;
 use protocol::{Cause, Stop};
 use segments::{Closed, Error, Fingerprint, Folder, Place, SegmentedLog};
-use std::alloc::Global;
+use std::alloc::{AllocError, Global};
 use std::io::Write;
 
 /// How many bytes the answer to where has in front of the closed segments, and for each of them.
@@ -29,8 +29,39 @@ const MANY_EACH: usize = 20;
 /// for: they stand in memory at once.
 const MOST_MANY: u64 = 1 << 24;
 
-/// A record, and where it stands.
-type Placed = (Place, IoBuf);
+/// The most bytes that are set aside for the records of an answer before they are found.
+const MOST_AHEAD: u64 = 1 << 20;
+
+/// Records that were found, as an answer has them: copied one behind the other, so that the memory
+/// of each is free for the next one.
+#[derive(Drop)]
+struct Scanned {
+    count: u64,
+    // The place and the length of each.
+    heads: Vec<u8>,
+    bytes: Vec<u8>,
+}
+
+impl Scanned {
+    // None yet. So many bytes are asked for.
+    fn new(alloc: Global, most: u64) -> Result<Self, AllocError> {
+        Ok(Scanned {
+            count: 0,
+            heads: Vec::new(alloc),
+            bytes: Vec::with_capacity(alloc, most.min(MOST_AHEAD) as usize)?,
+        })
+    }
+
+    fn push(&mut self, place: Place, bytes: &[u8]) -> Result<(), AllocError> {
+        let length = u32::try_from(bytes.len()).unwrap_or(u32::MAX);
+        self.heads.extend_from_slice(&place.segment.to_le_bytes())?;
+        self.heads.extend_from_slice(&place.offset.to_le_bytes())?;
+        self.heads.extend_from_slice(&length.to_le_bytes())?;
+        self.bytes.extend_from_slice(bytes)?;
+        self.count = self.count.saturating_add(1);
+        Ok(())
+    }
+}
 
 /// Answers where the log begins and ends, and what was kept of its closed segments from `from` to
 /// before `to`, as many as an answer holds.
@@ -86,9 +117,9 @@ pub fn take_next_many<F: Folder<B> + Drop, B: Blob + Cause + Drop, H: Sum, D: Di
     ensures log { IsLog H.sum_of H.sum_of log.new }
 {
     let mut behind = begun_at(log, place);
-    match next_many(alloc, log, &mut behind, most.min(MOST_MANY) as usize) {
-        Ok(found) if found.is_empty() => refuse(alloc, client, out, AT_END),
-        Ok(found) => write_many(out, behind, found.as_slice()),
+    match next_many(alloc, log, &mut behind, most.min(MOST_MANY)) {
+        Ok(found) if found.count == 0 => refuse(alloc, client, out, AT_END),
+        Ok(found) => write_many(out, behind, &found),
         Err(error) => refuse_kept(alloc, client, out, &error, failure_of(log)),
     }
 }
@@ -100,13 +131,13 @@ fn next_many<F: Folder<B> + Drop, B: Blob + Drop, H: Sum, D: Digest>(
     alloc: Global,
     log: &mut SegmentedLog<F, B, H, H, D>,
     place: &mut Place,
-    most: usize,
-) -> Result<Vec<Placed>, Error>
+    most: u64,
+) -> Result<Scanned, Error>
     requires log { IsLog H.sum_of H.sum_of log.old }
     ensures log { IsLog H.sum_of H.sum_of log.new }
 {
-    let mut found = Vec::new(alloc);
-    let mut left = most;
+    let mut found = Scanned::new(alloc, most)?;
+    let mut left = most as usize;
     for _ in 0..u64::MAX {
         if !take_one(log, place, &mut left, &mut found)? {
             break;
@@ -121,7 +152,7 @@ fn take_one<F: Folder<B> + Drop, B: Blob + Drop, H: Sum, D: Digest>(
     log: &mut SegmentedLog<F, B, H, H, D>,
     place: &mut Place,
     left: &mut usize,
-    found: &mut Vec<Placed>,
+    found: &mut Scanned,
 ) -> Result<bool, Error>
     requires log { IsLog H.sum_of H.sum_of log.old }
     ensures log { IsLog H.sum_of H.sum_of log.new }
@@ -129,14 +160,14 @@ fn take_one<F: Folder<B> + Drop, B: Blob + Drop, H: Sum, D: Digest>(
     let mut behind = *place;
     let (at, bytes) = match log.next(&mut behind) {
         Ok(Some(next)) => next,
-        Err(error) if found.is_empty() => return Err(error),
+        Err(error) if found.count == 0 => return Err(error),
         Ok(None) | Err(_) => return Ok(false),
     };
     let taken = bytes.len().saturating_add(MANY_EACH);
-    if taken > *left && !found.is_empty() {
+    if taken > *left && found.count > 0 {
         return Ok(false);
     }
-    found.push((at, bytes))?;
+    found.push(at, bytes.as_ref())?;
     *left = left.saturating_sub(taken);
     *place = behind;
     Ok(true)
@@ -144,20 +175,11 @@ fn take_one<F: Folder<B> + Drop, B: Blob + Drop, H: Sum, D: Digest>(
 
 // Writes the place behind the last of these records, how many they are, the place and the length of
 // each, and their bytes.
-fn write_many<W: Write>(out: &mut W, behind: Place, found: &[Placed]) -> Result<(), Stop> {
-    let mut len = MANY_HEAD;
-    for (_, bytes) in found {
-        len = len.saturating_add(bytes.len()).saturating_add(MANY_EACH);
-    }
-    write_head(out, 0, len)?;
-    write_numbers(out, &[behind.segment, behind.offset, found.len() as u64])?;
-    for (place, bytes) in found {
-        write_numbers(out, &[place.segment, place.offset])?;
-        let length = u32::try_from(bytes.len()).unwrap_or(u32::MAX);
-        out.write_all(&length.to_le_bytes())?;
-    }
-    for (_, bytes) in found {
-        out.write_all(bytes.as_ref())?;
-    }
+fn write_many<W: Write>(out: &mut W, behind: Place, found: &Scanned) -> Result<(), Stop> {
+    let len = found.heads.len().saturating_add(found.bytes.len());
+    write_head(out, 0, len.saturating_add(MANY_HEAD))?;
+    write_numbers(out, &[behind.segment, behind.offset, found.count])?;
+    out.write_all(&found.heads)?;
+    out.write_all(&found.bytes)?;
     Ok(())
 }

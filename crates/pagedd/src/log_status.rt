@@ -83,6 +83,8 @@ pub fn status_of(error: &Error) -> u8 {
         Error::System(_) | Error::Unsynced(_) => 40,
         Error::Unlisted(_) => 41,
         Error::NumbersExhausted => 42,
+        Error::NoFrame(_, _) => 44,
+        Error::Unmarked(_) => 45,
         Error::Missing(_)
         | Error::Short(_)
         | Error::Outdated(_)
@@ -109,7 +111,11 @@ fn advice_after(error: &Error, is_closing: bool) -> u8 {
     match error {
         Error::Unsynced(_) | Error::Layer(disk::Error::SyncFailed) => REPLACE,
         // `Manifest` is that of a read, which leaves the log as it was.
-        Error::NoSegment(_) | Error::Damaged(_) | Error::Manifest => 0,
+        Error::NoSegment(_)
+        | Error::NoFrame(_, _)
+        | Error::Unmarked(_)
+        | Error::Damaged(_)
+        | Error::Manifest => 0,
         Error::Closed
         | Error::Unlisted(_)
         | Error::NumbersExhausted

@@ -5,6 +5,7 @@ use crate::log_answer::{Refusal, write_answer, write_found, write_places, write_
 use crate::log_records::{Records, length_of, split_record};
 use crate::log_request::LogTask;
 use crate::log_scan::{take_next_many, take_where};
+use crate::log_seeking::{take_nth, take_pass_damage};
 use crate::log_status::{AT_END, Failure, NO_RECORDS, READ_ONLY, is_failed_sync, refusal_of};
 use digest::Digest;
 use disk::Blob;
@@ -74,6 +75,8 @@ pub fn take_request<F: Folder<B> + Drop, B: Blob + Cause + Drop, H: Sum, D: Dige
         LogTask::NextMany { place, most } => {
             take_next_many(alloc, client, log, place, most, out)
         }
+        LogTask::Nth { segment, n } => take_nth(alloc, client, log, segment, n, out),
+        LogTask::PassDamage(place) => take_pass_damage(alloc, client, log, place, out),
         LogTask::Flush => write_flushed(out),
     }
 }

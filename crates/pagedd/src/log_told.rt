@@ -6,6 +6,7 @@ use crate::log_check::{check_log, check_unopened};
 use crate::log_durable::tell_missing;
 use crate::log_files::{copy_of, open_log};
 use crate::log_map::{Drawn, map_log};
+use crate::log_nth::nth_log;
 use crate::log_refusing::refuse_log;
 use crate::log_where::where_log;
 use crate::request::{Request, Told};
@@ -44,6 +45,7 @@ fn tell_opened<H: Sum, D: Digest>(
         Told::Check => check_log::<H, D>(rt, request, log),
         Told::Map { from, to, long } => map_log::<H, D>(rt, request, log, Drawn { from, to, long }),
         Told::Where { from, to } => where_log::<H, D>(rt, request, log, from, to),
+        Told::Nth { segment, n } => nth_log::<H, D>(rt, request, log, segment, n),
         Told::Cat { .. } => cat_log::<H, D>(rt, request, log),
     }?;
     Ok(match status {

@@ -38,9 +38,12 @@ mod log_held;
 mod log_hello;
 mod log_input;
 mod log_known;
+mod log_levels;
 mod log_lock;
 mod log_map;
+mod log_marks;
 mod log_names;
+mod log_nth;
 mod log_parts;
 mod log_put;
 mod log_rebuild;
@@ -51,6 +54,7 @@ mod log_request;
 mod log_salvage;
 mod log_salvaged;
 mod log_scan;
+mod log_seeking;
 mod log_serving;
 mod log_status;
 mod log_taking;
@@ -194,7 +198,7 @@ fn tell_of<H: Sum>(
     match told {
         Told::Check => check::<H>(rt, request, blob),
         Told::Map { from, to, long } => map::<H>(rt, request, blob, from, to, long),
-        Told::Where { .. } => {
+        Told::Where { .. } | Told::Nth { .. } => {
             let words = "it is no folder: name the folder of a log";
             Err(fail(rt, request.file, words))
         }

@@ -111,6 +111,8 @@ pub enum Told {
     /// Where the log in a folder begins and ends, and what was kept of its closed segments from
     /// `from` to before `to`.
     Where { from: u64, to: u64 },
+    /// Where record `n` of a segment of the log in a folder stands.
+    Nth { segment: u64, n: u64 },
     /// Its content from the byte `from` on, at most `len` bytes. For a log, all its records.
     Cat { from: u64, len: u64 },
 }
@@ -194,6 +196,10 @@ fn task_of<'a>(name: &str, words: &ArgMatches<'a>) -> Task<'a> {
         "where" => Task::Tell(Told::Where {
             from: words.get_one::<u64>("from").unwrap_or(0),
             to: words.get_one::<u64>("to").unwrap_or(u64::MAX),
+        }),
+        "nth" => Task::Tell(Told::Nth {
+            segment: words.get_one::<u64>("SEGMENT").unwrap_or(0),
+            n: words.get_one::<u64>("N").unwrap_or(0),
         }),
         "cat" => Task::Tell(Told::Cat {
             from: words.get_one::<u64>("from").unwrap_or(0),

@@ -8,13 +8,14 @@ use std::{env, fs, str};
 use strsim::levenshtein;
 
 /// The commands.
-const COMMANDS: [&str; 13] = [
+const COMMANDS: [&str; 14] = [
     "serve",
     "serve-log",
     "append",
     "check",
     "map",
     "where",
+    "nth",
     "cat",
     "salvage",
     "rebuild",

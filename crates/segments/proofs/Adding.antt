@@ -86,6 +86,8 @@ add_goes sum own bytes s m t offset (Err (errors.Outdated n)) owned is failed = 
 add_goes sum own bytes s m t offset (Err errors.Manifest) owned is failed = failed
 add_goes sum own bytes s m t offset (Err (errors.NoSegment n)) owned is failed = failed
 add_goes sum own bytes s m t offset (Err errors.NumbersExhausted) owned is failed = failed
+add_goes sum own bytes s m t offset (Err (errors.NoFrame its byte)) owned is failed = failed
+add_goes sum own bytes s m t offset (Err (errors.Unmarked n)) owned is failed = failed
 
 leaves_keep : (sum own : List ℕ → ℕ) (P : ℕ) (w : WriterState) (all these : List (List ℕ)) (cache after : CacheState) (old new : Life)
     → w.page_size ≡ P → all ≡ these → JournalCallLeaves sum own w all cache after old new → KeepsRecords sum own P these old new

@@ -1,10 +1,10 @@
 -- Digests of the open segment's pages that are made ahead of its rotation.
-use Rattle.std.specs.Prelude.{◌≡◌, ◌<◌, ◌≤◌, ◌+◌, ◌-◌, ◌*◌, ◌/◌, ◌%◌, ◌++◌, ℕ, zero, suc, Bool, true, cond, List, [], ◌∷◌, length, take, max, min, Some, None, Option, IfOk, IfSome, Result, Ok, Err}
+use Rattle.std.specs.Prelude.{◌≡◌, ◌<◌, ◌≤◌, ◌+◌, ◌-◌, ◌*◌, ◌/◌, ◌%◌, ◌++◌, ℕ, zero, suc, Bool, true, cond, List, [], ◌∷◌, length, take, drop, max, min, Some, None, Option, IfOk, IfSome, Result, Ok, Err}
 use Rattle.std.specs.List.{filter, range_with_len}
 use Rattle.std.specs.Result.{IsErrAnd}
-use Rattle.std.proofs.Common.{ap, sym, ◌∙◌, subst, arith, inl, inr, div-add-mod', div-mul-le_self, length-append, mod-lt, mul-le-mul_left, mul-le-mul_right, suc-mul}
+use Rattle.std.proofs.Common.{ap, ap₂, append-nil, sym, ◌∙◌, subst, arith, inl, inr, div-add-mod', div-mul-le_self, length-append, mod-lt, mul-le-mul_left, mul-le-mul_right, suc-mul}
 use Rattle.std.proofs.lemmas.Bool.{cases_Bool, false_from_ne_true}
-use Rattle.std.proofs.lemmas.List.{take-append-le}
+use Rattle.std.proofs.lemmas.List.{append_assoc, length-drop, take-append-le}
 use Rattle.std.proofs.Math.Nat.{lt_of_mul-lt-mul_right}
 use Rattle.disk.specs.Disk.{Life}
 use Rattle.disk.specs.declared.error.Error as disk
@@ -20,76 +20,86 @@ use Rattle.paged.specs.Calls.{AsksAtMost}
 use Rattle.journal.specs.Calls.{RecordReadLeaves}
 use Rattle.journal.specs.Journal.{ReadContentGoes, RecordReadRefused}
 use Rattle.journal.proofs.Journals.{refused_later}
-use Rattle.page_digests.specs.Growing.{DigestingState, DigestsPage, FinishesList, IsDigested}
-use Rattle.page_digests.specs.Pages.{list_of}
-use Rattle.page_digests.specs.Seals.{EachIsByte}
-use Rattle.page_digests.proofs.Growth.{digested_still}
+use Rattle.page_digests.specs.Growing.{DigestingState}
+use Rattle.page_digests.specs.Seals.{EachIsByte, TellsApart}
+use Rattle.page_digests.proofs.Growth.{page-grown}
 use Rattle.segments.specs.declared.error.Error.{Error}
 use Rattle.segments.specs.declared.error.Error.TheVariants as errors
 use Rattle.segments.specs.Owned.{DigestsFail, HasJournal, IsOwned, IsOwnedJournal, OwnedContentGoes, OwnedReadLeaves, OwnedState, content_now, content_of, owned_size}
 use Rattle.segments.specs.Ahead.{AheadGoes, HasDigests, IsDigestedAhead, IsFurther, PagesGo, content_calls}
 use Rattle.segments.proofs.Joining.{looked_bytes}
-use Rattle.segments.proofs.Digested.{all_bytes, bytes_grow, content_kept, list_done, no_bytes_yet, none_digested, page_digested, size_now}
+use Rattle.segments.specs.declared.segment_digesting.SegmentLevels.{SegmentLevels}
+use Rattle.segments.specs.SegmentLevels.{AreSegmentLevels, FinishesSegment, GoesOnWith, IsSegmentDigested, SegmentDigestingState}
+use Rattle.segments.proofs.Digested.{all_bytes, bytes_grow, content_kept, no_bytes_yet, page_is, rest_is, size_now}
+use Rattle.segments.proofs.SegmentDigests.{as_many}
 
 -- ---- what is digested
 
-now_by : (d : List ℕ → List ℕ) (P : ℕ) (life : Life) (x : DigestingState) (j : Option WriterState) → HasJournal j (λ w. Unit {0})
+now_by : (d : List ℕ → List ℕ) (P : ℕ) (life : Life) (x : SegmentDigestingState) (j : Option WriterState) → HasJournal j (λ w. Unit {0})
     → IfSome j (λ w. IsDigestedAhead d P (content w life.present.readable) x) → IsDigestedAhead d P (content_of j life) x
 now_by d P life x None there has = absurd there
 now_by d P life x (Some w) there has = has
 
 -- the content of the journal that is there is digested so far
-ahead_now : (d : List ℕ → List ℕ) (s : OwnedState) (x : DigestingState) → HasJournal s.journal (λ w. Unit {0}) → HasDigests d s x → IsDigestedAhead d s.page_size (content_now s) x
+ahead_now : (d : List ℕ → List ℕ) (s : OwnedState) (x : SegmentDigestingState) → HasJournal s.journal (λ w. Unit {0}) → HasDigests d s x → IsDigestedAhead d s.page_size (content_now s) x
 ahead_now d s x there has = now_by d s.page_size s.life x s.journal there has
 
-of_by : (d : List ℕ → List ℕ) (P : ℕ) (life : Life) (x : DigestingState) (j : Option WriterState) → IsDigestedAhead d P (content_of j life) x
+of_by : (d : List ℕ → List ℕ) (P : ℕ) (life : Life) (x : SegmentDigestingState) (j : Option WriterState) → IsDigestedAhead d P (content_of j life) x
     → IfSome j (λ w. IsDigestedAhead d P (content w life.present.readable) x)
 of_by d P life x None is = tt
 of_by d P life x (Some w) is = is
 
-ahead_of : (d : List ℕ → List ℕ) (s : OwnedState) (x : DigestingState) → IsDigestedAhead d s.page_size (content_now s) x → HasDigests d s x
+ahead_of : (d : List ℕ → List ℕ) (s : OwnedState) (x : SegmentDigestingState) → IsDigestedAhead d s.page_size (content_now s) x → HasDigests d s x
 ahead_of d s x is = of_by d s.page_size s.life x s.journal is
 
 -- that of the journal that was taken
-pub digests_taken : (d : List ℕ → List ℕ) (P : ℕ) (life : Life) (x : DigestingState) (j : Option WriterState) (w : WriterState)
+pub digests_taken : (d : List ℕ → List ℕ) (P : ℕ) (life : Life) (x : SegmentDigestingState) (j : Option WriterState) (w : WriterState)
     → IfSome j (λ w. IsDigestedAhead d P (content w life.present.readable) x) → j ≡ Some w → IsDigestedAhead d P (content w life.present.readable) x
 digests_taken d P life x j w has is = subst (λ (j : Option WriterState). IfSome j (λ w. IsDigestedAhead d P (content w life.present.readable) x)) is has
 
 -- nothing is digested yet
-pub digests_none : (d : List ℕ → List ℕ) (P : ℕ) (life : Life) (x : DigestingState) (j : Option WriterState) → ((P : ℕ) (content : List ℕ) → IsDigested d P content x)
+pub digests_none : (d : List ℕ → List ℕ) (P : ℕ) (life : Life) (x : SegmentDigestingState) (j : Option WriterState) → ((content : List ℕ) → IsSegmentDigested d P content x) → x.digested.pages ≡ 0
     → IfSome j (λ w. IsDigestedAhead d P (content w life.present.readable) x)
-digests_none d P life x j is =
+digests_none d P life x j is none =
     let held = content_of j life in
     of_by d P life x j (record {
-      digested = is P held;
-      bytes = subst (λ (n : ℕ). EachIsByte (take (n * P) held)) (sym (none_digested d x is)) (no_bytes_yet P held);
+      digested = λ rest. is (held ++ rest);
+      bytes = subst (λ (n : ℕ). EachIsByte (take (n * P) held)) (sym none) (no_bytes_yet P held);
     })
 
 -- nor where what was digested was taken
-pub digests_renewed : (d : List ℕ → List ℕ) (P : ℕ) (life : Life) (fresh x : DigestingState) (j : Option WriterState) → x ≡ fresh → ((P : ℕ) (content : List ℕ) → IsDigested d P content fresh)
+pub digests_renewed : (d : List ℕ → List ℕ) (P : ℕ) (life : Life) (fresh x : SegmentDigestingState) (j : Option WriterState) → x ≡ fresh → ((content : List ℕ) → IsSegmentDigested d P content fresh) → fresh.digested.pages ≡ 0
     → IfSome j (λ w. IsDigestedAhead d P (content w life.present.readable) x)
-digests_renewed d P life fresh x j same is =
-    subst (λ (y : DigestingState). IfSome j (λ w. IsDigestedAhead d P (content w life.present.readable) y)) (sym same) (digests_none d P life fresh j is)
+digests_renewed d P life fresh x j same is none =
+    subst (λ (y : SegmentDigestingState). IfSome j (λ w. IsDigestedAhead d P (content w life.present.readable) y)) (sym same) (digests_none d P life fresh j is none)
 
 -- no page is digested then
 pub digests_gone : (u s : OwnedState) (n : ℕ) → u ≡ s → n ≡ 0 → record u { digested = n } ≡ record s { digested = 0 }
 digests_gone u s n same none = ap (λ (v : OwnedState). record v { digested = n }) same ∙ ap (λ (k : ℕ). record s { digested = k }) none
 
+-- of the content as it is
+pub ahead_is : (d : List ℕ → List ℕ) (P : ℕ) (held : List ℕ) (x : SegmentDigestingState) → IsDigestedAhead d P held x → IsSegmentDigested d P held x
+ahead_is d P held x is = subst (λ (l : List ℕ). IsSegmentDigested d P l x) (append-nil held) (is.digested [])
+
 -- what is digested stays so as the content grows
-pub ahead_grown : (d : List ℕ → List ℕ) (P : ℕ) (held now more : List ℕ) (x : DigestingState) → IsDigestedAhead d P held x → now ≡ held ++ more → IsDigestedAhead d P now x
+pub ahead_grown : (d : List ℕ → List ℕ) (P : ℕ) (held now more : List ℕ) (x : SegmentDigestingState) → IsDigestedAhead d P held x → now ≡ held ++ more → IsDigestedAhead d P now x
 ahead_grown d P held now more x ahead grown =
-    let within : x.pages * P ≤ length held = ahead.digested.within in
+    let within : x.digested.pages * P ≤ length held = (ahead_is d P held x ahead).digested.within in
     subst (λ (l : List ℕ). IsDigestedAhead d P l x) (sym grown) (record {
-      digested = digested_still d P held more x ahead.digested (omega (arith, length-append held more));
-      bytes = subst EachIsByte (sym (take-append-le (x.pages * P) held more within)) ahead.bytes;
+      digested = λ rest. subst (λ (l : List ℕ). IsSegmentDigested d P l x) (sym (append_assoc held more rest)) (ahead.digested (more ++ rest));
+      bytes = subst EachIsByte (sym (take-append-le (x.digested.pages * P) held more within)) ahead.bytes;
     })
 
 -- and as it stays
-pub ahead_kept : (d : List ℕ → List ℕ) (P : ℕ) (held now : List ℕ) (x : DigestingState) → IsDigestedAhead d P held x → now ≡ held → IsDigestedAhead d P now x
+pub ahead_kept : (d : List ℕ → List ℕ) (P : ℕ) (held now : List ℕ) (x : SegmentDigestingState) → IsDigestedAhead d P held x → now ≡ held → IsDigestedAhead d P now x
 ahead_kept d P held now x ahead same = subst (λ (l : List ℕ). IsDigestedAhead d P l x) (sym same) ahead
 
+-- its marks are by the same pages
+pub marks_sized : (d : List ℕ → List ℕ) (s : OwnedState) (x : SegmentDigestingState) → HasJournal s.journal (λ w. Unit {0}) → HasDigests d s x → x.marked.page_size ≡ s.page_size
+marks_sized d s x there has = (ahead_is d s.page_size (content_now s) x (ahead_now d s x there has)).page_size
+
 -- a read leaves it
-pub digests_looked : (d : List ℕ → List ℕ) (P : ℕ) (old new : Life) (x : DigestingState) (j : Option WriterState) → Looked old new
+pub digests_looked : (d : List ℕ → List ℕ) (P : ℕ) (old new : Life) (x : SegmentDigestingState) (j : Option WriterState) → Looked old new
     → IfSome j (λ w. IsDigestedAhead d P (content w old.present.readable) x) → IfSome j (λ w. IsDigestedAhead d P (content w new.present.readable) x)
 digests_looked d P old new x None looked has = tt
 digests_looked d P old new x (Some w) looked has =
@@ -102,52 +112,105 @@ there_by : (offset : ℕ) (before after : List ℕ) (j : Option WriterState) (ol
 there_by offset before after None old new u is = is
 there_by offset before after (Some w) old new u is = tt
 
--- the next page was read and digested
-pub page_ahead : (sum own : List ℕ → ℕ) (d : List ℕ → List ℕ) (n : ℕ) (s t : OwnedState) (before after : List ℕ) (x y : DigestingState) (u : Unit {0})
-    → IsOwned sum own s → OwnedReadLeaves sum own s t → OwnedContentGoes (n * s.page_size) before after s t (Ok u) → length before ≡ s.page_size → n * s.page_size + s.page_size ≤ owned_size s.journal
-    → x.pages ≡ n → HasDigests d s x → y.pages ≡ x.pages + 1 → EachIsByte after → DigestsPage d after x y → HasDigests d t y
-page_ahead sum own d n s t before after x y u owned leaves read len fits next has more small taken =
-    let P = s.page_size in
-    let held = content_now s in
-    let was = ahead_now d s x (there_by (n * P) before after s.journal s.life t.life u read) has in
-    let so_far = subst (λ (k : ℕ). EachIsByte (take (k * P) held)) next was.bytes in
-    let count : n + 1 ≡ y.pages = omega (arith, next, more) in
-    ahead_of d t y (subst (λ (P : ℕ). IsDigestedAhead d P (content_now t) y) (sym leaves.page_size)
-    (ahead_kept d P held (content_now t) y (record {
-      digested = page_digested sum own d P n s t before after x y u owned read len fits next was.digested taken;
-      bytes = subst (λ (k : ℕ). EachIsByte (take (k * P) held)) count (bytes_grow P n s t before after u read len small so_far);
-    }) (content_kept sum own s t leaves)))
+-- there is a journal whose content was read
+pub read_there : (offset : ℕ) (before after : List ℕ) (s t : OwnedState) (u : Unit {0}) → OwnedContentGoes offset before after s t (Ok u) → HasJournal s.journal (λ w. Unit {0})
+read_there offset before after s t u read = there_by offset before after s.journal s.life t.life u read
+
+module _ (sum own : List ℕ → ℕ) (d : List ℕ → List ℕ) (n : ℕ) (s t : OwnedState) (before after : List ℕ) (x y : SegmentDigestingState) (u : Unit {0})
+    (owned : IsOwned sum own s) (leaves : OwnedReadLeaves sum own s t) (read : OwnedContentGoes (n * s.page_size) before after s t (Ok u)) (len : length before ≡ s.page_size)
+    (fits : n * s.page_size + s.page_size ≤ owned_size s.journal) (next : x.digested.pages ≡ n) (has : HasDigests d s x) (taken : GoesOnWith d after x y) where
+  was : IsDigestedAhead d s.page_size (content_now s) x
+  was = ahead_now d s x (read_there (n * s.page_size) before after s t u read) has
+
+  -- whatever the content goes on with
+  goes_further : (rest : List ℕ) → IsSegmentDigested d s.page_size (content_now s ++ rest) y
+  goes_further rest =
+      let P = s.page_size in
+      let held = content_now s in
+      let k = x.digested.pages in
+      let page = page_is sum own P n k s t before after u owned read len fits next in
+      let step : suc k * P ≡ k * P + P = suc-mul k P in
+      let whole : suc k * P ≤ length held = omega (arith, step, page.1) in
+      taken P (held ++ rest) (was.digested rest) (page.0 ∙ sym (page-grown P held rest k whole)) (omega (arith, page.1, length-append held rest))
+
+  now_ahead : EachIsByte (take (y.digested.pages * s.page_size) (content_now s)) → HasDigests d t y
+  now_ahead small = ahead_of d t y (subst (λ (P : ℕ). IsDigestedAhead d P (content_now t) y) (sym leaves.page_size)
+      (ahead_kept d s.page_size (content_now s) (content_now t) y (record { digested = goes_further; bytes = small }) (content_kept sum own s t leaves)))
+
+  -- the next page was read, and digested
+  pub page_ahead : y.digested.pages ≡ x.digested.pages + 1 → EachIsByte after → HasDigests d t y
+  page_ahead more small =
+      let P = s.page_size in
+      let held = content_now s in
+      let so_far = subst (λ (k : ℕ). EachIsByte (take (k * P) held)) next was.bytes in
+      let count : n + 1 ≡ y.digested.pages = omega (arith, next, more) in
+      now_ahead (subst (λ (k : ℕ). EachIsByte (take (k * P) held)) count (bytes_grow P n s t before after u read len small so_far))
+
+  -- or memory was refused for its digest
+  pub page_not_ahead : y.digested ≡ x.digested → HasDigests d t y
+  page_not_ahead same = now_ahead (subst (λ (z : DigestingState). EachIsByte (take (z.pages * s.page_size) (content_now s))) (sym same) was.bytes)
 
 -- all whole pages are digested
-pages_full : (sum own : List ℕ → ℕ) (d : List ℕ → List ℕ) (P : ℕ) (s : OwnedState) (x : DigestingState) → IsOwned sum own s → 0 < P → IsDigested d P (content_now s) x
-    → owned_size s.journal / P ≤ x.pages → x.pages ≡ owned_size s.journal / P
-pages_full sum own d P s x owned positive digested all =
+pages_full : (sum own : List ℕ → ℕ) (P n : ℕ) (s : OwnedState) → IsOwned sum own s → 0 < P → n * P ≤ length (content_now s)
+    → owned_size s.journal / P ≤ n → n ≡ owned_size s.journal / P
+pages_full sum own P n s owned positive within all =
     let size = owned_size s.journal in
     let sized : size ≡ length (content_now s) = size_now sum own s owned in
-    let within : x.pages * P ≤ length (content_now s) = digested.within in
     let parts : size / P * P + size % P ≡ size = div-add-mod' size P in
     let less : size % P < P = mod-lt size positive in
     let next : suc (size / P) * P ≡ size / P * P + P = suc-mul (size / P) P in
-    let below : x.pages * P < suc (size / P) * P = omega (arith, sized, within, parts, less, next) in
-    let few : x.pages < suc (size / P) = lt_of_mul-lt-mul_right P below in
+    let below : n * P < suc (size / P) * P = omega (arith, sized, within, parts, less, next) in
+    let few : n < suc (size / P) = lt_of_mul-lt-mul_right P below in
     omega (arith, few, all)
 
--- so, with the rest behind them, the list is that of the content, which is of bytes
-pub list_ahead : (sum own : List ℕ → ℕ) (d : List ℕ → List ℕ) (P n : ℕ) (s a b : OwnedState) (before after : List ℕ) (x : DigestingState) (list : List ℕ) (u : Unit {0})
-    → IsOwned sum own s → OwnedReadLeaves sum own s a → HasJournal s.journal (λ w. Unit {0}) → HasDigests d a x → P ≡ s.page_size → 0 < P → n ≡ owned_size s.journal / P → n ≤ x.pages
-    → OwnedContentGoes (n * P) before after a b (Ok u) → length before ≡ owned_size s.journal - n * P → EachIsByte after → FinishesList d after x list
-    → (list ≡ list_of d s.page_size (content_now s)) × EachIsByte (content_now s)
-list_ahead sum own d P n s a b before after x list u owned leaves there has pages positive full all read len small finishes =
-    let held = content_now s in
-    let kept : content_now a ≡ held = content_kept sum own s a leaves in
-    let there_too = subst (λ (j : Option WriterState). HasJournal j (λ w. Unit {0})) (sym leaves.journal) there in
-    let ahead : IsDigestedAhead d P held x = subst (λ (Q : ℕ). IsDigestedAhead d Q held x) (leaves.page_size ∙ sym pages)
-    (ahead_kept d a.page_size (content_now a) held x (ahead_now d a x there_too has) (sym kept)) in
-    let enough : owned_size s.journal / P ≤ x.pages = omega (arith, full, all) in
-    let count : x.pages ≡ n = pages_full sum own d P s x owned positive ahead.digested enough ∙ sym full in (
-      subst (λ (Q : ℕ). list ≡ list_of d Q held) pages (list_done sum own d P n s a b before after x list u owned leaves read positive full len count ahead.digested finishes),
-      all_bytes sum own P n s a b before after u owned kept read len small (subst (λ (k : ℕ). EachIsByte (take (k * P) held)) count ahead.bytes),
-    )
+-- the whole pages of the content that is there are digested, and then its rest was read
+module _ (sum own : List ℕ → ℕ) (d : List ℕ → List ℕ) (P n : ℕ) (s a b : OwnedState) (before after : List ℕ) (x : SegmentDigestingState) (u : Unit {0})
+    (owned : IsOwned sum own s) (leaves : OwnedReadLeaves sum own s a) (there : HasJournal s.journal (λ w. Unit {0})) (has : HasDigests d a x) (pages : P ≡ s.page_size) (positive : 0 < P)
+    (full : n ≡ owned_size s.journal / P) (all : n ≤ x.digested.pages) (read : OwnedContentGoes (n * P) before after a b (Ok u)) (len : length before ≡ owned_size s.journal - n * P) where
+  ahead : IsDigestedAhead d P (content_now s) x
+  ahead =
+      let held = content_now s in
+      let there_too = subst (λ (j : Option WriterState). HasJournal j (λ w. Unit {0})) (sym leaves.journal) there in
+      subst (λ (Q : ℕ). IsDigestedAhead d Q held x) (leaves.page_size ∙ sym pages)
+      (ahead_kept d a.page_size (content_now a) held x (ahead_now d a x there_too has) (sym (content_kept sum own s a leaves)))
+
+  digested_now : IsSegmentDigested d P (content_now s) x
+  digested_now = ahead_is d P (content_now s) x ahead
+
+  enough : owned_size s.journal / P ≤ x.digested.pages
+  enough = omega (arith, full, all)
+
+  count : x.digested.pages ≡ n
+  count = pages_full sum own P x.digested.pages s owned positive digested_now.digested.within enough ∙ sym full
+
+  its_rest : (after ≡ drop (x.digested.pages * P) (content_now s)) × (length after < P)
+  its_rest = rest_is sum own P n x.digested.pages s a b before after u owned leaves read positive full len count
+
+  -- it is shorter than a page
+  pub rest_less : length after < x.marked.page_size
+  rest_less = subst (λ (Q : ℕ). length after < Q) (sym digested_now.page_size) its_rest.1
+
+  -- the marked pages and the rest are within the content
+  pub rest_fits : x.marked.pages * x.marked.page_size + length after ≤ owned_size s.journal
+  rest_fits =
+      let held = content_now s in
+      let sized : owned_size s.journal ≡ length held = size_now sum own s owned in
+      let same : x.marked.pages ≡ x.digested.pages = as_many d P held after x digested_now its_rest.0 its_rest.1 in
+      let cut : length after ≡ length held - x.digested.pages * P = ap length its_rest.0 ∙ length-drop (x.digested.pages * P) held in
+      let within : x.digested.pages * P ≤ length held = digested_now.digested.within in
+      let place : x.marked.pages * x.marked.page_size ≡ x.digested.pages * P = ap₂ (λ (k q : ℕ). k * q) same digested_now.page_size in
+      omega (arith, sized, cut, within, place)
+
+  -- so the levels are those of the content
+  pub levels_ahead : (l : SegmentLevels) → EachIsByte after → FinishesSegment d after x l
+      → AreSegmentLevels d s.page_size (content_now s) l × TellsApart d s.page_size (content_now s) l.content.root
+  levels_ahead l small finishes =
+      let held = content_now s in
+      let done = finishes P held digested_now its_rest.0 its_rest.1 in
+      let bytes = all_bytes sum own P n s a b before after u owned (content_kept sum own s a leaves) read len small (subst (λ (k : ℕ). EachIsByte (take (k * P) held)) count ahead.bytes) in (
+        subst (λ (Q : ℕ). AreSegmentLevels d Q held l) pages done.0,
+        subst (λ (Q : ℕ). TellsApart d Q held l.content.root) pages (done.1 bytes),
+      )
 
 -- there are at most as many pages as bytes
 pub pages_few : (P size : ℕ) → 0 < P → size / P ≤ size
@@ -237,6 +300,8 @@ reads_end sum own s a t (errors.Outdated n) leaves none fails = absurd fails
 reads_end sum own s a t errors.Manifest leaves none fails = absurd fails
 reads_end sum own s a t (errors.NoSegment n) leaves none fails = absurd fails
 reads_end sum own s a t errors.NumbersExhausted leaves none fails = absurd fails
+reads_end sum own s a t (errors.NoFrame its byte) leaves none fails = absurd fails
+reads_end sum own s a t (errors.Unmarked n) leaves none fails = absurd fails
 
 -- a call that ends by `?` answers its error
 pub ahead_refused : (s t : OwnedState) (e : Error) (result : Result (Unit {0}) Error) → IsErrAnd result (λ x. x ≡ e) → PagesGo s t (Err e) → PagesGo s t result
@@ -262,6 +327,8 @@ digests_fail s t k (errors.Outdated n) is = is
 digests_fail s t k errors.Manifest is = is
 digests_fail s t k (errors.NoSegment n) is = is
 digests_fail s t k errors.NumbersExhausted is = is
+digests_fail s t k (errors.NoFrame its byte) is = is
+digests_fail s t k (errors.Unmarked n) is = is
 
 -- as where the pages before it can't be
 pub pages_fail : (s a t : OwnedState) (k : ℕ) (e : Error) → a ≡ record s { digested = k } → PagesGo a t (Err e) → DigestsFail s t e
@@ -303,6 +370,8 @@ ahead_done most s o b t x y end r same kept there count further few most_of low 
     by_answer (Err errors.Manifest) is done = absurd is
     by_answer (Err (errors.NoSegment n)) is done = absurd is
     by_answer (Err errors.NumbersExhausted) is done = absurd is
+    by_answer (Err (errors.NoFrame its byte)) is done = absurd is
+    by_answer (Err (errors.Unmarked n)) is done = absurd is
 
 -- ---- device calls
 

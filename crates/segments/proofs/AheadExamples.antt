@@ -1,29 +1,39 @@
 -- Digests of the open segment's pages that are made ahead of its rotation: what each definition holds of, and what it
 -- refuses. The open segment has one record, "c", whose frame has 8 bytes: two pages of 4 bytes, or a part of one of 18.
 -- The digest of a string is its first 32 bytes, filled up with zeros.
-use Rattle.std.specs.Prelude.{◌≡◌, ◌≤◌, ◌*◌, ℕ, zero, suc, List, [], ◌∷◌, length, take, None, Some, Ok, Err}
+use Rattle.std.specs.Prelude.{◌≡◌, ◌≤◌, ◌*◌, ◌++◌, ℕ, zero, suc, List, [], ◌∷◌, length, replicate, take, false, None, Some, Ok, Err}
 use Rattle.std.proofs.Common.{refl, ap, arith, lit<, lit≤}
 use Rattle.disk.specs.declared.error.Error.TheVariants.{OutOfMemory, WriteFailed}
 use Rattle.paged_read.specs.Failures.{none_failed_start}
-use Rattle.page_digests.specs.Growing.{DigestingState}
+use Rattle.journal.specs.Frame.{record_len}
 use Rattle.page_digests.specs.Seals.{EachIsByte}
 use Rattle.page_digests.proofs.PageExamples.{first}
 use Rattle.writer_state.specs.WriterState.{WriterState}
 use Rattle.segments.specs.declared.error.Error.TheVariants as errors
 use Rattle.segments.specs.Ahead.{AheadGoes, HasDigests, IsDigestedAhead, IsFurther, PagesGo, content_calls}
+use Rattle.segments.specs.Marking.{IsMarked, MarkingState}
 use Rattle.segments.specs.Owned.{OwnedState, without_journal}
+use Rattle.segments.specs.SegmentLevels.{SegmentDigestingState}
 use Rattle.segments.proofs.BytesExamples.{c_frame, c_page, resting, with_c, writer}
 
-abbrev none_yet : DigestingState
-none_yet = record { pages = 0; list = [] }
+-- no page is digested or marked, by pages of 18 bytes
+abbrev none_yet : SegmentDigestingState
+none_yet = record { digested = record { pages = 0; list = [] }; marked = record { page_size = 18; pages = 0; marks = []; before = 0; skip = 0; is_cut = false } }
 
--- the first page of 4 bytes
-abbrev its_first : DigestingState
-its_first = record { pages = 1; list = first (0 ∷ 1 ∷ 99 ∷ 0 ∷ []) }
+-- the first page of 4 bytes, in which the one frame begins, which ends 4 bytes behind it
+abbrev its_mark : MarkingState
+its_mark = record { page_size = 4; pages = 1; marks = replicate 8 0; before = 1; skip = 4; is_cut = false }
+
+abbrev its_first : SegmentDigestingState
+its_first = record { digested = record { pages = 1; list = first (0 ∷ 1 ∷ 99 ∷ 0 ∷ []) }; marked = its_mark }
 
 -- a page that is counted and has no digest
-abbrev counted : DigestingState
-counted = record { pages = 1; list = [] }
+abbrev counted : SegmentDigestingState
+counted = record its_first { digested = record { pages = 1; list = [] } }
+
+-- a page that has a digest and no mark
+abbrev not_marked : SegmentDigestingState
+not_marked = record its_first { marked = record { page_size = 4; pages = 0; marks = []; before = 0; skip = 0; is_cut = false } }
 
 first_is_bytes : EachIsByte (take (1 * 4) c_frame)
 first_is_bytes zero = lit< tt
@@ -37,25 +47,42 @@ none_is_bytes i = lit< tt
 
 -- ---- what is digested
 
+first_marked : (rest : List ℕ) → IsMarked (c_frame ++ rest) its_mark
+unfolding record_len
+first_marked rest = record { within = omega arith; marked = record { marks = refl; before = refl; next = refl } }
+
 pub its_first_page : IsDigestedAhead first 4 c_frame its_first
-its_first_page = record { digested = record { list = refl; within = lit≤ tt }; bytes = first_is_bytes }
+its_first_page = record {
+  digested = λ rest. record { page_size = refl; digested = record { list = refl; within = omega arith }; marked = first_marked rest; ahead = lit≤ tt };
+  bytes = first_is_bytes;
+}
 
 pub without_its_digest : IsDigestedAhead first 4 c_frame counted → ⊥
-without_its_digest is = omega (arith, ap length is.digested.list)
+without_its_digest is = omega (arith, ap length (is.digested []).digested.list)
+
+pub without_its_mark : IsDigestedAhead first 4 c_frame not_marked → ⊥
+without_its_mark is = omega (arith, (is.digested []).ahead)
 
 -- a page holds bytes
-pub a_page_of_numbers : (x : DigestingState) → x.pages ≡ 1 → IsDigestedAhead first 1 (256 ∷ []) x → ⊥
+pub a_page_of_numbers : (x : SegmentDigestingState) → x.digested.pages ≡ 1 → IsDigestedAhead first 1 (256 ∷ []) x → ⊥
 a_page_of_numbers x one is = omega (arith, rw one at is.bytes 0)
+
+none_marked : (rest : List ℕ) → IsMarked (c_frame ++ rest) none_yet.marked
+unfolding record_len
+none_marked rest = record { within = omega arith; marked = record { marks = refl; before = refl; next = refl } }
 
 -- its content has no whole page of 18 bytes
 pub none_is_whole : HasDigests first with_c none_yet
-none_is_whole = record { digested = record { list = refl; within = lit≤ tt }; bytes = none_is_bytes }
+none_is_whole = record {
+  digested = λ rest. record { page_size = refl; digested = record { list = refl; within = omega arith }; marked = none_marked rest; ahead = lit≤ tt };
+  bytes = none_is_bytes;
+}
 
-pub a_part_is_counted : (list : List ℕ) → HasDigests first with_c (record { pages = 1; list = list }) → ⊥
-a_part_is_counted list has = omega (arith, has.digested.within)
+pub a_part_is_counted : (list : List ℕ) → HasDigests first with_c (record none_yet { digested = record { pages = 1; list = list } }) → ⊥
+a_part_is_counted list has = omega (arith, (has.digested []).digested.within)
 
 -- where there is no journal nothing is asked
-pub of_a_closed_one : (x : DigestingState) → HasDigests first (without_journal with_c) x
+pub of_a_closed_one : (x : SegmentDigestingState) → HasDigests first (without_journal with_c) x
 of_a_closed_one x = tt
 
 -- ---- answers

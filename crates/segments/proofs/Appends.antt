@@ -27,6 +27,8 @@ none_left sum own bytes s t (errors.Outdated n) is = absurd is
 none_left sum own bytes s t errors.Manifest is = absurd is
 none_left sum own bytes s t (errors.NoSegment n) is = absurd is
 none_left sum own bytes s t errors.NumbersExhausted is = absurd is
+none_left sum own bytes s t (errors.NoFrame its byte) is = absurd is
+none_left sum own bytes s t (errors.Unmarked n) is = absurd is
 
 -- the open segment is so long that it is closed, as a log is put together
 pub is_long : (view s : LogState) → view ≡ s → view.most ≤ owned_size view.current.journal → s.most ≤ owned_size s.current.journal

@@ -1,5 +1,5 @@
 -- The digests of the pages of a journal's content.
-use Rattle.std.specs.Prelude.{◌≡◌, ◌<◌, ◌≤◌, ◌+◌, ◌-◌, ◌*◌, ◌/◌, ◌%◌, ℕ, suc, List, [], length, take, drop, Some, None, Option, IfSome, Result, Ok, Err, Vec}
+use Rattle.std.specs.Prelude.{◌≡◌, ◌<◌, ◌≤◌, ◌+◌, ◌-◌, ◌*◌, ◌/◌, ◌%◌, ℕ, suc, List, length, take, drop, Some, None, Option, IfSome, Result, Ok, Err}
 use Rattle.std.specs.Result.{IsErrAnd}
 use Rattle.std.proofs.Common.{ap, sym, ◌∙◌, refl, subst, arith, div-add-mod', lit<, mod-lt, suc-mul, take-add, take_all}
 use Rattle.std.proofs.lemmas.List.{length-drop}
@@ -12,14 +12,14 @@ use Rattle.paged_read.specs.Failures.{none_failed_start}
 use Rattle.paged.specs.Reads.{size_of}
 use Rattle.journal.specs.Journal.{ReadContentGoes, RecordReadRefused}
 use Rattle.journal.proofs.Journals.{between_of}
-use Rattle.page_digests.specs.Growing.{DigestingState, DigestsPage, FinishesList, IsDigested}
 use Rattle.page_digests.specs.Pages.{content_page, list_of}
 use Rattle.page_digests.specs.Seals.{AreLevelsOf, AreLevelsOver, EachIsByte}
 use Rattle.page_digests.specs.declared.levels.Levels.{Levels}
 use Rattle.page_digests.proofs.Bytes.{bytes_joined}
 use Rattle.segments.specs.declared.error.Error.{Error}
 use Rattle.segments.specs.declared.error.Error.TheVariants as errors
-use Rattle.segments.specs.Owned.{DigestsFail, HasJournal, IsOwned, IsOwnedJournal, LevelsGo, ListGoes, OwnedContentGoes, OwnedReadLeaves, OwnedState, content_now, content_of, owned_size}
+use Rattle.segments.specs.declared.segment_digesting.SegmentLevels.{SegmentLevels}
+use Rattle.segments.specs.Owned.{DigestsFail, HasJournal, IsOwned, IsOwnedJournal, LevelsGo, OwnedContentGoes, OwnedReadLeaves, OwnedState, content_now, content_of, owned_size}
 use Rattle.segments.proofs.Joining.{content_by}
 
 -- ---- what reads leave
@@ -57,37 +57,36 @@ rest_short P size positive =
     let less : size % P < P = mod-lt size positive in
     omega (arith, all, less)
 
--- the content is digested up to a page that was read
-pub page_digested : (sum own : List ℕ → ℕ) (d : List ℕ → List ℕ) (P n : ℕ) (s t : OwnedState) (before after : List ℕ) (x y : DigestingState) (u : Unit {0})
-    → IsOwned sum own s → OwnedContentGoes (n * P) before after s t (Ok u) → length before ≡ P → n * P + P ≤ owned_size s.journal
-    → x.pages ≡ n → IsDigested d P (content_now s) x → DigestsPage d after x y
-    → IsDigested d P (content_now s) y
-page_digested sum own d P n s t before after x y u owned read len fits pages digested taken =
+-- a page that was read is that of the content
+pub page_is : (sum own : List ℕ → ℕ) (P n k : ℕ) (s t : OwnedState) (before after : List ℕ) (u : Unit {0})
+    → IsOwned sum own s → OwnedContentGoes (n * P) before after s t (Ok u) → length before ≡ P → n * P + P ≤ owned_size s.journal → k ≡ n
+    → (after ≡ content_page P k (content_now s)) × (k * P + P ≤ length (content_now s))
+page_is sum own P n k s t before after u owned read len fits pages =
     let held = content_now s in
-    let page : after ≡ content_page P x.pages held =
-    (read_is (n * P) before after s t u read).0 ∙ ap (λ (k : ℕ). take k (drop (n * P) held)) len
-    ∙ ap (λ (k : ℕ). take P (drop (k * P) held)) (sym pages) in
     let sized = size_now sum own s owned in
-    let within : n * P + P ≤ length held = omega (arith, fits, sized) in
-    taken P held digested page (subst (λ (k : ℕ). k * P + P ≤ length held) (sym pages) within)
+    let within : n * P + P ≤ length held = omega (arith, fits, sized) in (
+      (read_is (n * P) before after s t u read).0 ∙ ap (λ (k : ℕ). take k (drop (n * P) held)) len
+          ∙ ap (λ (k : ℕ). take P (drop (k * P) held)) (sym pages),
+      subst (λ (k : ℕ). k * P + P ≤ length held) (sym pages) within,
+    )
 
--- all of the content is digested, with the rest that was read behind the whole pages
-pub list_done : (sum own : List ℕ → ℕ) (d : List ℕ → List ℕ) (P n : ℕ) (s a b : OwnedState) (before after : List ℕ) (x : DigestingState) (list : List ℕ) (u : Unit {0})
+-- the rest that was read behind the whole pages
+pub rest_is : (sum own : List ℕ → ℕ) (P n k : ℕ) (s a b : OwnedState) (before after : List ℕ) (u : Unit {0})
     → IsOwned sum own s → OwnedReadLeaves sum own s a → OwnedContentGoes (n * P) before after a b (Ok u) → 0 < P → n ≡ owned_size s.journal / P
-    → length before ≡ owned_size s.journal - n * P → x.pages ≡ n → IsDigested d P (content_now s) x → FinishesList d after x list
-    → list ≡ list_of d P (content_now s)
-list_done sum own d P n s a b before after x list u owned leaves read positive full len pages digested finishes =
+    → length before ≡ owned_size s.journal - n * P → k ≡ n
+    → (after ≡ drop (k * P) (content_now s)) × (length after < P)
+rest_is sum own P n k s a b before after u owned leaves read positive full len pages =
     let held = content_now s in
     let size = owned_size s.journal in
     let sized = size_now sum own s owned in
     let cut = length-drop (n * P) held in
     let enough : length (drop (n * P) held) ≤ length before = omega (arith, sized, cut, len) in
-    let rest : after ≡ drop (x.pages * P) held =
+    let rest : after ≡ drop (k * P) held =
     (read_is (n * P) before after a b u read).0 ∙ ap (λ (bytes : List ℕ). take (length before) (drop (n * P) bytes)) (content_kept sum own s a leaves)
     ∙ take_all (length before) (drop (n * P) held) enough ∙ ap (λ (k : ℕ). drop (k * P) held) (sym pages) in
     let less : size - n * P < P = subst (λ (k : ℕ). size - k * P < P) (sym full) (rest_short P size positive) in
     let short : length after < P = omega (arith, (read_is (n * P) before after a b u read).1, len, less) in
-    finishes P held digested rest short
+    (rest, short)
 
 -- ---- its bytes
 
@@ -121,10 +120,6 @@ all_bytes sum own P n s a b before after u owned kept read len small so_far =
     subst (λ (l : List ℕ). EachIsByte l) (sym (take-add (n * P) k held) ∙ take_all (n * P + k) held enough)
     (bytes_joined (take (n * P) held) (take k (drop (n * P) held)) so_far (subst EachIsByte rest small))
 
--- no page is digested yet
-pub none_digested : (d : List ℕ → List ℕ) (x : DigestingState) → ((P : ℕ) (content : List ℕ) → IsDigested d P content x) → x.pages ≡ 0
-none_digested d x is = let few : x.pages * 1 ≤ 0 = (is 1 []).within in omega (arith, few)
-
 -- ---- refusals
 
 fails_by : (j : Option WriterState) (offset : ℕ) (before after : List ℕ) (old new : Life) (e : disk.Error)
@@ -149,6 +144,8 @@ read_failed offset before after s a b (errors.Outdated n) same is = is
 read_failed offset before after s a b errors.Manifest same is = is
 read_failed offset before after s a b (errors.NoSegment n) same is = is
 read_failed offset before after s a b errors.NumbersExhausted same is = is
+read_failed offset before after s a b (errors.NoFrame its byte) same is = is
+read_failed offset before after s a b (errors.Unmarked n) same is = is
 
 memory_by : (j : Option WriterState) (life : Life) → HasJournal j (λ w. Unit {0}) → HasJournal j (λ w. (mid : Life) × RecordReadRefused mid life layer.OutOfMemory)
 memory_by None life there = there
@@ -163,13 +160,8 @@ pub there_is : (view s : OwnedState) (w : WriterState) → view ≡ s → view.j
 there_is view s w same is =
     subst (λ (s : OwnedState). HasJournal s.journal (λ w. Unit {0})) same (subst (λ (j : Option WriterState). HasJournal j (λ w. Unit {0})) (sym is) tt)
 
--- the list couldn't be made
-pub list_refused : {A : Type 0} (d : List ℕ → List ℕ) (s t : OwnedState) (e : Error) (result : Result (Vec ℕ A) Error) → IsErrAnd result (λ x. x ≡ e) → DigestsFail s t e → ListGoes d s t result
-list_refused d s t e (Ok list) is fails = absurd is
-list_refused d s t e (Err x) is fails = subst (λ (y : Error). DigestsFail s t y) (sym is) fails
-
--- nor the levels
-pub levels_refused : (d : List ℕ → List ℕ) (s t : OwnedState) (e : Error) (result : Result Levels Error) → IsErrAnd result (λ x. x ≡ e) → DigestsFail s t e → LevelsGo d s t result
+-- the levels couldn't be made
+pub levels_refused : (d : List ℕ → List ℕ) (s t : OwnedState) (e : Error) (result : Result SegmentLevels Error) → IsErrAnd result (λ x. x ≡ e) → DigestsFail s t e → LevelsGo d s t result
 levels_refused d s t e (Ok levels) is fails = absurd is
 levels_refused d s t e (Err x) is fails = subst (λ (y : Error). DigestsFail s t y) (sym is) fails
 

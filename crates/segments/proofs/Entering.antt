@@ -47,6 +47,8 @@ no_journal sum own bytes s t (errors.Outdated n) is = absurd is
 no_journal sum own bytes s t errors.Manifest is = absurd is
 no_journal sum own bytes s t (errors.NoSegment n) is = absurd is
 no_journal sum own bytes s t errors.NumbersExhausted is = absurd is
+no_journal sum own bytes s t (errors.NoFrame its byte) is = absurd is
+no_journal sum own bytes s t (errors.Unmarked n) is = absurd is
 
 -- the log stands with an entry more
 pub enter_ready : (sum own : List ℕ → ℕ) (entry : Entry) (bytes : List ℕ) (s : LogState) (m : ListingState) (manifest : OwnedState) (known : ℕ) (u : Unit {0})
@@ -92,6 +94,8 @@ refused_by sum own entry bytes s manifest (errors.Outdated n) is = absurd is
 refused_by sum own entry bytes s manifest errors.Manifest is = absurd is
 refused_by sum own entry bytes s manifest (errors.NoSegment n) is = absurd is
 refused_by sum own entry bytes s manifest errors.NumbersExhausted is = absurd is
+refused_by sum own entry bytes s manifest (errors.NoFrame its byte) is = absurd is
+refused_by sum own entry bytes s manifest (errors.Unmarked n) is = absurd is
 
 -- the entry is refused where the manifest's call failed
 pub not_entered : (sum own : List ℕ → ℕ) (entry : Entry) (bytes : List ℕ) (view s : LogState) (manifest : OwnedState) (e : Error) → view ≡ s

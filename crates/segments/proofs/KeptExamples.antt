@@ -1,8 +1,8 @@
 -- What is kept of a closed segment: what each of these definitions holds of, and what it refuses. One segment is known by
 -- its whole file, which is empty, or has the page of "c"; another by the pages of "abc". Two of the digests can be seen
 -- through: `first` is the first 32 bytes, filled up with zeros, and `flat` is the same for all strings.
-use Rattle.std.specs.Prelude.{◌≡◌, ◌≢◌, ℕ, List, [], ◌∷◌, length}
-use Rattle.std.proofs.Common.{refl, sym, ap, subst, arith}
+use Rattle.std.specs.Prelude.{◌≡◌, ◌≢◌, ℕ, List, [], ◌∷◌, length, Option, Some, None}
+use Rattle.std.proofs.Common.{refl, sym, ◌∙◌, ap, subst, arith}
 use Rattle.sha2.specs.Sha256.{sha256}
 use Rattle.page.specs.Page.{text}
 use Rattle.page.specs.Sums.{add_sum}
@@ -18,6 +18,7 @@ use Rattle.segments.specs.declared.closed.Fingerprint.TheVariants.{Whole, Paged}
 use Rattle.segments.specs.declared.closed.PagedSeal.{PagedSeal}
 use Rattle.segments.specs.Kept.{AreOfDigest, HasFileTwin, HasFingerprint, HasTwin, HasTwinBy, HasTwinOf, HoldsClosed, IsInFile, IsOf, IsOfDigest, IsSealedBy, IsTwin}
 use Rattle.segments.specs.Manifest.{closed_by}
+use Rattle.segments.specs.MarkReads.{marks_root_of}
 use Rattle.segments.proofs.BytesExamples.{c_frame, c_page}
 
 -- ---- bytes and twins
@@ -93,9 +94,9 @@ an_empty_file_has_none sum P content has = few_have_no_twin has.holds.bytes (sym
 
 -- ---- fingerprints
 
--- the seal of "abc", by the digest of number 1
+-- the seal of "abc" and the root of its marks, by the digest of number 1
 abbrev pub abc_seal : PagedSeal
-abc_seal = record { number = 1; seal = its_seal }
+abc_seal = record { number = 1; seal = its_seal; marks = Some (marks_root_of first 32 abc) }
 
 pub by_its_file : (d : List ℕ → List ℕ) → HasFingerprint add_sum d 18 (Whole empty_file) []
 by_its_file d = nothing_is_in_it
@@ -160,7 +161,7 @@ no_twin_of_abc sum has = it_has_no_twin has
 -- ---- sealed
 
 pub it_was_sealed : IsSealedBy first 32 abc paged_abc
-it_was_sealed = record { seal = abc_seal; is = refl; of = it_is_its_seal; apart = its_root_tells }
+it_was_sealed = record { seal = abc_seal; is = refl; of = it_is_its_seal; apart = its_root_tells; marks = refl }
 
 abbrev seal_in : Fingerprint → Seal
 seal_in (Whole kept) = record { len = 0; root = [] }
@@ -169,6 +170,14 @@ seal_in (Paged kept) = kept.seal
 -- a content that was changed
 pub xyz_was_not_sealed : IsSealedBy first 32 xyz paged_abc → ⊥
 xyz_was_not_sealed is = not_that_of_xyz (subst (λ (s : Seal). IsSealOf first 32 xyz s) (sym (ap seal_in is.is)) is.of)
+
+abbrev marks_in : Fingerprint → Option (List ℕ)
+marks_in (Whole kept) = None
+marks_in (Paged kept) = kept.marks
+
+-- the root of its marks wasn't kept
+pub not_without_marks : IsSealedBy first 32 abc (closed_by 1 (Paged (record abc_seal { marks = None }))) → ⊥
+not_without_marks is = let none : None ≡ Some (marks_root_of first 32 abc) = ap marks_in is.is ∙ is.marks in absurd (cc none)
 
 -- a file's digest is no seal
 pub a_file_is_not_sealed : (d : List ℕ → List ℕ) (P : ℕ) (content : List ℕ) → IsSealedBy d P content empty → ⊥

@@ -114,6 +114,8 @@ held_read sum own d P l t offset (Err (errors.Outdated n)) loaded is = absurd is
 held_read sum own d P l t offset (Err errors.Manifest) loaded is = absurd is
 held_read sum own d P l t offset (Err (errors.NoSegment n)) loaded is = absurd is
 held_read sum own d P l t offset (Err errors.NumbersExhausted) loaded is = absurd is
+held_read sum own d P l t offset (Err (errors.NoFrame its byte)) loaded is = absurd is
+held_read sum own d P l t offset (Err (errors.Unmarked n)) loaded is = absurd is
 
 -- ---- a read of a closed segment
 
@@ -138,12 +140,14 @@ reads_whole sum own d s t p kept l (Err (errors.Outdated n)) listed has is = abs
 reads_whole sum own d s t p kept l (Err errors.Manifest) listed has is = absurd is
 reads_whole sum own d s t p kept l (Err (errors.NoSegment n)) listed has is = absurd is
 reads_whole sum own d s t p kept l (Err errors.NumbersExhausted) listed has is = absurd is
+reads_whole sum own d s t p kept l (Err (errors.NoFrame its byte)) listed has is = absurd is
+reads_whole sum own d s t p kept l (Err (errors.Unmarked n)) listed has is = absurd is
 
 -- it couldn't be brought into memory
 pub load_refused : (sum own : List ℕ → ℕ) (d : List ℕ → List ℕ) (s t : LogState) (p : Place) (kept : FileDigest) (e : Error) → IsKeptAs s.listing p.segment (λ f. f ≡ Whole kept)
     → TakeLoadedGoes sum own s p.segment kept (Err e) → LogReadRefused own d s t p e
 load_refused sum own d s t p kept (errors.Damaged n) (closed, listed, whole) is =
-    (is, (closed, listed, subst (λ f. IsDamagedBy d s.page_size p.offset f) (sym whole) tt))
+    (is, (closed, listed, subst (λ f. IsDamagedBy d s.page_size p.offset p.segment t f) (sym whole) tt))
 load_refused sum own d s t p kept (errors.System e) (closed, listed, whole) is = (closed, listed)
 load_refused sum own d s t p kept (errors.Layer e) (closed, listed, whole) is = inr (closed, listed)
 load_refused sum own d s t p kept (errors.NoSegment n) listed is = absurd is
@@ -156,3 +160,5 @@ load_refused sum own d s t p kept (errors.AnotherDigest n) listed is = absurd is
 load_refused sum own d s t p kept (errors.Outdated n) listed is = absurd is
 load_refused sum own d s t p kept errors.Manifest listed is = absurd is
 load_refused sum own d s t p kept errors.NumbersExhausted listed is = absurd is
+load_refused sum own d s t p kept (errors.NoFrame its byte) listed is = absurd is
+load_refused sum own d s t p kept (errors.Unmarked n) listed is = absurd is

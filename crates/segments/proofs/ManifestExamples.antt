@@ -8,12 +8,14 @@ use Rattle.segments.specs.declared.call.FolderCall.TheVariants as calls
 use Rattle.segments.specs.declared.closed.Closed.{Closed}
 use Rattle.segments.specs.declared.closed.Fingerprint.{Fingerprint}
 use Rattle.segments.specs.declared.closed.Fingerprint.TheVariants.{Whole, Paged}
+use Rattle.segments.specs.declared.closed.PagedSeal.{PagedSeal}
+use Rattle.segments.specs.declared.entry.Entry.{Entry}
 use Rattle.segments.specs.declared.entry.Entry.TheVariants.{Starts, Closes}
 use Rattle.segments.specs.declared.folder.Asked.TheVariants.{Manifest, Segment}
 use Rattle.segments.specs.declared.known.Known.{Known}
 use Rattle.segments.specs.Copies.{copy_body, copy_bytes, known_in}
 use Rattle.segments.specs.Folders.{call_for}
-use Rattle.segments.specs.Manifest.{ListingState, TakesIn, closed_at, closed_by, closed_count, closing_bytes, closing_len, entry_bytes, entry_in, fitting, listed_after, listed_by, listed_in, listed_with, none_closed, open_in, padded, padding, paged_in, whole_in}
+use Rattle.segments.specs.Manifest.{ListingState, TakesIn, closed_at, closed_by, closed_count, closing_bytes, closing_len, entry_bytes, entry_in, fitting, listed_after, listed_by, listed_in, listed_with, marked_in, marks_root, none_closed, open_in, padded, padding, paged_closing_len, paged_front, paged_in, paged_kind, paged_with, whole_in}
 
 -- ---- entries
 
@@ -33,8 +35,8 @@ pub a_cut_entry : entry_in (0 ∷ 0 ∷ 0 ∷ 0 ∷ 0 ∷ 0 ∷ 0 ∷ 1 ∷ 2 �
 unfolding entry_in
 a_cut_entry = refl
 
--- an entry of a fourth kind
-pub no_such_kind : entry_in (3 ∷ 0 ∷ 0 ∷ 0 ∷ 0 ∷ 0 ∷ 0 ∷ 1 ∷ 2 ∷ 15 ∷ 244 ∷ []) ≡ None
+-- an entry of a fifth kind
+pub no_such_kind : entry_in (4 ∷ 0 ∷ 0 ∷ 0 ∷ 0 ∷ 0 ∷ 0 ∷ 1 ∷ 2 ∷ 15 ∷ 244 ∷ []) ≡ None
 unfolding entry_in
 no_such_kind = refl
 
@@ -50,16 +52,33 @@ starts_2 = replicate 8 0 ++ 2 ∷ 0 ∷ 18 ∷ []
 
 -- ---- entries that close a segment
 
+-- the marks' root of an entry
+abbrev marks_of_print : Fingerprint → Option (List ℕ)
+marks_of_print (Whole kept) = None
+marks_of_print (Paged kept) = kept.marks
+
+abbrev marks_by : Entry → Option (List ℕ)
+marks_by (Starts first size) = None
+marks_by (Closes kept) = marks_of_print kept.fingerprint
+
 -- a digest, or a root
 abbrev sevens : List ℕ
 sevens = replicate 32 7
 
--- what is kept of a segment of 772 bytes: the digest of its file; or its root, by the digest of number 5
+-- the root of the marks
+abbrev eights : List ℕ
+eights = replicate 32 8
+
+-- what is kept of a segment of 772 bytes: the digest of its file; or its root, by the digest of number 5, without marks
+-- or with the root of its marks
 abbrev by_file : Fingerprint
 by_file = Whole (record { len = 772; digest = sevens })
 
 abbrev by_pages : Fingerprint
-by_pages = Paged (record { number = 5; seal = record { len = 772; root = sevens } })
+by_pages = Paged (record { number = 5; seal = record { len = 772; root = sevens }; marks = None })
+
+abbrev by_marks : Fingerprint
+by_marks = Paged (record { number = 5; seal = record { len = 772; root = sevens }; marks = Some eights })
 
 -- it has 258 records
 abbrev file_entry : List ℕ
@@ -67,6 +86,36 @@ file_entry = 1 ∷ 0 ∷ 0 ∷ 0 ∷ 0 ∷ 0 ∷ 0 ∷ 1 ∷ 2 ∷ 0 ∷ 0 ∷ 0
 
 abbrev pages_entry : List ℕ
 pages_entry = 2 ∷ 0 ∷ 0 ∷ 0 ∷ 0 ∷ 0 ∷ 0 ∷ 1 ∷ 2 ∷ 0 ∷ 0 ∷ 0 ∷ 0 ∷ 0 ∷ 0 ∷ 3 ∷ 4 ∷ 5 ∷ sevens
+
+abbrev marks_entry : List ℕ
+marks_entry = 3 ∷ 0 ∷ 0 ∷ 0 ∷ 0 ∷ 0 ∷ 0 ∷ 1 ∷ 2 ∷ 0 ∷ 0 ∷ 0 ∷ 0 ∷ 0 ∷ 0 ∷ 3 ∷ 4 ∷ 5 ∷ sevens ++ eights
+
+pub kind_without_marks : paged_kind None ≡ 2
+kind_without_marks = refl
+
+pub kind_with_marks : paged_kind (Some eights) ≡ 3
+kind_with_marks = refl
+
+pub not_the_same_kind : paged_kind (Some eights) ≡ paged_kind None → ⊥
+not_the_same_kind is = let same : ◌≡◌ {A = ℕ} 3 2 = is in omega (arith, same)
+
+-- what is kept by its pages
+abbrev its_seal : PagedSeal
+its_seal = record { number = 5; seal = record { len = 772; root = sevens }; marks = None }
+
+pub its_front : paged_front 2 258 its_seal ≡ pages_entry
+its_front = refl
+
+-- the first byte is the one that is given
+pub not_of_another_kind : paged_front 3 258 its_seal ≡ pages_entry → ⊥
+not_of_another_kind is = let same : ◌≡◌ {A = ℕ} 3 2 = ap (λ (l : List ℕ). get_or l 0 0) is in omega (arith, same)
+
+pub root_of_marks : marks_root (Some eights) ≡ eights
+root_of_marks = refl
+
+-- no root is given for a segment without marks
+pub no_root_of_marks : marks_root None ≡ eights → ⊥
+no_root_of_marks is = let same : ◌≡◌ {A = ℕ} 0 32 = ap length is in omega (arith, same)
 
 pub it_is_kept : closed_by 258 by_file ≡ record { records = 258; fingerprint = by_file }
 it_is_kept = refl
@@ -79,6 +128,9 @@ bytes_by_its_file = refl
 
 pub bytes_by_its_pages : closing_bytes 258 by_pages ≡ pages_entry
 bytes_by_its_pages = refl
+
+pub bytes_by_its_marks : closing_bytes 258 by_marks ≡ marks_entry
+bytes_by_its_marks = refl
 
 -- which of the two it is is told by the first byte
 pub they_are_told_apart : closing_bytes 258 by_file ≡ closing_bytes 258 by_pages → ⊥
@@ -93,6 +145,16 @@ frame_by_its_file = refl
 -- one byte more, for the number of the digest
 pub frame_by_its_pages : closing_len by_pages ≡ 57
 frame_by_its_pages = refl
+
+-- and 32 more for the root of its marks
+pub frame_by_its_marks : closing_len by_marks ≡ 89
+frame_by_its_marks = refl
+
+pub len_without_marks : paged_closing_len None ≡ 57
+len_without_marks = refl
+
+pub len_with_marks : paged_closing_len (Some eights) ≡ 57 → ⊥
+len_with_marks is = let same : ◌≡◌ {A = ℕ} 89 57 = is in omega (arith, same)
 
 pub not_as_long : closing_len by_pages ≡ 56 → ⊥
 not_as_long is = let same : ◌≡◌ {A = ℕ} 57 56 = is in omega (arith, same)
@@ -136,6 +198,19 @@ paged_is_read = refl
 pub one_behind_a_paged : paged_in (pages_entry ++ 0 ∷ 1 ∷ []) ≡ None
 one_behind_a_paged = refl
 
+pub marked_is_read : marked_in (marks_entry ++ replicate 18 0) ≡ Some (Closes (closed_by 258 by_marks))
+marked_is_read = refl
+
+pub one_behind_a_marked : marked_in (marks_entry ++ 0 ∷ 1 ∷ []) ≡ None
+one_behind_a_marked = refl
+
+pub by_its_parts : paged_with marks_entry (Some eights) ≡ Closes (closed_by 258 by_marks)
+by_its_parts = refl
+
+-- the marks are those that are given
+pub not_by_other_marks : paged_with marks_entry None ≡ Closes (closed_by 258 by_marks) → ⊥
+not_by_other_marks is = let none : None ≡ Some eights = ap marks_by is in absurd (cc none)
+
 pub first_kind_is_read : entry_in file_entry ≡ Some (Closes (closed_by 258 by_file))
 unfolding entry_in
 first_kind_is_read = refl
@@ -143,6 +218,19 @@ first_kind_is_read = refl
 pub second_kind_is_read : entry_in pages_entry ≡ Some (Closes (closed_by 258 by_pages))
 unfolding entry_in
 second_kind_is_read = refl
+
+pub third_kind_is_read : entry_in marks_entry ≡ Some (Closes (closed_by 258 by_marks))
+unfolding entry_in
+third_kind_is_read = refl
+
+pub a_cut_third_kind : entry_in (take 81 marks_entry) ≡ None
+unfolding entry_in
+a_cut_third_kind = refl
+
+-- bytes that aren't zeros stand behind it
+pub a_third_kind_with_more : entry_in (marks_entry ++ 1 ∷ []) ≡ None
+unfolding entry_in
+a_third_kind_with_more = refl
 
 -- their last byte is missing
 pub a_cut_first_kind : entry_in (take 48 file_entry) ≡ None

@@ -82,3 +82,5 @@ drop_of number segment s t (Err (errors.AnotherDigest n)) is are = absurd is
 drop_of number segment s t (Err (errors.Outdated n)) is are = absurd is
 drop_of number segment s t (Err errors.Manifest) is are = absurd is
 drop_of number segment s t (Err errors.NumbersExhausted) is are = absurd is
+drop_of number segment s t (Err (errors.NoFrame its byte)) is are = absurd is
+drop_of number segment s t (Err (errors.Unmarked n)) is are = absurd is

@@ -15,7 +15,7 @@ use Rattle.paged_read.specs.Failures.{none_failed_start}
 use Rattle.journal.specs.Calls.{JournalCallLeaves, JournalRecoverGoes, RecordReadLeaves}
 use Rattle.journal.specs.Frame.{frames, is_record, record_len, record_of, records}
 use Rattle.journal.specs.Journal.{Commits, CommitsAll, IsJournal, OnlyRecords}
-use Rattle.page_digests.specs.declared.levels.Levels.{Levels}
+use Rattle.segments.specs.declared.segment_digesting.SegmentLevels.{SegmentLevels}
 use Rattle.segments.specs.declared.error.Error.TheVariants as errors
 use Rattle.segments.specs.Owned.{HasJournal, IsAdded, IsOwned, IsOwnedJournal, IsShut, KeepsJournal, KeepsRecords, OwnedAddGoes, OwnedAddKeeps, OwnedAppendGoes, OwnedCommitGoes, OwnedKeeps, OwnedLeaves, OwnedReadGoes, OwnedReadLeaves, OwnedRecoverGoes, OwnedSealGoes, OwnedStartGoes, OwnedState, OwnedWaitGoes, content_now, content_of, owned_size, records_now, records_of, without_journal}
 use Rattle.segments.proofs.BytesExamples.{bare_cache, bare_is_fresh, c, c_frame, c_is_lost, c_is_told, c_life, c_page, c_stays, changed_life, d, d_page, life_of, not_only, only_of, resting, rests, with_c, with_none, writer}
@@ -189,7 +189,7 @@ pub open_after_a_refused_one : (sum own : List ℕ → ℕ) (capacity : ℕ) →
 open_after_a_refused_one sum own capacity is = absurd (cc (is.0))
 
 -- of the two records that it had, one is left
-pub one_is_left : (digest : List ℕ → List ℕ) (levels : Levels) (w : WriterState) → records_of add_sum (Some w) c_life ≡ c ∷ d ∷ []
+pub one_is_left : (digest : List ℕ → List ℕ) (levels : SegmentLevels) (w : WriterState) → records_of add_sum (Some w) c_life ≡ c ∷ d ∷ []
     → OwnedSealGoes digest add_sum add_sum (record with_c { journal = Some w }) closed (Ok levels) → ⊥
 one_is_left digest levels w had is = let same : c ∷ [] ≡ c ∷ d ∷ [] = sym c_is_told ∙ is.0.tells ∙ had in omega (arith, ap length same)
 

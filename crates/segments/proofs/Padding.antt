@@ -1,5 +1,5 @@
 -- The zeros behind an entry that closes a segment.
-use Rattle.std.specs.Prelude.{◌≡◌, ◌<◌, ◌≤◌, ◌+◌, ◌-◌, ◌%◌, ◌&&◌, ℕ, zero, suc, length, if◌then◌else◌, nat_lt, replicate}
+use Rattle.std.specs.Prelude.{◌≡◌, ◌<◌, ◌≤◌, ◌+◌, ◌-◌, ◌%◌, ◌&&◌, ◌++◌, ℕ, List, zero, suc, length, Some, None, if◌then◌else◌, nat_lt, replicate}
 use Rattle.std.proofs.Common.{ap, ap₂, inl, inr, sym, ◌∙◌, subst, arith, length-append}
 use Rattle.std.proofs.Math.Nat.{mod-add-mod, mod-eq_of_lt, mod_self, add-mod_left, mod-lt}
 use Rattle.std.proofs.lemmas.Bool.{cases_lt, lt-ltb, le-ltb}
@@ -9,7 +9,7 @@ use Rattle.segments.specs.declared.closed.FileDigest.{FileDigest}
 use Rattle.segments.specs.declared.closed.Fingerprint.TheVariants.{Whole, Paged}
 use Rattle.segments.specs.declared.closed.PagedSeal.{PagedSeal}
 use Rattle.segments.specs.declared.entry.Entry.TheVariants.{Closes}
-use Rattle.segments.specs.Manifest.{closing_bytes, closing_len, entry_bytes, free_after, padded, padding}
+use Rattle.segments.specs.Manifest.{closing_bytes, closing_len, entry_bytes, free_after, marks_root, padded, padding, paged_closing_len}
 
 -- some zeros more, by how many bytes the last page has
 more : (P size closing pad : ℕ) → (size + (closing + pad)) % P ≡ ((size % P + closing) % P + pad) % P
@@ -46,13 +46,26 @@ free_enough P size closing big =
           omega (arith, left, enough)
     ]
 
--- how long the frame of an entry is that closes a segment, by its pages
-pub paged_len : (kept : Closed) (seal : PagedSeal) → kept.fingerprint ≡ Paged seal → length seal.seal.root ≡ 32 → length (entry_bytes (Closes kept)) + 7 ≡ closing_len kept.fingerprint
-paged_len kept seal is long =
+-- how long the frame of an entry is that closes a segment, by its pages and with marks
+pub marked_len : (kept : Closed) (seal : PagedSeal) (marks : List ℕ) → kept.fingerprint ≡ Paged seal → seal.marks ≡ Some marks → length seal.seal.root ≡ 32 → length marks ≡ 32
+    → length (entry_bytes (Closes kept)) + 7 ≡ closing_len kept.fingerprint
+marked_len kept seal marks is marked long wide =
     let bytes : length (entry_bytes (Closes kept)) ≡ length (closing_bytes kept.records (Paged seal)) = ap (λ f. length (closing_bytes kept.records f)) is in
-    let frame : closing_len kept.fingerprint ≡ 57 = ap (λ f. closing_len f) is in
-    let all : length (closing_bytes kept.records (Paged seal)) ≡ 50 = omega (arith, long) in
-    omega (arith, bytes, frame, all)
+    let frame : closing_len kept.fingerprint ≡ 89 = ap (λ f. closing_len f) is ∙ ap (λ o. paged_closing_len o) marked in
+    let parts : length (closing_bytes kept.records (Paged seal)) ≡ 18 + length (seal.seal.root ++ marks_root seal.marks) = omega arith in
+    let root : length (seal.seal.root ++ marks_root seal.marks) ≡ length seal.seal.root + length (marks_root seal.marks) = length-append seal.seal.root (marks_root seal.marks) in
+    let its : length (marks_root seal.marks) ≡ length marks = ap (λ o. length (marks_root o)) marked in
+    omega (arith, bytes, frame, parts, root, its, long, wide)
+
+-- the same without marks
+pub paged_len : (kept : Closed) (seal : PagedSeal) → kept.fingerprint ≡ Paged seal → seal.marks ≡ None → length seal.seal.root ≡ 32 → length (entry_bytes (Closes kept)) + 7 ≡ closing_len kept.fingerprint
+paged_len kept seal is unmarked long =
+    let bytes : length (entry_bytes (Closes kept)) ≡ length (closing_bytes kept.records (Paged seal)) = ap (λ f. length (closing_bytes kept.records f)) is in
+    let frame : closing_len kept.fingerprint ≡ 57 = ap (λ f. closing_len f) is ∙ ap (λ o. paged_closing_len o) unmarked in
+    let parts : length (closing_bytes kept.records (Paged seal)) ≡ 18 + length (seal.seal.root ++ marks_root seal.marks) = omega arith in
+    let root : length (seal.seal.root ++ marks_root seal.marks) ≡ length seal.seal.root + length (marks_root seal.marks) = length-append seal.seal.root (marks_root seal.marks) in
+    let its : length (marks_root seal.marks) ≡ 0 = ap (λ o. length (marks_root o)) unmarked in
+    omega (arith, bytes, frame, parts, root, its, long)
 
 -- by the whole file
 pub whole_len : (kept : Closed) (file : FileDigest) → kept.fingerprint ≡ Whole file → length file.digest ≡ 32 → length (entry_bytes (Closes kept)) + 7 ≡ closing_len kept.fingerprint

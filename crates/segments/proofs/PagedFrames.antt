@@ -1,13 +1,15 @@
--- The frame at an offset of a content, by two reads of it.
-use Rattle.std.proofs.Common.{◌≡◌, ◌⊎◌, ◌<◌, ◌≤◌, ◌+◌, ◌-◌, ◌*◌, ◌/◌, ◌∙◌, ℕ, suc, List, length, take, drop, min, ap, sym, subst, inl, inr, arith, length-drop, length-take}
+-- The frame at an offset of a content, by two reads of it, or in the page that is held.
+use Rattle.std.proofs.Common.{◌≡◌, ◌⊎◌, ◌<◌, ◌≤◌, ◌+◌, ◌-◌, ◌*◌, ◌/◌, ◌∙◌, ℕ, suc, List, length, take, drop, min, ap, sym, subst, inl, inr, arith, length-drop, length-take, [], refl, append-nil}
 use Rattle.std.specs.Prelude.{Option, Some, Ok, Err, Vec}
 use Rattle.std.specs.declared.alloc.Global.{Global}
 use Rattle.std.proofs.Math.Nat.{div-eq_of_lt-le, suc-mul}
+use Rattle.std.proofs.lemmas.List.{take-take}
 use Rattle.journal.specs.declared.frame.Found.{Found}
 use Rattle.journal.specs.Frame.{frame_len, record_len, record_of}
 use Rattle.journal.specs.Journal.{IsFound}
+use Rattle.journal.proofs.Frames.{record_len-front}
 use Rattle.journal.proofs.Journals.{found, frame_measured}
-use Rattle.page_digests.specs.Contents.{HoldsLast, IsInCached, IsSameContent, PagedReadGoes, PagedState, RangeAsks, RangeFails}
+use Rattle.page_digests.specs.Contents.{HoldsFrom, HoldsLast, IsInCached, IsSameContent, PagedReadGoes, PagedState, RangeAsks, RangeFails}
 use Rattle.page_digests.specs.Pages.{range_at}
 use Rattle.page_digests.specs.Reads.{IsTouched, pages_touched}
 use Rattle.page_digests.specs.Seals.{HasSecondPreimage, IsSealOf, IsVerified}
@@ -89,7 +91,7 @@ frame_asks offset n len s t u some is same first holds second = record {
 -- ---- the answers
 
 -- what a range failed for since a call began it failed for in it
-range_fails_before : (d : List ℕ → List ℕ) (offset len : ℕ) (s t u : PagedState) (e : Error) → IsSameContent s t → RangeFails d offset len t u e → RangeFails d offset len s u e
+pub range_fails_before : (d : List ℕ → List ℕ) (offset len : ℕ) (s t u : PagedState) (e : Error) → IsSameContent s t → RangeFails d offset len t u e → RangeFails d offset len s u e
 range_fails_before d offset len s t u Damaged same (i, touched, fails) =
     (i, subst (λ (P : ℕ). IsTouched P offset len i) same.page_size touched, fails_before d i s t u Damaged same fails)
 range_fails_before d offset len s t u (System e) same (i, touched, fails) =
@@ -149,6 +151,74 @@ module _ (d : List ℕ → List ℕ) (own : List ℕ → ℕ) (offset rest n len
             reads = λ content is.
                 subst (λ (k : ℕ). IsFound own content offset f.bytes k ⊎ HasSecondPreimage d s.page_size content) (sym end)
                 (frame_found d own s.page_size s.seal offset rest len front.items framed.items f.bytes within some front_read measured verified held content is);
+          },
+        );
+      }
+
+-- ---- in the page that is held
+
+-- a frame of which the page that is held has all bytes
+module _ (d : List ℕ → List ℕ) (own : List ℕ → ℕ) (offset len : ℕ) (s : PagedState) (held : List ℕ) (begins : offset < s.seal.len) (holds : HoldsFrom d offset s held)
+    (measured : len ≡ record_len held + 7) (whole : len ≤ length held) where
+  here : IsInCached offset (length held) s
+  here = holds.cached (omega (arith, measured, whole))
+
+  within : offset + length held ≤ s.seal.len
+  within =
+      let positive : 0 < length held = omega (arith, measured, whole) in
+      let end : offset + length held ≡ min (here.page * s.page_size + s.page_size) s.seal.len = holds.all here.page here.cached here.begins (omega (arith, here.ends, positive, begins)) in
+      omega (arith, end)
+
+  part : (m : ℕ) → m ≤ length held → IsVerified d s.page_size s.seal (range_at offset m) (take m held)
+  part m less content is = elim (holds.verified content is) [
+    | inr twin ↦ inr twin
+    | inl its ↦ inl (ap (take m) (its ∙ as_front content offset (length held)) ∙ take-take m (length held) (drop offset content) less ∙ sym (as_front content offset m))
+  ]
+
+  nothing_asked : (n : ℕ) → AsksForFrame offset n s s
+  nothing_asked n = record {
+    calls = omega arith;
+    list_calls = omega arith;
+    one_page = λ page from to. record { calls = omega arith; list_calls = omega arith; cached = λ is. refl };
+  }
+
+  still : IsSameContent s s
+  still = record { seal = refl; page_size = refl; reads = ([], sym (append-nil s.reads)); list_reads = ([], sym (append-nil s.list_reads)) }
+
+  pub held_refused : PagedFrameGoes d own offset s s (Err OutOfMemory)
+  held_refused = record {
+    same = still;
+    answers = record {
+      begins = begins;
+      cause = inr (record {
+        front = take (min 2 (s.seal.len - offset)) held;
+        verified = part (min 2 (s.seal.len - offset)) (omega (arith, measured, whole));
+        asks = nothing_asked _;
+        fails = tt;
+      });
+    };
+  }
+
+  pub held_found : (f : Found) → f.bytes ≡ record_of own (take len held) → f.end ≡ offset + len → PagedFrameGoes d own offset s s (Ok (Some f))
+  held_found f is end =
+      let rest : ℕ = s.seal.len - offset in
+      let all : offset + rest ≡ s.seal.len = omega (arith, begins) in
+      let room : len ≤ rest = omega (arith, whole, within) in
+      let front : List ℕ = take (min rest 2) held in
+      let says : record_len front ≡ record_len held = record_len-front (min rest 2) held (omega (arith, measured, whole, within)) in
+      let count : len ≡ min rest (record_len front + 7) = omega (arith, says, measured, room) in
+      record {
+        same = still;
+        answers = (
+          nothing_asked _,
+          record {
+            forward = omega (arith, end, measured);
+            within = omega (arith, end, whole, within);
+            none = λ none. absurd (cc none);
+            reads = λ content sealed.
+                subst (λ (k : ℕ). IsFound own content offset f.bytes k ⊎ HasSecondPreimage d s.page_size content) (sym end)
+                (frame_found d own s.page_size s.seal offset rest len front (take len held) f.bytes all (omega (arith, begins)) (part (min rest 2) (omega (arith, measured, whole))) count
+                (part len whole) is content sealed);
           },
         );
       }

@@ -15,7 +15,7 @@ use Rattle.page_digests.specs.Sources.{SourceRead, gave}
 use Rattle.page_digests.specs.declared.error.Error as pages
 use Rattle.page_digests.specs.declared.error.Error.TheVariants as causes
 use Rattle.page_digests.specs.declared.seal.Seal.{Seal}
-use Rattle.page_digests.proofs.ContentExamples.{damaged, opened}
+use Rattle.page_digests.proofs.ContentExamples.{opened}
 use Rattle.page_digests.proofs.PageExamples.{first}
 use Rattle.page_digests.proofs.RebuildExamples.{xyz_has_another_root}
 use Rattle.page_digests.proofs.SealExamples.{abc, it_has_no_twin, it_is_its_seal, its_seal, xyz}
@@ -27,14 +27,15 @@ use Rattle.segments.specs.declared.error.Error.TheVariants as errors
 use Rattle.segments.specs.declared.place.Place.{Place}
 use Rattle.segments.specs.declared.segment_file.Kind.TheVariants.{Folder, Memory}
 use Rattle.segments.specs.Kept.{IsOf}
-use Rattle.segments.specs.Log.{HasLoaded, HeldReadGoes, IsDamagedBy, IsKeptAs, IsLoaded, IsReadOfClosed, IsReading, IsSameButReading, IsBeyondPages, LoadedState, LogReadGoes, LogReadRefused, LogState, TakeLoadedGoes}
+use Rattle.segments.specs.Log.{HasDamagedLast, HasLoaded, HeldReadGoes, IsDamagedBy, IsKeptAs, IsLoaded, IsReadOfClosed, IsReading, IsSameButReading, IsBeyondPages, LoadedState, LogReadGoes, LogReadRefused, LogState, TakeLoadedGoes}
 use Rattle.segments.specs.Owned.{IsOwned, OwnedState, without_journal}
-use Rattle.segments.specs.PagedReads.{FileEndsEarly, HasDamagedFile, HasDamagedFrame, HasSeal, IsBeyondLimit, IsDamage, IsDamagedPaged, IsPagedOf, IsToldAs, OpensPaged, PagedSegmentState, RebuildsPaged}
+use Rattle.segments.specs.PagedReads.{FileEndsEarly, HasDamagedFile, HasFailedRebuild, HasFailedSince, HasSeal, IsBeyondLimit, IsDamage, IsPagedOf, IsToldAs, OpensPaged, PagedSegmentState, RebuildsPaged}
 use Rattle.segments.specs.SegmentFiles.{reads_from}
 use Rattle.segments.proofs.BytesExamples.{c_frame, c_page, with_c}
 use Rattle.segments.proofs.Loading.{file_read}
 use Rattle.segments.proofs.LogExamples.{a_record_is_read, both, by_file, by_pages, c_found, it_ends_where_it_begins, it_holds_c, none_is_read, small}
-use Rattle.segments.proofs.PagedFrameExamples.{it_is_its_frame, its_frame, its_page_is_another}
+use Rattle.segments.specs.PagedFrames.{FrameFails}
+use Rattle.segments.proofs.PagedFrameExamples.{it_is_its_frame, its_frame}
 use Rattle.segments.proofs.PagedReading.{reads_paged}
 use Rattle.segments.proofs.Recents.{HasPages}
 
@@ -73,13 +74,6 @@ a_cut_file_is e is = is
 pub memory_was_refused : IsDamage causes.OutOfMemory → ⊥
 memory_was_refused is = is
 
-pub its_frame_is_damaged : HasDamagedFrame first 32 its_seal 0
-its_frame_is_damaged = record { old = opened; new = damaged; of = refl; page_size = refl; error = causes.Damaged; fails = its_page_is_another; damage = tt }
-
--- at the end there is none that could be damaged
-pub no_frame_is_damaged : (d : List ℕ → List ℕ) (P : ℕ) → HasDamagedFrame d P its_seal 3 → ⊥
-no_frame_is_damaged d P is = omega (arith, is.fails.begins, ap (λ (s : Seal). s.len) is.of)
-
 pub its_file_is_damaged : HasDamagedFile first 32 its_seal
 its_file_is_damaged = record { old = []; new = gave 0 xyz ∷ []; error = causes.Damaged; fails = xyz_has_another_root; damage = tt }
 
@@ -98,17 +92,6 @@ no_page_is_there d old new causes.OutOfMemory goes damage = damage
 
 pub no_file_is_damaged : (d : List ℕ → List ℕ) → HasDamagedFile d 32 (none_seal d) → ⊥
 no_file_is_damaged d is = no_page_is_there d is.old is.new is.error is.fails is.damage
-
-pub its_frame_shows_it : IsDamagedPaged first 32 its_seal 0
-its_frame_shows_it = inl its_frame_is_damaged
-
-pub or_its_file : IsDamagedPaged first 32 its_seal 3
-or_its_file = inr its_file_is_damaged
-
--- a content of no byte has no frame either
-pub nothing_shows_it : (d : List ℕ → List ℕ) → IsDamagedPaged d 32 (none_seal d) 0 → ⊥
-nothing_shows_it d (inl is) = omega (arith, is.fails.begins, ap (λ (s : Seal). s.len) is.of)
-nothing_shows_it d (inr is) = no_file_is_damaged d is
 
 -- ---- as the log answers it
 
@@ -133,7 +116,7 @@ a_refusal_is_damage e gone (inr is) = cc is.1
 -- ---- a fingerprint
 
 abbrev pub sealed : PagedSeal
-sealed = record { number = 1; seal = its_seal }
+sealed = record { number = 1; seal = its_seal; marks = None }
 
 pub it_has_its_seal : HasSeal its_seal (Paged sealed)
 it_has_its_seal = refl
@@ -154,20 +137,38 @@ it_is_short long = it_has_three_bytes long
 pub a_file_is_never_too_long : (kept : FileDigest) → IsBeyondPages (Whole kept) → ⊥
 a_file_is_never_too_long kept is = is
 
-pub damaged_by_its_frame : IsDamagedBy first 32 0 (Paged sealed)
-damaged_by_its_frame = its_frame_shows_it
+pub damaged_by_its_own_file : (t : LogState) → IsDamagedBy first 32 0 7 t (Paged sealed)
+damaged_by_its_own_file t = inl its_file_is_damaged
 
-pub damaged_by_its_file : (kept : FileDigest) → IsDamagedBy first 32 0 (Whole kept)
-damaged_by_its_file kept = tt
+pub damaged_by_its_file : (kept : FileDigest) (t : LogState) → IsDamagedBy first 32 0 7 t (Whole kept)
+damaged_by_its_file kept t = tt
 
-pub damaged_by_nothing : (d : List ℕ → List ℕ) → IsDamagedBy d 32 0 (Paged (record sealed { seal = none_seal d })) → ⊥
-damaged_by_nothing d is = nothing_shows_it d is
+damage_told : (n k : ℕ) (cause : pages.Error) → IsToldAs n cause (errors.Damaged k) → IsDamage cause
+damage_told n k causes.Damaged told = tt
+damage_told n k (causes.System e) (inl told) = told.0
+damage_told n k (causes.System e) (inr told) = absurd (cc told.1)
+damage_told n k causes.OutOfMemory told = absurd (cc told)
+
+-- a content of no byte has no frame, and no page of its file can be wrong
+nothing_is_damaged : (d : List ℕ → List ℕ) (t : LogState) → HasDamagedLast d (FrameFails d 0) 32 (none_seal d) 7 t → ⊥
+nothing_is_damaged d t is = by_case is.fails.fails
+  where
+    by_case : HasFailedSince d (FrameFails d 0) is.old.content is.new.content is.fails.cause ⊎ HasFailedRebuild d is.old.content is.new.content is.fails.cause ⊎ (is.fails.cause ≡ causes.OutOfMemory) → ⊥
+    by_case (inl since) = omega (arith, since.fails.begins, ap (λ (s : Seal). s.len) since.of, ap (λ (s : Seal). s.len) is.of.of)
+    by_case (inr (inl file)) = no_page_is_there d file.before file.after is.fails.cause
+        (subst (λ n. RebuildGoes d n (none_seal d) file.before file.after (Err is.fails.cause)) is.of.page_size
+        (subst (λ l. RebuildGoes d is.old.content.page_size l file.before file.after (Err is.fails.cause)) is.of.of file.fails)) (damage_told is.old.number 7 is.fails.cause is.fails.told)
+    by_case (inr (inr memory)) = subst (λ (e : pages.Error). IsDamage e) memory (damage_told is.old.number 7 is.fails.cause is.fails.told)
+
+pub damaged_by_nothing : (d : List ℕ → List ℕ) (t : LogState) → IsDamagedBy d 32 0 7 t (Paged (record sealed { seal = none_seal d })) → ⊥
+damaged_by_nothing d t (inl is) = no_file_is_damaged d is
+damaged_by_nothing d t (inr is) = nothing_is_damaged d t is
 
 -- ---- in reading
 
 -- its top was read, and nothing else
 abbrev pub in_pages : PagedSegmentState
-in_pages = record { number = 7; content = opened; is_settled = false }
+in_pages = record { number = 7; content = opened; is_settled = false; marks_root = None; marks = None; ended = 0 }
 
 pub it_is_of_its_seal : IsPagedOf 32 7 its_seal in_pages
 it_is_of_its_seal = record { number = refl; of = refl; page_size = refl }
@@ -300,7 +301,7 @@ module _ (kept : FileDigest) where
   abc_is_read t = reads_paged add_sum add_sum first log t (begin 0) its_seal (Some its_frame) it_is_kept (it_is_its_frame add_sum)
 
   pub abc_is_damaged : (t : LogState) → LogReadGoes add_sum add_sum first log t (begin 0) (Err (errors.Damaged 0))
-  abc_is_damaged t = (refl, (by_pages sealed, refl, its_frame_shows_it))
+  abc_is_damaged t = (refl, (by_pages sealed, refl, inl its_file_is_damaged))
 
   pub the_file_is_damaged : (own : List ℕ → ℕ) (t : LogState) → LogReadRefused own first log t (begin 1) (errors.Damaged 1)
   the_file_is_damaged own t = (refl, (by_file kept, refl, tt))

@@ -14,7 +14,7 @@ use Rattle.segments.specs.Owned.{HasJournal, OwnedReadGoes}
 use Rattle.segments.specs.Log.{LogReadGoes, LogState}
 use Rattle.segments.specs.FrameReads.{EndsBehind, IsReadOf}
 
-read_of : (own : List ℕ → ℕ) (held : List ℕ) (offset : ℕ) (old new : Life) (found : Option Found)
+pub read_of : (own : List ℕ → ℕ) (held : List ℕ) (offset : ℕ) (old new : Life) (found : Option Found)
     → ReadRecordGoes own held offset old new (Ok found) → IsReadOf own held offset found
 read_of own held offset old new None is = is.0
 read_of own held offset old new (Some f) is = is.0
@@ -48,3 +48,5 @@ reads_current sum own d s t p (Err (errors.Outdated n)) at is = absurd is
 reads_current sum own d s t p (Err errors.Manifest) at is = absurd is
 reads_current sum own d s t p (Err (errors.NoSegment n)) at is = absurd is
 reads_current sum own d s t p (Err errors.NumbersExhausted) at is = absurd is
+reads_current sum own d s t p (Err (errors.NoFrame its byte)) at is = absurd is
+reads_current sum own d s t p (Err (errors.Unmarked n)) at is = absurd is

@@ -24,16 +24,16 @@ not_of_that_size have = let same : ◌≡◌ {A = ℕ} 32 16 = All-head (HasPage
 
 -- ---- one is taken out
 
-pub it_is_taken_out : IsTaken 7 its_seal (other ∷ in_pages ∷ []) (other ∷ []) in_pages
-it_is_taken_out = record { before = other ∷ []; after = []; there = refl; left = refl; number = refl; of = refl }
+pub it_is_taken_out : IsTaken 7 its_seal None (other ∷ in_pages ∷ []) (other ∷ []) in_pages
+it_is_taken_out = record { before = other ∷ []; after = []; there = refl; left = refl; number = refl; of = refl; marks = refl }
 
-pub the_other_is_taken_for_it : IsTaken 7 its_seal (other ∷ in_pages ∷ []) (in_pages ∷ []) other → ⊥
+pub the_other_is_taken_for_it : IsTaken 7 its_seal None (other ∷ in_pages ∷ []) (in_pages ∷ []) other → ⊥
 the_other_is_taken_for_it is = let same : ◌≡◌ {A = ℕ} 3 7 = is.number in omega (arith, same)
 
-pub none_is_kept : TakesRecent 5 its_seal (other ∷ []) (other ∷ []) None
+pub none_is_kept : TakesRecent 5 its_seal None (other ∷ []) (other ∷ []) None
 none_is_kept = refl
 
-pub they_are_thrown_away : TakesRecent 5 its_seal (other ∷ []) [] None → ⊥
+pub they_are_thrown_away : TakesRecent 5 its_seal None (other ∷ []) [] None → ⊥
 they_are_thrown_away same = let one : ◌≡◌ {A = ℕ} 0 1 = ap length same in omega (arith, one)
 
 -- ---- which are kept

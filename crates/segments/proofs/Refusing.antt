@@ -10,7 +10,7 @@ use Rattle.segments.specs.declared.error.Error.{Error}
 use Rattle.segments.specs.declared.error.Error.TheVariants as errors
 use Rattle.segments.specs.FolderEvents.{FolderEvent, plain_event}
 use Rattle.segments.specs.Manifest.{ListingState, listed_with, open_in}
-use Rattle.page_digests.specs.declared.levels.Levels.{Levels}
+use Rattle.segments.specs.declared.segment_digesting.SegmentLevels.{SegmentLevels}
 use Rattle.segments.specs.Owned.{IsShut, OwnedSealGoes, OwnedState, records_now}
 use Rattle.segments.specs.Log.{AsksUnsynced, EnterRefused, IsNotEntered, IsSameButAsked, IsSameButCurrent, IsSameButManifest, IsClosedAs, ListRefused, ListsTheSame, LogState, NextRefused, RotateGoes, WriteListGoes, asked_listing, events_for}
 use Rattle.segments.proofs.Rotating.{Turning, asked_is, listing_asked, numbered_as, same_listing, same_reading, same_known, same_manifest, same_most, same_pages}
@@ -23,7 +23,7 @@ close_refused sum own d s t e (Err x) is goes rest none =
     (none, inl (record { rest = rest; refused = subst (λ y. OwnedSealGoes d sum own s.current t.current (Err y)) (sym is) goes }))
 
 -- the list of the open segment couldn't be written
-list_cause : (d : List ℕ → List ℕ) (sum own : List ℕ → ℕ) (s m t : LogState) (kept : Closed) (levels : Levels) (e : Error) → IsClosedAs sum own d s m.current.life kept levels → IsSameButCurrent s m
+list_cause : (d : List ℕ → List ℕ) (sum own : List ℕ → ℕ) (s m t : LogState) (kept : Closed) (levels : SegmentLevels) (e : Error) → IsClosedAs sum own d s m.current.life kept levels → IsSameButCurrent s m
     → WriteListGoes levels m t (Err e) → ListRefused d s t e
 list_cause d sum own s m t kept levels (errors.System x) sealed first is = listing_asked d sum own s m t kept levels true sealed first is
 list_cause d sum own s m t kept levels (errors.Layer x) sealed first is = is
@@ -38,6 +38,8 @@ list_cause d sum own s m t kept levels (errors.Outdated k) sealed first is = is
 list_cause d sum own s m t kept levels errors.Manifest sealed first is = is
 list_cause d sum own s m t kept levels (errors.NoSegment k) sealed first is = is
 list_cause d sum own s m t kept levels errors.NumbersExhausted sealed first is = is
+list_cause d sum own s m t kept levels (errors.NoFrame its byte) sealed first is = is
+list_cause d sum own s m t kept levels (errors.Unmarked n) sealed first is = is
 
 -- after the open segment was closed the folder was asked for something, and nothing else was done
 same_asked : (s m t : LogState) → IsSameButCurrent s m → IsSameButAsked m t → ListsTheSame s t
@@ -49,7 +51,7 @@ same_asked s m t first asks = record {
   known = ap (λ (l : LogState). l.known) asks ∙ first.known;
 }
 
-pub list_refused : (sum own : List ℕ → ℕ) (d : List ℕ → List ℕ) (s m t : LogState) (kept : Closed) (levels : Levels) (e : Error) (result : Result (Unit {0}) Error) → IsErrAnd result (λ x. x ≡ e)
+pub list_refused : (sum own : List ℕ → ℕ) (d : List ℕ → List ℕ) (s m t : LogState) (kept : Closed) (levels : SegmentLevels) (e : Error) (result : Result (Unit {0}) Error) → IsErrAnd result (λ x. x ≡ e)
     → IsClosedAs sum own d s m.current.life kept levels → IsSameButCurrent s m → m.current.journal ≡ None → IsSameButAsked m t → WriteListGoes levels m t (Err e) → RotateGoes sum own d s t result
 list_refused sum own d s m t kept levels e (Ok u) is sealed first none asks goes = absurd is
 list_refused sum own d s m t kept levels e (Err x) is sealed first none asks goes =
@@ -74,6 +76,8 @@ next_cause s m t (errors.Unsynced x) asked lists is =
 next_cause s m t (errors.Unlisted k) asked lists is =
     (is.0 ∙ ap (λ (l : ListingState). open_in l + 1) lists, is.1, is.2, is.3 ∙ ap (λ (es : List FolderEvent). es ++ events_for k is.1) asked)
 next_cause s m t errors.NumbersExhausted asked lists is = (ap (λ (l : ListingState). open_in l) (sym lists) ∙ is.0, is.1 ∙ asked)
+next_cause s m t (errors.NoFrame its byte) asked lists is = absurd is
+next_cause s m t (errors.Unmarked n) asked lists is = absurd is
 next_cause s m t (errors.Damaged k) asked lists is = is
 next_cause s m t (errors.Missing k) asked lists is = is
 next_cause s m t (errors.Short k) asked lists is = is
@@ -84,7 +88,7 @@ next_cause s m t (errors.NoSegment k) asked lists is = is
 next_cause s m t errors.Closed asked lists is = is
 
 -- the next segment couldn't be opened
-pub next_refused : (sum own : List ℕ → ℕ) (d : List ℕ → List ℕ) (s m w t : LogState) (kept : Closed) (levels : Levels) (u : Unit {0}) (e : Error) (result : Result (Unit {0}) Error) → IsErrAnd result (λ x. x ≡ e)
+pub next_refused : (sum own : List ℕ → ℕ) (d : List ℕ → List ℕ) (s m w t : LogState) (kept : Closed) (levels : SegmentLevels) (u : Unit {0}) (e : Error) (result : Result (Unit {0}) Error) → IsErrAnd result (λ x. x ≡ e)
     → IsClosedAs sum own d s m.current.life kept levels → IsSameButCurrent s m → m.current.journal ≡ None → WriteListGoes levels m w (Ok u) → IsSameButAsked m w
     → IsSameButAsked w t → NextRefused w t e → RotateGoes sum own d s t result
 next_refused sum own d s m w t kept levels u e (Ok v) is sealed first none wrote lists asks goes = absurd is
@@ -119,6 +123,8 @@ entry_cause s f entry errors.Manifest manifest lists pages is =
     ap (λ P. listed_with P entry s.listing) (sym pages) ∙ ap (λ l. listed_with f.page_size entry l) (sym lists) ∙ is
 entry_cause s f entry (errors.NoSegment k) manifest lists pages is = is
 entry_cause s f entry errors.NumbersExhausted manifest lists pages is = is
+entry_cause s f entry (errors.NoFrame its byte) manifest lists pages is = is
+entry_cause s f entry (errors.Unmarked n) manifest lists pages is = is
 
 left_of : (f e : LogState) (manifest : OwnedState) → f.manifest ≡ manifest → (e ≡ f) ⊎ (e.manifest.journal ≡ None) → (e.manifest ≡ manifest) ⊎ (e.manifest.journal ≡ None)
 left_of f e manifest same (inl is) = inl (ap (λ (l : LogState). l.manifest) is ∙ same)

@@ -96,3 +96,5 @@ drop_removes sum own segment s t (Err (errors.AnotherDigest n)) is log = absurd 
 drop_removes sum own segment s t (Err (errors.Outdated n)) is log = absurd is
 drop_removes sum own segment s t (Err errors.Manifest) is log = absurd is
 drop_removes sum own segment s t (Err errors.NumbersExhausted) is log = absurd is
+drop_removes sum own segment s t (Err (errors.NoFrame its byte)) is log = absurd is
+drop_removes sum own segment s t (Err (errors.Unmarked n)) is log = absurd is

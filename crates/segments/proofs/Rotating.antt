@@ -11,10 +11,13 @@ use Rattle.paged.specs.Recovery.{IsDurable}
 use Rattle.journal.specs.Journal.{OnlyRecords}
 use Rattle.writer_state.specs.WriterState.{WriterState}
 use Rattle.page_digests.specs.Pages.{list_of, top_of}
-use Rattle.page_digests.specs.declared.levels.Levels.{Levels}
+use Rattle.segments.specs.Marks.{marks_of}
+use Rattle.segments.specs.MarkReads.{marks_root_of}
+use Rattle.segments.specs.declared.segment_digesting.SegmentLevels.{SegmentLevels}
+use Rattle.segments.specs.SegmentLevels.{AreSegmentLevels, levels_bytes, list_file_of}
 use Rattle.segments.specs.Owned.{HasJournal, IsOwned, OwnedState, content_now, owned_size, records_now, without_journal}
 use Rattle.segments.specs.Log.{CurrentKeeps, HasFollowed, HasNext, HasOpened, IsEntered, IsLog, IsRotated, IsSameButAsked, IsSameButCurrent, IsSameButManifest, IsClosedAs, LeavesOpened, LogState, WasClosed, WriteListGoes, asked_listing, asked_turning, entered_bytes, events_for, listing_event}
-use Rattle.segments.proofs.Padding.{paged_len, room_after}
+use Rattle.segments.proofs.Padding.{marked_len, room_after}
 use Rattle.segments.proofs.Empty.{no_record}
 
 journal_is : (P : WriterState → Type 0) (j : Option WriterState) → HasJournal j P → HasJournal j (λ w. Unit {0})
@@ -72,15 +75,19 @@ only_some false l m is = sym (ap (λ (o : Option ListingState). or_first o) is) 
 pub listed : (P : ℕ) (kept : Closed) (l m : ListingState) → listed_with P (Closes kept) l ≡ Some m → m ≡ record { first = l.first; closed = l.closed ++ kept ∷ [] }
 listed P kept l m is = only_some (open_in l == 18446744073709551615) (record { first = l.first; closed = l.closed ++ kept ∷ [] }) m is
 
+-- the bytes of levels are those of the list's file of the content
+bytes_of_levels : (d : List ℕ → List ℕ) (P : ℕ) (content : List ℕ) (l : SegmentLevels) → AreSegmentLevels d P content l → levels_bytes l ≡ list_file_of d P content
+bytes_of_levels d P content l are =
+    ap₂ (λ (a b : List ℕ). a ++ b) (ap₂ (λ (a b : List ℕ). a ++ b) (ap₂ (λ (a b : List ℕ). a ++ b) are.of.list are.of.top) are.marks.list) are.marks.top
+
 -- the list of the open segment was written, by what the folder was asked for
-pub listing_asked : (d : List ℕ → List ℕ) (sum own : List ℕ → ℕ) (s m t : LogState) (kept : Closed) (levels : Levels) (failed : Bool) → IsClosedAs sum own d s m.current.life kept levels → IsSameButCurrent s m
-    → t.asked ≡ m.asked ++ writing_event (open_in m.listing) (levels.list.items ++ levels.top.items) failed ∷ [] → t.asked ≡ s.asked ++ listing_event d s failed ∷ []
+pub listing_asked : (d : List ℕ → List ℕ) (sum own : List ℕ → ℕ) (s m t : LogState) (kept : Closed) (levels : SegmentLevels) (failed : Bool) → IsClosedAs sum own d s m.current.life kept levels → IsSameButCurrent s m
+    → t.asked ≡ m.asked ++ writing_event (open_in m.listing) (levels_bytes levels) failed ∷ [] → t.asked ≡ s.asked ++ listing_event d s failed ∷ []
 listing_asked d sum own s m t kept levels failed sealed first asked =
-    let bytes : levels.list.items ++ levels.top.items ≡ list_of d s.page_size (content_now s.current) ++ top_of d s.page_size (content_now s.current) =
-    ap₂ (λ (a b : List ℕ). a ++ b) sealed.levels.list sealed.levels.top in
+    let bytes : levels_bytes levels ≡ list_file_of d s.page_size (content_now s.current) = bytes_of_levels d s.page_size (content_now s.current) levels sealed.levels in
     asked
-    ∙ ap (λ (events : List FolderEvent). events ++ writing_event (open_in m.listing) (levels.list.items ++ levels.top.items) failed ∷ []) first.asked
-    ∙ ap (λ (l : ListingState). s.asked ++ writing_event (open_in l) (levels.list.items ++ levels.top.items) failed ∷ []) first.listing
+    ∙ ap (λ (events : List FolderEvent). events ++ writing_event (open_in m.listing) (levels_bytes levels) failed ∷ []) first.asked
+    ∙ ap (λ (l : ListingState). s.asked ++ writing_event (open_in l) (levels_bytes levels) failed ∷ []) first.listing
     ∙ ap (λ (bytes : List ℕ). s.asked ++ writing_event (open_in s.listing) bytes failed ∷ []) bytes
 
 -- the steps of a rotation up to the entry: the open segment was closed, its list was written, the next one was opened, and took its place
@@ -94,7 +101,7 @@ pub record Turning (sum own : List ℕ → ℕ) (d : List ℕ → List ℕ) (s m
   pub asks : IsSameButAsked w n
   pub follows : HasFollowed next n f
 
-pub turning_of : (sum own : List ℕ → ℕ) (d : List ℕ → List ℕ) (s m w n f : LogState) (next : OwnedState) (kept : Closed) (levels : Levels) (u : Unit {0}) → IsClosedAs sum own d s m.current.life kept levels
+pub turning_of : (sum own : List ℕ → ℕ) (d : List ℕ → List ℕ) (s m w n f : LogState) (next : OwnedState) (kept : Closed) (levels : SegmentLevels) (u : Unit {0}) → IsClosedAs sum own d s m.current.life kept levels
     → CurrentKeeps sum own (records_now own s.current) s m → IsSameButCurrent s m → WriteListGoes levels m w (Ok u) → IsSameButAsked m w → HasNext sum own w n next → IsSameButAsked w n → HasFollowed next n f
     → Turning sum own d s m w n f next kept
 turning_of sum own d s m w n f next kept levels u sealed keeps first wrote lists has asks follows =
@@ -158,7 +165,8 @@ module _ (sum own : List ℕ → ℕ) (d : List ℕ → List ℕ) (s m w n f : L
     entries = entered.records ∙ ap (λ (o : OwnedState). records_now own o ++ entered_bytes (Closes kept) f ∷ []) same_manifest
         ∙ ap (λ (bytes : List ℕ). records_now own s.manifest ++ bytes ∷ []) same_bytes;
     room = room_after s.page_size (owned_size s.manifest.journal) (owned_size e.manifest.journal) kept
-        (paged_len kept is.closed.of.seal is.closed.of.is (ap length is.closed.of.of.root ∙ sized (top_of d s.page_size (content_now s.current))))
+        (marked_len kept is.closed.of.seal (marks_root_of d s.page_size (content_now s.current)) is.closed.of.is is.closed.of.marks
+        (ap length is.closed.of.of.root ∙ sized (top_of d s.page_size (content_now s.current))) (sized (list_of d s.page_size (marks_of s.page_size (content_now s.current)))))
         (entered.size ∙ ap (λ (o : OwnedState). owned_size o.journal + (length (entered_bytes (Closes kept) f) + 7)) same_manifest
         ∙ ap (λ (bytes : List ℕ). owned_size s.manifest.journal + (length bytes + 7)) same_bytes);
     listed = entered.there;

@@ -11,13 +11,14 @@ use Rattle.writer_state.specs.WriterState.{WriterState}
 use Rattle.journal.specs.Frame.{records}
 use Rattle.journal.specs.Journal.{CommitGoes, IsCommitted, RecordReadRefused, records_in}
 use Rattle.journal.specs.Calls.{JournalCallLeaves, RecordReadLeaves}
-use Rattle.page_digests.specs.Seals.{AreLevelsOf, TellsApart}
-use Rattle.page_digests.specs.declared.levels.Levels.{Levels}
+use Rattle.page_digests.specs.Seals.{TellsApart}
 use Rattle.segments.specs.declared.closed.Closed.{Closed}
 use Rattle.segments.specs.declared.closed.Fingerprint.TheVariants.{Paged}
 use Rattle.segments.specs.declared.closed.PagedSeal.{PagedSeal}
 use Rattle.segments.specs.declared.error.Error.{Error}
 use Rattle.segments.specs.declared.error.Error.TheVariants as errors
+use Rattle.segments.specs.declared.segment_digesting.SegmentLevels.{SegmentLevels}
+use Rattle.segments.specs.SegmentLevels.{AreSegmentLevels}
 use Rattle.segments.specs.Owned.{HasJournal, IsOwned, IsOwnedJournal, IsShut, IsUndigested, KeepsJournal, KeepsRecords, LevelsGo, OwnedCommitGoes, OwnedKeeps, OwnedLeaves, OwnedReadLeaves, OwnedSealGoes, OwnedState, content_now, content_of, owned_size, records_now, records_of, without_journal}
 use Rattle.segments.specs.Log.{IsLog, IsClosedAs, LogState}
 use Rattle.segments.proofs.Adding.{keeps_joins}
@@ -33,7 +34,7 @@ has_then P Q (Some w) then is = then w is
 -- ---- the commit failed
 
 -- so nothing was digested
-pub seal_refused : (d : List ℕ → List ℕ) (sum own : List ℕ → ℕ) (s t : OwnedState) (e : Error) (result : Result Levels Error) → IsErrAnd result (λ x. x ≡ e)
+pub seal_refused : (d : List ℕ → List ℕ) (sum own : List ℕ → ℕ) (s t : OwnedState) (e : Error) (result : Result SegmentLevels Error) → IsErrAnd result (λ x. x ≡ e)
     → OwnedCommitGoes sum own s t (Err e) → OwnedSealGoes d sum own s t result
 seal_refused d sum own s t e (Ok levels) is goes = absurd is
 seal_refused d sum own s t e (Err x) is goes = refused x (subst (λ (y : Error). OwnedCommitGoes sum own s t (Err y)) (sym is) goes) where
@@ -51,6 +52,8 @@ seal_refused d sum own s t e (Err x) is goes = refused x (subst (λ (y : Error).
   refused errors.Manifest is = is
   refused (errors.NoSegment n) is = is
   refused errors.NumbersExhausted is = is
+  refused (errors.NoFrame its byte) is = is
+  refused (errors.Unmarked n) is = is
 
 none_of : (P : WriterState → Type 0) (j k : Option WriterState) → HasJournal j (λ w. (k ≡ None) × P w) → k ≡ None
 none_of P None k is = absurd is
@@ -71,6 +74,8 @@ seal_none sum own s t (errors.Outdated n) is = absurd is
 seal_none sum own s t errors.Manifest is = absurd is
 seal_none sum own s t (errors.NoSegment n) is = absurd is
 seal_none sum own s t errors.NumbersExhausted is = absurd is
+seal_none sum own s t (errors.NoFrame its byte) is = absurd is
+seal_none sum own s t (errors.Unmarked n) is = absurd is
 
 -- ---- after the commit the content was read
 
@@ -121,14 +126,14 @@ cause_of : (X : Type 0) (j : Option WriterState) → HasJournal j (λ w. X) → 
 cause_of X None is = absurd is
 cause_of X (Some w) is = is
 
-pub seal_goes : (d : List ℕ → List ℕ) (sum own : List ℕ → ℕ) (s m r : OwnedState) (u : Unit {0}) (result : Result Levels Error)
+pub seal_goes : (d : List ℕ → List ℕ) (sum own : List ℕ → ℕ) (s m r : OwnedState) (u : Unit {0}) (result : Result SegmentLevels Error)
     → IsOwned sum own s → OwnedLeaves sum own (records_now own s) s m → OwnedCommitGoes sum own s m (Ok u) → m.page_size ≡ s.page_size
     → OwnedReadLeaves sum own m r → LevelsGo d m r result → OwnedSealGoes d sum own s (without_journal r) result
 seal_goes d sum own s m r u (Ok levels) owned leaves is pages reads goes =
     let held = content_committed sum own s m u is in (
       sealed_shut sum own s m r u owned leaves is reads,
-      subst (λ (bytes : List ℕ). AreLevelsOf d s.page_size bytes levels) held (subst (λ P. AreLevelsOf d P (content_now m) levels) pages goes.0),
-      subst (λ (bytes : List ℕ). TellsApart d s.page_size bytes levels.root) held (subst (λ P. TellsApart d P (content_now m) levels.root) pages goes.1),
+      subst (λ (bytes : List ℕ). AreSegmentLevels d s.page_size bytes levels) held (subst (λ P. AreSegmentLevels d P (content_now m) levels) pages goes.1),
+      subst (λ (bytes : List ℕ). TellsApart d s.page_size bytes levels.content.root) held (subst (λ P. TellsApart d P (content_now m) levels.content.root) pages goes.2),
     )
 seal_goes d sum own s m r u (Err (errors.Layer e)) owned leaves is pages reads goes =
     let cause = cause_of ((mid : Life) × RecordReadRefused mid r.life e) m.journal goes in
@@ -147,6 +152,8 @@ seal_goes d sum own s m r u (Err (errors.Outdated n)) owned leaves is pages read
 seal_goes d sum own s m r u (Err errors.Manifest) owned leaves is pages reads goes = goes
 seal_goes d sum own s m r u (Err (errors.NoSegment n)) owned leaves is pages reads goes = goes
 seal_goes d sum own s m r u (Err errors.NumbersExhausted) owned leaves is pages reads goes = goes
+seal_goes d sum own s m r u (Err (errors.NoFrame its byte)) owned leaves is pages reads goes = goes
+seal_goes d sum own s m r u (Err (errors.Unmarked n)) owned leaves is pages reads goes = goes
 
 -- ---- what is kept
 
@@ -202,16 +209,16 @@ counted_by sum own s None there owned = absurd there
 counted_by sum own s (Some w) there owned = owned.counts
 
 -- what is kept of a segment that was sealed, with the levels of its content
-pub sealed_of : (sum own : List ℕ → ℕ) (d : List ℕ → List ℕ) (s t : LogState) (kept : Closed) (seal : PagedSeal) (levels : Levels) → IsLog sum own s
+pub sealed_of : (sum own : List ℕ → ℕ) (d : List ℕ → List ℕ) (s t : LogState) (kept : Closed) (seal : PagedSeal) (levels : SegmentLevels) → IsLog sum own s
     → OwnedSealGoes d sum own s.current t.current (Ok levels) → kept.fingerprint ≡ Paged seal → kept.records ≡ s.current.records
-    → seal.seal.len ≡ owned_size s.current.journal → seal.seal.root ≡ levels.root
+    → seal.seal.len ≡ owned_size s.current.journal → seal.seal.root ≡ levels.content.root → seal.marks ≡ Some levels.marks.root
     → IsClosedAs sum own d s t.current.life kept levels
-sealed_of sum own d s t kept seal levels log is by counts len root =
+sealed_of sum own d s t kept seal levels log is by counts len root marks =
     let held = content_now s.current in
     let pages = log.current_pages in
     let there = there_by _ s.current.journal is.0 in
-    let are : AreLevelsOf d s.page_size held levels = subst (λ P. AreLevelsOf d P held levels) pages is.1 in
-    let apart : TellsApart d s.page_size held levels.root = subst (λ P. TellsApart d P held levels.root) pages is.2 in
+    let are : AreSegmentLevels d s.page_size held levels = subst (λ P. AreSegmentLevels d P held levels) pages is.1 in
+    let apart : TellsApart d s.page_size held levels.content.root = subst (λ P. TellsApart d P held levels.content.root) pages is.2 in
     record {
       closed = record {
         was_open = there;
@@ -219,8 +226,9 @@ sealed_of sum own d s t kept seal levels log is by counts len root =
         of = record {
           seal = seal;
           is = by;
-          of = record { len = len ∙ size_now sum own s.current log.current; root = root ∙ are.root };
+          of = record { len = len ∙ size_now sum own s.current log.current; root = root ∙ are.of.root };
           apart = subst (λ (root : List ℕ). TellsApart d s.page_size held root) (sym root) apart;
+          marks = marks ∙ ap Some (are.marks.root ∙ ap d are.marks.top);
         };
         counts = counts ∙ counted_by sum own s.current s.current.journal there log.current.1;
       };

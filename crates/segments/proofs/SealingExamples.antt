@@ -1,7 +1,7 @@
 -- What the sealing of a segment leaves, and the writing of its list: what each definition holds of, and what it refuses.
 -- The open segment 0 has one record, "c", and its content is the record's frame, 8 bytes; a page has 18. The digest of a
 -- string is its first 32 bytes, filled up with zeros, or the same for all strings, or the string itself.
-use Rattle.std.specs.Prelude.{◌≡◌, ◌++◌, ℕ, zero, suc, List, [], ◌∷◌, length, get_or, None, Ok, Err, Bool, false, true, Vec}
+use Rattle.std.specs.Prelude.{◌≡◌, ◌++◌, ℕ, zero, suc, List, [], ◌∷◌, length, get_or, replicate, None, Some, Ok, Err, Bool, false, true}
 use Rattle.std.proofs.Common.{refl, ap, inl, inr, arith, lit<, ◌∙◌, subst, sym}
 use Rattle.disk.specs.Disk.{Life}
 use Rattle.disk.specs.declared.error.Error.TheVariants.{OutOfMemory, WriteFailed}
@@ -9,9 +9,8 @@ use Rattle.std.specs.declared.io.Error.{Error as IoError}
 use Rattle.page.specs.Sums.{add_sum}
 use Rattle.paged_read.specs.Failures.{none_failed_start}
 use Rattle.journal.specs.Frame.{frames, is_record, record_len, record_of, records}
-use Rattle.page_digests.specs.Pages.{list_of, root_of, top_of}
-use Rattle.page_digests.specs.Seals.{AreLevelsOf, EachIsByte, TellsApart}
-use Rattle.page_digests.specs.declared.levels.Levels.{Levels}
+use Rattle.page_digests.specs.Pages.{list_of}
+use Rattle.page_digests.specs.Seals.{EachIsByte, TellsApart}
 use Rattle.page_digests.proofs.PageExamples.{first, flat, sized_first}
 use Rattle.page_digests.proofs.Twins.{told_apart}
 use Rattle.segments.specs.declared.call.FolderCall.{FolderCall}
@@ -21,7 +20,9 @@ use Rattle.segments.specs.declared.closed.Fingerprint.TheVariants.{Paged}
 use Rattle.segments.specs.declared.error.Error.TheVariants as errors
 use Rattle.segments.specs.FolderEvents.{FolderEvent, closing_event, opening_with, plain_event, writing_event}
 use Rattle.segments.specs.Manifest.{closed_by, none_closed}
-use Rattle.segments.specs.Owned.{DigestsFail, IsUndigested, LevelsGo, ListGoes, OwnedContentGoes, OwnedSealGoes, OwnedState, without_journal}
+use Rattle.segments.specs.SegmentLevels.{AreSegmentLevels, levels_bytes}
+use Rattle.segments.specs.declared.segment_digesting.SegmentLevels.{SegmentLevels}
+use Rattle.segments.specs.Owned.{DigestsFail, IsUndigested, LevelsGo, OwnedContentGoes, OwnedSealGoes, OwnedState, without_journal}
 use Rattle.segments.specs.Log.{CloseCurrentGoes, HasOpenTwin, IsNotWritten, IsClosedAs, ListRefused, LogState, WasClosed, WriteListGoes, asked_listing, asked_turning, listing_event}
 use Rattle.segments.proofs.BytesExamples.{c_frame, c_life, c_page, d_frame, resting, with_c, with_none, writer}
 use Rattle.segments.proofs.OwnedExamples.{all_is_durable}
@@ -113,42 +114,39 @@ there_is_no_journal = refl
 pub there_is_one : DigestsFail with_c with_c errors.Closed → ⊥
 there_is_one fails = absurd (cc fails)
 
-module _ {A : Type 0} (list : Vec ℕ A) where
-  -- one page, whose digest is the list
-  pub its_list : list.items ≡ first c_frame → ListGoes first with_c with_c (Ok list)
-  its_list is = (tt, is, c_is_bytes)
+module _ (l : SegmentLevels) where
+  its_root_tells : AreSegmentLevels first 18 c_frame l → TellsApart first 18 c_frame l.content.root
+  its_root_tells are =
+      told_apart first sized_first 18 c_frame l.content.root c_is_bytes (subst EachIsByte are.of.list are.of.bytes.0) (subst EachIsByte are.of.top are.of.bytes.1) (lit< tt) are.of.root
 
-  pub no_list : list.items ≡ [] → ListGoes first with_c with_c (Ok list) → ⊥
-  no_list is goes = omega (arith, ap length is, ap length goes.1)
+  pub they_go : AreSegmentLevels first 18 c_frame l → LevelsGo first with_c with_c (Ok l)
+  they_go are = (tt, are, its_root_tells are)
 
-  -- without a journal there is none
-  pub a_list_of_a_closed_one : ListGoes first closed closed (Ok list) → ⊥
-  a_list_of_a_closed_one goes = goes.0
-
-module _ (l : Levels) where
-  pub its_levels : EachIsByte l.list.items → EachIsByte l.top.items → l.list.items ≡ list_of first 18 c_frame → l.top.items ≡ top_of first 18 c_frame → l.root ≡ root_of first 18 c_frame
-      → AreLevelsOf first 18 c_frame l
-  its_levels list_is_bytes top_is_bytes list top root = record { bytes = (list_is_bytes, top_is_bytes); list = list; top = top; root = root }
-
-  its_root_tells : AreLevelsOf first 18 c_frame l → TellsApart first 18 c_frame l.root
-  its_root_tells are = told_apart first sized_first 18 c_frame l.root c_is_bytes (subst EachIsByte are.list are.bytes.0) (subst EachIsByte are.top are.bytes.1) (lit< tt) are.root
-
-  pub they_go : AreLevelsOf first 18 c_frame l → LevelsGo first with_c with_c (Ok l)
-  they_go are = (are, its_root_tells are)
+  -- without a journal there are none
+  pub of_a_closed_one : LevelsGo first closed closed (Ok l) → ⊥
+  of_a_closed_one goes = goes.0
 
   -- the list of another content
-  pub they_are_of_d : l.list.items ≡ list_of first 18 d_frame → LevelsGo first with_c with_c (Ok l) → ⊥
-  they_are_of_d is goes = omega (arith, ap (λ (bytes : List ℕ). get_or bytes 2 0) (sym is ∙ goes.0.list))
+  pub they_are_of_d : l.content.list.items ≡ list_of first 18 d_frame → LevelsGo first with_c with_c (Ok l) → ⊥
+  they_are_of_d is goes = omega (arith, ap (λ (bytes : List ℕ). get_or bytes 2 0) (sym is ∙ goes.1.of.list))
+
+  -- its one page has a mark
+  pub they_have_no_mark : l.marks.list.items ≡ [] → LevelsGo first with_c with_c (Ok l) → ⊥
+  they_have_no_mark is goes = let few : ◌≡◌ {A = ℕ} 0 8 = ap length (sym is ∙ goes.1.marks.list) in omega (arith, few)
 
   -- ---- a journal that is sealed
 
-  pub it_was_sealed : AreLevelsOf first 18 c_frame l → OwnedSealGoes first add_sum add_sum with_c closed (Ok l)
+  pub it_was_sealed : AreSegmentLevels first 18 c_frame l → OwnedSealGoes first add_sum add_sum with_c closed (Ok l)
   unfolding record_len is_record record_of frames records
   it_was_sealed are = (all_is_durable, are, its_root_tells are)
 
   -- not with the levels of another content
-  pub it_was_sealed_as_d : l.list.items ≡ list_of first 18 d_frame → OwnedSealGoes first add_sum add_sum with_c closed (Ok l) → ⊥
-  it_was_sealed_as_d is goes = omega (arith, ap (λ (bytes : List ℕ). get_or bytes 2 0) (sym is ∙ goes.1.list))
+  pub it_was_sealed_as_d : l.content.list.items ≡ list_of first 18 d_frame → OwnedSealGoes first add_sum add_sum with_c closed (Ok l) → ⊥
+  it_was_sealed_as_d is goes = omega (arith, ap (λ (bytes : List ℕ). get_or bytes 2 0) (sym is ∙ goes.1.of.list))
+
+  -- nor with those over no marks
+  pub it_was_sealed_unmarked : l.marks.list.items ≡ [] → OwnedSealGoes first add_sum add_sum with_c closed (Ok l) → ⊥
+  it_was_sealed_unmarked is goes = let few : ◌≡◌ {A = ℕ} 0 8 = ap length (sym is ∙ goes.1.marks.list) in omega (arith, few)
 
 pub it_was_not_digested : IsUndigested add_sum add_sum 18 (writer c_frame) c_life c_life OutOfMemory
 unfolding record_len is_record record_of frames records
@@ -167,21 +165,22 @@ by_another_error d is = is
 
 -- ---- the open segment of a log
 
-module _ (l : Levels) where
+module _ (l : SegmentLevels) where
   -- what is kept of it
   abbrev its_seal : (count len : ℕ) → Closed
-  its_seal count len = closed_by count (Paged (record { number = 7; seal = record { len = len; root = l.root } }))
+  its_seal count len = closed_by count (Paged (record { number = 7; seal = record { len = len; root = l.content.root }; marks = Some l.marks.root }))
 
-  pub it_was_closed : AreLevelsOf first 18 c_frame l → WasClosed add_sum add_sum first with_one c_life (its_seal 1 8)
+  pub it_was_closed : AreSegmentLevels first 18 c_frame l → WasClosed add_sum add_sum first with_one c_life (its_seal 1 8)
   unfolding record_len is_record record_of frames records
   it_was_closed are = record {
     was_open = tt;
     shut = all_is_durable;
     of = record {
-      seal = record { number = 7; seal = record { len = 8; root = l.root } };
+      seal = record { number = 7; seal = record { len = 8; root = l.content.root }; marks = Some l.marks.root };
       is = refl;
-      of = record { len = refl; root = are.root };
+      of = record { len = refl; root = are.of.root };
       apart = its_root_tells l are;
+      marks = ap Some (are.marks.root ∙ ap first are.marks.top);
     };
     counts = refl;
   }
@@ -191,14 +190,14 @@ module _ (l : Levels) where
   unfolding record_len is_record record_of frames records
   one_more_was_kept len is = let same : ◌≡◌ {A = ℕ} 2 1 = is.counts in omega (arith, same)
 
-  pub it_is_sealed : AreLevelsOf first 18 c_frame l → IsClosedAs add_sum add_sum first with_one c_life (its_seal 1 8) l
+  pub it_is_sealed : AreSegmentLevels first 18 c_frame l → IsClosedAs add_sum add_sum first with_one c_life (its_seal 1 8) l
   it_is_sealed are = record { closed = it_was_closed are; levels = are }
 
   -- the levels are those of another content
-  pub it_is_sealed_as_d : (kept : Closed) → l.list.items ≡ list_of first 18 d_frame → IsClosedAs add_sum add_sum first with_one c_life kept l → ⊥
-  it_is_sealed_as_d kept is sealed = omega (arith, ap (λ (bytes : List ℕ). get_or bytes 2 0) (sym is ∙ sealed.levels.list))
+  pub it_is_sealed_as_d : (kept : Closed) → l.content.list.items ≡ list_of first 18 d_frame → IsClosedAs add_sum add_sum first with_one c_life kept l → ⊥
+  it_is_sealed_as_d kept is sealed = omega (arith, ap (λ (bytes : List ℕ). get_or bytes 2 0) (sym is ∙ sealed.levels.of.list))
 
-  pub it_closes : AreLevelsOf first 18 c_frame l → CloseCurrentGoes add_sum add_sum first with_one (none_open []) (Ok (its_seal 1 8, l))
+  pub it_closes : AreSegmentLevels first 18 c_frame l → CloseCurrentGoes add_sum add_sum first with_one (none_open []) (Ok (its_seal 1 8, l))
   it_closes are = it_is_sealed are
 
   pub it_counts_one_more : (len : ℕ) → CloseCurrentGoes add_sum add_sum first with_one (none_open []) (Ok (its_seal 2 len, l)) → ⊥
@@ -206,7 +205,7 @@ module _ (l : Levels) where
 
   -- ---- its list
 
-  pub it_was_written : WriteListGoes l with_one (record with_one { asked = writing_event 0 (l.list.items ++ l.top.items) false ∷ [] }) (Ok tt)
+  pub it_was_written : WriteListGoes l with_one (record with_one { asked = writing_event 0 (levels_bytes l) false ∷ [] }) (Ok tt)
   it_was_written = refl
 
   -- the folder was asked for nothing
@@ -214,14 +213,19 @@ module _ (l : Levels) where
   nothing_was_written is = omega (arith, ap length is)
 
   -- and where it refused, the record says so
-  pub a_refusal_is_told : WriteListGoes l with_one (record with_one { asked = writing_event 0 (l.list.items ++ l.top.items) true ∷ [] }) (Ok tt) → ⊥
+  pub a_refusal_is_told : WriteListGoes l with_one (record with_one { asked = writing_event 0 (levels_bytes l) true ∷ [] }) (Ok tt) → ⊥
   a_refusal_is_told is = omega (arith, ap first_failed is)
 
 pub it_is_closed_already : (sum own : List ℕ → ℕ) (d : List ℕ → List ℕ) → CloseCurrentGoes sum own d (none_open []) (none_open []) (Err errors.Closed)
 it_is_closed_already sum own d = (refl, refl)
 
-pub the_list_and_the_top : listing_event flat with_one false ≡ writing_event 0 (flat [] ++ flat [] ++ flat []) false
-the_list_and_the_top = refl
+-- its list of one page, its top of two, its mark, and the digest of that
+pub all_its_levels : listing_event flat with_one false ≡ writing_event 0 (flat [] ++ (flat [] ++ flat []) ++ replicate 8 0 ++ flat []) false
+all_its_levels = refl
+
+-- not without the marks
+pub not_without_its_marks : listing_event flat with_one false ≡ writing_event 0 (flat [] ++ flat [] ++ flat []) false → ⊥
+not_without_its_marks is = omega (arith, ap (λ (e : FolderEvent). length e.given) is)
 
 -- not the list alone
 pub not_the_list_alone : listing_event flat with_one false ≡ writing_event 0 (flat []) false → ⊥

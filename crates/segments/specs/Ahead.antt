@@ -1,5 +1,5 @@
 -- Digests of the open segment's pages that are made ahead of its rotation.
-use Rattle.std.specs.Prelude.{◌≡◌, ◌≤◌, ◌+◌, ◌*◌, ◌/◌, min, ℕ, List, take}
+use Rattle.std.specs.Prelude.{◌≡◌, ◌≤◌, ◌+◌, ◌*◌, ◌++◌, ◌/◌, min, ℕ, List, take}
 use Rattle.std.specs.Prelude.{Option, Some, None, IfSome, Result, Ok, Err}
 use Rattle.writer_state.specs.WriterState.{WriterState}
 use Rattle.writer_state.specs.Sound.{content}
@@ -7,20 +7,21 @@ use Rattle.paged_read.specs.Failures.{NoneFailed}
 use Rattle.paged.specs.Caches.{tail_of}
 use Rattle.journal.specs.Costs.{pages_met}
 use Rattle.journal.specs.Journal.{RecordReadRefused}
-use Rattle.page_digests.specs.Growing.{DigestingState, IsDigested}
 use Rattle.page_digests.specs.Seals.{EachIsByte}
 use Rattle.segments.specs.declared.error.Error.{Error}
 use Rattle.segments.specs.declared.error.Error.TheVariants as errors
 use Rattle.segments.specs.Owned.{HasJournal, OwnedState, owned_size}
+use Rattle.segments.specs.SegmentLevels.{IsSegmentDigested, SegmentDigestingState}
 
--- the first pages of a content are digested, each a whole one, and they hold bytes
-pub record IsDigestedAhead (d : List ℕ → List ℕ) (P : ℕ) (held : List ℕ) (x : DigestingState)
-    : Type 0 where
-  pub digested : IsDigested d P held x
-  pub bytes : EachIsByte (take (x.pages * P) held)
+-- the first pages of a content are digested and marked, each a whole one, whatever the content goes
+-- on with: its next byte may be the second of a length. They hold bytes
+pub record IsDigestedAhead (d : List ℕ → List ℕ) (P : ℕ) (held : List ℕ)
+    (x : SegmentDigestingState) : Type 0 where
+  pub digested : (rest : List ℕ) → IsSegmentDigested d P (held ++ rest) x
+  pub bytes : EachIsByte (take (x.digested.pages * P) held)
 
--- if there is a journal, the first pages of its content are digested
-abbrev pub HasDigests : (d : List ℕ → List ℕ) → OwnedState → DigestingState → Type 0
+-- if there is a journal, the first pages of its content are digested and marked
+abbrev pub HasDigests : (d : List ℕ → List ℕ) → OwnedState → SegmentDigestingState → Type 0
 HasDigests d s x = IfSome s.journal (λ w.
     IsDigestedAhead d s.page_size (content w s.life.present.readable) x)
 

@@ -9,8 +9,12 @@ use Rattle.segments.specs.declared.error.Error.TheVariants as errors
 use Rattle.segments.specs.Log.{IsBeyondPages, IsKeptAs, IsListed, IsLoaded, IsReadOfClosed}
 use Rattle.segments.specs.Log.{LoadedState, LogState}
 use Rattle.segments.specs.Manifest.{closed_at}
-use Rattle.segments.specs.PagedReads.{HasDamagedFile, HasSeal, IsPagedOf, PagedSegmentState}
-use Rattle.segments.specs.PagedReads.{SegmentFails}
+use Rattle.segments.specs.PagedReads.{FoundBegins, HasDamagedFile, HasMarksRoot, HasSeal, IsPagedOf}
+use Rattle.segments.specs.PagedReads.{PagedSegmentState, SegmentNthGoes, SegmentPassGoes}
+use Rattle.segments.specs.PagedReads.{SegmentRefuses}
+use Rattle.segments.specs.PassingDamage.{passed_by}
+use Rattle.segments.specs.declared.passing.PassedPage.{PassedPage}
+use Rattle.segments.specs.declared.passing_damage.Passed.{Passed}
 
 -- what a closed segment is read from: memory, or its pages
 pub data ReadFrom : Type 0 where
@@ -30,16 +34,16 @@ abbrev pub IsReaderOf : (sum own : List ℕ → ℕ) → (P : ℕ) → (number :
     → Type 0
 IsReaderOf sum own P number f (FromMemory l) = IsLoaded sum own P l × (f ≡ Whole l.kept)
 IsReaderOf sum own P number f (FromPages p) =
-    IsPagedOf P number p.content.seal p × HasSeal p.content.seal f
+    IsPagedOf P number p.content.seal p × HasSeal p.content.seal f × HasMarksRoot p.marks_root f
 
 -- a reader reads the segment of which this was kept
 abbrev pub IsSegmentReader : (sum own : List ℕ → ℕ) → ClosedSegmentState → Type 0
 IsSegmentReader sum own s = IsReaderOf sum own s.page_size s.number s.kept.fingerprint s.from
 
--- a frame can't be read: of the pages as `SegmentFails` has it; or memory was refused
+-- a frame can't be read: of the pages as `SegmentRefuses` has it; or memory was refused
 abbrev pub ReaderFails : (d : List ℕ → List ℕ) → (offset : ℕ) → (from to : ReadFrom) → Error
     → Type 0
-ReaderFails d offset (FromPages p) (FromPages q) e = SegmentFails d offset p q e
+ReaderFails d offset (FromPages p) (FromPages q) e = SegmentRefuses d offset p q e
 ReaderFails d offset (FromMemory l) (FromMemory m) (errors.Layer e) = Unit {0}
 ReaderFails d offset from to e = ⊥
 
@@ -50,11 +54,56 @@ ReaderAnswers sum own d offset s t (Ok found) =
     IsReadOfClosed sum own d s.page_size s.kept offset found
 ReaderAnswers sum own d offset s t (Err e) = ReaderFails d offset s.from t.from e
 
+-- where a read of a segment with marks found a frame, one begins; or the marks can't be used
+abbrev pub ReaderBegins : (d : List ℕ → List ℕ) → (offset : ℕ) → (from to : ReadFrom)
+    → Result (Option Found) Error → Type 0
+ReaderBegins d offset (FromMemory l) to result = Unit {0}
+ReaderBegins d offset (FromPages p) (FromMemory m) result = ⊥
+ReaderBegins d offset (FromPages p) (FromPages q) result = FoundBegins d offset p q result
+
 -- a read leaves a reader of the same segment
 pub record ClosedReadGoes (sum own : List ℕ → ℕ) (d : List ℕ → List ℕ) (offset : ℕ)
     (s t : ClosedSegmentState) (result : Result (Option Found) Error) : Type 0 where
   pub same : t ≡ record s { from = t.from }
   pub answers : ReaderAnswers sum own d offset s t result
+  pub begins : ReaderBegins d offset s.from t.from result
+
+-- where frame n of a segment begins, by the answer: of one that is in memory no marks were kept
+abbrev pub ReaderNthAnswers : (d : List ℕ → List ℕ) → (n number : ℕ) → (from to : ReadFrom)
+    → Result (Option ℕ) Error → Type 0
+ReaderNthAnswers d n number (FromPages p) (FromPages q) result = SegmentNthGoes d n p q result
+ReaderNthAnswers d n number (FromMemory l) (FromMemory m) result =
+    (result ≡ Err (errors.Unmarked number)) × (m ≡ l)
+ReaderNthAnswers d n number from to result = ⊥
+
+-- a search leaves a reader of the same segment
+pub record ReaderNthGoes (d : List ℕ → List ℕ) (n : ℕ) (s t : ClosedSegmentState)
+    (result : Result (Option ℕ) Error) : Type 0 where
+  pub same : t ≡ record s { from = t.from }
+  pub answers : ReaderNthAnswers d n s.number s.from t.from result
+
+-- a page of a segment is passed, by the answer: of one that is in memory no marks were kept
+abbrev pub ReaderPageAnswers : (d : List ℕ → List ℕ) → (offset number : ℕ) → (from to : ReadFrom)
+    → Result PassedPage Error → Type 0
+ReaderPageAnswers d offset number (FromPages p) (FromPages q) result =
+    SegmentPassGoes d offset p q result
+ReaderPageAnswers d offset number (FromMemory l) (FromMemory m) result =
+    (result ≡ Err (errors.Unmarked number)) × (m ≡ l)
+ReaderPageAnswers d offset number from to result = ⊥
+
+-- passing a page leaves a reader of the same segment
+pub record ReaderPageGoes (d : List ℕ → List ℕ) (offset : ℕ) (s t : ClosedSegmentState)
+    (result : Result PassedPage Error) : Type 0 where
+  pub same : t ≡ record s { from = t.from }
+  pub answers : ReaderPageAnswers d offset s.number s.from t.from result
+
+-- damage is passed, by the answer: the offset moves behind the page. After an error it is where it
+-- was
+abbrev pub ReaderPassGoes : (d : List ℕ → List ℕ) → (old new : ℕ) → (s t : ClosedSegmentState)
+    → Result Passed Error → Type 0
+ReaderPassGoes d old new s t (Ok passed) = (page : PassedPage)
+    × ReaderPageGoes d old s t (Ok page) × (new ≡ page.to) × (passed ≡ passed_by old page)
+ReaderPassGoes d old new s t (Err e) = (new ≡ old) × ReaderPageGoes d old s t (Err e)
 
 -- a closed segment of this fingerprint is damaged, as its opening shows. Of one that is known by
 -- its whole file nothing more is said

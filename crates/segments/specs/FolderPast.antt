@@ -6,6 +6,7 @@ use Rattle.segments.specs.declared.past.Last.TheVariants.{Nothing, After, Opened
 use Rattle.segments.specs.declared.past.Last.TheVariants.{Wrote}
 use Rattle.segments.specs.FolderEvents.{FolderEvent, closing_event, keeping_event}
 use Rattle.segments.specs.FolderEvents.{opening_with, plain_event, writing_event}
+use Rattle.segments.specs.SegmentLevels.{levels_bytes}
 
 -- a ghost past as a list of calls, the oldest first
 abbrev pub events_of : {B : Type 0} → (B → Life) → Last B → List FolderEvent
@@ -20,5 +21,5 @@ events_of life (Closed before segment blob manifest) =
     let bytes = (life manifest.value).present.readable in
     before.value.value ++ closing_event segment (life blob.value) bytes ∷ []
 events_of life (Wrote before segment levels failed) =
-    let bytes = levels.value.list.items ++ levels.value.top.items in
+    let bytes = levels_bytes levels.value in
     before.value.value ++ writing_event segment bytes failed ∷ []

@@ -1,5 +1,5 @@
 -- What is kept of a closed segment, and of which content it is kept.
-use Rattle.std.specs.Prelude.{◌≡◌, ◌≢◌, ℕ, List, [], ◌∷◌, length}
+use Rattle.std.specs.Prelude.{◌≡◌, ◌≢◌, ℕ, List, [], ◌∷◌, length, Some}
 use Rattle.sha2.specs.Sha256.{sha256}
 use Rattle.page.specs.Page.{text}
 use Rattle.journal.specs.Frame.{whole_frames}
@@ -9,6 +9,7 @@ use Rattle.segments.specs.declared.closed.FileDigest.{FileDigest}
 use Rattle.segments.specs.declared.closed.Fingerprint.{Fingerprint}
 use Rattle.segments.specs.declared.closed.Fingerprint.TheVariants.{Whole, Paged}
 use Rattle.segments.specs.declared.closed.PagedSeal.{PagedSeal}
+use Rattle.segments.specs.MarkReads.{marks_root_of}
 
 -- ---- by the whole file
 
@@ -68,13 +69,14 @@ abbrev pub HasTwinOf : (sum : List ℕ → ℕ) (d : List ℕ → List ℕ) (P :
 HasTwinOf sum d P kept content = HasTwinBy sum d P kept.fingerprint content
 
 -- what was kept is the seal of this content; and no other content has it, unless a second preimage
--- of that one is at hand
+-- of that one is at hand. The root of its marks was kept too
 pub record IsSealedBy (d : List ℕ → List ℕ) (P : ℕ) (content : List ℕ) (kept : Closed)
     : Type 0 where
   pub seal : PagedSeal
   pub is : kept.fingerprint ≡ Paged seal
   pub of : IsSealOf d P content seal.seal
   pub apart : TellsApart d P content seal.seal.root
+  pub marks : seal.marks ≡ Some (marks_root_of d P content)
 
 -- a closed segment is read by its pages with the digest of this number; one that is known by its
 -- whole file is read with any

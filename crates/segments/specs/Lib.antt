@@ -9,8 +9,16 @@ pub mod FrameReads
 pub mod PagedFrames
 pub mod PagedReads
 pub mod Recent
+pub mod Marks
+pub mod Marking
+pub mod SegmentLevels
+pub mod MarkReads
+pub mod Seeks
+pub mod Passing
 pub mod SegmentFiles
 pub mod Log
+pub mod Nth
+pub mod PassingDamage
 pub mod ClosedSegments
 pub mod Readers
 pub mod Copies

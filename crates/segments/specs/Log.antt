@@ -13,9 +13,10 @@ use Rattle.journal.specs.Frame.{records, whole_frames}
 use Rattle.journal.specs.declared.frame.Found.{Found}
 use Rattle.journal.specs.Journal.{CommitsAll, OnlyRecords, records_in}
 use Rattle.segments.specs.declared.call.FolderCall.TheVariants as calls
-use Rattle.page_digests.specs.Pages.{list_of, top_of}
-use Rattle.page_digests.specs.Seals.{AreLevelsOf, HasSecondPreimage}
-use Rattle.page_digests.specs.declared.levels.Levels.{Levels}
+use Rattle.page_digests.specs.Contents.{PagedState}
+use Rattle.page_digests.specs.Seals.{HasSecondPreimage}
+use Rattle.page_digests.specs.declared.error.Error as pages
+use Rattle.page_digests.specs.declared.seal.Seal.{Seal}
 use Rattle.segments.specs.declared.closed.Closed.{Closed}
 use Rattle.segments.specs.declared.closed.FileDigest.{FileDigest}
 use Rattle.segments.specs.declared.closed.Fingerprint.{Fingerprint}
@@ -24,6 +25,8 @@ use Rattle.segments.specs.declared.entry.Entry.{Entry}
 use Rattle.segments.specs.declared.entry.Entry.TheVariants.{Starts, Closes}
 use Rattle.segments.specs.declared.error.Error.{Error}
 use Rattle.segments.specs.declared.place.Place.{Place}
+use Rattle.segments.specs.declared.segment_digesting.SegmentLevels.{SegmentLevels}
+use Rattle.segments.specs.SegmentLevels.{AreSegmentLevels, levels_bytes, list_file_of}
 use Rattle.segments.specs.declared.error.Error.TheVariants as errors
 use Rattle.segments.specs.Kept.{HasTwinOf, HoldsClosed, IsInFile, IsSealedBy}
 use Rattle.segments.specs.FrameReads.{EndsBehind, IsReadOf}
@@ -34,7 +37,10 @@ use Rattle.segments.specs.Manifest.{listed_in, listed_with, open_in, padded}
 use Rattle.segments.specs.Owned.{HasJournal, IsOwned, IsShut, KeepsRecords, OwnedAppendGoes}
 use Rattle.segments.specs.Owned.{content_now}
 use Rattle.segments.specs.Owned.{OwnedSealGoes}
-use Rattle.segments.specs.PagedReads.{IsBeyondLimit, IsDamagedPaged, PagedSegmentState}
+use Rattle.segments.specs.PagedFrames.{FrameFails}
+use Rattle.segments.specs.PagedReads.{HasDamagedFile, IfMarked, IsBeyondLimit, IsOfFingerprint}
+use Rattle.segments.specs.PagedReads.{IsPagedOf, MarksFail, PagedSegmentState, SegmentFailsSo}
+use Rattle.segments.specs.Seeks.{IsBegin}
 use Rattle.segments.specs.Recent.{HavePages, kept_from}
 use Rattle.segments.specs.Owned.{OwnedReadGoes, OwnedReadLeaves, OwnedState}
 use Rattle.segments.specs.Owned.{owned_size, records_now, without_journal}
@@ -201,14 +207,14 @@ pub record WasClosed (sum own : List ℕ → ℕ) (d : List ℕ → List ℕ) (s
   pub of : IsSealedBy d s.page_size (content_now s.current) kept
   pub counts : kept.records ≡ length (records_now own s.current)
 
--- with it come the levels of its content
+-- with it come the levels of its content and of its marks
 pub record IsClosedAs (sum own : List ℕ → ℕ) (d : List ℕ → List ℕ) (s : LogState) (last : Life)
-    (kept : Closed) (l : Levels) : Type 0 where
+    (kept : Closed) (l : SegmentLevels) : Type 0 where
   pub closed : WasClosed sum own d s last kept
-  pub levels : AreLevelsOf d s.page_size (content_now s.current) l
+  pub levels : AreSegmentLevels d s.page_size (content_now s.current) l
 
 abbrev pub CloseCurrentGoes : (sum own : List ℕ → ℕ) → (d : List ℕ → List ℕ) → LogState → LogState
-    → Result (Closed × Levels) Error → Type 0
+    → Result (Closed × SegmentLevels) Error → Type 0
 CloseCurrentGoes sum own d s t (Ok r) = IsClosedAs sum own d s t.current.life r.0 r.1
 CloseCurrentGoes sum own d s t (Err e) = OwnedSealGoes d sum own s.current t.current (Err e)
 
@@ -285,18 +291,19 @@ OpenNextGoes sum own s t (Err e) = NextRefused s t e
 abbrev pub IsSameButAsked : LogState → LogState → Type 0
 IsSameButAsked s t = t ≡ record s { asked = t.asked }
 
--- the list of the open segment was to be written, with its top
+-- the list's file of the open segment was to be written: its list, its top, its marks, and the
+-- digests of their pages
 abbrev pub listing_event : (d : List ℕ → List ℕ) → LogState → (failed : Bool) → FolderEvent
 listing_event d s failed =
-    let P = s.page_size in let content = content_now s.current in
-    writing_event (open_in s.listing) (list_of d P content ++ top_of d P content) failed
+    writing_event (open_in s.listing) (list_file_of d s.page_size (content_now s.current)) failed
 
 -- the folder was to write these levels of the open segment
-abbrev pub WriteListGoes : Levels → LogState → LogState → Result (Unit {0}) Error → Type 0
-WriteListGoes l s t (Ok u) = t.asked
-    ≡ s.asked ++ writing_event (open_in s.listing) (l.list.items ++ l.top.items) false ∷ []
-WriteListGoes l s t (Err (errors.System e)) = t.asked
-    ≡ s.asked ++ writing_event (open_in s.listing) (l.list.items ++ l.top.items) true ∷ []
+abbrev pub WriteListGoes : SegmentLevels → LogState → LogState → Result (Unit {0}) Error
+    → Type 0
+WriteListGoes l s t (Ok u) =
+    t.asked ≡ s.asked ++ writing_event (open_in s.listing) (levels_bytes l) false ∷ []
+WriteListGoes l s t (Err (errors.System e)) =
+    t.asked ≡ s.asked ++ writing_event (open_in s.listing) (levels_bytes l) true ∷ []
 WriteListGoes l s t (Err e) = ⊥
 
 -- what a folder was asked for by a rotation once the open segment was closed: its list was written
@@ -533,11 +540,30 @@ abbrev pub IsKeptAs : ListingState → ℕ → (Fingerprint → Type 0) → Type
 IsKeptAs l segment Is =
     (kept : Closed) × (closed_at l segment ≡ Some kept) × Is kept.fingerprint
 
--- a segment of this fingerprint is damaged, as a read at an offset of it shows. Of one that is
--- known by its whole file nothing more is said
-abbrev pub IsDamagedBy : (d : List ℕ → List ℕ) → ℕ → (offset : ℕ) → Fingerprint → Type 0
-IsDamagedBy d P offset (Whole kept) = Unit {0}
-IsDamagedBy d P offset (Paged kept) = IsDamagedPaged d P kept.seal offset
+-- the closed segment of this number is the one that was read last, and this is its state
+pub record IsReadLast (segment : ℕ) (p : PagedSegmentState) (t : LogState) : Type 0 where
+  pub before : List PagedSegmentState
+  pub there : t.reading.paged ≡ before ++ p ∷ []
+  pub number : p.number ≡ segment
+
+-- the closed segment that was read last has this number and this seal, and something of it couldn't
+-- be read so, for damage
+pub record HasDamagedLast (d : List ℕ → List ℕ)
+    (Fails : PagedState → PagedState → pages.Error → Type 0) (P : ℕ) (seal : Seal) (segment : ℕ)
+    (t : LogState) : Type 0 where
+  pub old : PagedSegmentState
+  pub new : PagedSegmentState
+  pub of : IsPagedOf P segment seal old
+  pub fails : SegmentFailsSo d Fails old new (errors.Damaged segment)
+  pub last : IsReadLast segment new t
+
+-- a segment of this fingerprint is damaged, as its opening shows, or the read of the frame at an
+-- offset. Of one that is known by its whole file nothing more is said
+abbrev pub IsDamagedBy : (d : List ℕ → List ℕ) → ℕ → (offset segment : ℕ) → (t : LogState)
+    → Fingerprint → Type 0
+IsDamagedBy d P offset segment t (Whole kept) = Unit {0}
+IsDamagedBy d P offset segment t (Paged kept) = HasDamagedFile d P kept.seal
+    ⊎ HasDamagedLast d (FrameFails d offset) P kept.seal segment t
 
 -- a content of this fingerprint has more bytes than a content can have that is read by its pages
 abbrev pub IsBeyondPages : Fingerprint → Type 0
@@ -545,14 +571,18 @@ IsBeyondPages (Whole kept) = ⊥
 IsBeyondPages (Paged kept) = IsBeyondLimit kept.seal
 
 -- a read of a segment is refused: there is none of this number; or it is closed, and its file
--- doesn't hold what it held, or the folder refuses a file, or the manifest can't be right about its
--- length; or it is the open one, and a call before failed; or the device or memory failed
+-- doesn't hold what it held, or by its marks no frame begins there, or the folder refuses a file,
+-- or the manifest can't be right about its length; or it is the open one, and a call before failed;
+-- or the device or memory failed
 abbrev pub LogReadRefused : (own : List ℕ → ℕ) → (d : List ℕ → List ℕ) → LogState → LogState
     → Place → Error → Type 0
 LogReadRefused own d s t p (errors.NoSegment n) = (n ≡ p.segment)
     × (p.segment ≢ open_in s.listing) × (closed_at s.listing p.segment ≡ None)
 LogReadRefused own d s t p (errors.Damaged n) = (n ≡ p.segment)
-    × IsKeptAs s.listing p.segment (IsDamagedBy d s.page_size p.offset)
+    × IsKeptAs s.listing p.segment (IsDamagedBy d s.page_size p.offset p.segment t)
+LogReadRefused own d s t p (errors.NoFrame n byte) = (n ≡ p.segment) × (byte ≡ p.offset)
+    × IsKeptAs s.listing p.segment
+    (IsOfFingerprint d s.page_size (λ content. IsBegin content p.offset → ⊥))
 LogReadRefused own d s t p (errors.System e) = IsListed s p.segment
 LogReadRefused own d s t p errors.Manifest = IsKeptAs s.listing p.segment IsBeyondPages
 LogReadRefused own d s t p errors.Closed =
@@ -568,6 +598,26 @@ LogReadGoes sum own d s t p (Ok found) =
     ⊎ ((kept : Closed) × (closed_at s.listing p.segment ≡ Some kept)
     × IsReadOfClosed sum own d s.page_size kept p.offset found)
 LogReadGoes sum own d s t p (Err e) = LogReadRefused own d s t p e
+
+-- the closed segment of this number is the one that was read last, and its marks couldn't be used
+-- for this offset
+pub record LastMarksFail (d : List ℕ → List ℕ) (segment offset : ℕ) (t : LogState) : Type 0 where
+  pub before : List PagedSegmentState
+  pub last : PagedSegmentState
+  pub there : t.reading.paged ≡ before ++ last ∷ []
+  pub number : last.number ≡ segment
+  pub fails : MarksFail d offset last
+
+-- where a read found a frame in a closed segment of which marks were kept, one begins: so it is in
+-- every content that fits what was kept, unless a second preimage is at hand; or the marks couldn't
+-- be used
+abbrev pub LogReadBegins : (d : List ℕ → List ℕ) → (t : LogState) → Place
+    → Result (Option Found) Error → Type 0
+LogReadBegins d t p (Ok (Some found)) =
+    (p.segment ≢ open_in t.listing) → (kept : Closed) → closed_at t.listing p.segment ≡ Some kept
+    → IfMarked d t.page_size (λ content. IsBegin content p.offset) kept.fingerprint
+    ⊎ LastMarksFail d p.segment p.offset t
+LogReadBegins d t p result = Unit {0}
 
 -- what a read leaves: all of the log, except for the closed segments that were read last; the open
 -- segment was only read

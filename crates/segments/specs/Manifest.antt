@@ -7,6 +7,7 @@ use Rattle.std.specs.Int.{w16, w64, to_be_bytes, from_be_bytes}
 use Rattle.segments.specs.declared.closed.Closed.{Closed}
 use Rattle.segments.specs.declared.closed.Fingerprint.{Fingerprint}
 use Rattle.segments.specs.declared.closed.Fingerprint.TheVariants.{Whole, Paged}
+use Rattle.segments.specs.declared.closed.PagedSeal.{PagedSeal}
 use Rattle.segments.specs.declared.entry.Entry.{Entry}
 use Rattle.segments.specs.declared.entry.Entry.TheVariants.{Starts, Closes}
 
@@ -14,12 +15,28 @@ use Rattle.segments.specs.declared.entry.Entry.TheVariants.{Starts, Closes}
 abbrev pub closed_by : (records : ℕ) → Fingerprint → Closed
 closed_by records fingerprint = record { records = records; fingerprint = fingerprint }
 
+-- the first byte of an entry that closes a segment by its pages: whether the segment has marks
+abbrev pub paged_kind : Option (List ℕ) → ℕ
+paged_kind None = 2
+paged_kind (Some marks) = 3
+
+-- the root of its marks; nothing if it has none
+abbrev pub marks_root : Option (List ℕ) → List ℕ
+marks_root None = []
+marks_root (Some marks) = marks
+
+-- the bytes of an entry that closes a segment by its pages, before the root of its marks
+abbrev pub paged_front : (kind records : ℕ) → PagedSeal → List ℕ
+paged_front kind records kept =
+    kind ∷ to_be_bytes w64 records ++ to_be_bytes w64 kept.seal.len
+    ++ kept.number ∷ kept.seal.root
+
 -- an entry that closes a segment as bytes, by what is kept of its content
 abbrev pub closing_bytes : (records : ℕ) → Fingerprint → List ℕ
 closing_bytes records (Whole kept) =
     1 ∷ to_be_bytes w64 records ++ to_be_bytes w64 kept.len ++ kept.digest
 closing_bytes records (Paged kept) =
-    2 ∷ to_be_bytes w64 records ++ to_be_bytes w64 kept.seal.len ++ kept.number ∷ kept.seal.root
+    paged_front (paged_kind kept.marks) records kept ++ marks_root kept.marks
 
 -- an entry as bytes
 abbrev pub entry_bytes : Entry → List ℕ
@@ -30,10 +47,16 @@ entry_bytes (Closes c) = closing_bytes c.records c.fingerprint
 abbrev pub free_after : (page_size size : ℕ) → ℕ
 free_after page_size size = (page_size - size % page_size) % page_size
 
+-- how many bytes the frame of an entry has that closes a segment by its pages, without zeros behind
+-- it: 32 more if it has marks
+abbrev pub paged_closing_len : Option (List ℕ) → ℕ
+paged_closing_len None = 57
+paged_closing_len (Some marks) = 89
+
 -- how many bytes the frame of an entry has that closes a segment, without zeros behind it
 abbrev pub closing_len : Fingerprint → ℕ
 closing_len (Whole kept) = 56
-closing_len (Paged kept) = 57
+closing_len (Paged kept) = paged_closing_len kept.marks
 
 -- how many zeros stand behind an entry that closes a segment, whose frame has so many bytes, in a
 -- manifest that had so many logical bytes. If less than 18 would be free behind it, which the frame
@@ -61,19 +84,30 @@ whole_in bytes =
     }))))
     else None
 
--- the entry that closes a segment in 50 bytes, by its pages; zeros may stand behind it. None if
--- others stand there
-abbrev pub paged_in : List ℕ → Option Entry
-paged_in bytes =
-    if list_all (λ b. b == 0) (drop 50 bytes) then
-    Some (Closes (closed_by (from_be_bytes w64 (drop 1 bytes)) (Paged (record {
+-- the entry that closes a segment by its pages, whose marks have this root, by the bytes before it
+abbrev pub paged_with : List ℕ → (marks : Option (List ℕ)) → Entry
+paged_with bytes marks =
+    Closes (closed_by (from_be_bytes w64 (drop 1 bytes)) (Paged (record {
       number = slice_index bytes 17;
       seal = record {
         len = from_be_bytes w64 (drop 9 bytes);
         root = take 32 (drop 18 bytes);
       };
-    }))))
-    else None
+      marks = marks;
+    })))
+
+-- the entry that closes a segment in 50 bytes, by its pages, without marks; zeros may stand behind
+-- it. None if others stand there
+abbrev pub paged_in : List ℕ → Option Entry
+paged_in bytes =
+    if list_all (λ b. b == 0) (drop 50 bytes) then Some (paged_with bytes None) else None
+
+-- the entry that closes a segment in 82 bytes, by its pages, with the root of its marks; zeros may
+-- stand behind it. None if others stand there
+abbrev pub marked_in : List ℕ → Option Entry
+marked_in bytes =
+    if list_all (λ b. b == 0) (drop 82 bytes)
+    then Some (paged_with bytes (Some (take 32 (drop 50 bytes)))) else None
 
 -- the entry that some bytes are, by the first of them and by how many there are; none for others
 unfoldable pub entry_in : List ℕ → Option Entry
@@ -82,6 +116,7 @@ entry_in bytes =
     Some (Starts (from_be_bytes w64 (drop 1 bytes)) (from_be_bytes w16 (drop 9 bytes)))
     else if nat_lt 48 (length bytes) && (slice_index bytes 0 == 1) then whole_in bytes
     else if nat_lt 49 (length bytes) && (slice_index bytes 0 == 2) then paged_in bytes
+    else if nat_lt 81 (length bytes) && (slice_index bytes 0 == 3) then marked_in bytes
     else None
 
 -- the closed segments that weren't dropped, one after the other, and the number of the first

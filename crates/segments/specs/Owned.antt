@@ -16,15 +16,15 @@ use Rattle.journal.specs.Journal.{StartCommitGoes, WaitForCommitGoes}
 use Rattle.journal.specs.Frame.{records}
 use Rattle.journal.specs.Journal.{CommitsAll, KeepsCommitted, LeavesRecords}
 use Rattle.journal.specs.Journal.{ReadContentGoes, RecordReadRefused, records_in}
-use Rattle.page_digests.specs.Pages.{list_of}
-use Rattle.page_digests.specs.Seals.{AreLevelsOf, EachIsByte, TellsApart}
-use Rattle.page_digests.specs.declared.levels.Levels.{Levels}
+use Rattle.page_digests.specs.Seals.{TellsApart}
 use Rattle.page.specs.Page.{text}
 use Rattle.paged.specs.Reads.{size_of}
 use Rattle.paged.specs.Recovery.{IsDurable}
 use Rattle.journal.specs.Calls.{JournalCallLeaves, JournalRecoverGoes, RecordReadLeaves}
 use Rattle.segments.specs.declared.error.Error.{Error}
 use Rattle.segments.specs.declared.error.Error.TheVariants as errors
+use Rattle.segments.specs.declared.segment_digesting.SegmentLevels.{SegmentLevels}
+use Rattle.segments.specs.SegmentLevels.{AreSegmentLevels}
 
 -- such a blob, journal and cache as contracts see them, and how many pages of the journal's content
 -- are digested ahead; there is no journal once a call that takes it failed
@@ -174,18 +174,12 @@ DigestsFail s t (errors.Layer e) =
 DigestsFail s t errors.Closed = s.journal ≡ None
 DigestsFail s t _ = ⊥
 
--- the digests of the pages of a journal's content, by the answer; then its content is of bytes
-abbrev pub ListGoes : (d : List ℕ → List ℕ) → OwnedState → OwnedState → {A : Type 0}
-    → Result (Vec ℕ A) Error → Type 0
-ListGoes d s t (Ok list) = HasJournal s.journal (λ w. Unit {0})
-    × (list.items ≡ list_of d s.page_size (content_now s)) × EachIsByte (content_now s)
-ListGoes d s t (Err e) = DigestsFail s t e
-
--- the levels of a journal's content, by the answer
-abbrev pub LevelsGo : (d : List ℕ → List ℕ) → OwnedState → OwnedState → Result Levels Error
-    → Type 0
-LevelsGo d s t (Ok levels) = AreLevelsOf d s.page_size (content_now s) levels
-    × TellsApart d s.page_size (content_now s) levels.root
+-- the levels of a journal's content and of its marks, by the answer
+abbrev pub LevelsGo : (d : List ℕ → List ℕ) → OwnedState → OwnedState
+    → Result SegmentLevels Error → Type 0
+LevelsGo d s t (Ok levels) = HasJournal s.journal (λ w. Unit {0})
+    × AreSegmentLevels d s.page_size (content_now s) levels
+    × TellsApart d s.page_size (content_now s) levels.content.root
 LevelsGo d s t (Err e) = DigestsFail s t e
 
 -- all records of a journal were committed, and all of the blob is durable; then a page of its
@@ -196,13 +190,14 @@ pub record IsUndigested (sum own : List ℕ → ℕ) (P : ℕ) (w : WriterState)
   pub cause : (mid : Life) × RecordReadRefused mid new e
 
 -- a journal is sealed, by the answer: all its records were committed, and it is closed; the answer
--- is the levels of its content. An error is that of the commit, or one of the digests
+-- is the levels of its content and of its marks. An error is that of the commit, or one of the
+-- digests
 abbrev pub OwnedSealGoes : (d : List ℕ → List ℕ) → (sum own : List ℕ → ℕ) → OwnedState
-    → OwnedState → Result Levels Error → Type 0
+    → OwnedState → Result SegmentLevels Error → Type 0
 OwnedSealGoes d sum own s t (Ok levels) =
     HasJournal s.journal (λ w. IsShut sum own s.page_size (records_in own w s.life) t.life)
-    × AreLevelsOf d s.page_size (content_now s) levels
-    × TellsApart d s.page_size (content_now s) levels.root
+    × AreSegmentLevels d s.page_size (content_now s) levels
+    × TellsApart d s.page_size (content_now s) levels.content.root
 OwnedSealGoes d sum own s t (Err (errors.Layer e)) = HasJournal s.journal (λ w.
     CommitGoes sum own w t.cache s.life t.life (Err e)
     ⊎ IsUndigested sum own s.page_size w s.life t.life e)

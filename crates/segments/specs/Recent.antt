@@ -9,21 +9,23 @@ use Rattle.segments.specs.PagedReads.{PagedSegmentState}
 abbrev pub HavePages : (P : ℕ) → List PagedSegmentState → Type 0
 HavePages P recent = All (λ p. p.content.page_size ≡ P) recent
 
--- a segment was taken out of those that are kept: it has this number and this seal
-pub record IsTaken (n : ℕ) (seal : Seal) (old new : List PagedSegmentState)
-    (p : PagedSegmentState) : Type 0 where
+-- a segment was taken out of those that are kept: it has this number, this seal and marks of this
+-- root, or none were kept
+pub record IsTaken (n : ℕ) (seal : Seal) (root : Option (List ℕ))
+    (old new : List PagedSegmentState) (p : PagedSegmentState) : Type 0 where
   pub before : List PagedSegmentState
   pub after : List PagedSegmentState
   pub there : old ≡ before ++ p ∷ after
   pub left : new ≡ before ++ after
   pub number : p.number ≡ n
   pub of : p.content.seal ≡ seal
+  pub marks : p.marks_root ≡ root
 
 -- a segment is to be taken out of those that are kept, by the answer
-abbrev pub TakesRecent : (number : ℕ) → Seal → (old new : List PagedSegmentState)
-    → Option PagedSegmentState → Type 0
-TakesRecent number seal old new None = new ≡ old
-TakesRecent number seal old new (Some p) = IsTaken number seal old new p
+abbrev pub TakesRecent : (number : ℕ) → Seal → Option (List ℕ)
+    → (old new : List PagedSegmentState) → Option PagedSegmentState → Type 0
+TakesRecent number seal root old new None = new ≡ old
+TakesRecent number seal root old new (Some p) = IsTaken number seal root old new p
 
 -- a segment is kept behind the others, of which those stay that were kept last: `most` in all
 abbrev pub kept_after : (most : ℕ) → PagedSegmentState → List PagedSegmentState

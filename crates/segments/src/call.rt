@@ -12,7 +12,7 @@ pub enum FolderCall {
     Syncs,
     /// The blob of this segment was taken back, with all of its bytes durable.
     Closes(u64),
-    /// The file of this segment's list was made to hold the list and the top.
+    /// The file of this segment's list was made to hold the levels of the segment.
     WritesList(u64),
     /// The copy of the manifest was made to hold the manifest's bytes. With them it has the number
     /// of the open segment, and how many logical bytes of that one were durable.

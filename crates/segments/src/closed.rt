@@ -34,13 +34,16 @@ pub struct FileDigest {
     pub digest: [u8; 32],
 }
 
-/// The seal of a content, and the digest by which it was made.
+/// The seal of a content, the root of its marks, and the digest by which they were made.
 #[derive(Clone, Copy)]
 pub struct PagedSeal {
     /// The number of the digest (`NUMBER` of [`digest::Digest`]).
     pub number: u8,
     /// How many logical bytes the content has, and its root.
     pub seal: Seal,
+    /// The root of the content's marks, by which it's known where its frames begin. `None` if
+    /// version 0.11 or 0.12 closed the segment: it has no marks.
+    pub marks: Option<[u8; 32]>,
 }
 
 impl FileDigest {

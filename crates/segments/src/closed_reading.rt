@@ -45,7 +45,7 @@ impl<F: Folder<B> + Drop, B: Blob + Drop, H: Sum, R: Sum, D: Digest> SegmentedLo
                 if kept.seal.len >= LEN_LIMIT {
                     return Err(Error::Manifest);
                 }
-                match self.open_paged(segment, kept.seal) {
+                match self.open_paged(segment, kept) {
                     Ok(paged) => Ok(ClosedSegment::by_pages(segment, closed, page_size, paged)),
                     Err(error) => Err(error),
                 }

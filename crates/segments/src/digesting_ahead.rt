@@ -13,8 +13,8 @@ use disk::Blob;
 use page::Sum;
 
 impl<F: Folder<B> + Drop, B: Blob + Drop, H: Sum, R: Sum, D: Digest> SegmentedLog<F, B, H, R, D> {
-    /// Digests the next whole pages of the open segment, at most `most` of them, so that its
-    /// rotation has fewer to digest.
+    /// Digests and marks the next whole pages of the open segment, at most `most` of them, so that
+    /// its rotation has fewer to digest.
     ///
     /// It is for whoever wants short rotations: a rotation digests all pages that aren't digested
     /// yet, and the log answers nobody meanwhile. Call it after appends, with a few pages more than

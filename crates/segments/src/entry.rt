@@ -1,13 +1,14 @@
 // The records of a manifest.
 ghost use Rattle.std.specs.Prelude.{◌≡◌, ◌≤◌, ◌<◌, ◌+◌, ◌++◌, length, take, drop, IfOk};
 ghost use Rattle.std.specs.Prelude.{IsOkUnless};
-ghost use Rattle.std.specs.Prelude.{Some, replicate};
+ghost use Rattle.std.specs.Prelude.{IfSome, Some, replicate};
 ghost use Rattle.std.specs.List.{list_all};
 ghost use Rattle.std.specs.Prelude.{◌==◌};
 ghost use Rattle.std.specs.Int.{w64, from_be_bytes};
 ghost use Rattle.std.specs.Int.NonZero.{non_zero_u16_get};
 ghost use Rattle.segments.specs.Manifest.{closed_by, closing_len, entry_bytes, entry_in, padded};
-ghost use Rattle.segments.specs.Manifest.{paged_in, padding, whole_in};
+ghost use Rattle.segments.specs.Manifest.{marked_in, paged_front, paged_in, paged_with};
+ghost use Rattle.segments.specs.Manifest.{padding, whole_in};
 ghost use Rattle.segments.specs.Log.{known_with};
 ghost use Rattle.segments.specs.declared.closed.Fingerprint.TheVariants.{Whole, Paged};
 ghost use Rattle.segments.specs.declared.entry.Entry.TheVariants.{Starts, Closes};
@@ -88,17 +89,20 @@ pub fn bytes_of(
 // How many logical bytes the frame of an entry has that closes a segment, without zeros behind it.
 fn closing_len(fingerprint: &Fingerprint) -> u64
     ensures is { result ≡ closing_len fingerprint.now }
-    ensures short { result ≤ 57 }
+    ensures short { result ≤ 89 }
 {
     match fingerprint {
         Fingerprint::Whole(_) => 56,
-        Fingerprint::Paged(_) => 57,
+        Fingerprint::Paged(kept) => match kept.marks {
+            None => 57,
+            Some(_) => 89,
+        },
     }
 }
 
 // How many zeros stand behind an entry that closes a segment, whose frame has so many bytes.
 fn padding(page_size: NonZeroU16, size: u64, closing: u64) -> u64
-    requires { closing ≤ 57 }
+    requires { closing ≤ 89 }
     ensures is { result ≡ padding (non_zero_u16_get page_size) size closing }
     ensures short { result ≤ 18 }
 {
@@ -198,17 +202,36 @@ fn paged_bytes(alloc: Global, records: u64, kept: PagedSeal, zeros: usize) -> Re
     ensures bytes { let closed = closed_by records (Paged kept) in
         IfOk result (λ bytes. bytes.items ≡ entry_bytes (Closes closed) ++ replicate zeros 0) }
     ensures sized { length kept.seal.root ≡ 32 }
+    ensures marked { IfSome kept.marks (λ marks. length marks ≡ 32) }
     ensures short { IfOk result (λ bytes. length bytes.items ≤ 65535) }
+    ensures err { IsOkUnless result Error.OutOfMemory }
+{
+    let mut bytes = match kept.marks {
+        None => front_bytes(alloc, 2, records, kept)?,
+        Some(marks) => {
+            let mut bytes = front_bytes(alloc, 3, records, kept)?;
+            bytes.extend_from_slice(&marks)?;
+            bytes
+        }
+    };
+    bytes.resize(bytes.len() + zeros, 0)?;
+    Ok(bytes)
+}
+
+// The bytes of such an entry before the root of its marks, with this first byte.
+fn front_bytes(alloc: Global, kind: u8, records: u64, kept: PagedSeal) -> Result<Vec<u8>, Error>
+    ensures bytes { IfOk result (λ bytes. bytes.items ≡ paged_front kind records kept) }
+    ensures len { IfOk result (λ bytes. length bytes.items ≡ 50) }
+    ensures sized { length kept.seal.root ≡ 32 }
     ensures err { IsOkUnless result Error.OutOfMemory }
 {
     let root = kept.seal.root;
     let mut bytes = Vec::new(alloc);
-    bytes.push(2)?;
+    bytes.push(kind)?;
     bytes.extend_from_slice(&records.to_be_bytes())?;
     bytes.extend_from_slice(&kept.seal.len.to_be_bytes())?;
     bytes.push(kept.number)?;
     bytes.extend_from_slice(&root)?;
-    bytes.resize(bytes.len() + zeros, 0)?;
     Ok(bytes)
 }
 
@@ -248,7 +271,7 @@ fn whole_in(bytes: &[u8]) -> Option<Entry>
     }))
 }
 
-// The same of a segment that is known by its pages.
+// The same of a segment that is known by its pages, and has no marks.
 fn paged_in(bytes: &[u8]) -> Option<Entry>
     requires { 49 < length bytes.now }
     ensures { result ≡ paged_in bytes.now }
@@ -256,18 +279,39 @@ fn paged_in(bytes: &[u8]) -> Option<Entry>
     if !are_zeros(&bytes[50..]) {
         return None;
     }
+    Some(paged_with(bytes, None))
+}
+
+// The same of a segment that has marks too.
+fn marked_in(bytes: &[u8]) -> Option<Entry>
+    requires { 81 < length bytes.now }
+    ensures { result ≡ marked_in bytes.now }
+{
+    if !are_zeros(&bytes[82..]) {
+        return None;
+    }
+    let marks = digest_at(bytes, 50);
+    Some(paged_with(bytes, Some(marks)))
+}
+
+// The entry that closes a segment whose marks have this root, by the bytes before that.
+fn paged_with(bytes: &[u8], marks: Option<[u8; 32]>) -> Entry
+    requires { 49 < length bytes.now }
+    ensures { result ≡ paged_with bytes.now marks }
+{
     let root = digest_at(bytes, 18);
     let seal = Seal {
         len: number_at(bytes, 9),
         root,
     };
-    Some(Entry::Closes(Closed {
+    Entry::Closes(Closed {
         records: number_at(bytes, 1),
         fingerprint: Fingerprint::Paged(PagedSeal {
             number: bytes[17],
             seal,
+            marks,
         }),
-    }))
+    })
 }
 
 /// The entry that these bytes are, if they are one.
@@ -284,6 +328,9 @@ pub fn entry_of(bytes: &[u8]) -> Option<Entry>
     }
     if bytes.len() > 49 && bytes[0] == 2 {
         return paged_in(bytes);
+    }
+    if bytes.len() > 81 && bytes[0] == 3 {
+        return marked_in(bytes);
     }
     None
 }

@@ -58,6 +58,14 @@ pub enum Error {
     /// The segment was dropped, or there is none with this number yet.
     #[error("there is no segment {0}")]
     NoSegment(u64),
+    /// No frame begins at this byte of this closed segment: the place isn't one that an append or
+    /// another read answered. Nothing was read for it, except to find that out.
+    #[error("no frame begins at byte {1} of segment {0}: give a place that an append or a read answered")]
+    NoFrame(u64, u64),
+    /// No marks were kept of this closed segment, by which its frames are found without a read of
+    /// all before them: a version before 0.13 closed it. Read it from its begin on.
+    #[error("segment {0} has no marks, since a version before 0.13 closed it")]
+    Unmarked(u64),
     /// No segment number is left.
     #[error("no segment number is left")]
     NumbersExhausted,

@@ -10,9 +10,10 @@ use crate::folder::{Asked, Folder};
 use crate::known::{Known, copy_of};
 use crate::names::Names;
 use crate::past::FolderPast;
+use crate::segment_digesting::SegmentLevels;
 use disk::VecBlob;
 use file::{FileBlob, OpenError};
-use page_digests::{FileSource, Levels};
+use page_digests::FileSource;
 use std::fs::File;
 use std::io::ErrorKind;
 use std::marker::Model;
@@ -66,10 +67,9 @@ impl FileFolder {
         fs::remove_file(rt, self.names.path_of(Asked::Segment(segment))?.as_str())
     }
 
-    fn write_levels(&self, segment: u64, levels: &Levels) -> io::Result<()> {
+    fn write_levels(&self, segment: u64, levels: &SegmentLevels) -> io::Result<()> {
         let rt = self.names.rt();
-        let mut bytes = Vec::from_slice(rt.alloc(), &levels.list)?;
-        bytes.extend_from_slice(&levels.top)?;
+        let bytes = levels.bytes(rt.alloc())?;
         file::keep(rt, self.names.list_path(segment)?.as_str(), &bytes)
     }
 
@@ -144,7 +144,7 @@ impl Folder<FileBlob> for FileFolder {
         self.names.source(self.names.list_path(segment)?.as_str())
     }
 
-    fn write_list(&mut self, segment: u64, levels: &Levels) -> io::Result<()> {
+    fn write_list(&mut self, segment: u64, levels: &SegmentLevels) -> io::Result<()> {
         let written = self.write_levels(segment, levels);
         self.past = FolderPast::wrote(&self.past, segment, levels, written.is_err());
         written

@@ -5,13 +5,15 @@ ghost use Rattle.paged.specs.Recovery.{IsDurable};
 ghost use Rattle.segments.specs.Folders.{call_for};
 ghost use Rattle.segments.specs.FolderEvents.{FolderEvent, closing_event, folder_outcome};
 ghost use Rattle.segments.specs.FolderEvents.{keeping_outcome, opening_outcome, writing_outcome};
+ghost use Rattle.segments.specs.SegmentLevels.{levels_bytes};
 ghost use Rattle.segments.specs.declared.call.FolderCall.TheVariants as calls;
 
 use crate::call::FolderCall;
 use crate::known::Known;
+use crate::segment_digesting::SegmentLevels;
 use disk::{Blob, VecBlob};
 use file::OpenError;
-use page_digests::{Levels, Source};
+use page_digests::Source;
 use std::io;
 
 /// A file of a log.
@@ -85,10 +87,11 @@ pub trait Folder<B: Blob> {
     fn list_source(&mut self, segment: u64) -> io::Result<Self::Source>
         ensures asked { asked self.new ≡ asked self.old };
 
-    /// Makes the file of a segment's list hold the list and then the top, and makes that durable.
+    /// Makes the file of a segment's list hold these levels, as
+    /// [`SegmentLevels::bytes`](crate::SegmentLevels::bytes) gives them, and makes that durable.
     /// After an error it may hold anything.
-    fn write_list(&mut self, segment: u64, levels: &Levels) -> io::Result<()>
-        ensures asked { let bytes = levels.now.list.items ++ levels.now.top.items in
+    fn write_list(&mut self, segment: u64, levels: &SegmentLevels) -> io::Result<()>
+        ensures asked { let bytes = levels_bytes levels.now in
             asked self.new ≡ asked self.old ++ writing_outcome segment bytes result ∷ [] };
 
     /// Whether a file is there.

@@ -10,9 +10,10 @@ use crate::folder::{Asked, Folder};
 use crate::known::Known;
 use crate::names::Names;
 use crate::past::FolderPast;
+use crate::segment_digesting::SegmentLevels;
 use disk::VecBlob;
 use file::OpenError;
-use page_digests::{FileSource, Levels};
+use page_digests::FileSource;
 use std::io;
 use std::marker::Model;
 use std::snapshot::Snapshot;
@@ -115,7 +116,7 @@ impl Folder<VecBlob> for FolderCopy {
     }
 
     /// Always refused with `PermissionDenied`: the folder isn't changed.
-    fn write_list(&mut self, segment: u64, levels: &Levels) -> io::Result<()> {
+    fn write_list(&mut self, segment: u64, levels: &SegmentLevels) -> io::Result<()> {
         self.past = FolderPast::wrote(&self.past, segment, levels, true);
         Err(io::Error::from(io::ErrorKind::PermissionDenied))
     }

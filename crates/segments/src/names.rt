@@ -59,7 +59,8 @@ impl Names {
 
     /// A file of which ranges are read.
     pub fn source(&self, path: &str) -> io::Result<FileSource> {
-        Ok(FileSource::new(File::open(&self.rt, path)?))
+        let file = File::open(&self.rt, path)?;
+        Ok(FileSource::new(self.rt.alloc(), file))
     }
 
     /// The path of the manifest's copy.

@@ -6,7 +6,7 @@ ghost use Rattle.segments.specs.Owned.{IsOwned, OwnedAddGoes, OwnedAddKeeps, Own
 ghost use Rattle.segments.specs.Owned.{OwnedCommitGoes, OwnedLeaves};
 ghost use Rattle.segments.specs.Owned.{OwnedStartGoes, OwnedWaitGoes};
 ghost use Rattle.segments.specs.Owned.{OwnedKeeps, OwnedReadLeaves, OwnedReadGoes, OwnedSealGoes};
-ghost use Rattle.segments.specs.Owned.{HasJournal, LevelsGo, ListGoes, OwnedContentGoes};
+ghost use Rattle.segments.specs.Owned.{HasJournal, LevelsGo, OwnedContentGoes};
 ghost use Rattle.segments.specs.Owned.{OwnedRecoverGoes};
 ghost use Rattle.segments.specs.Owned.{owned_size, records_now, without_journal};
 ghost use Rattle.segments.specs.Ahead.{AheadGoes, HasDigests, PagesGo, content_calls};
@@ -15,12 +15,12 @@ ghost use Rattle.journal.specs.Calls.{JournalRecoveryLeaves};
 ghost use Rattle.page_digests.specs.Seals.{EachIsByte};
 
 use crate::error::Error;
+use crate::segment_digesting::{SegmentDigesting, SegmentLevels};
 use cache::CacheRef;
 use digest::Digest;
 use disk::{Blob, IoBuf, StartedSync};
 use journal::{Found, Journal};
 use page::Sum;
-use page_digests::{Digesting, Levels, levels_of_list};
 use std::alloc::Global;
 use std::marker::Model;
 use std::mem;
@@ -34,8 +34,8 @@ pub struct OwnedJournal<B: Blob, H, R, D: Digest> {
     journal: Option<Journal<B, H, R>>,
     page_size: NonZeroU16,
     records: u64,
-    // The digests so far of the first whole pages of the content.
-    digesting: Digesting<D>,
+    // The digests and the marks so far of the first whole pages of the content.
+    digesting: SegmentDigesting<D>,
 }
 
 // By hand, so that an owner lets one go by one call: of a derived drop, a proof follows each field
@@ -66,7 +66,7 @@ impl<B: Blob, H, R, D: Digest> Model for OwnedJournal<B, H, R, D> {
       journal = o.journal;
       page_size = non_zero_u16_get o.page_size;
       records = o.records;
-      digested = o.digesting.pages;
+      digested = o.digesting.digested.pages;
     } };
 
     ghost invariant = { λ o. HasDigests D.digest_of (record {
@@ -75,7 +75,7 @@ impl<B: Blob, H, R, D: Digest> Model for OwnedJournal<B, H, R, D> {
       journal = o.journal;
       page_size = non_zero_u16_get o.page_size;
       records = o.records;
-      digested = o.digesting.pages;
+      digested = o.digesting.digested.pages;
     }) o.digesting };
 }
 
@@ -100,7 +100,7 @@ impl<B: Blob + Drop, H: Sum, R: Sum, D: Digest> OwnedJournal<B, H, R, D> {
                 journal: None,
                 page_size,
                 records: 0,
-                digesting: Digesting::new(alloc),
+                digesting: SegmentDigesting::new(alloc, page_size),
             }),
             Err(error) => Err(error),
         }
@@ -151,7 +151,7 @@ impl<B: Blob + Drop, H: Sum, R: Sum, D: Digest> OwnedJournal<B, H, R, D> {
             self.old.life self.new.life }
         ensures page_size { self.new.page_size ≡ self.old.page_size }
     {
-        self.digesting = Digesting::new(alloc);
+        self.digesting = SegmentDigesting::new(alloc, self.page_size);
         let size = self.blob.len();
         match Journal::recover(
             alloc,
@@ -291,9 +291,9 @@ impl<B: Blob + Drop, H: Sum, R: Sum, D: Digest> OwnedJournal<B, H, R, D> {
         }
     }
 
-    /// Commits all records, closes the journal, and answers the levels of its content. All of the
-    /// blob is durable then. After an error there is no journal either.
-    pub fn seal(&mut self, alloc: Global) -> Result<Levels, Error>
+    /// Commits all records, closes the journal, and answers the levels of its content and of the
+    /// marks of that. All of the blob is durable then. After an error there is no journal either.
+    pub fn seal(&mut self, alloc: Global) -> Result<SegmentLevels, Error>
         requires owned { IsOwned H.sum_of R.sum_of self.old }
         ensures goes { let d = D.digest_of in
             OwnedSealGoes d H.sum_of R.sum_of self.old self.new result }
@@ -308,21 +308,10 @@ impl<B: Blob + Drop, H: Sum, R: Sum, D: Digest> OwnedJournal<B, H, R, D> {
         levels
     }
 
-    // The levels of the content.
-    fn levels(&mut self, alloc: Global) -> Result<Levels, Error>
+    // The levels of the content and of its marks.
+    fn levels(&mut self, alloc: Global) -> Result<SegmentLevels, Error>
         requires owned { IsOwned H.sum_of R.sum_of self.old }
         ensures goes { LevelsGo D.digest_of self.old self.new result }
-        ensures ready { IsOwned H.sum_of R.sum_of self.new }
-        ensures leaves { OwnedReadLeaves H.sum_of R.sum_of self.old self.new }
-    {
-        let list = self.list(alloc)?;
-        Ok(levels_of_list::<D>(alloc, list, self.page_size)?)
-    }
-
-    // The digests of the content's pages.
-    fn list(&mut self, alloc: Global) -> Result<Vec<u8>, Error>
-        requires owned { IsOwned H.sum_of R.sum_of self.old }
-        ensures goes { ListGoes D.digest_of self.old self.new result }
         ensures ready { IsOwned H.sum_of R.sum_of self.new }
         ensures leaves { OwnedReadLeaves H.sum_of R.sum_of self.old self.new }
     {
@@ -338,10 +327,10 @@ impl<B: Blob + Drop, H: Sum, R: Sum, D: Digest> OwnedJournal<B, H, R, D> {
         rest.resize((size - full * page_size) as usize, 0)?;
         self.read_content(&mut rest, full * page_size)?;
         are_bytes(&rest);
-        Ok(digesting.finish(&rest)?)
+        Ok(digesting.finish(alloc, &rest)?)
     }
 
-    /// Digests the next whole pages of the content, at most `most` of them, so that
+    /// Digests and marks the next whole pages of the content, at most `most` of them, so that
     /// [`seal`](OwnedJournal::seal) has fewer to digest. An error leaves the journal, and what was
     /// digested before it.
     pub fn digest_ahead(&mut self, alloc: Global, most: u64) -> Result<(), Error>
@@ -363,18 +352,19 @@ impl<B: Blob + Drop, H: Sum, R: Sum, D: Digest> OwnedJournal<B, H, R, D> {
     }
 
     // Takes the digests so far, and leaves none.
-    fn take_digesting(&mut self, alloc: Global) -> Digesting<D>
+    fn take_digesting(&mut self, alloc: Global) -> SegmentDigesting<D>
         ensures taken { self.new ≡ record self.old { digested = 0 } }
-        ensures pages { result.pages ≡ self.old.digested }
+        ensures pages { result.digested.pages ≡ self.old.digested }
         ensures digested { HasDigests D.digest_of self.old result }
     {
-        mem::replace(&mut self.digesting, Digesting::new(alloc))
+        let begun = SegmentDigesting::new(alloc, self.page_size);
+        mem::replace(&mut self.digesting, begun)
     }
 
     // Keeps the digests so far.
-    fn keep_digesting(&mut self, digesting: Digesting<D>)
+    fn keep_digesting(&mut self, digesting: SegmentDigesting<D>)
         requires digested { HasDigests D.digest_of self.old digesting }
-        ensures { self.new ≡ record self.old { digested = digesting.pages } }
+        ensures { self.new ≡ record self.old { digested = digesting.digested.pages } }
     {
         self.digesting = digesting;
     }
@@ -384,7 +374,7 @@ impl<B: Blob + Drop, H: Sum, R: Sum, D: Digest> OwnedJournal<B, H, R, D> {
     fn digest_pages(
         &mut self,
         alloc: Global,
-        digesting: &mut Digesting<D>,
+        digesting: &mut SegmentDigesting<D>,
         end: u64,
     ) -> Result<(), Error>
         requires owned { IsOwned H.sum_of R.sum_of self.old }
@@ -392,13 +382,14 @@ impl<B: Blob + Drop, H: Sum, R: Sum, D: Digest> OwnedJournal<B, H, R, D> {
         requires whole { end * self.old.page_size ≤ owned_size self.old.journal }
         requires digested { HasDigests D.digest_of self.old digesting.old }
         ensures goes { PagesGo self.old self.new result }
-        ensures all { IfOk result (λ u. end ≤ digesting.new.pages) }
-        ensures further { digesting.old.pages ≤ digesting.new.pages }
-        ensures few { digesting.new.pages ≤ max digesting.old.pages end }
+        ensures all { IfOk result (λ u. end ≤ digesting.new.digested.pages) }
+        ensures further { digesting.old.digested.pages ≤ digesting.new.digested.pages }
+        ensures few { digesting.new.digested.pages ≤ max digesting.old.digested.pages end }
         ensures digested { HasDigests D.digest_of self.new digesting.new }
         ensures ready { IsOwned H.sum_of R.sum_of self.new }
         ensures leaves { OwnedReadLeaves H.sum_of R.sum_of self.old self.new }
-        ensures costs { AsksAtMost (end - digesting.old.pages) self.old.life self.new.life }
+        ensures costs { let most = end - digesting.old.digested.pages in
+            AsksAtMost most self.old.life self.new.life }
     {
         let mut page = Vec::new(alloc);
         page.resize(self.page_size.get() as usize, 0)?;
@@ -413,17 +404,17 @@ impl<B: Blob + Drop, H: Sum, R: Sum, D: Digest> OwnedJournal<B, H, R, D> {
         &mut self,
         n: u64,
         page: &mut Vec<u8>,
-        digesting: &mut Digesting<D>,
+        digesting: &mut SegmentDigesting<D>,
     ) -> Result<(), Error>
         requires owned { IsOwned H.sum_of R.sum_of self.old }
         requires buffer { length page.old.items ≡ self.old.page_size }
-        requires next { digesting.old.pages ≡ n }
+        requires next { digesting.old.digested.pages ≡ n }
         requires whole { n * self.old.page_size + self.old.page_size
             ≤ owned_size self.old.journal }
         requires digested { HasDigests D.digest_of self.old digesting.old }
         ensures goes { PagesGo self.old self.new result }
-        ensures more { IfOk result (λ u. digesting.new.pages ≡ n + 1) }
-        ensures kept { IfErr result (λ e. digesting.new ≡ digesting.old) }
+        ensures more { IfOk result (λ u. digesting.new.digested.pages ≡ n + 1) }
+        ensures kept { IfErr result (λ e. digesting.new.digested ≡ digesting.old.digested) }
         ensures buffer { length page.new.items ≡ length page.old.items }
         ensures digested { HasDigests D.digest_of self.new digesting.new }
         ensures ready { IsOwned H.sum_of R.sum_of self.new }

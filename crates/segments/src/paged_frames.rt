@@ -1,6 +1,6 @@
 // Frames of a content that is read by its pages.
-ghost use Rattle.std.specs.Prelude.{◌≡◌, IfOk, IsOkUnless};
-ghost use Rattle.journal.specs.Frame.{record_of};
+ghost use Rattle.std.specs.Prelude.{◌≡◌, ◌≤◌, ◌+◌, length, IfOk, IfSome, IsOkUnless};
+ghost use Rattle.journal.specs.Frame.{record_len, record_of};
 ghost use Rattle.page_digests.specs.declared.error.Error.TheVariants as errors;
 ghost use Rattle.segments.specs.PagedFrames.{PagedFrameGoes};
 
@@ -14,8 +14,8 @@ use std::alloc::Global;
 
 /// The frame that begins at logical byte `offset` of a content; `None` at its end and after it:
 /// then nothing is read. Only the pages that the frame touches are read, and the pages of the list
-/// with their digests. Each is compared with its digest. The frame's length is read first, and then
-/// all of the frame.
+/// with their digests. Each is compared with its digest. A frame in the page that was read last is
+/// copied from there. Of another one the length is read first, and then all of it.
 ///
 /// `Damaged` if one of these pages isn't as it was, `System` if the system refuses a read. The
 /// other pages can still be read.
@@ -30,6 +30,14 @@ pub fn frame_at<S: Source + Drop, D: Digest, R: Sum>(
     if size <= offset {
         return Ok(None);
     }
+    let held = content.held(offset);
+    if let Some(len) = frame_in(held) {
+        let record = record_of_copy::<R>(alloc, &held[..len])?;
+        return Ok(Some(Found {
+            bytes: record,
+            end: offset + len as u64,
+        }));
+    }
     let rest = (size - offset) as usize;
     let front = content.read(alloc, offset, rest.min(IN_FRONT))?;
     let len = rest.min(IN_FRONT + record_len_of(&front) + AFTER);
@@ -39,6 +47,25 @@ pub fn frame_at<S: Source + Drop, D: Digest, R: Sum>(
         bytes,
         end: offset + len as u64,
     }))
+}
+
+// How many bytes the frame at the front of some bytes has, if they have all of it.
+fn frame_in(bytes: &[u8]) -> Option<usize>
+    ensures { IfSome result (λ len. (len ≡ record_len bytes.now + 7) × (len ≤ length bytes.now)) }
+{
+    let len = IN_FRONT + record_len_of(bytes) + AFTER;
+    if bytes.len() < len {
+        return None;
+    }
+    Some(len)
+}
+
+// The record of the frame at the front of some bytes, if it is one. It is a copy.
+fn record_of_copy<R: Sum>(alloc: Global, framed: &[u8]) -> Result<Option<IoBuf>, Error>
+    ensures found { IfOk result (λ found. found ≡ record_of R.sum_of framed.now) }
+    ensures err { IsOkUnless result errors.OutOfMemory }
+{
+    record_in::<R>(Vec::from_slice(alloc, framed)?)
 }
 
 // The record of the frame at the front of some bytes, if it is one. It shares them.

@@ -2,11 +2,12 @@
 ghost use Rattle.std.specs.Prelude.{◌≡◌, [], ◌∷◌, ◌++◌};
 ghost use Rattle.segments.specs.FolderEvents.{closing_event, keeping_event, plain_event};
 ghost use Rattle.segments.specs.FolderEvents.{opening_with, writing_event};
+ghost use Rattle.segments.specs.SegmentLevels.{levels_bytes};
 
 use crate::call::FolderCall;
 use crate::known::Known;
+use crate::segment_digesting::SegmentLevels;
 use disk::Blob;
-use page_digests::Levels;
 use std::marker::Model;
 use std::snapshot::Snapshot;
 
@@ -28,7 +29,7 @@ enum Last<B: Blob> {
     Opened(Snapshot<Snapshot<FolderPast<B>>>, FolderCall, Snapshot<B>),
     Kept(Snapshot<Snapshot<FolderPast<B>>>, u64, u64, Snapshot<B>, bool),
     Closed(Snapshot<Snapshot<FolderPast<B>>>, u64, Snapshot<B>, Snapshot<B>),
-    Wrote(Snapshot<Snapshot<FolderPast<B>>>, u64, Snapshot<Levels>, bool),
+    Wrote(Snapshot<Snapshot<FolderPast<B>>>, u64, Snapshot<SegmentLevels>, bool),
 }
 
 impl<B: Blob> Model for FolderPast<B> {
@@ -94,14 +95,14 @@ impl<B: Blob> FolderPast<B> {
         Snapshot::of(&past)
     }
 
-    /// This past and one call more that was to write the list of a segment and its top.
+    /// This past and one call more that was to write the list's file of a segment.
     pub fn wrote(
         before: &Snapshot<Self>,
         segment: u64,
-        levels: &Levels,
+        levels: &SegmentLevels,
         failed: bool,
     ) -> Snapshot<Self>
-        ensures { let bytes = levels.now.list.items ++ levels.now.top.items in
+        ensures { let bytes = levels_bytes levels.now in
             result.value ≡ before.now.value ++ writing_event segment bytes failed ∷ [] }
     {
         let before = Snapshot::of(before);

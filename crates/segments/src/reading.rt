@@ -1,7 +1,7 @@
 // Reading records.
 ghost use Rattle.std.specs.Prelude.{◌≡◌, ◌≢◌};
 ghost use Rattle.segments.specs.Log.{IsLog, IsSameButCurrent, IsSameButReading, LeavesReading};
-ghost use Rattle.segments.specs.Log.{IsKeptAs, LogReadGoes, TakeLoadedGoes};
+ghost use Rattle.segments.specs.Log.{IsKeptAs, LogReadBegins, LogReadGoes, TakeLoadedGoes};
 ghost use Rattle.segments.specs.Owned.{OwnedReadLeaves, OwnedReadGoes};
 ghost use Rattle.segments.specs.Manifest.{open_in};
 ghost use Rattle.segments.specs.declared.closed.Fingerprint.TheVariants.{Whole};
@@ -51,11 +51,12 @@ impl<F: Folder<B> + Drop, B: Blob + Drop, H: Sum, R: Sum, D: Digest> SegmentedLo
     }
 
     // The frame at a place of a closed segment that is known by its whole file.
-    #[tactic(auto, using(crate::proofs::Loading::reads_whole))]
+    #[tactic(auto, using(crate::proofs::Loading::reads_whole, crate::proofs::PagedReading::begins_whole))]
     fn read_whole(&mut self, place: Place, kept: FileDigest) -> Result<Option<Found>, Error>
         requires log { IsLog H.sum_of R.sum_of self.old }
         requires listed { IsKeptAs self.old.listing place.segment (λ f. f ≡ Whole kept) }
         ensures goes { LogReadGoes H.sum_of R.sum_of D.digest_of self.old self.new place result }
+        ensures begins { LogReadBegins D.digest_of self.new place result }
         ensures ready { IsLog H.sum_of R.sum_of self.new }
         ensures rest { IsSameButReading self.old self.new }
     {
@@ -76,6 +77,7 @@ impl<F: Folder<B> + Drop, B: Blob + Drop, H: Sum, R: Sum, D: Digest> SegmentedLo
         requires log { IsLog H.sum_of R.sum_of self.old }
         requires closed { place.segment ≢ open_in self.old.listing }
         ensures goes { LogReadGoes H.sum_of R.sum_of D.digest_of self.old self.new place result }
+        ensures begins { LogReadBegins D.digest_of self.new place result }
         ensures ready { IsLog H.sum_of R.sum_of self.new }
         ensures rest { IsSameButReading self.old self.new }
     {
@@ -84,12 +86,12 @@ impl<F: Folder<B> + Drop, B: Blob + Drop, H: Sum, R: Sum, D: Digest> SegmentedLo
         };
         match closed.fingerprint {
             Fingerprint::Whole(kept) => self.read_whole(place, kept),
-            Fingerprint::Paged(kept) => self.read_paged(place, kept.seal),
+            Fingerprint::Paged(kept) => self.read_paged(place, kept),
         }
     }
 
     // The frame at an offset of the open segment.
-    fn read_current(&mut self, offset: u64) -> Result<Option<Found>, Error>
+    pub(crate) fn read_current(&mut self, offset: u64) -> Result<Option<Found>, Error>
         requires log { IsLog H.sum_of R.sum_of self.old }
         ensures goes { OwnedReadGoes R.sum_of offset self.old.current self.new.current result }
         ensures ready { IsLog H.sum_of R.sum_of self.new }
@@ -100,7 +102,10 @@ impl<F: Folder<B> + Drop, B: Blob + Drop, H: Sum, R: Sum, D: Digest> SegmentedLo
     }
 
     /// The frame at a place: one that an append answered, or the place after another frame. `None`
-    /// where none begins there: at the end of its segment and after it.
+    /// where none begins there: at the end of its segment and after it. `NoFrame` where the segment
+    /// is closed and has marks, and the place is in the midst of a frame. A read at the place where
+    /// the frame ended that was read last of its segment asks for no mark, so a scan pays nothing.
+    /// If the marks can't be used the frame is read without them.
     ///
     /// Of a closed segment the pages are read that the frame touches, and the pages of its list
     /// with their digests; each is compared with its digest. If the list can't be used it is
@@ -113,10 +118,11 @@ impl<F: Folder<B> + Drop, B: Blob + Drop, H: Sum, R: Sum, D: Digest> SegmentedLo
     /// refuses a file. `Manifest` where the manifest lists the segment with 1 PiB or more, which no
     /// segment has. `Closed` where the segment is the open one and a call before failed. `Layer`
     /// where the device or memory failed. An error leaves the log as it was.
-    #[tactic(auto, using(crate::proofs::Readings::reads_current, crate::proofs::Joining::leaves_current))]
+    #[tactic(auto, using(crate::proofs::Readings::reads_current, crate::proofs::Joining::leaves_current, crate::proofs::PagedReading::begins_open))]
     pub fn read(&mut self, place: Place) -> Result<Option<Found>, Error>
         requires log { IsLog H.sum_of R.sum_of self.old }
         ensures goes { LogReadGoes H.sum_of R.sum_of D.digest_of self.old self.new place result }
+        ensures begins { LogReadBegins D.digest_of self.new place result }
         ensures ready { IsLog H.sum_of R.sum_of self.new }
         ensures leaves { LeavesReading H.sum_of R.sum_of self.old self.new }
     {

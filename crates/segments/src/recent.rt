@@ -10,8 +10,9 @@ use std::alloc::{AllocError, Global};
 use std::marker::Model;
 
 /// How many closed segments a log keeps open that are read by their pages. So reads to and fro
-/// between so many open no file. Each has two files open, and holds a page of its content, at most
-/// 129 pages of its list, and its top: 0.5 MiB at most with pages of 4,096 bytes.
+/// between so many open no file. Each has two files open, or three if it has marks, and holds a page
+/// of its content, at most 129 pages of its list and of its marks, their tops, and what is read
+/// ahead of each file: 0.8 MiB at most for 64 MiB in pages of 4,096 bytes.
 pub const OPENED: usize = 8;
 
 /// The closed segments that were read by their pages last, the latest one at the end: there the
@@ -41,27 +42,35 @@ impl<S: Source + Drop, D: Digest> Recent<S, D> {
         Ok(Recent { segments })
     }
 
-    /// Takes the segment of this number out, which has this seal, if it is kept.
+    /// Takes the segment of this number out, which has this seal and marks of this root, if it is
+    /// kept.
     #[tactic(auto, using(crate::proofs::Recents::taken_at))]
-    pub fn take(&mut self, number: u64, seal: &Seal) -> Option<PagedSegment<S, D>>
-        ensures { TakesRecent number seal.now self.old self.new result }
+    pub fn take(
+        &mut self,
+        number: u64,
+        seal: &Seal,
+        marks_root: Option<[u8; 32]>,
+    ) -> Option<PagedSegment<S, D>>
+        ensures { TakesRecent number seal.now marks_root self.old self.new result }
     {
-        match self.place_of(number, seal) {
+        match self.place_of(number, seal, marks_root) {
             Some(place) => Some(self.segments.remove(place)),
             None => None,
         }
     }
 
-    // Where the segment of this number is kept, which has this seal.
-    fn place_of(&self, number: u64, seal: &Seal) -> Option<usize>
+    // Where the segment of this number is kept, which has this seal and marks of this root.
+    fn place_of(&self, number: u64, seal: &Seal, marks_root: Option<[u8; 32]>) -> Option<usize>
         ensures within { IfSome result (λ k. k < length self.now) }
         ensures number { IfSome result (λ k. (p : PagedSegmentState)
             → (slice_index_or self.now k p).number ≡ number) }
         ensures of { IfSome result (λ k. (p : PagedSegmentState)
             → (slice_index_or self.now k p).content.seal ≡ seal.now) }
+        ensures marks { IfSome result (λ k. (p : PagedSegmentState)
+            → (slice_index_or self.now k p).marks_root ≡ marks_root) }
     {
         for (place, segment) in self.segments.iter().enumerate() {
-            if segment.is_of(number, seal) {
+            if segment.is_of(number, seal, marks_root) {
                 return Some(place);
             }
         }
@@ -85,6 +94,14 @@ impl<S: Source + Drop, D: Digest> Recent<S, D> {
     pub fn let_go_before(&mut self, first: u64)
         ensures { self.new ≡ kept_from first self.old }
     {
-        self.segments.retain(|segment| first <= segment.number());
+        // Each goes from the front to the end, unless it is let go, so that their order stays.
+        for _turn in 0..self.segments.len() {
+            let segment = self.segments.remove(0);
+            if first <= segment.number() {
+                self.segments.push_reserved(segment);
+            } else {
+                drop(segment);
+            }
+        }
     }
 }

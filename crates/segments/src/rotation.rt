@@ -15,21 +15,23 @@ use crate::folder::Folder;
 use crate::log::SegmentedLog;
 use crate::opening::{open_segment, recover};
 use crate::owned::OwnedJournal;
+use crate::segment_digesting::SegmentLevels;
 use digest::Digest;
 use disk::Blob;
 use page::Sum;
-use page_digests::{Levels, Seal};
+use page_digests::Seal;
 use std::mem;
 
 impl<F: Folder<B> + Drop, B: Blob + Drop, H: Sum, R: Sum, D: Digest> SegmentedLog<F, B, H, R, D> {
     /// Closes the open segment, whatever its size, and opens the next one.
     ///
-    /// All records are committed first. Then the digests of the content's pages are computed, and
-    /// those of the list that these are; list and top are written into a file, and that is synced.
-    /// The next segment's file is made, its name is made durable, and the folder takes the blob of
-    /// the closed segment back. Last, the manifest lists the closed segment with its root. So a
-    /// crash while the manifest is written leaves the log before that or after it, and both have
-    /// the same records. Behind that entry there is room for the entry of a drop.
+    /// All records are committed first. Then the digests and the marks of the content's pages are
+    /// computed, and the digests of the pages that these have; all are written into a file, and
+    /// that is synced. The next segment's file is made, its name is made durable, and the folder
+    /// takes the blob of the closed segment back. Last, the manifest lists the closed segment with
+    /// the roots of its content and of its marks. So a crash while the manifest is written leaves
+    /// the log before that or after it, and both have the same records. Behind that entry there is
+    /// room for the entry of a drop.
     ///
     /// `Closed` where a call before failed, `Layer` where the device or memory failed, `System`
     /// where the folder refused the list's file or the next one, `Unsynced` where a sync of the
@@ -57,7 +59,7 @@ impl<F: Folder<B> + Drop, B: Blob + Drop, H: Sum, R: Sum, D: Digest> SegmentedLo
     }
 
     // Has the folder write the list of the open segment.
-    fn write_list(&mut self, levels: &Levels) -> Result<(), Error>
+    fn write_list(&mut self, levels: &SegmentLevels) -> Result<(), Error>
         requires log { IsLog H.sum_of R.sum_of self.old }
         ensures goes { WriteListGoes levels.now self.old self.new result }
         ensures ready { IsLog H.sum_of R.sum_of self.new }
@@ -108,7 +110,7 @@ impl<F: Folder<B> + Drop, B: Blob + Drop, H: Sum, R: Sum, D: Digest> SegmentedLo
 
     // Commits all of the open segment, closes it, and answers what is to be kept of it, and the
     // levels of its content.
-    fn close_current(&mut self) -> Result<(Closed, Levels), Error>
+    fn close_current(&mut self) -> Result<(Closed, SegmentLevels), Error>
         requires log { IsLog H.sum_of R.sum_of self.old }
         ensures goes { CloseCurrentGoes H.sum_of R.sum_of D.digest_of self.old self.new result }
         ensures ready { IsLog H.sum_of R.sum_of self.new }
@@ -121,12 +123,14 @@ impl<F: Folder<B> + Drop, B: Blob + Drop, H: Sum, R: Sum, D: Digest> SegmentedLo
         let records = self.current.records();
         let len = self.current.size();
         let levels = self.current.seal(self.alloc)?;
-        let root = levels.root;
+        let root = levels.content.root;
+        let marks = levels.marks.root;
         let closed = Closed {
             records,
             fingerprint: Fingerprint::Paged(PagedSeal {
                 number: D::NUMBER,
                 seal: Seal { len, root },
+                marks: Some(marks),
             }),
         };
         Ok((closed, levels))

@@ -329,7 +329,7 @@ const SEGMENTS: [&str; 2] = [
     "log-kept/00000000000000000001.segment",
 ];
 
-// The list of the first one: one digest, and the digest of that.
+// The file of its list: one digest and the digest of that, and one mark and the digest of that.
 const LIST: &str = "log-kept/00000000000000000000.digests";
 
 const MISSING: &str = "segment 1 is missing, though the manifest says that it is the open one";
@@ -399,7 +399,7 @@ fn goes_through(rt: &HostRuntime, path: &str) -> io::Result<bool> {
         && is_so(rt, path, What::IsGoneOver)
         && is_copied(rt, path)?
         && is_shut_to_other(rt, path, OTHER)?
-        && fs::read(rt, LIST)?.len() == 64;
+        && fs::read(rt, LIST)?.len() == 104;
     let is_told = is_each_harm_told(rt, path)?
         && is_older_read(rt, path).unwrap_or(false)
         && is_so(rt, path, What::IsOneDropped);

@@ -1,7 +1,8 @@
-use Rattle.std.specs.Prelude.{◌≡◌, ◌-◌, ℕ, List, length, take, drop}
-use Rattle.std.proofs.Common.{arith, take_all, ◌∙◌}
+use Rattle.std.specs.Prelude.{◌≡◌, ◌-◌, ℕ, List, length, take, drop, Some, None}
+use Rattle.std.proofs.Common.{ap, arith, take_all, ◌∙◌}
 use Rattle.std.proofs.lemmas.List.{length-drop}
-use Rattle.segments.proofs.Entries.{made, made_paged, others_behind, zeros_behind}
+use Rattle.segments.specs.Manifest.{paged_with}
+use Rattle.segments.proofs.Entries.{others_behind, zeros_behind}
 use Rattle.segments.proofs.entry.paged_in.Goals as goal
 
 -- what stands behind the first 50 bytes
@@ -14,5 +15,5 @@ returns-then-not-are_zeros c =
 
 pub returns : goal.returns
 returns c =
-    made c.number_at-2.ensures (made_paged _ c.number_at.ensures c.digest_at-root.ensures)
-    ∙ zeros_behind (take (length c.args.bytes.now - 50) (drop 50 c.args.bytes.now)) (drop 50 c.args.bytes.now) c.are_zeros.result _ (behind c.args.bytes.now) c.are_zeros.ensures c.if-not-are_zeros.false
+    ap Some c.paged_with.ensures
+    ∙ zeros_behind (take (length c.args.bytes.now - 50) (drop 50 c.args.bytes.now)) (drop 50 c.args.bytes.now) c.are_zeros.result (Some (paged_with c.args.bytes.now None)) (behind c.args.bytes.now) c.are_zeros.ensures c.if-not-are_zeros.false

@@ -1,7 +1,7 @@
 use Rattle.std.proofs.Common.{◌≡◌, ◌<◌, ◌+◌, ◌-◌, ◌∙◌, ℕ, ap, min, refl, arith}
 use Rattle.std.proofs.lemmas.Result.{err_from_is_err_and}
 use Rattle.journal.specs.Frame.{record_len}
-use Rattle.segments.proofs.PagedFrames.{frame_fails, frame_read, frame_refused}
+use Rattle.segments.proofs.PagedFrames.{frame_fails, frame_read, frame_refused, held_found, held_refused}
 use Rattle.segments.proofs.paged_frames.frame_at.Goals as goal
 
 pub returns-in_err-framed : goal.returns-in_err-framed
@@ -35,3 +35,14 @@ returns g c =
     let measured : c.min-len.result ≡ min rest (record_len c.in_ok-front.front.items + 7) = omega (arith, c.min-len.ensures, says) in
     frame_read g.D.Digest.digest_of g.R.Sum.sum_of c.args.offset rest c.min.result c.min-len.result c.args.content.now c.read.new.self c.read-2.new.self c.in_ok-front.front within some c.min.ensures
     c.in_ok-front.ensures measured c.in_ok-framed.framed _ c.in_ok-framed.ensures c.in_ok-bytes.ensures.found refl
+
+pub returns-in_err-record : goal.returns-in_err-record
+returns-in_err-record g c =
+    let begins : c.args.offset < c.args.content.now.seal.len = omega (arith, c.len-size.ensures, c.if-size-offset.false) in
+    let p = err_from_is_err_and c.from_residual.result c.from_residual.ensures.1 in
+    rw (p.1, p.2, c.in_err-record.ensures.err) (held_refused g.D.Digest.digest_of g.R.Sum.sum_of c.args.offset c.in-Some.len c.args.content.now c.held-held.result.now begins c.held-held.ensures c.in-Some.ensures.0 c.in-Some.ensures.1)
+
+pub returns-in-Some : goal.returns-in-Some
+returns-in-Some g c =
+    let begins : c.args.offset < c.args.content.now.seal.len = omega (arith, c.len-size.ensures, c.if-size-offset.false) in
+    held_found g.D.Digest.digest_of g.R.Sum.sum_of c.args.offset c.in-Some.len c.args.content.now c.held-held.result.now begins c.held-held.ensures c.in-Some.ensures.0 c.in-Some.ensures.1 _ c.in_ok-record.ensures.found refl

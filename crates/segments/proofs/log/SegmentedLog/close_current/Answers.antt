@@ -15,4 +15,4 @@ returns-clause-goes g c =
     let goes = subst (λ (l : LogState). OwnedSealGoes d sum own l.current c.seal.new.self (Ok levels)) c.self.view_is c.in_ok-levels.ensures.goes in
     sealed_of sum own d s (record s { current = c.seal.new.self }) _ _ levels c.requires.log goes refl
     (c.records-records.ensures ∙ ap (λ (l : LogState). l.current.records) c.self.view_is)
-    (c.size-len.ensures ∙ ap (λ (l : LogState). owned_size l.current.journal) c.self.view_is) refl
+    (c.size-len.ensures ∙ ap (λ (l : LogState). owned_size l.current.journal) c.self.view_is) refl refl

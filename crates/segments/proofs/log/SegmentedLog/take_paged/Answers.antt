@@ -11,7 +11,7 @@ pub returns-in-Some-clause-goes : goal.returns-in-Some-clause-goes
 returns-in-Some-clause-goes g c =
     let P : ℕ = c.args.self.now.page_size in
     let have = subst (λ (l : List PagedSegmentState). HavePages P l) (sym (ap (λ (s : LogState). s.reading.paged) c.self.view_is)) c.requires.log.reading.paged in
-    taken_of P c.args.number c.args.seal c.self.inside.recent c.take.new.self c.in-Some.segment c.in-Some.ensures have
+    taken_of P c.args.number c.args.kept.seal c.args.kept.marks c.self.inside.recent c.take.new.self c.in-Some.segment c.in-Some.ensures have
 
 pub returns-in-Some-clause-ready : goal.returns-in-Some-clause-ready
 returns-in-Some-clause-ready g c =
@@ -25,6 +25,6 @@ returns-in-Some-clause-ready g c =
       lists = log.lists;
       reading = record {
         whole = log.reading.whole;
-        paged = pages_left P c.args.number c.args.seal c.self.inside.recent c.take.new.self c.in-Some.segment c.in-Some.ensures log.reading.paged;
+        paged = pages_left P c.args.number c.args.kept.seal c.args.kept.marks c.self.inside.recent c.take.new.self c.in-Some.segment c.in-Some.ensures log.reading.paged;
       };
     }

@@ -23,7 +23,7 @@ returns-clause-goes g c =
     let full : c.size.result / c.get.result ≡ owned_size s.journal / s.page_size = ap (λ (n : ℕ). n / c.get.result) size ∙ ap (λ (P : ℕ). owned_size s.journal / P) sized in
     let fits : c.size.result / c.get.result ≤ c.size.result = pages_few c.get.result c.size.result c.get.ensures.nonzero in
     let end = c.min-end.ensures in
-    ahead_done c.args.most s c.take_digesting-digesting.new.self c.digest_pages-result.new.self c.keep_digesting.new.self c.take_digesting-digesting.result.pages _ c.min-end.result c.digest_pages-result.result
+    ahead_done c.args.most s c.take_digesting-digesting.new.self c.digest_pages-result.new.self c.keep_digesting.new.self c.take_digesting-digesting.result.digested.pages _ c.min-end.result c.digest_pages-result.result
     c.take_digesting-digesting.ensures.taken c.keep_digesting.ensures (there_is _ s c.in-Some.journal c.self.view_is c.in-Some.is) c.take_digesting-digesting.ensures.pages
     c.digest_pages-result.ensures.further c.digest_pages-result.ensures.few (omega (arith, c.pages.ensures, end, c.saturating_add.ensures))
     (omega (arith, full, fits, c.size.type_inv, c.pages.ensures, end, c.saturating_add.ensures, c.take_digesting-digesting.ensures.pages)) c.digest_pages-result.ensures.all c.digest_pages-result.ensures.goes
@@ -37,5 +37,5 @@ returns-clause-leaves g c =
 
 pub returns-clause-costs : goal.returns-clause-costs
 returns-clause-costs g c =
-    asks_few c.args.self.now c.take_digesting-digesting.new.self c.digest_pages-result.new.self c.keep_digesting.new.self _ c.min-end.result c.take_digesting-digesting.result.pages c.args.most
+    asks_few c.args.self.now c.take_digesting-digesting.new.self c.digest_pages-result.new.self c.keep_digesting.new.self _ c.min-end.result c.take_digesting-digesting.result.digested.pages c.args.most
     c.take_digesting-digesting.ensures.taken c.keep_digesting.ensures (omega (arith, c.pages.ensures, c.min-end.ensures)) c.digest_pages-result.ensures.costs

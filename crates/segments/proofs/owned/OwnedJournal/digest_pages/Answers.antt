@@ -1,5 +1,7 @@
-use Rattle.std.proofs.Common.{ap, sym, ◌∙◌, arith}
+use Rattle.std.specs.Prelude.{◌≤◌, max}
+use Rattle.std.proofs.Common.{ap, sym, ◌∙◌, arith, subst}
 use Rattle.std.proofs.lemmas.Grind.{common_steps}
+use Rattle.page_digests.specs.Growing.{DigestingState}
 use Rattle.segments.specs.Owned.{OwnedState}
 use Rattle.segments.proofs.Ahead.{ahead_refused, memory_refused, none_read, page_room, reads_end, reads_on}
 use Rattle.segments.proofs.Joining.{owned_joins, reads_start}
@@ -75,10 +77,10 @@ pub returns-clause-costs : goal.returns-clause-costs
 returns-clause-costs g c = omega (arith, c.loop-n.invariant.asked)
 
 pub returns-in_err-digest_page-clause-further : goal.returns-in_err-digest_page-clause-further
-returns-in_err-digest_page-clause-further g c = rw c.in_err-digest_page.ensures.kept c.loop-n.invariant.further
+returns-in_err-digest_page-clause-further g c = subst (λ (x : DigestingState). c.args.digesting.now.digested.pages ≤ x.pages) (sym c.in_err-digest_page.ensures.kept) c.loop-n.invariant.further
 
 pub returns-in_err-digest_page-clause-few : goal.returns-in_err-digest_page-clause-few
-returns-in_err-digest_page-clause-few g c = rw c.in_err-digest_page.ensures.kept c.loop-n.invariant.few
+returns-in_err-digest_page-clause-few g c = subst (λ (x : DigestingState). x.pages ≤ max c.args.digesting.now.digested.pages c.args.end) (sym c.in_err-digest_page.ensures.kept) c.loop-n.invariant.few
 
 pub returns-clause-further : goal.returns-clause-further
 returns-clause-further g c = c.loop-n.invariant.further

@@ -5,4 +5,4 @@ use Rattle.segments.proofs.owned.OwnedJournal.recover.Goals as goal
 
 pub invariant_of-self : goal.invariant_of-self
 invariant_of-self g c =
-    digests_none g.D.Digest.digest_of (non_zero_u16_get c.self.inside.page_size) (g.B.Blob.life c.recover.new.blob) c.new.result (Some c.in-Ok.journal) c.new.ensures
+    digests_none g.D.Digest.digest_of (non_zero_u16_get c.self.inside.page_size) (g.B.Blob.life c.recover.new.blob) c.new.result (Some c.in-Ok.journal) c.new.ensures.begun c.new.ensures.pages
