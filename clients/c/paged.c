@@ -1,4 +1,4 @@
-/* The client of `pagedd`. paged.h says what each call does, and docs/PROTOCOL.md and docs/LOG_PROTOCOL.md what the
+/* The client of `pagedd`. paged.h says what each call does, and docs/PROTOCOL.md what the
  * bytes mean. */
 
 /* The POSIX form of strerror_r is wanted, whatever the compiler's command line asks for. */

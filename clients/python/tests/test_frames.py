@@ -174,7 +174,7 @@ class Blobs(Case):
             self.assertIn(word, str(refusal))
 
     def test_examples_of_the_page(self):
-        one, one_answers, two, two_answers = blocks(page("PROTOCOL.md"))
+        one, one_answers, two, two_answers = blocks(page("PROTOCOL.md"))[:4]
         self.record("> " + one_answers[:28], "< " + one, "> " + one_answers[28:])
         # (all of it comes before the answers are read, which the recording allows)
         self.record("> " + one_answers[:28], "< " + one[:2], "< " + one[2:22], "> " + one_answers[28:54],
@@ -424,7 +424,7 @@ class Logs(Case):
             log.flush()
 
     def test_examples_of_the_page(self):
-        one, one_answers, two, two_answers = blocks(page("LOG_PROTOCOL.md"))
+        one, one_answers, two, two_answers = blocks(page("PROTOCOL.md"))[4:]
         self.play(one_answers, one, 2, 28, version=1)
         with Log("recording", program=RECORDED, version=1) as log:
             self.assertEqual(log.append(b"hello"), (0, 0))
@@ -478,10 +478,8 @@ class Refusals(Case):
              45: "Unmarked"}
 
     def test_the_pages_have_these_statuses(self):
-        rows = set()
-        for name in ("PROTOCOL.md", "LOG_PROTOCOL.md"):
-            section = page(name).split("\n## Statuses")[1].split("\n## ")[0]
-            rows |= {int(it) for it in re.findall(r"^\| (\d+) \|", section, re.M)}
+        section = page("PROTOCOL.md").split("\n## Statuses")[1].split("\n## ")[0]
+        rows = {int(it) for it in re.findall(r"^\| (\d+) \|", section, re.M)}
         self.assertEqual(rows - {0}, set(self.NAMES))
 
     def test_each_status_of_version_2(self):

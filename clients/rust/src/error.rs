@@ -6,8 +6,8 @@ use std::io;
 /// What a call answers.
 pub type Result<T> = std::result::Result<T, Error>;
 
-/// The kind of an error. Those with a status are refusals of the program; `docs/PROTOCOL.md` and
-/// `docs/LOG_PROTOCOL.md` say what each leaves of the writer and the log.
+/// The kind of an error. Those with a status are refusals of the program; `docs/PROTOCOL.md`
+/// says what each leaves of the writer and the log.
 #[derive(Clone, Copy, Debug, PartialEq, Eq, Hash)]
 #[non_exhaustive]
 pub enum ErrorKind {

@@ -1,4 +1,4 @@
-"""The bytes of both protocols, as docs/PROTOCOL.md and docs/LOG_PROTOCOL.md have them: requests, records, the hello."""
+"""The bytes of both protocols, as docs/PROTOCOL.md has them: requests, records, the hello."""
 from __future__ import annotations
 
 import enum
