@@ -174,10 +174,13 @@ def table(program):
 
 
 def rows(program, made, room):
-    """The rows of some files of a log."""
+    """The rows of some files of a log: damages of a file that do the same share one."""
     for what, name in made.names.items():
+        alike = {}
         for damage, data in (list_damages if name.endswith(".digests") else damages)(made, name).items():
-            yield f"| {what} | {damage} | " + " | ".join(row(program, made, room, name, data)) + " |"
+            alike.setdefault(tuple(row(program, made, room, name, data)), []).append(damage)
+        for cells, these in alike.items():
+            yield f"| {what} | {'; '.join(these)} | " + " | ".join(cells) + " |"
 
 
 if __name__ == "__main__":
