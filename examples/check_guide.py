@@ -66,7 +66,7 @@ WHOLE = ["paged", "session", "journal", "store", "items"]
 # one of this name.
 TABLES = [
     ("crates/paged/README.md", "The calls", ["paged", "paged_read"]),
-    ("crates/items/README.md", "The calls", ["items"]),
+    ("crates/items/README.md", "Items", ["items"]),
     ("docs/ERRORS.md", "Items", ["items"]),
 ]
 
