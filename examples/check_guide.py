@@ -6,8 +6,8 @@ the short names that docs/CONTRACTS.md introduces at its beginning. And each cla
 WHOLE must stand in docs/CONTRACTS.md, under a head that names the call: so a clause that calls share may stand once,
 under a head that names them all. A head is a heading, or the bold words that begin a paragraph. The crate of its calls
 is the first that its chapter names as "the crate `NAME`", or `paged`. A clause under a head that names such calls, or
-before a comment that does, must be one of theirs. docs/ERRORS.md and the READMEs of `paged` and `items`: each error
-that a row of a table of calls lists must stand in the clauses of each call of the row, or in a definition of specs/ that these reach. Only
+before a comment that does, must be one of theirs. the READMEs of `paged` and `items`: each error that
+a row of a table of calls lists must stand in the clauses of each call of the row, or in a definition of specs/ that these reach. Only
 definitions that take an error, or an answer that may be one, are followed. So it is text that is compared: a clause
 speaks of this error. Whether the call answers it, and no other, the page has to be read for. "the same" means the row
 above, an error that is "never of" a call isn't looked for there, and "those of" a call isn't followed. docs/GUIDE.md:
@@ -67,7 +67,6 @@ WHOLE = ["paged", "session", "journal", "store", "items"]
 TABLES = [
     ("crates/paged/README.md", "The calls", ["paged", "paged_read"]),
     ("crates/items/README.md", "Items", ["items"]),
-    ("docs/ERRORS.md", "Items", ["items"]),
 ]
 
 
