@@ -1,8 +1,10 @@
 """The bytes of both protocols, as docs/PROTOCOL.md and docs/LOG_PROTOCOL.md have them: requests, records, the hello."""
 from __future__ import annotations
 
+import array
 import enum
 import struct
+import sys
 from typing import List, NamedTuple, Sequence, Tuple, Union
 
 #: Bytes that a call takes.
@@ -23,11 +25,16 @@ REFUSAL, MOST_WORDS = 17, 255
 #: The most bytes of a hello. A later program may add to it; one that is longer than this is none.
 MOST_HELLO = 1 << 20
 
-# A frame's length, its kind, and so many numbers.
+# A frame's length and its kind, and with so many numbers.
+_HEAD = struct.Struct("<IB")
+_RECORDS = struct.Struct("<IBI")
 _FRAMES = tuple(struct.Struct(f"<IB{count}Q") for count in range(4))
 _HELLO = struct.Struct("<BB8Q")
 _LENGTH = struct.Struct("<Q")
 
+
+# Whether this machine has a number of 32 bits as the protocol has it.
+_AS_HERE = sys.byteorder == "little" and array.array("I").itemsize == 4
 
 # (the length of a view counts its items, which may have several bytes)
 _WHOLE = "data is of single bytes: bytes, a bytearray, or a view of them"
@@ -116,13 +123,31 @@ def frame(kind: int, *numbers: int, data: Bytes = b"") -> bytes:
     >>> frame(BlobRequest.APPEND, data=b"hello").hex()
     '060000000168656c6c6f'
     """
-    count, length = len(numbers), len(data)
+    fields = struct.pack(f"<{len(numbers)}Q", *numbers) + data
+    if len(fields) != 8 * len(numbers) + len(data):
+        raise TypeError(_WHOLE)
+    return data_frame(kind, fields)
+
+
+def numbers_frame(kind: int, numbers: Tuple[int, ...]) -> bytes:
+    """A request whose fields are numbers.
+
+    >>> numbers_frame(BlobRequest.WAIT_SYNC, (1,)).hex()
+    '09000000040100000000000000'
+    """
+    count = len(numbers)
     packed = _FRAMES[count] if count < 4 else struct.Struct(f"<IB{count}Q")
-    head = packed.pack(1 + 8 * count + length, kind, *numbers)
-    if not length:
-        return head
-    made = head + data
-    if len(made) != 5 + 8 * count + length:
+    return packed.pack(1 + 8 * count, kind, *numbers)
+
+
+def data_frame(kind: int, data: Bytes) -> bytes:
+    """A request whose fields are bytes.
+
+    >>> data_frame(BlobRequest.APPEND, b"hello").hex()
+    '060000000168656c6c6f'
+    """
+    made = _HEAD.pack(1 + len(data), kind) + data
+    if len(made) != 5 + len(data):
         raise TypeError(_WHOLE)
     return made
 
@@ -136,8 +161,8 @@ def records_frame(kind: int, records: Sequence[Bytes]) -> bytes:
     count = len(records)
     lengths = list(map(len, records))
     fields = 4 + 4 * count + sum(lengths)
-    head = struct.pack(f"<IBI{count}I", 1 + fields, kind, count, *lengths)
-    made = b"".join((head, *records))
+    head = _RECORDS.pack(1 + fields, kind, count)
+    made = b"".join([head, array.array("I", lengths) if _AS_HERE else struct.pack(f"<{count}I", *lengths), *records])
     if len(made) != 5 + fields:
         raise TypeError(_WHOLE)
     return made
@@ -149,8 +174,7 @@ def ranges_frame(kind: int, ranges: Sequence[Tuple[int, int]]) -> bytes:
     >>> ranges_frame(BlobRequest.READ_RANGES, [(1, 2)]).hex()
     '110000001401000000000000000200000000000000'
     """
-    numbers = [number for one in ranges for number in one]
-    return frame(kind, *numbers)
+    return numbers_frame(kind, tuple([number for one in ranges for number in one]))
 
 
 def take_hello(payload: bytes) -> Hello:
