@@ -140,7 +140,7 @@ class Package(Room):
                     missing = [it.arg for it in given if it.annotation is None and it.arg != "self"]
                     self.assertEqual((missing, node.returns is None), ([], False), f"{name}: {node.name}")
         if importlib.util.find_spec("mypy"):
-            self.run_python(sys.executable, "-m", "mypy", "--strict", "src", cwd=PACKAGE)
+            self.run_python(sys.executable, "-m", "mypy", "--strict", "--cache-dir", self.path("cache"), "src", cwd=PACKAGE)
 
     def test_each_public_call_has_an_example(self):
         for name in pagedd_client.__all__:
