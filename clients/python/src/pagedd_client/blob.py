@@ -105,14 +105,11 @@ class Blob(Session):
         ...     blob.append_many([b"ab", b"", b"cde"], sync=True)
         [0, 2, 2]
         """
-        parts = list(records)
         if self.version == 1:
-            return self._append_each(parts, sync)
-        kind = _APPEND_RECORDS_SYNC if sync else _APPEND_RECORDS
-        size = 8 * len(parts)
-        payload = self._request_records(kind, parts, size, size)
+            return self._append_each(list(records), sync)
+        payload = self._request_records(_APPEND_RECORDS_SYNC if sync else _APPEND_RECORDS, records, 8)
         self._unsynced = not sync
-        return [*struct.unpack(f"<{len(parts)}Q", payload)]
+        return [*struct.unpack(f"<{len(payload) // 8}Q", payload)]
 
     def _append_each(self, records: Sequence[Bytes], sync: bool) -> List[int]:
         offsets: List[int] = []
@@ -138,10 +135,10 @@ class Blob(Session):
         [0, 2]
         """
         parts = list(records)
-        least = 8 * len(parts)
-        payload = self._request_records(BlobRequest.APPEND_RECORDS_START, parts, least + 1, least + 9)
+        payload = self._request_records(BlobRequest.APPEND_RECORDS_START, parts, 8, 1, 9)
         self._unsynced = True
-        return StartedRecords(list(struct.unpack_from(f"<{len(parts)}Q", payload)), self._started(payload[least:]))
+        offsets = list(struct.unpack_from(f"<{len(parts)}Q", payload))
+        return StartedRecords(offsets, self._started(payload[8 * len(parts):]))
 
     def _started(self, payload: bytes) -> Optional[int]:
         """The name of a started sync; None if a sync has made all durable."""

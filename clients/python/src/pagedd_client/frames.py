@@ -5,7 +5,7 @@ import array
 import enum
 import struct
 import sys
-from typing import List, NamedTuple, Sequence, Tuple, Union
+from typing import Iterable, List, NamedTuple, Sequence, Tuple, Union
 
 #: Bytes that a call takes.
 Bytes = Union[bytes, bytearray, memoryview]
@@ -27,7 +27,6 @@ MOST_HELLO = 1 << 20
 
 # A frame's length and its kind, and with so many numbers.
 _HEAD = struct.Struct("<IB")
-_RECORDS = struct.Struct("<IBI")
 _FRAMES = tuple(struct.Struct(f"<IB{count}Q") for count in range(4))
 _HELLO = struct.Struct("<BB8Q")
 _LENGTH = struct.Struct("<Q")
@@ -152,20 +151,27 @@ def data_frame(kind: int, data: Bytes) -> bytes:
     return made
 
 
-def records_frame(kind: int, records: Sequence[Bytes]) -> bytes:
-    """A request with records: how many, the length of each, and their bytes.
+def records_frame(kind: int, records: Iterable[Bytes]) -> Tuple[bytes, int]:
+    """A request with records: how many, the length of each, and their bytes; none if no request holds so much. And how
+    many records there are.
 
-    >>> records_frame(BlobRequest.APPEND_RECORDS, [b"ab", b"c"]).hex()
-    '1000000011020000000200000001000000616263'
+    >>> sent, count = records_frame(BlobRequest.APPEND_RECORDS, [b"ab", b"c"])
+    >>> sent.hex(), count
+    ('1000000011020000000200000001000000616263', 2)
     """
-    count = len(records)
-    lengths = list(map(len, records))
-    fields = 4 + 4 * count + sum(lengths)
-    head = _RECORDS.pack(1 + fields, kind, count)
-    made = b"".join([head, array.array("I", lengths) if _AS_HERE else struct.pack(f"<{count}I", *lengths), *records])
+    parts: List[Bytes] = [b"", *records]
+    numbers = list(map(len, parts))
+    count = len(parts) - 1
+    fields = 4 + 4 * count + sum(numbers)
+    if fields > MOST_BYTES:
+        return b"", count
+    numbers[0] = count
+    head = _HEAD.pack(1 + fields, kind)
+    parts[0] = head + (array.array("I", numbers) if _AS_HERE else struct.pack(f"<{count + 1}I", *numbers))
+    made = b"".join(parts)
     if len(made) != 5 + fields:
         raise TypeError(_WHOLE)
-    return made
+    return made, count
 
 
 def ranges_frame(kind: int, ranges: Sequence[Tuple[int, int]]) -> bytes:

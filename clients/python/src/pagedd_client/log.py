@@ -156,14 +156,11 @@ class Log(Session):
         ...     log.append_many([b"ab", b"", b"cde"], sync=True)
         [(0, 0), (0, 9), (0, 16)]
         """
-        parts = list(records)
         if self.version == 1:
-            return self._append_each(parts, sync)
-        kind = _APPEND_RECORDS_SYNC if sync else _APPEND_RECORDS
-        size = 16 * len(parts)
-        payload = self._request_records(kind, parts, size, size)
+            return self._append_each(list(records), sync)
+        payload = self._request_records(_APPEND_RECORDS_SYNC if sync else _APPEND_RECORDS, records, 16)
         self._unsynced = not sync
-        return cast(List[Place], list(_PLACE.iter_unpack(payload)))
+        return cast("List[Place]", list(_PLACE.iter_unpack(payload)))
 
     def _append_each(self, records: Sequence[Bytes], sync: bool) -> List[Place]:
         places: List[Place] = []
@@ -309,10 +306,8 @@ class Log(Session):
         at = 24 + 20 * count
         if at > len(payload):
             self._wrong(f"the answer to next_many says {count} records, and ends before their places")
-        records: List[Tuple[Place, bytes]] = []
-        for of, start, length in _LISTED.iter_unpack(payload[24:at]):
-            records.append(((of, start), payload[at:at + length]))
-            at += length
+        records: List[Tuple[Place, bytes]] = [((of, start), payload[at:(at := at + length)])
+                                              for of, start, length in _LISTED.iter_unpack(payload[24:at])]
         if at != len(payload) or not count:
             self._wrong(f"the answer to next_many says {count} records of {at} bytes, and has {len(payload)}")
         return Batch(records, (segment, offset))

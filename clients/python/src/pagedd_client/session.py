@@ -222,7 +222,7 @@ class Session:
             return self._came[at:end]
         # (what it answers is what it holds: a long payload stands in memory once)
         taken = io.BytesIO()
-        missing = count - taken.write(self._came[at:])
+        missing = count - taken.write(memoryview(self._came)[at:])
         self._came, self._at = _NOTHING
         while missing:
             came = os.read(self._output, _PIECE)
@@ -343,20 +343,18 @@ class Session:
             raise TooLarge()
         return self._ask(_APPEND, frames.data_frame(_APPEND[0], data), size, size)
 
-    def _request_records(self, kind: int, records: Sequence[Bytes], least: int, most: int) -> bytes:
-        """A request that has records."""
+    def _request_records(self, kind: int, records: Iterable[Bytes], each: int, least: int = 0, most: int = 0) -> bytes:
+        """A request that has records. Its answer has so many bytes for each, and then some more."""
         hello = self.hello
         if hello is None:
             raise NotInVersion(f"{self._kind_name(kind)} isn't in version 1 of the protocol")
-        if len(records) > hello.most_records or most > hello.most_payload:
-            raise TooLarge(f"a request holds {hello.most_records:,} records, and these are {len(records):,}")
-        try:
-            sent = frames.records_frame(kind, records)
-        except (struct.error, OverflowError):
-            sent = b""
+        sent, count = frames.records_frame(kind, records)
+        size = each * count
+        if count > hello.most_records or size + most > hello.most_payload:
+            raise TooLarge(f"a request holds {hello.most_records:,} records, and these are {count:,}")
         if not sent or len(sent) - 5 > hello.most_fields:
             raise TooLarge(f"the fields of a request have {hello.most_fields:,} bytes at most")
-        return self._ask((kind, ()), sent, least, most)
+        return self._ask((kind, ()), sent, size + least, size + most)
 
     def _request_each(self, kind: int, numbers: Iterable[Tuple[int, ...]], least: int, most: int) -> List[bytes]:
         """Requests of one kind, of which several are on the way. If some are refused, the first refusal is raised once
