@@ -825,6 +825,22 @@ class Sessions(Case):
         with self.blob() as blob:
             self.assertNotEqual(os.getpgid(blob.process_id), os.getpgid(0))
 
+    def test_what_is_no_data_and_no_place_is_not_sent(self):
+        with self.log(("02000000 01 61", "11000000 00" + n(0) + n(0)), ("01000000 02", DONE)) as log:
+            for data in ("text", "", 3, None, [1], memoryview(b"abcd").cast("H")):
+                with self.assertRaisesRegex(TypeError, "data is bytes"):
+                    log.append(data)
+                with self.assertRaisesRegex(TypeError, "data is bytes"):
+                    log.append_many([b"a", data])
+            with self.assertRaisesRegex(TypeError, "and not int"):
+                log.append_many(b"text")
+            for place in ((0,), (0, 0, 0), 0, "000"):
+                for call in (log.read, log.read_frame, log.next, log.next_many, log.pass_damage, log.records,
+                             lambda it: log.read_many([it])):
+                    with self.assertRaises((TypeError, ValueError)):
+                        list(call(place))
+            self.assertEqual(log.append(b"a"), (0, 0))
+
     def test_snapshots_and_replays_of_version_1_stay(self):
         with self.blob(("01000000 0a", "09000000 00" + n(0)), version=1) as blob:
             with blob.snapshot() as snapshot:

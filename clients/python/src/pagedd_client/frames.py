@@ -31,12 +31,14 @@ _FRAMES = tuple(struct.Struct(f"<IB{count}Q") for count in range(4))
 _HELLO = struct.Struct("<BB8Q")
 _LENGTH = struct.Struct("<Q")
 
-
 # Whether this machine has a number of 32 bits as the protocol has it.
 _AS_HERE = sys.byteorder == "little" and array.array("I").itemsize == 4
 
-# (the length of a view counts its items, which may have several bytes)
-_WHOLE = "data is of single bytes: bytes, a bytearray, or a view of them"
+
+def _no_bytes(parts: Iterable[object]) -> TypeError:
+    """What is raised for data that isn't of single bytes. The length of a view counts its items, which may have several."""
+    other = [type(it).__name__ for it in parts if not isinstance(it, (bytes, bytearray, memoryview))]
+    return TypeError("data is bytes, a bytearray, or a view of single bytes" + (f", and not {other[0]}" if other else ""))
 
 
 class BlobRequest(enum.IntEnum):
@@ -122,9 +124,9 @@ def frame(kind: int, *numbers: int, data: Bytes = b"") -> bytes:
     >>> frame(BlobRequest.APPEND, data=b"hello").hex()
     '060000000168656c6c6f'
     """
-    fields = struct.pack(f"<{len(numbers)}Q", *numbers) + data
-    if len(fields) != 8 * len(numbers) + len(data):
-        raise TypeError(_WHOLE)
+    fields = data_frame(kind, data)[5:]
+    if numbers:
+        fields = numbers_frame(kind, numbers)[5:] + fields
     return data_frame(kind, fields)
 
 
@@ -145,9 +147,12 @@ def data_frame(kind: int, data: Bytes) -> bytes:
     >>> data_frame(BlobRequest.APPEND, b"hello").hex()
     '060000000168656c6c6f'
     """
-    made = _HEAD.pack(1 + len(data), kind) + data
+    try:
+        made = _HEAD.pack(1 + len(data), kind) + data
+    except TypeError:
+        raise _no_bytes([data]) from None
     if len(made) != 5 + len(data):
-        raise TypeError(_WHOLE)
+        raise _no_bytes([])
     return made
 
 
@@ -160,17 +165,20 @@ def records_frame(kind: int, records: Iterable[Bytes]) -> Tuple[bytes, int]:
     ('1000000011020000000200000001000000616263', 2)
     """
     parts: List[Bytes] = [b"", *records]
-    numbers = list(map(len, parts))
     count = len(parts) - 1
-    fields = 4 + 4 * count + sum(numbers)
-    if fields > MOST_BYTES:
-        return b"", count
-    numbers[0] = count
-    head = _HEAD.pack(1 + fields, kind)
-    parts[0] = head + (array.array("I", numbers) if _AS_HERE else struct.pack(f"<{count + 1}I", *numbers))
-    made = b"".join(parts)
+    try:
+        numbers = list(map(len, parts))
+        fields = 4 + 4 * count + sum(numbers)
+        if fields > MOST_BYTES:
+            return b"", count
+        numbers[0] = count
+        head = _HEAD.pack(1 + fields, kind)
+        parts[0] = head + (array.array("I", numbers) if _AS_HERE else struct.pack(f"<{count + 1}I", *numbers))
+        made = b"".join(parts)
+    except TypeError:
+        raise _no_bytes(parts) from None
     if len(made) != 5 + fields:
-        raise TypeError(_WHOLE)
+        raise _no_bytes([])
     return made, count
 
 

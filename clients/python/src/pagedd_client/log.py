@@ -231,7 +231,8 @@ class Log(Session):
         ...     log.read(place)
         b'first'
         """
-        return self._record_at(place, self._request(_READ, place, 9, _MOST_FOUND))
+        segment, offset = place
+        return self._record_at(place, self._request(_READ, (segment, offset), 9, _MOST_FOUND))
 
     def read_frame(self, place: Place) -> Frame:
         """What stands at a place, and the place behind it.
@@ -240,7 +241,8 @@ class Log(Session):
         ...     log.read_frame(log.append(b"first"))
         Frame(data=b'first', behind=(0, 12))
         """
-        return self._frame_at(place, self._request(_READ, place, 9, _MOST_FOUND))
+        segment, offset = place
+        return self._frame_at(place, self._request(_READ, (segment, offset), 9, _MOST_FOUND))
 
     def _record_at(self, place: Place, payload: bytes) -> bytes:
         if payload[8] != 1:
@@ -263,7 +265,7 @@ class Log(Session):
         ...     log.read_many(log.append_many([b"first", b"second"]))
         [b'first', b'second']
         """
-        asked = list(places)
+        asked = [(segment, offset) for segment, offset in places]
         answers = self._request_each(LogRequest.READ, asked, 9, _MOST_FOUND)
         return list(map(self._record_at, asked, answers))
 
@@ -276,8 +278,9 @@ class Log(Session):
         ...     log.next(), log.next((0, 12))
         (((0, 0), b'first', (0, 12)), None)
         """
+        segment, offset = place
         try:
-            payload = self._request(_NEXT, place, 32, 32 + MOST_RECORD)
+            payload = self._request(_NEXT, (segment, offset), 32, 32 + MOST_RECORD)
         except BlobInsufficientLength:
             return None
         segment, offset, behind_segment, behind = _FOUR.unpack_from(payload)
@@ -296,10 +299,11 @@ class Log(Session):
         if not self.takes(LogRequest.NEXT_MANY):
             found = self.next(place)
             return Batch([(found[0], found[1])], found[2]) if found else Batch([], place)
+        segment, offset = place
         # (an answer holds no more than fit 16 MiB, and one record at least)
         bound = 24 + max(min(most, MOST_PIECE), 20 + MOST_RECORD)
         try:
-            payload = self._request(LogRequest.NEXT_MANY, (*place, most), 24, bound)
+            payload = self._request(LogRequest.NEXT_MANY, (segment, offset, most), 24, bound)
         except BlobInsufficientLength:
             return Batch([], place)
         segment, offset, count = _THREE.unpack_from(payload)
@@ -388,7 +392,8 @@ class Log(Session):
         Passed(place=(0, 0), bytes=0, records=0)
         """
         self._need_listed(LogRequest.PASS_DAMAGE)
-        payload = self._request(LogRequest.PASS_DAMAGE, place, 32, 32)
+        segment, offset = place
+        payload = self._request(LogRequest.PASS_DAMAGE, (segment, offset), 32, 32)
         segment, offset, length, count = _FOUR.unpack(payload)
         return Passed((segment, offset), length, None if count == GREATEST else count)
 

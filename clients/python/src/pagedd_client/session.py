@@ -339,9 +339,11 @@ class Session:
 
     def _append(self, data: Bytes, size: int) -> bytes:
         """An append of bytes. Its answer has so many."""
-        if len(data) > MOST_BYTES:
-            raise TooLarge()
-        return self._ask(_APPEND, frames.data_frame(_APPEND[0], data), size, size)
+        try:
+            sent = frames.data_frame(_APPEND[0], data)
+        except struct.error:
+            raise TooLarge() from None
+        return self._ask(_APPEND, sent, size, size)
 
     def _request_records(self, kind: int, records: Iterable[Bytes], each: int, least: int = 0, most: int = 0) -> bytes:
         """A request that has records. Its answer has so many bytes for each, and then some more."""
