@@ -6,7 +6,7 @@ from types import TracebackType
 from typing import Iterable, Iterator, List, NamedTuple, Optional, Sequence, Tuple, Type
 
 from .errors import BlobInsufficientLength, Error, NotInVersion, Refusal, TooLarge
-from .frames import MOST_BYTES, BlobRequest, Bytes, ranges_frame
+from .frames import MOST_BYTES, BlobRequest, Bytes, data_frame, ranges_frame
 from .program import Path, find_program, option_words, path_word
 from .session import Session
 
@@ -14,7 +14,7 @@ _NUMBER = struct.Struct("<Q")
 _NUMBERS = struct.Struct("<QQ")
 
 # (a number of the module is found sooner than a member)
-_READ, _READ_UP_TO = int(BlobRequest.READ), int(BlobRequest.READ_UP_TO)
+_APPEND, _READ, _READ_UP_TO = int(BlobRequest.APPEND), int(BlobRequest.READ), int(BlobRequest.READ_UP_TO)
 _SIZE, _SYNC = int(BlobRequest.SIZE), int(BlobRequest.SYNC)
 _APPEND_RECORDS, _APPEND_RECORDS_SYNC = int(BlobRequest.APPEND_RECORDS), int(BlobRequest.APPEND_RECORDS_SYNC)
 
@@ -89,7 +89,7 @@ class Blob(Session):
         ...     blob.append(b"ab"), blob.append(b"cde")
         (0, 2)
         """
-        offset: int = _NUMBER.unpack(self._append(data, 8))[0]
+        offset: int = _NUMBER.unpack(self._ask((_APPEND, ()), data_frame(_APPEND, data), 8, 8))[0]
         self._unsynced = True
         return offset
 
@@ -259,10 +259,7 @@ name, or no snapshot or replay of this number; next: ask for something else: the
         total = 8 + sum(length for _, length in asked)
         if hello is not None and (len(asked) > hello.most_ranges or total > hello.most_payload):
             raise TooLarge(f"a request holds {hello.most_ranges:,} ranges, and an answer {hello.most_payload:,} bytes")
-        try:
-            sent = ranges_frame(BlobRequest.READ_RANGES, asked)
-        except struct.error:
-            raise ValueError("each number is from 0 to 2**64 - 1") from None
+        sent = ranges_frame(BlobRequest.READ_RANGES, asked)
         payload = self._ask((BlobRequest.READ_RANGES, ()), sent, total, total)
         found: List[bytes] = []
         at = 8

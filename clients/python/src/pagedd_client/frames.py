@@ -7,6 +7,8 @@ import struct
 import sys
 from typing import Iterable, List, NamedTuple, Sequence, Tuple, Union
 
+from .errors import TooLarge
+
 #: Bytes that a call takes.
 Bytes = Union[bytes, bytearray, memoryview]
 
@@ -138,7 +140,11 @@ def numbers_frame(kind: int, numbers: Tuple[int, ...]) -> bytes:
     """
     count = len(numbers)
     packed = _FRAMES[count] if count < 4 else struct.Struct(f"<IB{count}Q")
-    return packed.pack(1 + 8 * count, kind, *numbers)
+    try:
+        return packed.pack(1 + 8 * count, kind, *numbers)
+    except struct.error:
+        wrong = [it for it in numbers if not isinstance(it, int) or not 0 <= it <= GREATEST]
+        raise ValueError("each number is from 0 to 2**64 - 1" + (f", and not {wrong[0]!r}" if wrong else "")) from None
 
 
 def data_frame(kind: int, data: Bytes) -> bytes:
@@ -149,6 +155,8 @@ def data_frame(kind: int, data: Bytes) -> bytes:
     """
     try:
         made = _HEAD.pack(1 + len(data), kind) + data
+    except struct.error:
+        raise TooLarge() from None
     except TypeError:
         raise _no_bytes([data]) from None
     if len(made) != 5 + len(data):
@@ -157,8 +165,7 @@ def data_frame(kind: int, data: Bytes) -> bytes:
 
 
 def records_frame(kind: int, records: Iterable[Bytes]) -> Tuple[bytes, int]:
-    """A request with records: how many, the length of each, and their bytes; none if no request holds so much. And how
-    many records there are.
+    """A request with records: how many, the length of each, and their bytes. And how many records there are.
 
     >>> sent, count = records_frame(BlobRequest.APPEND_RECORDS, [b"ab", b"c"])
     >>> sent.hex(), count
@@ -170,7 +177,7 @@ def records_frame(kind: int, records: Iterable[Bytes]) -> Tuple[bytes, int]:
         numbers = list(map(len, parts))
         fields = 4 + 4 * count + sum(numbers)
         if fields > MOST_BYTES:
-            return b"", count
+            raise TooLarge(f"the fields of a request have {MOST_BYTES:,} bytes at most")
         numbers[0] = count
         head = _HEAD.pack(1 + fields, kind)
         parts[0] = head + (array.array("I", numbers) if _AS_HERE else struct.pack(f"<{count + 1}I", *numbers))

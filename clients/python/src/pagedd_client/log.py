@@ -5,12 +5,12 @@ import struct
 from typing import Callable, Dict, Iterable, Iterator, List, NamedTuple, Optional, Sequence, Tuple, cast
 
 from .errors import BlobInsufficientLength, Damaged, NoRecord, NotInVersion, Refusal
-from .frames import GREATEST, MOST_BYTES, MOST_RECORD, Bytes, LogRequest
+from .frames import GREATEST, MOST_BYTES, MOST_RECORD, Bytes, LogRequest, data_frame
 from .program import Path, find_program, option_words, path_word
 from .session import Session
 
 # (a number of the module is found sooner than a member)
-_READ, _NEXT = int(LogRequest.READ), int(LogRequest.NEXT)
+_APPEND, _READ, _NEXT = int(LogRequest.APPEND), int(LogRequest.READ), int(LogRequest.NEXT)
 _SIZE, _SYNC = int(LogRequest.SIZE), int(LogRequest.SYNC)
 _APPEND_RECORDS, _APPEND_RECORDS_SYNC = int(LogRequest.APPEND_RECORDS), int(LogRequest.APPEND_RECORDS_SYNC)
 
@@ -140,7 +140,7 @@ class Log(Session):
         ...     log.append(b"first"), log.append(b"second")
         ((0, 0), (0, 12))
         """
-        segment, offset = _PLACE.unpack(self._append(data, 16))
+        segment, offset = _PLACE.unpack(self._ask((_APPEND, ()), data_frame(_APPEND, data), 16, 16))
         self._unsynced = True
         return segment, offset
 

@@ -20,9 +20,6 @@ _LENGTH = struct.Struct("<I")
 _HEAD = struct.Struct("<IB")
 _NUMBER = struct.Struct("<Q")
 _REFUSAL = struct.Struct("<BQQ")
-
-# Two requests that both have by the same number.
-_APPEND = (int(frames.BlobRequest.APPEND), ())
 _CLOSE = frames.frame(frames.BlobRequest.CLOSE)
 
 # The words by which the program says that another process has the file.
@@ -282,7 +279,8 @@ class Session:
             length, status = _HEAD.unpack_from(came, at)
             end = at + 4 + length
             if status == 0 and least < length <= most + 1 and end <= len(came):
-                self._came, self._at = (came, end) if end < len(came) else _NOTHING
+                if at or end < len(came):
+                    self._came, self._at = came, end
                 return None, came[at + 5:end]
         self._came, self._at = came, at
         status, payload = self._frame(asked, least, most)
@@ -312,17 +310,13 @@ class Session:
         # (this is asked before the lock is, which another thread may have held at a fork)
         if os.getpid() != self._owner:
             raise AnotherProcess()
-        # (a `with` takes longer, in an exchange of a few microseconds)
-        self._lock.acquire()
-        try:
+        with self._lock:
             if self._busy or self._over is not None or self._process is None:
                 self._ready()
             self._busy = True
             self._write(sent)
             refusal, payload = self._take(asked, least, most)
             self._busy = False
-        finally:
-            self._lock.release()
         if refusal is not None:
             raise refusal
         return payload
@@ -331,19 +325,7 @@ class Session:
         """A request whose fields are numbers."""
         if most > MOST_BYTES:
             raise TooLarge()
-        try:
-            sent = frames.numbers_frame(kind, numbers)
-        except struct.error:
-            raise ValueError(f"each number is from 0 to 2**64 - 1: {numbers}") from None
-        return self._ask((kind, numbers), sent, least, most)
-
-    def _append(self, data: Bytes, size: int) -> bytes:
-        """An append of bytes. Its answer has so many."""
-        try:
-            sent = frames.data_frame(_APPEND[0], data)
-        except struct.error:
-            raise TooLarge() from None
-        return self._ask(_APPEND, sent, size, size)
+        return self._ask((kind, numbers), frames.numbers_frame(kind, numbers), least, most)
 
     def _request_records(self, kind: int, records: Iterable[Bytes], each: int, least: int = 0, most: int = 0) -> bytes:
         """A request that has records. Its answer has so many bytes for each, and then some more."""
@@ -354,7 +336,7 @@ class Session:
         size = each * count
         if count > hello.most_records or size + most > hello.most_payload:
             raise TooLarge(f"a request holds {hello.most_records:,} records, and these are {count:,}")
-        if not sent or len(sent) - 5 > hello.most_fields:
+        if len(sent) - 5 > hello.most_fields:
             raise TooLarge(f"the fields of a request have {hello.most_fields:,} bytes at most")
         return self._ask((kind, ()), sent, size + least, size + most)
 
@@ -368,10 +350,7 @@ class Session:
         while at < len(asked):
             each = 5 + 8 * len(asked[at])
             part = asked[at:at + max(1, _WINDOW // each)]
-            try:
-                sent = b"".join([frames.numbers_frame(kind, one) for one in part])
-            except struct.error:
-                raise ValueError("each number is from 0 to 2**64 - 1") from None
+            sent = b"".join([frames.numbers_frame(kind, one) for one in part])
             with self._lock:
                 self._ready()
                 self._busy = True
@@ -410,13 +389,7 @@ class Session:
         ...     blob.request(BlobRequest.APPEND, data=b"hello")
         b'\\x00\\x00\\x00\\x00\\x00\\x00\\x00\\x00'
         """
-        if len(data) > MOST_BYTES:
-            raise TooLarge()
-        try:
-            sent = frames.frame(kind, *numbers, data=data)
-        except struct.error:
-            raise ValueError(f"each number is from 0 to 2**64 - 1: {numbers}") from None
-        payload = self._ask((kind, numbers), sent, 0, MOST_BYTES)
+        payload = self._ask((kind, numbers), frames.frame(kind, *numbers, data=data), 0, MOST_BYTES)
         self._unsynced |= kind in self._appending
         return payload
 
