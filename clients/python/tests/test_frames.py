@@ -735,9 +735,9 @@ class Pieces(Case):
 
     def test_records_where_the_highest_byte_is_first(self):
         records = [b"ab", b"", b"c" * 300]
-        here, _ = bytes_sent.records_frame(17, records)
+        here = bytes_sent.records_frame(17, records)
         with unittest.mock.patch.object(bytes_sent, "_AS_HERE", False):
-            self.assertEqual(bytes_sent.records_frame(17, records), (here, 3))
+            self.assertEqual(bytes_sent.records_frame(17, records), here)
 
     def test_signals_while_a_request_is_written(self):
         """It goes on behind what has gone."""

@@ -164,12 +164,20 @@ def data_frame(kind: int, data: Bytes) -> bytes:
     return made
 
 
-def records_frame(kind: int, records: Iterable[Bytes]) -> Tuple[bytes, int]:
-    """A request with records: how many, the length of each, and their bytes. And how many records there are.
+def records_frame(kind: int, records: Iterable[Bytes]) -> bytes:
+    """A request with records: how many, the length of each, and their bytes.
 
-    >>> sent, count = records_frame(BlobRequest.APPEND_RECORDS, [b"ab", b"c"])
-    >>> sent.hex(), count
-    ('1000000011020000000200000001000000616263', 2)
+    >>> records_frame(BlobRequest.APPEND_RECORDS, [b"ab", b"c"]).hex()
+    '1000000011020000000200000001000000616263'
+    """
+    return counted_frame(kind, records)[0]
+
+
+def counted_frame(kind: int, records: Iterable[Bytes]) -> Tuple[bytes, int]:
+    """A request with records, and how many there are.
+
+    >>> counted_frame(BlobRequest.APPEND_RECORDS, iter([b"ab", b"c"]))[1]
+    2
     """
     parts: List[Bytes] = [b"", *records]
     count = len(parts) - 1

@@ -332,7 +332,7 @@ class Session:
         hello = self.hello
         if hello is None:
             raise NotInVersion(f"{self._kind_name(kind)} isn't in version 1 of the protocol")
-        sent, count = frames.records_frame(kind, records)
+        sent, count = frames.counted_frame(kind, records)
         size = each * count
         if count > hello.most_records or size + most > hello.most_payload:
             raise TooLarge(f"a request holds {hello.most_records:,} records, and these are {count:,}")
