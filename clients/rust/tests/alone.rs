@@ -643,6 +643,16 @@ fn lost_opening() {
         (error.kind(), error.errno(), error.next()),
         (ErrorKind::NotStarted, Some(2), Next::MendFirst)
     );
+    let printed = format!("{error:?}");
+    for words in [
+        "NotStarted: ",
+        "/nowhere/pagedd",
+        "PAGEDD",
+        "errno 2",
+        "next: mend",
+    ] {
+        assert!(printed.contains(words), "{printed} lacks {words}");
+    }
     for (script, kind, exit_status) in [
         ("x 127\n", ErrorKind::NotStarted, 127),
         (
