@@ -24,6 +24,7 @@ use Rattle.paged.specs.Costs.{AppendCosts, SnapshotCosts}
 use Rattle.paged.specs.Flush.{has_work}
 use Rattle.paged.proofs.Caching.{puts_nothing}
 use Rattle.paged.proofs.Truncating.{written_idle}
+use Rattle.paged.proofs.Unsynced.{unsynced_none}
 use Rattle.journal.specs.Costs.{FrameCosts, IsQuiet, NextCosts, RangeCosts, ReaderCosts, after_frames, frame_calls, frame_range, frames_calls, pages_met}
 use Rattle.journal.specs.Frame.{frame_len, records}
 use Rattle.journal.specs.Reader.{ReaderState}
@@ -49,6 +50,8 @@ unasked w bytes cache life e buffered = record {
   buffered = buffered;
   flushed = λ more. tt;
   dirty = λ more. tt;
+  unsynced = unsynced_none life;
+  partial = λ more. tt;
   puts = (w.full_pages, puts_nothing w.id w.full_pages w.page_size (w.tip ++ bytes) cache);
   refused = once cache e;
   idle_cache = λ fits. refl;
@@ -89,6 +92,8 @@ costs_buffered w now bytes cache life at fits is tried =
       buffered = λ fits. (same, refl);
       flushed = λ more. absurd (omega (arith, room, more));
       dirty = λ more. absurd (omega (arith, room, more));
+      unsynced = unsynced_none life;
+      partial = λ more. absurd (omega (arith, room, more));
       puts = record { count = 0; reaches = omega (arith, pages); within = omega arith; puts = refl };
       refused = tt;
       idle_cache = λ fits. refl;

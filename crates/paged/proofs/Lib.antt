@@ -39,6 +39,7 @@ pub mod MendedTails
 pub mod Truncating
 pub mod Caching
 pub mod Refused
+pub mod Unsynced
 pub mod CachedCuts
 pub mod OpenedReads
 pub mod Serves

@@ -1,5 +1,6 @@
 -- Counting the pages that have a value, zeros, and what a survey guarantees.
-use Rattle.std.proofs.Common.{◌≡◌, ◌<◌, ◌%◌, ℕ, [], ◌∷◌, inl, inr, refl, subst, ◌+◌, ◌-◌, ◌*◌, ◌/◌, ◌≤◌, List, ◌++◌, length, take, drop, Bool, true, false, sym, ap, ◌∙◌, arith, Result, Ok, Err}
+use Rattle.std.proofs.Common.{◌≡◌, ◌<◌, ◌%◌, ℕ, min, [], ◌∷◌, inl, inr, refl, subst, ◌+◌, ◌-◌, ◌*◌, ◌/◌, ◌≤◌, List, ◌++◌, length, take, drop, Bool, true, false, sym, ap, ◌∙◌, arith, Result, Ok, Err}
+use Rattle.std.specs.Int.{div_ceil}
 use Rattle.std.specs.Prelude.{is_some, cond, ◌&&◌, ◌==◌, nat_lt}
 use Rattle.std.proofs.lemmas.List.{drop-drop, length-drop}
 use Rattle.std.proofs.lemmas.Bool.Decides.{nat_tests}
@@ -7,7 +8,7 @@ use Rattle.std.proofs.lemmas.List.Folds.{list_all-append}
 use Rattle.std.proofs.Math.Nat.{div-add-mod', mul-div_cancel}
 use Rattle.std.proofs.Math.Seq.{take-add, take_all}
 use Rattle.std.proofs.lemmas.List.Sums.{count_by-le-length, sum_by-append, sum_by_push}
-use Rattle.disk.specs.Disk.{Life, DeviceReadGoes, ReadAt, Request}
+use Rattle.disk.specs.Disk.{Life}
 use Rattle.disk.specs.declared.error.Error.{Error}
 use Rattle.disk.specs.declared.error.Error.TheVariants.{ReadFailed, WriteFailed, ResizeFailed, SyncFailed, InvalidChecksum, BlobInsufficientLength, OffsetOverflow, OutOfMemory, IdsExhausted}
 use Rattle.disk.proofs.Logs.{failed_later}
@@ -16,15 +17,17 @@ use Rattle.crash.specs.Looks.{Looked}
 use Rattle.crash.proofs.FloorLaws.{floors_looked}
 use Rattle.crash.proofs.LookLaws.{looked_readable}
 use Rattle.crash.proofs.Pages.{pieces-add, pieces_more, length-pieces, pages_of_take, take-pages, drop-pieces, pages_fit}
-use Rattle.paged_read.specs.Scans.{AreForward, LooksThrough, pages_from, ReadsForward}
+use Rattle.paged_read.specs.RawReads.{ReadsRising}
+use Rattle.paged_read.specs.Scans.{LooksThrough, batches, batches_to_end, pages_from, ReadsForward, ReadsUpToEnd}
 use Rattle.paged_read.specs.Searches.{AreReadsWithin, ReadsWithin}
-use Rattle.paged_read.proofs.Forward.{forward_start, forward_end, forward_once}
+use Rattle.paged_read.proofs.Forward.{forward_calls, forward_is_within}
+use Rattle.paged_read.proofs.RawCosts.{rising_calls}
 use Rattle.paged_read.proofs.Outliving.{look_leaves_reads, look_leaves_tails, look_leaves_writers}
 use Rattle.paged_read.proofs.OutlivingReplays.{look_leaves_replays}
-use Rattle.paged_read.proofs.Searching.{gained_joins, gained_once, within_joins}
+use Rattle.paged_read.proofs.Searching.{gained_joins, within_joins}
 use Rattle.paged.specs.declared.outlook.Outlook.{Outlook}
 use Rattle.paged.specs.declared.verdict.Survey.{Survey}
-use Rattle.paged.specs.Outlook.{IsOutlook, IsSurvey, LeavesAsIs, LookGoes, ReadsLast, ReadsTwice, SurveyGoes, are_zeros, beyond_bytes, beyond_of, has_torn_page, last_page, values_of}
+use Rattle.paged.specs.Outlook.{IsOutlook, IsSurvey, LeavesAsIs, LookGoes, ReadsToLast, SurveyCosts, SurveyGoes, batches_beyond, kept_pages, last_reads, are_zeros, beyond_bytes, beyond_of, has_torn_page, last_page, values_of}
 use Rattle.paged.proofs.Foretelling.{look_keeps_text, look_leaves_text}
 
 -- ---- counting
@@ -219,40 +222,42 @@ only_looks reach a old new (Err InvalidChecksum) looks = absurd looks
 only_looks reach a old new (Err OffsetOverflow) looks = absurd looks
 only_looks reach a old new (Err IdsExhausted) looks = absurd looks
 
--- the last page is read, and then those after it
-last_and_then : (most at len to : ℕ) (old mid new : Life) (bytes : List ℕ) → len ≤ most → at + len ≤ to → DeviceReadGoes at len old mid (Ok bytes) → ReadsForward most (at + len) to mid new → ReadsForward most at to old new
-last_and_then most at len to old mid new bytes few le goes reads =
-    gained_joins (λ xs. xs ≡ ReadAt at len ∷ []) (AreForward most (at + len) to) (AreForward most at to) old mid new
-    (λ xs ys is go. subst (λ (l : List Request). AreForward most at to (l ++ ys)) (sym is) (refl, few, le, go))
-    (gained_once (λ xs. xs ≡ ReadAt at len ∷ []) (ReadAt at len) false old mid (ap (λ (l : Life). l.present.log) goes.2) refl) reads
+-- the last page of an outlook is that of the text
+pub last_of : (sum : List ℕ → ℕ) (P : ℕ) (bytes : List ℕ) (outlook : Outlook) (old new : Life) → IsOutlook sum P bytes outlook → ReadsRising P (outlook.pages - 1) (min 1 (outlook.len % P)) old new
+    → ReadsRising P (kept_pages sum P bytes - 1) (last_reads sum P bytes) old new
+last_of sum P bytes outlook old new is reads =
+    subst (λ (n : ℕ). ReadsRising P (div_ceil n P - 1) (min 1 (n % P)) old new) is.len (subst (λ (n : ℕ). ReadsRising P (n - 1) (min 1 (outlook.len % P)) old new) is.pages reads)
 
--- a second reading, from the last page on where that is read, and else from the one after it
-pub second_reading : (P most to : ℕ) (outlook : Outlook) (old mid new : Life) (torn : Bool) → P + 12 ≤ most → outlook.pages * (P + 12) ≤ to → ReadsLast P outlook old mid (Ok torn) → ReadsForward most (outlook.pages * (P + 12)) to mid new
-    → (from : ℕ) × ReadsForward most from to old new
-second_reading P most to outlook old mid new torn few le last reads = elim last [
-  | inl same ↦ (outlook.pages * (P + 12), subst (λ (l : Life). ReadsForward most (outlook.pages * (P + 12)) to l new) same.1 reads)
-  | inr was ↦
-      let at = (outlook.pages - 1) * (P + 12) in
-      let ends : at + (P + 12) ≡ outlook.pages * (P + 12) = page_end outlook.pages P was.1 in
-      (at, last_and_then most at (P + 12) to old mid new was.2 few (omega (arith, ends, le)) was.3 (subst (λ (n : ℕ). ReadsForward most n to mid new) (sym ends) reads))
-]
+-- the pages after those of an outlook are those after the text
+pub beyond_reads : (sum : List ℕ → ℕ) (P most whole : ℕ) (bytes : List ℕ) (outlook : Outlook) (old new : Life) → IsOutlook sum P bytes outlook
+    → ReadsForward most (outlook.pages * (P + 12)) (whole * (P + 12)) (batches most (outlook.pages * (P + 12)) (whole * (P + 12))) old new
+    → ReadsForward most (kept_pages sum P bytes * (P + 12)) (whole * (P + 12)) (batches most (kept_pages sum P bytes * (P + 12)) (whole * (P + 12))) old new
+beyond_reads sum P most whole bytes outlook old new is reads =
+    let kept : outlook.pages ≡ kept_pages sum P bytes = is.pages ∙ ap (λ (n : ℕ). div_ceil n P) is.len in
+    subst (λ (n : ℕ). ReadsForward most (n * (P + 12)) (whole * (P + 12)) (batches most (n * (P + 12)) (whole * (P + 12))) old new) kept reads
 
--- a second reading of the last page, with nothing read after it
-pub last_reading : (P most to : ℕ) (outlook : Outlook) (old new : Life) (torn : Bool) → P + 12 ≤ most → outlook.pages * (P + 12) ≤ to → ReadsLast P outlook old new (Ok torn) → (from : ℕ) × ReadsForward most from to old new
-last_reading P most to outlook old new torn few le last =
-    let at = outlook.pages * (P + 12) in
-    second_reading P most to outlook old new new torn few le last (forward_end most at at to new new le (forward_start most at new))
+-- a look asks for no more at once
+pub look_within : (sum : List ℕ → ℕ) (P most size : ℕ) (old new : Life) → ReadsUpToEnd sum P most 0 (size / (P + 12)) old new → ReadsWithin most old new
+look_within sum P most size old new reads =
+    forward_is_within most (0 * (P + 12)) (size / (P + 12) * (P + 12)) (batches_to_end sum P most 0 (size / (P + 12)) old.present.readable) old new reads
 
--- the last page isn't read
-pub last_unread : (P most to : ℕ) (outlook : Outlook) (old new : Life) (e : Error) → P + 12 ≤ most → outlook.pages * (P + 12) ≤ to → ReadsLast P outlook old new (Err e) → ReadsForward most ((outlook.pages - 1) * (P + 12)) to old new
-last_unread P most to outlook old new e few le last =
-    let at = (outlook.pages - 1) * (P + 12) in
-    let ends : at + (P + 12) ≡ outlook.pages * (P + 12) = page_end outlook.pages P last.0 in
-    forward_once most at at (P + 12) to old old new (Err e) few (omega (arith, ends, le)) (forward_start most at old) last.1
-
--- nothing is read after the first reading
-pub reads_once : (most to : ℕ) (old new : Life) → ReadsForward most 0 to old new → ReadsTwice most to old new
-reads_once most to old new first = (new, to, first, forward_end most to to to new new (omega arith) (forward_start most to new))
+-- what a survey asks for
+pub survey_costs : (sum : List ℕ → ℕ) (P most size : ℕ) (old mid new : Life) → ReadsToLast sum P most size old mid
+    → ReadsForward most (kept_pages sum P old.present.readable * (P + 12)) (size / (P + 12) * (P + 12)) (batches_beyond sum P most size old.present.readable) mid new → SurveyCosts sum P most size old new
+survey_costs sum P most size old mid new first beyond =
+    let readable = old.present.readable in
+    let whole = size / (P + 12) in
+    record {
+      mid = mid;
+      first = first;
+      beyond = beyond;
+      calls = omega (
+        arith,
+        forward_calls most (0 * (P + 12)) (whole * (P + 12)) (batches_to_end sum P most 0 whole readable) old first.mid first.first,
+        rising_calls P (kept_pages sum P readable - 1) (last_reads sum P readable) first.mid mid first.last,
+        forward_calls most (kept_pages sum P readable * (P + 12)) (whole * (P + 12)) (batches_beyond sum P most size readable) mid new beyond,
+      );
+    }
 
 pub within_both : (most : ℕ) (old mid new : Life) → ReadsWithin most old mid → ReadsWithin most mid new → ReadsWithin most old new
 within_both most old mid new first second = gained_joins (AreReadsWithin most) (AreReadsWithin most) (AreReadsWithin most) old mid new (λ xs ys a b. within_joins most xs ys a b) first second

@@ -4,7 +4,7 @@ use Rattle.std.specs.Prelude.{◌≡◌, ◌≢◌, ◌⊎◌, ◌<◌, ◌≤�
 use Rattle.std.specs.Prelude.{[], length, nat_lt, true, false, if◌then◌else◌, Option, Some, None}
 use Rattle.std.specs.Prelude.{Result, Ok, Err}
 use Rattle.disk.specs.Disk.{Disk, Entry, Life, LogGrows, HasFailed, SyncGoes, WaitGoes}
-use Rattle.disk.specs.Disk.{StartSync, had_failed}
+use Rattle.disk.specs.Disk.{Request, StartSync, WaitSync, WriteAt, had_failed}
 use Rattle.disk.specs.declared.started_sync.StartedSync.{StartedSync}
 use Rattle.disk.specs.declared.started_sync.StartedSync.TheVariants.{Done, Named}
 use Rattle.disk.specs.declared.error.Error.{Error}
@@ -18,6 +18,7 @@ use Rattle.crash.specs.Kept.{AllKeep}
 use Rattle.crash.specs.Started.{WouldKeep}
 use Rattle.crash.specs.Stays.{StaysThrough, KeepsAll}
 use Rattle.crash.specs.Built.{kept_len}
+use Rattle.paged_read.specs.Searches.{Gained}
 use Rattle.paged.specs.Writer.{physical_blob_size, FitsBlob}
 use Rattle.paged.specs.Flush.{has_work, synced}
 
@@ -50,6 +51,17 @@ CallCause s old new _ = ⊥
 -- at most n device calls were made
 abbrev pub AsksAtMost : ℕ → Life → Life → Type 0
 AsksAtMost n old new = length new.present.log ≤ length old.present.log + n
+
+-- each of these requests is a write that isn't durable, or a wait for a started sync
+abbrev pub AreUnsynced : List Request → Type 0
+AreUnsynced [] = Unit {0}
+AreUnsynced (WriteAt offset len false ∷ rest) = AreUnsynced rest
+AreUnsynced (WaitSync name ∷ rest) = AreUnsynced rest
+AreUnsynced (_ ∷ rest) = ⊥
+
+-- a call syncs nothing: all that it asked of the device is such writes, and such waits
+pub record SyncsNothing (old new : Life) : Type 0 where
+  pub unsynced : Gained AreUnsynced old new
 
 -- the device calls that wait for a pending sync
 abbrev pub wait_calls : SyncState → ℕ

@@ -1,6 +1,6 @@
 -- What each call of a writer asks of the device, and puts in the cache.
 use Rattle.std.specs.Prelude.{◌≡◌, ◌<◌, ◌≤◌, ◌+◌, ◌++◌, ℕ, List, length, true, false}
-use Rattle.std.specs.Prelude.{Result, Ok, IfOk}
+use Rattle.std.specs.Prelude.{Result, Ok, IfOk, None}
 use Rattle.disk.specs.Disk.{Life}
 use Rattle.disk.specs.declared.error.Error.{Error}
 use Rattle.disk.specs.declared.started_sync.StartedSync.{StartedSync}
@@ -10,8 +10,8 @@ use Rattle.writer_state.specs.WriterState.{WriterState}
 use Rattle.writer_state.specs.declared.sync_state.SyncState.TheVariants.{Dirty}
 use Rattle.paged_read.specs.Replay.{ReplayState}
 use Rattle.paged_read.specs.Tail.{Tail}
-use Rattle.paged.specs.Calls.{AsksAtMost, BuffersAll, SettlesBy, started_already, start_calls}
-use Rattle.paged.specs.Calls.{sync_calls, wait_calls}
+use Rattle.paged.specs.Calls.{AsksAtMost, BuffersAll, SettlesBy, SyncsNothing, started_already}
+use Rattle.paged.specs.Calls.{start_calls, sync_calls, wait_calls}
 use Rattle.paged.specs.Caches.{Caches, PutsOnceWaited, tail_of}
 use Rattle.paged.specs.Flush.{has_work, without_value}
 use Rattle.paged.specs.Replays.{BeginsAtOnce, replay_calls}
@@ -25,6 +25,9 @@ pub record AppendCosts (w : WriterState) (bytes : List ℕ) (cache after : Cache
   pub flushed : w.capacity < length w.tip + length bytes
       → IfOk result (λ r. length r.0.tip < w.page_size)
   pub dirty : w.capacity < length w.tip + length bytes → IfOk result (λ r. r.0.sync ≡ Dirty)
+  -- nothing is synced, and the page in which the tip begins isn't written
+  pub unsynced : SyncsNothing old new
+  pub partial : w.capacity < length w.tip + length bytes → IfOk result (λ r. r.0.flushed ≡ None)
   pub puts : Caches (λ r. r.0) w (w.tip ++ bytes) cache after result
   pub refused : PutsOnceWaited cache after result
   pub idle_cache : length w.tip + length bytes ≤ w.capacity → after ≡ cache
@@ -45,6 +48,7 @@ pub record StartSyncCosts (w : WriterState) (cache after : CacheState) (old new 
   pub calls : AsksAtMost (start_calls w) old new
   pub idle : start_calls w ≡ 0 → (result ≡ Ok (w, started_already w.sync)) × (new ≡ old)
   pub puts : Caches (λ r. r.0) w w.tip cache after result
+  pub refused : PutsOnceWaited cache after result
   pub idle_cache : has_work w true ≡ false → after ≡ cache
 
 -- the costs of a wait, which uses no cache
@@ -60,6 +64,9 @@ pub record SnapshotCosts (w : WriterState) (cache after : CacheState) (old new :
   pub calls : AsksAtMost (snapshot_calls w) old new
   pub idle : has_work w false ≡ false → CopiesTail w result × (new ≡ old)
   pub dirty : has_work w false ≡ true → IfOk result (λ r. r.0.sync ≡ Dirty)
+  -- nothing is synced, and the page in which the tip begins isn't written
+  pub unsynced : SyncsNothing old new
+  pub partial : has_work w false ≡ true → IfOk result (λ r. r.0.flushed ≡ None)
   pub puts : Caches (λ r. r.0) w w.tip cache after result
   pub refused : PutsOnceWaited cache after result
   pub idle_cache : has_work w false ≡ false → after ≡ cache
@@ -70,6 +77,7 @@ pub record ReplayCosts (w : WriterState) (buffer_size : ℕ) (cache after : Cach
   pub calls : AsksAtMost (replay_calls w) old new
   pub idle : has_work w true ≡ false → BeginsAtOnce w buffer_size result × (new ≡ old)
   pub dirty : has_work w true ≡ true → IfOk result (λ r. r.0.sync ≡ Dirty)
+  pub unsynced : SyncsNothing old new
   pub puts : Caches (λ r. r.0) w w.tip cache after result
   pub refused : PutsOnceWaited cache after result
   pub idle_cache : has_work w true ≡ false → after ≡ cache
@@ -80,4 +88,5 @@ pub record SealCosts (w : WriterState) (cache after : CacheState) (old new : Lif
   pub calls : AsksAtMost (seal_calls w) old new
   pub idle : seal_calls w ≡ 0 → (result ≡ Ok (tail_of w, Done)) × (new ≡ old)
   pub puts : CachesOfSeal w cache after result
+  pub refused : PutsOnceWaited cache after result
   pub idle_cache : has_work w true ≡ false → after ≡ cache

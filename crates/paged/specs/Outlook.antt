@@ -1,10 +1,10 @@
 -- What a look at a blob foretells of a recovery of it.
-use Rattle.std.specs.Prelude.{◌≡◌, ◌⊎◌, ◌<◌, ◌==◌, ◌&&◌, ◌||◌, ◌+◌, ◌-◌, ◌*◌, ◌/◌, ◌%◌, ◌^◌}
+use Rattle.std.specs.Prelude.{◌≡◌, ◌<◌, ◌≤◌, ◌==◌, ◌&&◌, ◌||◌, ◌+◌, ◌-◌, ◌*◌, ◌/◌, ◌%◌, ◌^◌}
 use Rattle.std.specs.Prelude.{ℕ, List, length, take, drop, count_by, min, Bool, not}
 use Rattle.std.specs.Prelude.{Result, Ok, Err, IfOk, if◌then◌else◌, nat_lt, is_some}
 use Rattle.std.specs.Int.{div_ceil}
 use Rattle.std.specs.List.{list_all}
-use Rattle.disk.specs.Disk.{Life, HasFailed, DeviceReadGoes}
+use Rattle.disk.specs.Disk.{Life, HasFailed}
 use Rattle.disk.specs.declared.error.Error.{Error}
 use Rattle.disk.specs.declared.error.Error.TheVariants.{ReadFailed, OutOfMemory}
 use Rattle.page.specs.Page.{active, bad_slot, pages, text}
@@ -12,8 +12,8 @@ use Rattle.cache.specs.CacheState.{CacheState}
 use Rattle.writer_state.specs.WriterState.{WriterState}
 use Rattle.crash.specs.Stays.{KeepsAllFloors}
 use Rattle.paged_read.specs.Replay.{LeavesAllReplays}
-use Rattle.paged_read.specs.Scans.{ReadsForward, StopsAt, pages_from, prefix_from}
-use Rattle.paged_read.specs.Searches.{ReadsWithin}
+use Rattle.paged_read.specs.RawReads.{ReadsRising}
+use Rattle.paged_read.specs.Scans.{ReadsForward, ReadsUpToEnd, batches, batches_to_end, pages_from}
 use Rattle.paged_read.specs.Snapshots.{LeavesAllReads, LeavesAllTails, LeavesAllWriters}
 use Rattle.paged.specs.declared.outlook.Outlook.{Outlook}
 use Rattle.paged.specs.declared.verdict.Survey.{Survey}
@@ -100,26 +100,21 @@ SurveyGoes sum P old new (Err ReadFailed) = HasFailed ReadFailed old.present new
 SurveyGoes sum P old new (Err OutOfMemory) = Unit {0}
 SurveyGoes sum P old new (Err _) = ⊥
 
--- the last page that would be kept was read, if it is partial
-abbrev pub ReadsLast : (P : ℕ) → Outlook → Life → Life → Result Bool Error → Type 0
-ReadsLast P outlook old new (Ok torn) =
-    ((outlook.len % P ≡ 0) × (new ≡ old))
-    ⊎ ((0 < outlook.len % P) × (0 < outlook.pages) × (bytes : List ℕ)
-    × DeviceReadGoes ((outlook.pages - 1) * (P + 12)) (P + 12) old new (Ok bytes))
-ReadsLast P outlook old new (Err e) =
-    (0 < outlook.pages) × DeviceReadGoes ((outlook.pages - 1) * (P + 12)) (P + 12) old new (Err e)
+-- how many pages a recovery of these bytes would keep
+abbrev pub kept_pages : (List ℕ → ℕ) → (P : ℕ) → List ℕ → ℕ
+kept_pages sum P bytes = div_ceil (length (text sum P bytes)) P
 
--- two readings, each forward, up to this offset: one from the first byte on, the other from any
--- offset on
-abbrev pub ReadsTwice : (most to : ℕ) → Life → Life → Type 0
-ReadsTwice most to old new =
-    (mid : Life) × (from : ℕ) × ReadsForward most 0 to old mid × ReadsForward most from to mid new
+-- how often a look that goes on to the last page of the text reads that page once more: once if it
+-- is partial
+abbrev pub last_reads : (List ℕ → ℕ) → (P : ℕ) → List ℕ → ℕ
+last_reads sum P bytes = min 1 (length (text sum P bytes) % P)
 
--- a reading forward up to this offset, and then one of the last page
-abbrev pub ReadsToLast : (P most to : ℕ) → Life → Life → Result (Outlook × Bool) Error → Type 0
-ReadsToLast P most to old new (Ok found) =
-    (mid : Life) × ReadsForward most 0 to old mid × ReadsLast P found.0 mid new (Ok found.1)
-ReadsToLast P most to old new (Err e) = ReadsTwice most to old new
+-- the reads of a look, and then that of the last page of the text, if it is partial
+pub record ReadsToLast (sum : List ℕ → ℕ) (P most size : ℕ) (old new : Life) : Type 0 where
+  pub mid : Life
+  pub first : ReadsUpToEnd sum P most 0 (size / (P + 12)) old mid
+  pub last : let readable = old.present.readable in
+      ReadsRising P (kept_pages sum P readable - 1) (last_reads sum P readable) mid new
 
 -- each writer, snapshot, replay and read that was valid before the call still is, with any cache,
 -- and what a crash at any moment keeps and leaves is as it was
@@ -132,22 +127,36 @@ pub record LeavesAsIs (old new : Life) : Type 0 where
   pub kept : (sum : List ℕ → ℕ) (P : ℕ) → KeepsText sum P old new
   pub only : (sum : List ℕ → ℕ) (P : ℕ) → LeavesText sum P old new
 
--- what a look asks of the device: reads forward, from the first page on, of which none begins after
--- the first page that isn't full. No read is of more than `most` bytes. For a blob of less than a
--- page nothing is asked
+-- what a look asks of the device: batches of `most` bytes, from the first page on, up to the batch
+-- that has the first page that isn't full. For a blob of less than a page nothing is asked
 pub record LookCosts (sum : List ℕ → ℕ) (P most size : ℕ) (old new : Life)
     (result : Result Outlook Error) : Type 0 where
-  pub forward : ReadsForward most 0 (size / (P + 12) * (P + 12)) old new
-  pub stops : let found = prefix_from sum P 0 (size / (P + 12)) old.present.readable in
-      StopsAt P found.full_pages old new
-  pub within : ReadsWithin most old new
+  pub reads : ReadsUpToEnd sum P most 0 (size / (P + 12)) old new
   pub idle : size < P + 12
       → (result ≡ Ok (record { pages = 0; len = 0; cut = size })) × (new ≡ old)
 
--- what a survey asks of the device: each page is read twice at most
-pub record SurveyCosts (P most size : ℕ) (old new : Life) : Type 0 where
-  pub twice : ReadsTwice most (size / (P + 12) * (P + 12)) old new
-  pub within : ReadsWithin most old new
+-- how many batches of `most` bytes the whole pages after the kept ones are
+abbrev pub batches_beyond : (List ℕ → ℕ) → (P most size : ℕ) → List ℕ → ℕ
+batches_beyond sum P most size bytes =
+    batches most (kept_pages sum P bytes * (P + 12)) (size / (P + 12) * (P + 12))
+
+-- how many device calls a survey takes: the batches of a look, a read of the last page of the text
+-- if it is partial, and the batches of the pages after that one
+abbrev pub survey_calls : (List ℕ → ℕ) → (P most size : ℕ) → List ℕ → ℕ
+survey_calls sum P most size bytes =
+    batches_to_end sum P most 0 (size / (P + 12)) bytes + last_reads sum P bytes
+    + batches_beyond sum P most size bytes
+
+-- what a survey asks of the device: what a look does, then the last page of the text, if it is
+-- partial, and then the pages after it in batches of `most` bytes
+pub record SurveyCosts (sum : List ℕ → ℕ) (P most size : ℕ) (old new : Life) : Type 0 where
+  pub mid : Life
+  pub first : ReadsToLast sum P most size old mid
+  pub beyond : let kept : ℕ = kept_pages sum P old.present.readable * (P + 12) in
+      let limit = batches_beyond sum P most size old.present.readable in
+      ReadsForward most kept (size / (P + 12) * (P + 12)) limit mid new
+  pub calls : let most_calls = survey_calls sum P most size old.present.readable in
+      length new.present.log ≤ length old.present.log + most_calls
 
 -- how many bytes at the end may hold synced bytes that a recovery gives up. If the last page is
 -- torn they are those of that page and of all after it, at most 2 ^ 64 - 1. Else they are all that

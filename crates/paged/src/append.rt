@@ -1,13 +1,13 @@
 // Appending.
 ghost use Rattle.std.specs.Prelude.{◌≡◌, ◌↔◌, ◌+◌, ◌-◌, ◌*◌, ◌/◌, ◌^◌, ◌≤◌, ◌<◌, ◌++◌, length};
-ghost use Rattle.std.specs.Prelude.{IsTrue, IfOk, OnOk, Err};
+ghost use Rattle.std.specs.Prelude.{IsTrue, IfOk, OnOk, None, Err};
 ghost use Rattle.writer_state.specs.Sound.{IsConsistent, content};
 ghost use Rattle.crash.specs.Below.{PagesStay};
 ghost use Rattle.writer_state.specs.declared.sync_state.SyncState.TheVariants.{Dirty};
 ghost use Rattle.crash.specs.Started.{CoversThrough, StartsCanBeAwaited};
 ghost use Rattle.paged.specs.Writer.{physical_blob_size, FitsBlob};
 ghost use Rattle.paged.specs.Calls.{AsksAtMost, HoldsWithin, AppendsOver, Buffers, BuffersAll};
-ghost use Rattle.paged.specs.Calls.{wait_calls};
+ghost use Rattle.paged.specs.Calls.{SyncsNothing, wait_calls};
 ghost use Rattle.paged.specs.Costs.{AppendCosts};
 ghost use Rattle.paged.specs.Owes.{Owes};
 ghost use Rattle.paged.specs.Ready.{CanGoOn, StaysUsable};
@@ -151,6 +151,9 @@ impl<B: Blob, H: Sum, Phase> Writer<B, H, Phase> {
             → OnOk result (length self.new.tip < self.old.page_size) }
         ensures dirty { self.old.capacity < length self.old.tip + length bytes.now
             → OnOk result (self.new.sync ≡ Dirty) }
+        ensures partial { self.old.capacity < length self.old.tip + length bytes.now
+            → OnOk result (self.new.flushed ≡ None) }
+        ensures unsynced { SyncsNothing (B.life blob.old) (B.life blob.new) }
         ensures calls { let old = B.life blob.old in let new = B.life blob.new in
             AsksAtMost (wait_calls self.old.sync + 2) old new }
         ensures starts { StartsCanBeAwaited (B.life blob.new).present }
@@ -200,6 +203,9 @@ impl<B: Blob, H: Sum, Phase> Writer<B, H, Phase> {
             → OnOk result (length self.new.tip < self.old.page_size) }
         ensures dirty { self.old.capacity < length self.old.tip + length bytes.now
             → OnOk result (self.new.sync ≡ Dirty) }
+        ensures partial { self.old.capacity < length self.old.tip + length bytes.now
+            → OnOk result (self.new.flushed ≡ None) }
+        ensures unsynced { SyncsNothing (B.life blob.old) (B.life blob.new) }
         ensures calls { let old = B.life blob.old in let new = B.life blob.new in
             AsksAtMost (wait_calls self.old.sync + 1) old new }
         ensures starts { StartsCanBeAwaited (B.life blob.new).present }

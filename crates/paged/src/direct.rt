@@ -2,7 +2,7 @@
 // where they are small, copied beside their footers.
 ghost use Rattle.std.specs.Prelude.{◌≡◌, ◌<◌, ◌≤◌, ◌+◌, ◌/◌, ◌%◌, ◌^◌, ◌++◌, [], true, length};
 ghost use Rattle.std.specs.Prelude.{if◌then◌else◌, false, ◌⊎◌, ◌&&◌, nat_lt};
-ghost use Rattle.std.specs.Prelude.{IfOk, OnOk, IsErrOf, IsOkUnless, Err};
+ghost use Rattle.std.specs.Prelude.{IfOk, OnOk, IsErrOf, IsOkUnless, None, Err};
 ghost use Rattle.std.specs.List.{concat};
 ghost use Rattle.disk.specs.Disk.{WriteGoes};
 ghost use Rattle.writer_state.specs.declared.sync_state.SyncState.TheVariants.{Dirty};
@@ -12,7 +12,7 @@ ghost use Rattle.crash.specs.Below.{PagesStay};
 ghost use Rattle.crash.specs.Started.{CoversThrough, StartsCanBeAwaited};
 ghost use Rattle.paged.specs.Writer.{physical_blob_size, FitsBlob};
 ghost use Rattle.paged.specs.Calls.{AsksAtMost, HoldsWithin, AppendsOver, BuffersAll, WaitsForNone};
-ghost use Rattle.paged.specs.Calls.{wait_calls};
+ghost use Rattle.paged.specs.Calls.{SyncsNothing, wait_calls};
 ghost use Rattle.paged.specs.Costs.{AppendCosts};
 ghost use Rattle.paged.specs.Owes.{Owes};
 ghost use Rattle.paged.specs.Ready.{CanGoOn, StaysUsable};
@@ -172,6 +172,9 @@ impl<B: Blob, H: Sum, Phase> Writer<B, H, Phase> {
             → OnOk result (length self.new.tip < self.old.page_size) }
         ensures dirty { self.old.capacity < length self.old.tip + length bytes.now
             → OnOk result (self.new.sync ≡ Dirty) }
+        ensures partial { self.old.capacity < length self.old.tip + length bytes.now
+            → OnOk result (self.new.flushed ≡ None) }
+        ensures unsynced { SyncsNothing (B.life blob.old) (B.life blob.new) }
         ensures calls { let old = B.life blob.old in let new = B.life blob.new in
             AsksAtMost (wait_calls self.old.sync + 2) old new }
         ensures starts { StartsCanBeAwaited (B.life blob.new).present }
@@ -217,6 +220,8 @@ impl<B: Blob, H: Sum, Phase> Writer<B, H, Phase> {
         ensures within { OnOk result (HoldsWithin self.new) }
         ensures short { OnOk result (length self.new.tip < self.old.page_size) }
         ensures dirty { OnOk result (self.new.sync ≡ Dirty) }
+        ensures partial { OnOk result (self.new.flushed ≡ None) }
+        ensures unsynced { SyncsNothing (B.life blob.old) (B.life blob.new) }
         ensures calls { let old = B.life blob.old in let new = B.life blob.new in
             AsksAtMost (wait_calls self.old.sync + 2) old new }
         ensures starts { StartsCanBeAwaited (B.life blob.new).present }
@@ -246,6 +251,7 @@ impl<B: Blob, H: Sum, Phase> Writer<B, H, Phase> {
             let held = content self.old old.present.readable in
             CoversThrough H.sum_of self.old.page_size held old new }
         ensures empty { OnOk result (self.new.tip ≡ []) }
+        ensures unsynced { SyncsNothing (B.life blob.old) (B.life blob.new) }
         ensures calls { let old = B.life blob.old in let new = B.life blob.new in
             AsksAtMost (wait_calls self.old.sync + 1) old new }
         ensures waited { let old = B.life blob.old in let new = B.life blob.new in
@@ -282,6 +288,8 @@ impl<B: Blob, H: Sum, Phase> Writer<B, H, Phase> {
             CoversThrough H.sum_of self.old.page_size held old new }
         ensures tip { OnOk result (self.new.tip ≡ rest.now) }
         ensures dirty { OnOk result (self.new.sync ≡ Dirty) }
+        ensures partial { OnOk result (self.new.flushed ≡ None) }
+        ensures unsynced { SyncsNothing (B.life blob.old) (B.life blob.new) }
         ensures calls { let old = B.life blob.old in let new = B.life blob.new in
             AsksAtMost (wait_calls self.old.sync + 1) old new }
         ensures starts { StartsCanBeAwaited (B.life blob.new).present }
@@ -315,6 +323,8 @@ impl<B: Blob, H: Sum, Phase> Writer<B, H, Phase> {
             CoversThrough H.sum_of self.old.page_size held old new }
         ensures tip { OnOk result (self.new.tip ≡ rest.now) }
         ensures dirty { OnOk result (self.new.sync ≡ Dirty) }
+        ensures partial { OnOk result (self.new.flushed ≡ None) }
+        ensures unsynced { SyncsNothing (B.life blob.old) (B.life blob.new) }
         ensures calls { AsksAtMost 1 (B.life blob.old) (B.life blob.new) }
         ensures starts { StartsCanBeAwaited (B.life blob.new).present }
         ensures puts { CachesTo self.old self.new (whole ++ rest.now) cache.old cache.new result }

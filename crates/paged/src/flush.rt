@@ -1,7 +1,7 @@
 // Writing the tip out, and syncing.
 ghost use Rattle.std.specs.Prelude.{◌≡◌, ◌+◌, ◌*◌, ◌<◌, ◌^◌, ◌++◌, IfOk, OnOk, IsOkUnless, IsErrOf};
 ghost use Rattle.std.specs.Prelude.{Ok, not, ◌&&◌, ◌==◌, ◌%◌, ◌≤◌, length, All, true, false, []};
-ghost use Rattle.std.specs.Prelude.{take};
+ghost use Rattle.std.specs.Prelude.{take, None};
 ghost use Rattle.std.specs.List.{concat};
 ghost use Rattle.disk.specs.Disk.{WriteGoes, SyncGoes, WaitGoes};
 ghost use Rattle.writer_state.specs.declared.sync_state.SyncState.TheVariants.{Clean, Dirty};
@@ -11,7 +11,7 @@ ghost use Rattle.crash.specs.Below.{PagesStay};
 ghost use Rattle.crash.specs.Started.{CoversThrough, StartsCanBeAwaited};
 ghost use Rattle.paged.specs.Calls.{AsksAtMost, settle_calls, sync_calls, Flushes};
 ghost use Rattle.paged.specs.Calls.{Settles, SettlesBy, SyncsOver, IsWritten, WaitsForNone};
-ghost use Rattle.paged.specs.Calls.{Completes, WaitsOver, wait_calls};
+ghost use Rattle.paged.specs.Calls.{Completes, SyncsNothing, WaitsOver, wait_calls};
 ghost use Rattle.paged.specs.Costs.{SyncCosts};
 ghost use Rattle.paged.specs.Owes.{Owes};
 ghost use Rattle.paged.specs.Ready.{CanGoOn, StaysUsable};
@@ -260,6 +260,7 @@ impl<B: Blob, H: Sum, Phase> Writer<B, H, Phase> {
             (B.life blob.old) (B.life blob.new)) }
         ensures calls { let old = B.life blob.old in let new = B.life blob.new in
             AsksAtMost (wait_calls self.old.sync) old new }
+        ensures unsynced { SyncsNothing (B.life blob.old) (B.life blob.new) }
         ensures settles { wait_calls self.old.sync ≡ 1
             → SettlesBy self.old.sync (B.life blob.old) (B.life blob.new) result }
         ensures idle { wait_calls self.old.sync ≡ 0
@@ -292,9 +293,12 @@ impl<B: Blob, H: Sum, Phase> Writer<B, H, Phase> {
         ensures starts { StartsCanBeAwaited (B.life blob.new).present }
         ensures calls { let old = B.life blob.old in let new = B.life blob.new in
             AsksAtMost (wait_calls self.old.sync + 1) old new }
+        ensures unsynced { SyncsNothing (B.life blob.old) (B.life blob.new) }
         ensures short { OnOk result (length self.new.tip < self.old.page_size) }
         ensures written { rest ≡ true → OnOk result (IsWritten self.new) }
         ensures dirty { has_work self.old rest ≡ true → OnOk result (self.new.sync ≡ Dirty) }
+        ensures partial { rest ≡ false → has_work self.old rest ≡ true
+            → OnOk result (self.new.flushed ≡ None) }
         ensures names { OnOk result
             ((B.life blob.new).present.started ≡ (B.life blob.old).present.started) }
         ensures idle { has_work self.old rest ≡ false
@@ -327,9 +331,11 @@ impl<B: Blob, H: Sum, Phase> Writer<B, H, Phase> {
             CoversThrough H.sum_of self.old.page_size held old new }
         ensures starts { StartsCanBeAwaited (B.life blob.new).present }
         ensures calls { AsksAtMost 1 (B.life blob.old) (B.life blob.new) }
+        ensures unsynced { SyncsNothing (B.life blob.old) (B.life blob.new) }
         ensures short { OnOk result (length self.new.tip < self.old.page_size) }
         ensures written { rest ≡ true → OnOk result (IsWritten self.new) }
         ensures dirty { OnOk result (self.new.sync ≡ Dirty) }
+        ensures partial { rest ≡ false → OnOk result (self.new.flushed ≡ None) }
         ensures names { OnOk result
             ((B.life blob.new).present.started ≡ (B.life blob.old).present.started) }
         ensures puts { CachesTo self.old self.new self.old.tip cache.old cache.new result }

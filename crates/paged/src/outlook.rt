@@ -1,13 +1,14 @@
 // Looking at a blob before it is recovered.
-ghost use Rattle.std.specs.Prelude.{◌≡◌, ◌+◌, ◌-◌, ◌*◌, ◌/◌, ◌<◌, ◌≤◌, ◌^◌};
+ghost use Rattle.std.specs.Prelude.{◌≡◌, ◌+◌, ◌-◌, ◌*◌, ◌/◌, ◌%◌, ◌<◌, ◌≤◌, ◌^◌, ℕ, min};
 ghost use Rattle.std.specs.Prelude.{length, take, drop, Ok, IfOk, is_some, true, if◌then◌else◌};
 ghost use Rattle.std.specs.Int.NonZero.{non_zero_u16_get, non_zero_usize_get};
 ghost use Rattle.crash.specs.Looks.{Looked};
 ghost use Rattle.page.specs.Page.{active, pages};
-ghost use Rattle.paged_read.specs.Scans.{LooksThrough, ReadsForward};
+ghost use Rattle.paged_read.specs.RawReads.{ReadsRising};
+ghost use Rattle.paged_read.specs.Scans.{LooksThrough, ReadsForward, batches};
 ghost use Rattle.paged_read.specs.Searches.{ReadsWithin, scan_bytes};
 ghost use Rattle.paged.specs.Outlook.{Foretells, IsOutlook, LeavesAsIs, LookGoes, LooksToLast};
-ghost use Rattle.paged.specs.Outlook.{LookCosts, ReadsLast, ReadsToLast, SurveyCosts, SurveyGoes};
+ghost use Rattle.paged.specs.Outlook.{LookCosts, ReadsToLast, SurveyCosts, SurveyGoes};
 ghost use Rattle.paged.specs.Outlook.{are_zeros, beyond_of, has_torn_page, values_of};
 
 use crate::recovery::size_of;
@@ -144,7 +145,8 @@ fn look_beyond<B: Blob, H: Sum>(
     ensures reads { let old = B.life blob.old in let new = B.life blob.new in
         let P = non_zero_u16_get page_size in
         let most = scan_bytes P (non_zero_usize_get buffer_size) in
-        ReadsForward most (first * (P + 12)) (pages * (P + 12)) old new }
+        let from : ℕ = first * (P + 12) in let to : ℕ = pages * (P + 12) in
+        ReadsForward most from to (batches most from to) old new }
 {
     let size = physical_page_size(page_size);
     let most = (buffer_size.get() as u64 / size).max(1);
@@ -177,8 +179,9 @@ fn last_is_torn<B: Blob, H: Sum>(
         let P = non_zero_u16_get page_size in
         let torn = has_torn_page H.sum_of P old.present.readable outlook.now in
         LooksThrough (length old.present.readable) torn old new result }
-    ensures reads { let old = B.life blob.old in let new = B.life blob.new in
-        ReadsLast (non_zero_u16_get page_size) outlook.now old new result }
+    ensures reads { let P = non_zero_u16_get page_size in
+        let once = min 1 (outlook.now.len % P) in
+        ReadsRising P (outlook.now.pages - 1) once (B.life blob.old) (B.life blob.new) }
 {
     if outlook.len % u64::from(page_size.get()) == 0 {
         return Ok(false);
@@ -204,7 +207,7 @@ pub(crate) fn look_to_last<B: Blob, H: Sum>(
     ensures reads { let old = B.life blob.old in let new = B.life blob.new in
         let P = non_zero_u16_get page_size in
         let most = scan_bytes P (non_zero_usize_get buffer_size) in
-        ReadsToLast P most (size / (P + 12) * (P + 12)) old new result }
+        ReadsToLast H.sum_of P most size old new }
     ensures within { let old = B.life blob.old in let new = B.life blob.new in
         let P = non_zero_u16_get page_size in
         ReadsWithin (scan_bytes P (non_zero_usize_get buffer_size)) old new }
@@ -249,7 +252,7 @@ pub fn survey<B: Blob, H: Sum>(
     ensures costs { let old = B.life blob.old in let new = B.life blob.new in
         let P = non_zero_u16_get page_size in
         let most = scan_bytes P (non_zero_usize_get buffer_size) in
-        SurveyCosts P most size old new }
+        SurveyCosts H.sum_of P most size old new }
 {
     let (outlook, torn) = look_to_last::<B, H>(alloc, blob, size, page_size, buffer_size)?;
     let whole = size / physical_page_size(page_size);

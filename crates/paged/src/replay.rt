@@ -6,7 +6,7 @@ ghost use Rattle.writer_state.specs.declared.sync_state.SyncState.TheVariants.{D
 ghost use Rattle.writer_state.specs.Sound.{content, IsConsistent};
 ghost use Rattle.crash.specs.Started.{CoversThrough, StartsCanBeAwaited};
 ghost use Rattle.paged.specs.Caches.{CachesTo, PutsOnceWaited};
-ghost use Rattle.paged.specs.Calls.{AsksAtMost};
+ghost use Rattle.paged.specs.Calls.{AsksAtMost, SyncsNothing};
 ghost use Rattle.paged.specs.Flush.{has_work, paired};
 ghost use Rattle.paged.specs.Replays.{BeginsAtOnce, ReplaysOver, replay_calls};
 ghost use Rattle.paged.specs.Costs.{ReplayCosts};
@@ -84,6 +84,7 @@ impl<B: Blob, H: Sum, Phase> Writer<B, H, Phase> {
             → BeginsAtOnce self.old (non_zero_usize_get buffer_size) (paired self.new result)
             × (B.life blob.new ≡ B.life blob.old) }
         ensures dirty { has_work self.old true ≡ true → OnOk result (self.new.sync ≡ Dirty) }
+        ensures unsynced { SyncsNothing (B.life blob.old) (B.life blob.new) }
         ensures puts { CachesTo self.old self.new self.old.tip cache.old cache.new result }
         ensures refused { PutsOnceWaited cache.old cache.new result }
         ensures idle_cache { has_work self.old true ≡ false → cache.new ≡ cache.old }

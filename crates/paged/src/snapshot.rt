@@ -1,11 +1,11 @@
 // Snapshots of a writer's blob.
-ghost use Rattle.std.specs.Prelude.{◌≡◌, ◌≤◌, ◌<◌, Ok, IfOk, OnOk, false, true, length};
+ghost use Rattle.std.specs.Prelude.{◌≡◌, ◌≤◌, ◌<◌, Ok, IfOk, OnOk, None, false, true, length};
 ghost use Rattle.crash.specs.Below.{PagesStay};
 ghost use Rattle.writer_state.specs.declared.sync_state.SyncState.TheVariants.{Dirty};
 ghost use Rattle.writer_state.specs.Sound.{content, IsConsistent};
 ghost use Rattle.crash.specs.Started.{CoversThrough, StartsCanBeAwaited};
 ghost use Rattle.paged.specs.Caches.{CachesTo, PutsOnceWaited, tail_of};
-ghost use Rattle.paged.specs.Calls.{AsksAtMost, StartsOver};
+ghost use Rattle.paged.specs.Calls.{AsksAtMost, StartsOver, SyncsNothing};
 ghost use Rattle.paged.specs.Flush.{has_work, paired};
 ghost use Rattle.paged.specs.Snapshots.{answer_of_seal, CopiesTail, SnapshotsOver};
 ghost use Rattle.paged.specs.Snapshots.{seal_calls, snapshot_calls, TriesSnapshot};
@@ -116,6 +116,9 @@ impl<B: Blob, H: Sum> Writer<B, H> {
             → CopiesTail self.old (paired self.new result)
             × (B.life blob.new ≡ B.life blob.old) }
         ensures dirty { has_work self.old false ≡ true → OnOk result (self.new.sync ≡ Dirty) }
+        ensures partial { has_work self.old false ≡ true
+            → OnOk result (self.new.flushed ≡ None) }
+        ensures unsynced { SyncsNothing (B.life blob.old) (B.life blob.new) }
         ensures puts { CachesTo self.old self.new self.old.tip cache.old cache.new result }
         ensures refused { PutsOnceWaited cache.old cache.new result }
         ensures idle_cache { has_work self.old false ≡ false → cache.new ≡ cache.old }
@@ -174,6 +177,7 @@ impl<B: Blob, H: Sum> Writer<B, H> {
         ensures idle { seal_calls self.old ≡ 0 → (result ≡ Ok StartedSync.Done)
             × (self.new ≡ self.old) × (B.life blob.new ≡ B.life blob.old) }
         ensures puts { CachesTo self.old self.new self.old.tip cache.old cache.new result }
+        ensures refused { PutsOnceWaited cache.old cache.new result }
         ensures idle_cache { has_work self.old true ≡ false → cache.new ≡ cache.old }
     {
         self.wait(blob)?;

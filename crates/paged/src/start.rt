@@ -15,7 +15,7 @@ ghost use Rattle.paged_read.specs.Snapshots.{LeavesAllWriters};
 ghost use Rattle.disk.specs.Disk.{StartGoes, WaitStartedGoes};
 ghost use Rattle.paged.specs.Calls.{sync_calls, unstarted_calls};
 ghost use Rattle.paged.specs.Flush.{paired};
-ghost use Rattle.paged.specs.Caches.{CachesTo};
+ghost use Rattle.paged.specs.Caches.{CachesTo, IsNotBefore, PutsOnceWaited};
 ghost use Rattle.paged_read.specs.Tail.{Tail, CanRead};
 ghost use Rattle.paged.specs.Flush.{has_work};
 ghost use Rattle.cache.specs.CacheState.{CacheState};
@@ -96,6 +96,7 @@ impl<B: Blob, H: Sum, Phase> Writer<B, H, Phase> {
         ensures fresh { 0 < start_calls self.old → IfOk result (λ started.
             started ≡ Named (length (B.life blob.old).present.started)) }
         ensures puts { CachesTo self.old self.new self.old.tip cache.old cache.new result }
+        ensures refused { PutsOnceWaited cache.old cache.new result }
         ensures idle_cache { has_work self.old true ≡ false → cache.new ≡ cache.old }
     {
         self.flush(blob, cache, true)?;
@@ -122,6 +123,7 @@ impl<B: Blob, H: Sum, Phase> Writer<B, H, Phase> {
         ensures fresh { 0 < unstarted_calls self.old.sync → IfOk result (λ started.
             started ≡ Named (length (B.life blob.old).present.started)) }
         ensures same_pages { OnOk result (self.new.full_pages ≡ self.old.full_pages) }
+        ensures late { IsNotBefore result }
     {
         match self.sync_state {
             SyncState::Clean => Ok(StartedSync::Done),

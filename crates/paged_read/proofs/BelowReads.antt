@@ -4,7 +4,7 @@ use Rattle.std.specs.Prelude.{All, nat_eq, Option, None, cond, is_some, not}
 use Rattle.std.proofs.Math.Nat.{mul-le-mul_left}
 use Rattle.std.proofs.lemmas.Bool.{cases_lt}
 use Rattle.std.proofs.lemmas.Bool.Decides.{nat_tests}
-use Rattle.std.proofs.lemmas.List.{length-map, length-take-le, take-append-drop, take-take, drop-take, drop-drop, drop_all, take_all}
+use Rattle.std.proofs.lemmas.List.{length-take-le, take-append-drop, take-take, drop-take, drop-drop, drop_all, take_all}
 use borrow.Rule.Slice.PartMut.{post_of, Post-is}
 use Rattle.disk.specs.Disk.{Disk, Life}
 use Rattle.disk.specs.declared.error.Error.{Error}
@@ -30,10 +30,6 @@ module _ (t : Tail) (cache : CacheState) (offset len : ℕ) (some : 0 < t.page_s
   -- the pieces that the cache leaves are of pages below the tail
   pub left_are : (room : ℕ) → len ≤ room → All (IsPieceOf t room) (pieces_left cache t.id (pieces_of t.page_size (offset, len) 0))
   left_are room fits = left_below t room cache t.id (pieces_of t.page_size (offset, len) 0) (pieces_below t.page_size offset len some t room refl below fits)
-
-  -- as many pieces are left as pages are missing
-  pub left_many : length (pieces_left cache t.id (pieces_of t.page_size (offset, len) 0)) ≡ length (missing cache t ((offset, len) ∷ []))
-  left_many = sym (ap length (missing_pages cache t offset len 0 some below) ∙ length-map (pieces_left cache t.id (pieces_of t.page_size (offset, len) 0)) (λ (p : Piece). p.page))
 
   -- what the cache has of the range, and then what is left, is the range
   copied_all : (d : Disk) (buf new : List ℕ) → CanRead t cache d → length buf ≡ len
@@ -85,10 +81,6 @@ module _ (t : Tail) (cache : CacheState) (offset len : ℕ) (some : 0 < t.page_s
 
   pub only_is : (room : ℕ) (piece : Piece) → len ≤ room → pieces_of t.page_size (offset, len) 0 ≡ piece ∷ [] → IsPieceOf t room piece
   only_is room piece fits is = subst (λ (l : List Piece). All (IsPieceOf t room) l) is (pieces_below t.page_size offset len some t room refl below fits) 0 piece (omega arith)
-
-  -- so one page is missing
-  pub only_many : (piece : Piece) → cached_page cache (t.id, piece.page) ≡ None → pieces_of t.page_size (offset, len) 0 ≡ piece ∷ [] → length (missing cache t ((offset, len) ∷ [])) ≡ 1
-  only_many piece lacks is = sym left_many ∙ ap (λ (l : List Piece). length (pieces_left cache t.id l)) is ∙ ap length (only_left piece lacks)
 
   pub only_page : (piece : Piece) → cached_page cache (t.id, piece.page) ≡ None → pieces_of t.page_size (offset, len) 0 ≡ piece ∷ [] → piece.page ∷ [] ≡ missing cache t ((offset, len) ∷ [])
   only_page piece lacks is = left_pages (piece ∷ []) (piece ∷ []) (sym is) (sym (only_left piece lacks))

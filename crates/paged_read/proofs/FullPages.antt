@@ -18,7 +18,3 @@ pub value_says : (sum : List ℕ → ℕ) (P : ℕ) (page : List ℕ) (a : Activ
 value_says sum P page a size some =
     let at : length page - 12 ≡ P = omega arith in
     (active_is sum P page a (sym (some ∙ ap (λ n. active sum n page) at))).len
-
--- a read that is answered is one device call more
-pub read_longer : (offset len : ℕ) (old new : Life) (bytes : List ℕ) → DeviceReadGoes offset len old new (Ok bytes) → length new.present.log ≡ length old.present.log + 1
-read_longer offset len old new bytes goes = omega (arith, ap (λ (l : Life). length l.present.log) goes.2, length-append old.present.log (record { request = ReadAt offset len; failed = false } ∷ []))

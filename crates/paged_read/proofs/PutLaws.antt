@@ -1,13 +1,11 @@
 -- Pages that a read puts, one after the other.
-use Rattle.std.proofs.Common.{◌≡◌, inl, inr, ℕ, zero, suc, ◌+◌, ◌*◌, ◌<◌, ◌≤◌, List, [], ◌∷◌, ◌++◌, length, length-append, take, map, get_or, refl, sym, ap, ◌∙◌, subst, arith, Ok, Err, Result, IsPermutation}
-use Rattle.std.specs.Prelude.{OnOk}
+use Rattle.std.proofs.Common.{◌≡◌, inl, inr, ℕ, zero, suc, ◌+◌, ◌*◌, ◌<◌, ◌≤◌, List, [], ◌∷◌, ◌++◌, append-nil, length, length-append, take, map, get_or, refl, sym, ap, ◌∙◌, subst, arith, Ok, Err, Result, IsPermutation}
 use Rattle.std.specs.List.{Contains, range_with_len, remove}
 use Rattle.std.proofs.Math.Nat.{mul-le-mul_right}
-use Rattle.std.proofs.lemmas.List.{take_all, take_more, map-append, length-map, take-map}
+use Rattle.std.proofs.lemmas.List.{take_all, take_more, map-append, length-map, length-take, take-map}
 use Rattle.std.proofs.lemmas.List.Sorted.{IsPermutation-refl, IsPermutation-remove, IsPermutation-cons, IsPermutation-sym, IsPermutation-trans, IsPermutation-map, Contains-permutation, length_permutation}
-use Rattle.disk.specs.Disk.{Delivers, Entry, Life}
+use Rattle.disk.specs.Disk.{Delivers, Entry, Life, Request}
 use Rattle.disk.specs.declared.error.Error.{Error}
-use Rattle.crash.specs.Looks.{Looked}
 use Rattle.cache.specs.CacheState.{CacheState, Puts}
 use Rattle.cache.specs.declared.piece.Piece.{Piece}
 use Rattle.cache.specs.Pages.{page_of_content, CachesOnly}
@@ -15,7 +13,9 @@ use Rattle.cache.proofs.CacheLaws.{put_weakly, caches_none, caches_put, caches_j
 use Rattle.paged_read.specs.Tail.{logical_bytes, Tail}
 use Rattle.paged_read.specs.Ranges.{page_ranges}
 use Rattle.paged_read.specs.Parts.{ArePagesFull, piece_pages}
-use Rattle.paged_read.specs.Puts.{PutsPages, PutsAsked, PutsFirst, PutsInOrder, PutsPageIfOk, delivered_pages}
+use Rattle.paged_read.specs.Puts.{AsksEachPage, PutsPages, PutsAsked, PutsFirst, PutsInOrder, PutsPageIfOk, delivered_pages}
+use Rattle.paged_read.specs.RawReads.{page_request, ReadsEachPage, ReadsOne, ReadsRising}
+use Rattle.paged_read.proofs.Searching.{gained_joins, gained_none}
 use Rattle.paged_read.proofs.BatchReads.{length-page_ranges}
 use Rattle.paged_read.proofs.PageReads.{has_later, first_or_later}
 
@@ -38,30 +38,68 @@ pub puts_empty : {A : Type 0} (sum : List ℕ → ℕ) (t : Tail) (pages readabl
 puts_empty sum t pages readable cache (Ok a) none = subst (λ (l : List ℕ). PutsPages t.id (logical_bytes t readable) l cache cache) (sym none) refl
 puts_empty sum t pages readable cache (Err e) none = puts_none sum t pages readable cache
 
+-- ---- what is asked
+
+pub asks_none : (P : ℕ) (life : Life) → AsksEachPage P [] life life
+asks_none P life = gained_none (λ (xs : List Request). xs ≡ []) life life refl refl
+
+asks_join : (P : ℕ) (first more : List ℕ) (old mid new : Life) → AsksEachPage P first old mid → AsksEachPage P more mid new → AsksEachPage P (first ++ more) old new
+asks_join P first more old mid new one two =
+    let f = page_request P in
+    gained_joins (λ (xs : List Request). xs ≡ map f first) (λ (ys : List Request). ys ≡ map f more) (λ (zs : List Request). zs ≡ map f (first ++ more)) old mid new
+    (λ xs ys x y. ap (λ (l : List Request). l ++ ys) x ∙ ap (λ (l : List Request). map f first ++ l) y ∙ sym (map-append f first more)) one two
+
+-- a page that was read, or wasn't
+asks_some : (P page few : ℕ) (old new : Life) → few ≤ 1 → ReadsEachPage P page few old new → AsksEachPage P (take few (page ∷ [])) old new
+asks_some P page zero old new less reads = reads
+asks_some P page (suc zero) old new less reads = reads
+asks_some P page (suc (suc n)) old new less reads = absurd (omega (arith, less))
+
+-- how many calls these are
+each_calls : (P : ℕ) (pages : List ℕ) (old new : Life) → AsksEachPage P pages old new → length new.present.log ≡ length old.present.log + length pages
+each_calls P pages old new (more, is, those) =
+    let many : length more ≡ length pages =
+    sym (length-map more (λ (e : Entry). e.request)) ∙ ap (λ (l : List Request). length l) those ∙ length-map pages (page_request P) in
+    omega (arith, ap (λ (l : List Entry). length l) is, length-append old.present.log more, many)
+
 -- a read that asked for nothing
 pub asked_none : (sum : List ℕ → ℕ) (t : Tail) (pages : List ℕ) (life : Life) (cache : CacheState) (e : Error) → PutsAsked {A = Unit {0}} sum t pages life life cache cache (Err e)
-asked_none sum t pages life cache e = (record { count = 0; full = λ page has. absurd (omega (arith, has.1)); puts = refl }, omega arith, omega arith)
+asked_none sum t pages life cache e = record {
+  first = record { count = 0; full = λ page has. absurd (omega (arith, has.1)); puts = refl };
+  asked = 0;
+  most = omega arith;
+  few = omega arith;
+  asks = asks_none t.page_size life;
+}
 
 -- a read that finds no page missing
 pub asked_empty : {A : Type 0} (sum : List ℕ → ℕ) (t : Tail) (pages : List ℕ) (life : Life) (cache : CacheState) (a : A) → pages ≡ [] → PutsAsked {A = A} sum t pages life life cache cache (Ok a)
-asked_empty sum t pages life cache a none =
-    (subst (λ (l : List ℕ). PutsPages t.id (logical_bytes t life.present.readable) l cache cache) (sym none) refl, omega (arith, ap (λ (l : List ℕ). length l) none))
-
--- a look leaves the log no shorter
-pub looked_longer : (old new : Life) → Looked old new → length old.present.log ≤ length new.present.log
-looked_longer old new looked = omega (arith, ap (λ (l : List Entry). length l) looked.log.1, length-append old.present.log looked.log.0)
+asked_empty sum t pages life cache a none = (
+  subst (λ (l : List ℕ). PutsPages t.id (logical_bytes t life.present.readable) l cache cache) (sym none) refl,
+  subst (λ (l : List ℕ). AsksEachPage t.page_size l life life) (sym none) (asks_none t.page_size life),
+)
 
 -- a read of one page
-pub asked_page : {A : Type 0} (sum : List ℕ → ℕ) (t : Tail) (page : ℕ) (old new : Life) (cache after : CacheState) (result : Result A Error) → PutsPageIfOk t page old.present.readable cache after result → Looked old new → length new.present.log ≤ length old.present.log + 1
-    → OnOk result (length new.present.log ≡ length old.present.log + 1) → PutsAsked sum t (page ∷ []) old new cache after result
-asked_page sum t page old new cache after (Ok a) put looked asks answered = (put, answered)
-asked_page sum t page old new cache after (Err e) same looked asks answered =
-    (record { count = 0; full = λ p has. absurd (omega (arith, has.1)); puts = same }, omega (arith, looked_longer old new looked), omega (arith, asks))
+pub asked_page : {A : Type 0} (sum : List ℕ → ℕ) (t : Tail) (page : ℕ) (old new : Life) (cache after : CacheState) (result : Result A Error) → PutsPageIfOk t page old.present.readable cache after result → ReadsOne t.page_size page old new result
+    → PutsAsked sum t (page ∷ []) old new cache after result
+asked_page sum t page old new cache after (Ok a) put asks = (put, asks)
+asked_page sum t page old new cache after (Err e) same (few, fewer, asks) = record {
+  first = record { count = 0; full = λ p has. absurd (omega (arith, has.1)); puts = same };
+  asked = few;
+  most = omega arith;
+  few = omega (arith, fewer);
+  asks = asks_some t.page_size page few old new fewer asks;
+}
+
+-- at most one call for each page
+pub asked_calls : {A : Type 0} (sum : List ℕ → ℕ) (t : Tail) (pages : List ℕ) (old new : Life) (cache after : CacheState) (result : Result A Error) → PutsAsked sum t pages old new cache after result → length new.present.log ≤ length old.present.log + length pages
+asked_calls sum t pages old new cache after (Ok a) asked = omega (arith, each_calls t.page_size pages old new asked.1)
+asked_calls sum t pages old new cache after (Err e) asked = omega (arith, each_calls t.page_size (take asked.asked pages) old new asked.asks, length-take asked.asked pages)
 
 -- what a read one by one puts it puts in order
 pub asked_in_order : {A : Type 0} (sum : List ℕ → ℕ) (t : Tail) (pages : List ℕ) (old new : Life) (cache after : CacheState) (result : Result A Error) → PutsAsked sum t pages old new cache after result → PutsInOrder sum t pages old.present.readable cache after result
 asked_in_order sum t pages old new cache after (Ok a) asked = asked.0
-asked_in_order sum t pages old new cache after (Err e) asked = asked.0
+asked_in_order sum t pages old new cache after (Err e) asked = asked.first
 
 -- ---- pieces one by one
 
@@ -74,20 +112,45 @@ module _ (t : Tail) (pieces : List Piece) (k : ℕ) where
       subst (λ (l : List ℕ). PutsPages t.id content l old new) (sym split)
       (puts_joins t.id content (piece_pages (take k pieces)) ((get_or pieces k d).page ∷ []) old mid new before (subst (λ (l : List ℕ). PutsPages t.id l ((get_or pieces k d).page ∷ []) mid new) same here))
 
+  -- one piece more is asked for
+  pub asks_piece_more : (d : Piece) (old mid new : Life) → k < length pieces → AsksEachPage t.page_size (piece_pages (take k pieces)) old mid → ReadsEachPage t.page_size (get_or pieces k d).page 1 mid new → AsksEachPage t.page_size (piece_pages (take (k + 1) pieces)) old new
+  asks_piece_more d old mid new there before here =
+      let split : piece_pages (take (k + 1) pieces) ≡ piece_pages (take k pieces) ++ (get_or pieces k d).page ∷ [] = ap piece_pages (take_more pieces k d there) ∙ map-append (λ (p : Piece). p.page) (take k pieces) (get_or pieces k d ∷ []) in
+      subst (λ (l : List ℕ). AsksEachPage t.page_size l old new) (sym split) (asks_join t.page_size (piece_pages (take k pieces)) ((get_or pieces k d).page ∷ []) old mid new before here)
+
+  -- one piece more is asked for, or isn't
+  asks_piece_maybe : (d : Piece) (few : ℕ) (old mid new : Life) → k < length pieces → few ≤ 1 → AsksEachPage t.page_size (piece_pages (take k pieces)) old mid → ReadsEachPage t.page_size (get_or pieces k d).page few mid new
+      → AsksEachPage t.page_size (take (k + few) (piece_pages pieces)) old new
+  asks_piece_maybe d zero old mid new there less before here =
+      let same : piece_pages (take k pieces) ≡ take (k + 0) (piece_pages pieces) = sym (take-map (λ (p : Piece). p.page) k pieces) ∙ ap (λ (n : ℕ). take n (piece_pages pieces)) (let e : k ≡ k + 0 = omega arith in e) in
+      let none : piece_pages (take k pieces) ++ [] ≡ piece_pages (take k pieces) = append-nil (piece_pages (take k pieces)) in
+      subst (λ (l : List ℕ). AsksEachPage t.page_size l old new) (none ∙ same) (asks_join t.page_size (piece_pages (take k pieces)) [] old mid new before here)
+  asks_piece_maybe d (suc zero) old mid new there less before here =
+      subst (λ (l : List ℕ). AsksEachPage t.page_size l old new) (sym (take-map (λ (p : Piece). p.page) (k + 1) pieces)) (asks_piece_more d old mid new there before here)
+  asks_piece_maybe d (suc (suc n)) old mid new there less before here = absurd (omega (arith, less))
+
   -- a page that can't be read
-  pub asked_first_pieces : (sum : List ℕ → ℕ) (old between new : Life) (cache mid after : CacheState) (e : Error) → ArePagesFull sum t.page_size (piece_pages (take k pieces)) old.present.readable → PutsPages t.id (logical_bytes t old.present.readable) (piece_pages (take k pieces)) cache mid → after ≡ mid
-      → length between.present.log ≡ length old.present.log + k → Looked between new → length new.present.log ≤ length between.present.log + 1 → PutsAsked {A = Unit {0}} sum t (piece_pages pieces) old new cache after (Err e)
-  asked_first_pieces sum old between new cache mid after e full before same asks looked more =
+  pub asked_first_pieces : (sum : List ℕ → ℕ) (d : Piece) (old between new : Life) (cache mid after : CacheState) (e : Error) → k < length pieces → ArePagesFull sum t.page_size (piece_pages (take k pieces)) old.present.readable
+      → PutsPages t.id (logical_bytes t old.present.readable) (piece_pages (take k pieces)) cache mid → after ≡ mid → AsksEachPage t.page_size (piece_pages (take k pieces)) old between → ReadsRising t.page_size (get_or pieces k d).page 1 between new
+      → PutsAsked {A = Unit {0}} sum t (piece_pages pieces) old new cache after (Err e)
+  asked_first_pieces sum d old between new cache mid after e there full before same asks (few, fewer, here) =
       let readable = old.present.readable in
-      let first : piece_pages (take k pieces) ≡ take k (piece_pages pieces) = sym (take-map (λ (p : Piece). p.page) k pieces) in (
-        record {
+      let first : piece_pages (take k pieces) ≡ take k (piece_pages pieces) = sym (take-map (λ (p : Piece). p.page) k pieces) in
+      record {
+        first = record {
           count = k;
           full = subst (λ (l : List ℕ). ArePagesFull sum t.page_size l readable) first full;
           puts = subst (λ (l : List ℕ). PutsPages t.id (logical_bytes t readable) l cache after) first (subst (λ (c : CacheState). PutsPages t.id (logical_bytes t readable) (piece_pages (take k pieces)) cache c) (sym same) before);
-        },
-        omega (arith, asks, looked_longer between new looked),
-        omega (arith, asks, more),
-      )
+        };
+        asked = k + few;
+        most = omega arith;
+        few = omega (arith, fewer);
+        asks = asks_piece_maybe d few old between new there fewer asks here;
+      }
+
+  -- all pieces are asked for
+  pub asks_all_pieces : (old new : Life) → length pieces ≤ k → AsksEachPage t.page_size (piece_pages (take k pieces)) old new → AsksEachPage t.page_size (piece_pages pieces) old new
+  asks_all_pieces old new over asks = subst (λ (l : List Piece). AsksEachPage t.page_size (piece_pages l) old new) (take_all k pieces over) asks
 
   -- the pages of all pieces are put
   pub puts_all_pieces : (content : List ℕ) (old new : CacheState) → length pieces ≤ k → PutsPages t.id content (piece_pages (take k pieces)) old new → PutsPages t.id content (piece_pages pieces) old new

@@ -1,13 +1,15 @@
 -- Which pages raw reads read, by the device's log.
-use Rattle.std.proofs.Common.{◌≡◌, ◌≢◌, inl, inr, ℕ, zero, suc, ◌+◌, ◌-◌, ◌*◌, ◌/◌, ◌<◌, ◌≤◌, List, [], ◌∷◌, ◌++◌, map, Bool, Result, Ok, Err, refl, sym, ap, ◌∙◌, subst, arith}
+use Rattle.std.proofs.Common.{◌≡◌, ◌≢◌, inl, inr, ℕ, zero, suc, ◌+◌, ◌-◌, ◌*◌, ◌/◌, ◌<◌, ◌≤◌, List, [], ◌∷◌, ◌++◌, map, length, length-append, Bool, Result, Ok, Err, refl, sym, ap, ◌∙◌, subst, arith}
 use Rattle.std.specs.List.{range_with_len}
-use Rattle.std.proofs.lemmas.List.{map-append}
+use Rattle.std.proofs.lemmas.List.{length-map, map-append}
+use Rattle.std.proofs.lemmas.List.FromFn.{length-map-range_with_len}
 use Rattle.std.proofs.lemmas.Bool.{cases_eq}
 use Rattle.std.proofs.lemmas.Nat.{div_below, le-div}
-use Rattle.disk.specs.Disk.{Request, Life, ReadAt, AskedOnce, DeviceReadGoes}
+use Rattle.disk.specs.Disk.{Request, Entry, Life, ReadAt, AskedOnce, DeviceReadGoes}
 use Rattle.disk.specs.declared.error.Error.{Error}
 use Rattle.paged_read.specs.RawReads.{page_request, range_end, ReadsEachPage, ReadsOne, ReadsPagesOf, ReadsRising}
-use Rattle.paged_read.proofs.Searching.{gained_none, gained_once, gained_joins, read_asks}
+use Rattle.paged_read.specs.Searches.{AreReadsWithin, ReadsWithin}
+use Rattle.paged_read.proofs.Searching.{gained_none, gained_once, gained_joins, gained_then, read_asks}
 
 range_append : (a k n : ℕ) → range_with_len a (k + n) ≡ range_with_len a k ++ range_with_len (a + k) n
 range_append a zero n =
@@ -91,3 +93,23 @@ before_read P last start offset before mid new some start_is before_is none read
       | inl empty ↦ subst (λ (l : Life). ReadsRising P (offset / P) (last - offset / P) mid l) (sym (none empty)) (rising_none P (offset / P) (last - offset / P) mid)
       | inr more ↦ subst (λ (n : ℕ). ReadsRising P (offset / P) (n - offset / P) mid new) (ends_before P last start offset before some start_is before_is more) reads
     ]
+
+-- ---- what follows
+
+page_requests_within : (P most : ℕ) (pages : List ℕ) → P + 12 ≤ most → AreReadsWithin most (map (page_request P) pages)
+page_requests_within P most [] enough = tt
+page_requests_within P most (page ∷ pages) enough = (enough, page_requests_within P most pages enough)
+
+-- pages that are read one by one are within any bound that has room for a page
+pub rising_within : (P page count most : ℕ) (old new : Life) → P + 12 ≤ most → ReadsRising P page count old new → ReadsWithin most old new
+rising_within P page count most old new enough (few, fewer, pages) =
+    gained_then (λ (xs : List Request). xs ≡ map (page_request P) (range_with_len page few)) (AreReadsWithin most) old new
+    (λ xs is. subst (AreReadsWithin most) (sym is) (page_requests_within P most (range_with_len page few) enough)) pages
+
+-- how many calls the reads are
+pub rising_calls : (P page count : ℕ) (old new : Life) → ReadsRising P page count old new → length new.present.log ≤ length old.present.log + count
+rising_calls P page count old new (few, fewer, pages) =
+    let more = pages.0 in
+    let as_many : length more ≡ few =
+    sym (length-map more (λ (e : Entry). e.request)) ∙ ap (λ (l : List Request). length l) pages.2 ∙ length-map-range_with_len (page_request P) page few in
+    omega (arith, ap (λ (l : List Entry). length l) pages.1, length-append old.present.log more, as_many, fewer)

@@ -14,7 +14,7 @@ use Rattle.cache.proofs.CacheLaws.{longer_true, fresh_stays}
 use Rattle.crash.specs.Looks.{Looked, looked_start}
 use Rattle.paged_read.specs.Tail.{Tail, logical_bytes, tail_size, CanRead}
 use Rattle.paged_read.specs.Ranges.{AsksForMissing, AsksTogether, ReadFault, Reads, ReadsUpTo, ReadsMany, AreMissingFull, HasServed, Misses, missing, is_served, page_ranges}
-use Rattle.paged_read.specs.Puts.{PutsPages, PutsAsked, PutsInOrder, PutsSome}
+use Rattle.paged_read.specs.Puts.{AsksEachPage, PutsPages, PutsAsked, PutsInOrder, PutsSome}
 use Rattle.paged_read.specs.Parts.{ArePagesFull, PagesFault}
 use Rattle.paged_read.specs.Reads.{ReadGoes, ReadIntoGoes, ReadUpToGoes, ReadManyGoes, ReadRangesGoes, ReadLeaves, ReadCosts, ReadManyCosts, LookLeaves, TryReadManyGoes}
 use Rattle.paged_read.proofs.BatchReads.{not_asked}
@@ -293,15 +293,17 @@ costs_refused sum t range cache after old new a e full costs =
     let all : pages ≡ take (length pages) pages = sym (take_all (length pages) pages (omega arith)) in
     record {
       asks = costs.asks;
-      puts = (
-        record {
+      puts = record {
+        first = record {
           count = length pages;
           full = subst (λ (l : List ℕ). ArePagesFull sum t.page_size l old.present.readable) all full;
           puts = subst (λ (l : List ℕ). PutsPages t.id (logical_bytes t old.present.readable) l cache after) all costs.puts.0;
-        },
-        omega (arith, costs.puts.1),
-        omega (arith, costs.puts.1),
-      );
+        };
+        asked = length pages;
+        most = omega arith;
+        few = omega arith;
+        asks = subst (λ (l : List ℕ). AsksEachPage t.page_size l old new) all costs.puts.1;
+      };
     }
 
 -- ---- a call that only looked

@@ -1,8 +1,9 @@
 -- A forward scan over the pages of a blob that were flushed.
-use Rattle.std.specs.Prelude.{◌≡◌, ◌≤◌, ◌<◌, ◌+◌, ◌-◌, ◌*◌, ◌/◌, ◌^◌, ℕ, List, [], ◌∷◌}
-use Rattle.std.specs.Prelude.{length, drop, min, Result, Ok, Err}
+use Rattle.std.specs.Prelude.{◌≡◌, ◌≤◌, ◌<◌, ◌+◌, ◌-◌, ◌*◌, ◌/◌, ◌^◌, ℕ, List}
+use Rattle.std.specs.Prelude.{length, drop, map, min, Result, Ok, Err}
 use Rattle.std.specs.Int.{div_ceil}
-use Rattle.disk.specs.Disk.{Request, Life, HasFailed, ReadAt, ReadMany, StartReadMany}
+use Rattle.std.specs.List.{range_with_len}
+use Rattle.disk.specs.Disk.{Request, Life, HasFailed, ReadAt}
 use Rattle.disk.specs.declared.error.Error.{Error}
 use Rattle.disk.specs.declared.error.Error.TheVariants.{ReadFailed, OutOfMemory, OffsetOverflow}
 use Rattle.disk.specs.declared.error.Error.TheVariants.{BlobInsufficientLength}
@@ -59,38 +60,41 @@ abbrev pub prefix_from : (List ℕ → ℕ) → (P first pages : ℕ) → List �
 prefix_from sum P first pages readable =
     after_pages first (prefix_of sum P (pages_from P (pages - first) first readable))
 
--- each request that reads asks for at most `most` bytes, and begins where the read before it ended.
--- The first begins at `from`, and all end at or before `to`
-abbrev pub AreForward : (most from to : ℕ) → List Request → Type 0
-AreForward most from to [] = Unit {0}
-AreForward most from to (ReadAt offset len ∷ rest) =
-    (offset ≡ from) × (len ≤ most) × (offset + len ≤ to) × AreForward most (offset + len) to rest
-AreForward most from to (ReadMany ranges ∷ rest) = ⊥
-AreForward most from to (StartReadMany ranges ∷ rest) = ⊥
-AreForward most from to (_ ∷ rest) = AreForward most from to rest
+-- the request that reads one batch of a blob's bytes from one offset up to another: `most` bytes, or
+-- what is left of them. Batches are numbered from 0 on
+abbrev pub batch_request : (most from to number : ℕ) → Request
+batch_request most from to number =
+    let at : ℕ = from + number * most in
+    ReadAt at (min most (to - at))
 
--- the reads since then go forward from one offset up to another, as `AreForward` has it
-abbrev pub ReadsForward : (most from to : ℕ) → Life → Life → Type 0
-ReadsForward most from to old new = Gained (AreForward most from to) old new
+-- the first `count` batches were read since then, in order, each once, and nothing else was asked
+abbrev pub ReadsInBatches : (most from to count : ℕ) → Life → Life → Type 0
+ReadsInBatches most from to count old new =
+    Gained (λ requests. requests ≡ map (batch_request most from to) (range_with_len 0 count))
+    old new
 
--- each request that reads begins at or before this offset
-abbrev pub BeginBy : (last : ℕ) → List Request → Type 0
-BeginBy last [] = Unit {0}
-BeginBy last (ReadAt offset len ∷ rest) = (offset ≤ last) × BeginBy last rest
-BeginBy last (ReadMany ranges ∷ rest) = ⊥
-BeginBy last (StartReadMany ranges ∷ rest) = ⊥
-BeginBy last (_ ∷ rest) = BeginBy last rest
+-- the first batches were read, at most `limit` of them
+pub record ReadsForward (most from to limit : ℕ) (old new : Life) : Type 0 where
+  pub count : ℕ
+  pub few : count ≤ limit
+  pub forward : ReadsInBatches most from to count old new
 
--- no read since begins after this page does
-abbrev pub StopsAt : (P page : ℕ) → Life → Life → Type 0
-StopsAt P page old new = Gained (BeginBy (page * (P + 12))) old new
+-- how many batches of `most` bytes the bytes from one offset up to another are
+abbrev pub batches : (most from to : ℕ) → ℕ
+batches most from to = div_ceil (to - from) most
 
--- the reads of a search for the first page that isn't full, from one page on to before another:
--- none begins after that page
-pub record ReadsUpToEnd (sum : List ℕ → ℕ) (P most first pages : ℕ) (old new : Life)
-    : Type 0 where
-  pub forward : ReadsForward most (first * (P + 12)) (pages * (P + 12)) old new
-  pub stops : StopsAt P (prefix_from sum P first pages old.present.readable).full_pages old new
+-- how many batches have the pages from one on up to the first that isn't full, or to before another
+abbrev pub batches_to_end : (List ℕ → ℕ) → (P most first pages : ℕ) → List ℕ → ℕ
+batches_to_end sum P most first pages readable =
+    let end : ℕ = min pages ((prefix_from sum P first pages readable).full_pages + 1) in
+    batches most (first * (P + 12)) (end * (P + 12))
+
+-- the reads of a search for the first page that isn't full, from one page on to before another: the
+-- batches up to the one that has that page, or all
+abbrev pub ReadsUpToEnd : (List ℕ → ℕ) → (P most first pages : ℕ) → Life → Life → Type 0
+ReadsUpToEnd sum P most first pages old new =
+    let limit = batches_to_end sum P most first pages old.present.readable in
+    ReadsForward most (first * (P + 12)) (pages * (P + 12)) limit old new
 
 -- a look through pages that end at this offset: it gives this, and only reads. Where the blob is
 -- too short for them it may answer `BlobInsufficientLength`. No device call failed unless it

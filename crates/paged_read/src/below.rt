@@ -5,9 +5,10 @@ ghost use Rattle.cache.specs.CacheState.{IsMissing};
 ghost use Rattle.paged_read.specs.Tail.{tail_at, IsView, CanRead};
 ghost use Rattle.crash.specs.Looks.{Looked};
 ghost use Rattle.paged_read.specs.Ranges.{AsksForMissing, missing, is_served};
-ghost use Rattle.std.specs.Prelude.{Ok, OnOk, true};
+ghost use Rattle.std.specs.Prelude.{Ok, true};
 ghost use Rattle.paged_read.specs.Parts.{IsPieceOf, FetchesPieces, ReadsBelow, piece_pages};
 ghost use Rattle.paged_read.specs.Puts.{PutsAsked, PutsPageIfOk};
+ghost use Rattle.paged_read.specs.RawReads.{ReadsOne};
 
 use crate::View;
 use crate::full::read_page;
@@ -33,10 +34,8 @@ impl<B: Blob, H: Sum> View<'_, B, H> {
         ensures reads { let t = tail_at self.entry.page_size self.entry.id self.entry.tip.now in
             let old = B.life blob.old in let new = B.life blob.new in
             FetchesPieces H.sum_of t (piece ∷ []) buf.old buf.new old new result }
-        ensures asks { let old = B.life blob.old in let new = B.life blob.new in
-            length new.present.log ≤ length old.present.log + 1 }
-        ensures answered { let old = B.life blob.old in let new = B.life blob.new in
-            OnOk result (length new.present.log ≡ length old.present.log + 1) }
+        ensures asks { let P = non_zero_u16_get self.entry.page_size in
+            ReadsOne P piece.page (B.life blob.old) (B.life blob.new) result }
         ensures looked { Looked (B.life blob.old) (B.life blob.new) }
         ensures can { let t = tail_at self.entry.page_size self.entry.id self.entry.tip.now in
             CanRead t cache.new (B.life blob.new).present }
@@ -70,8 +69,6 @@ impl<B: Blob, H: Sum> View<'_, B, H> {
         ensures reads { let t = tail_at self.entry.page_size self.entry.id self.entry.tip.now in
             let old = B.life blob.old in let new = B.life blob.new in
             FetchesPieces H.sum_of t pieces.now buf.old buf.new old new result }
-        ensures asks { let old = B.life blob.old in let new = B.life blob.new in
-            length new.present.log ≤ length old.present.log + length pieces.now }
         ensures looked { Looked (B.life blob.old) (B.life blob.new) }
         ensures puts { let t = tail_at self.entry.page_size self.entry.id self.entry.tip.now in
             let old = B.life blob.old in let new = B.life blob.new in
@@ -104,10 +101,6 @@ impl<B: Blob, H: Sum> View<'_, B, H> {
         ensures reads { let t = tail_at self.entry.page_size self.entry.id self.entry.tip.now in
             let old = B.life blob.old in let new = B.life blob.new in
             ReadsBelow H.sum_of t cache.old (offset, length buf.old) buf.new old new result }
-        ensures asks { let t = tail_at self.entry.page_size self.entry.id self.entry.tip.now in
-            let count = length (missing cache.old t ((offset, length buf.old) ∷ [])) in
-            let old = B.life blob.old in let new = B.life blob.new in
-            length new.present.log ≤ length old.present.log + count }
         ensures looked { Looked (B.life blob.old) (B.life blob.new) }
         ensures puts { let t = tail_at self.entry.page_size self.entry.id self.entry.tip.now in
             let pages = missing cache.old t ((offset, length buf.old) ∷ []) in

@@ -1,9 +1,10 @@
 // Full pages.
-ghost use Rattle.std.specs.Prelude.{◌≡◌, ◌+◌, ◌*◌, ◌<◌, ◌≤◌, ◌^◌, ◌↔◌, IsTrue, length, OnOk};
+ghost use Rattle.std.specs.Prelude.{◌≡◌, ◌+◌, ◌*◌, ◌<◌, ◌≤◌, ◌^◌, ◌↔◌, IsTrue, length};
 ghost use Rattle.std.specs.Int.NonZero.{non_zero_u16_get};
 ghost use Rattle.page.specs.Page.{value_len};
 ghost use Rattle.crash.specs.Looks.{Looked};
 ghost use Rattle.paged_read.specs.Parts.{ReadsPage};
+ghost use Rattle.paged_read.specs.RawReads.{ReadsOne};
 
 use disk::{Blob, Error, IoBuf, ReadOptions};
 use page::{CHECKSUM_SIZE, Checksum, Sum};
@@ -39,10 +40,8 @@ pub(crate) fn read_page<B: Blob, H: Sum>(
     ensures reads { let P = non_zero_u16_get page_size in
         ReadsPage H.sum_of P page (B.life blob.old) (B.life blob.new) result }
     ensures looked { Looked (B.life blob.old) (B.life blob.new) }
-    ensures asks { let old = B.life blob.old in let new = B.life blob.new in
-        length new.present.log ≤ length old.present.log + 1 }
-    ensures answered { let old = B.life blob.old in let new = B.life blob.new in
-        OnOk result (length new.present.log ≡ length old.present.log + 1) }
+    ensures asks { let P = non_zero_u16_get page_size in
+        ReadsOne P page (B.life blob.old) (B.life blob.new) result }
 {
     let size = u64::from(page_size.get()) + CHECKSUM_SIZE as u64;
     let bytes = blob.read_at(alloc, page * size, size as usize, FOR_THE_CACHE)?;

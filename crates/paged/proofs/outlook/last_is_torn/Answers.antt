@@ -1,4 +1,4 @@
-use Rattle.std.proofs.Common.{◌≡◌, ◌<◌, ◌≤◌, ◌+◌, ◌-◌, ◌*◌, ◌%◌, ℕ, List, ◌∙◌, ap, sym, arith, length, take, drop, subst}
+use Rattle.std.proofs.Common.{◌≡◌, ◌<◌, ◌≤◌, ◌+◌, ◌-◌, ◌*◌, ◌%◌, ℕ, min, List, ◌∙◌, ap, sym, arith, length, take, drop, subst}
 use Rattle.std.specs.Prelude.{Option, is_some, ◌≢◌}
 use Rattle.std.proofs.lemmas.List.{length-take-le, length-drop}
 use Rattle.std.proofs.lemmas.Result.{err_from_is_err_and}
@@ -8,6 +8,8 @@ use Rattle.crash.proofs.LookLaws.{read_gives}
 use Rattle.page.specs.Page.{bad_slot}
 use Rattle.page.specs.declared.slot.Slot.{Slot}
 use Rattle.paged_read.specs.Failures.{none_failed_start}
+use Rattle.paged_read.specs.RawReads.{ReadsRising}
+use Rattle.paged_read.proofs.RawCosts.{page_refused, rising_fewer, rising_none}
 use Rattle.paged_read.proofs.Failing.{none_failed_read}
 use Rattle.paged_read.proofs.Looking.{looked_on, look_fault}
 use Rattle.paged.specs.Outlook.{has_torn_page, last_page}
@@ -66,3 +68,26 @@ returns-clause-tells g c =
       looked_on ((pages - 1) * size) size old old (g.B.Blob.life c.read_at.new.self) bytes (looked_start old) c.in_ok-page.ensures.goes,
       none_failed_read ((pages - 1) * size) size old (g.B.Blob.life c.read_at.new.self) bytes c.in_ok-page.ensures.goes,
     )
+
+-- the page was asked for at most once
+reads : (g : Over) (c : After-read_at g) → let P = non_zero_u16_get c.args.page_size in
+    ReadsRising P (c.args.outlook.now.pages - 1) (min 1 (c.args.outlook.now.len % P)) (g.B.Blob.life c.args.blob.now) (g.B.Blob.life c.read_at.new.self)
+reads g c =
+    let P = non_zero_u16_get c.args.page_size in
+    let page = c.args.outlook.now.pages - 1 in
+    let size = c.physical_page_size-size.result in
+    let old = g.B.Blob.life c.args.blob.now in
+    let new = g.B.Blob.life c.read_at.new.self in
+    rising_fewer P page 1 (min 1 (c.args.outlook.now.len % P)) old new (omega (arith, partial g c))
+    (page_refused P page size (page * size) old new c.read_at.result c.physical_page_size-size.ensures (ap (λ (n : ℕ). page * n) c.physical_page_size-size.ensures) c.read_at.ensures.goes)
+
+pub returns-then-outlook-from-eq0-clause-reads : goal.returns-then-outlook-from-eq0-clause-reads
+returns-then-outlook-from-eq0-clause-reads g c =
+    let P = non_zero_u16_get c.args.page_size in
+    rising_none P (c.args.outlook.now.pages - 1) (min 1 (c.args.outlook.now.len % P)) (g.B.Blob.life c.args.blob.now)
+
+pub returns-in_err-page-clause-reads : goal.returns-in_err-page-clause-reads
+returns-in_err-page-clause-reads g c = reads g (goal.at.returns-in_err-page-clause-reads g c).After-read_at
+
+pub returns-clause-reads : goal.returns-clause-reads
+returns-clause-reads g c = reads g (goal.at.returns-clause-reads g c).After-read_at

@@ -1,15 +1,14 @@
-use Rattle.std.proofs.Common.{rules, ◌≡◌, ◌≤◌, ◌*◌, ◌+◌, ◌-◌, ◌/◌, ℕ, length, subst, sym, ◌∙◌, ap, arith, Ok}
+use Rattle.std.proofs.Common.{◌≡◌, ◌≤◌, ◌*◌, ◌+◌, ◌-◌, ◌/◌, ℕ, length, subst, sym, ◌∙◌, ap, arith, Ok}
 use Rattle.std.proofs.Math.Nat.{div-eq_of_lt}
 use Rattle.std.specs.Int.NonZero.{non_zero_u16_get, non_zero_usize_get}
 use Rattle.crash.specs.Looks.{Looked}
 use Rattle.page.specs.Page.{pieces}
 use Rattle.paged_read.specs.Prefix.{prefix_of, prefix_pages}
-use Rattle.paged_read.specs.Scans.{StopsAt, prefix_from}
-use Rattle.paged_read.specs.Searches.{ReadsWithin, scan_bytes}
+use Rattle.paged_read.specs.Scans.{ReadsUpToEnd, prefix_from}
+use Rattle.paged_read.specs.Searches.{scan_bytes}
 use Rattle.paged_read.proofs.Looking.{look_finds}
 use Rattle.paged.proofs.Surveying.{leaves_as_is}
 use Rattle.paged_read.proofs.Prefixes.{stands_first}
-use Rattle.paged_read.proofs.Forward.{forward_is_within}
 use Rattle.paged.specs.declared.outlook.Outlook.{Outlook}
 use Rattle.paged.specs.Outlook.{IsOutlook}
 use Rattle.paged.proofs.Foretelling.{finds_only_looks, foretold, found_few, found_first, found_there, idle_is, found_none, told_is, whole_there}
@@ -31,20 +30,13 @@ looks g c =
     finds_only_looks first old (g.B.Blob.life c.scan_from.new.blob) c.scan_from.result
     (look_finds (n * (P + 12)) (prefix_from sum P 0 n readable) first old (g.B.Blob.life c.scan_from.new.blob) c.scan_from.result there (sym (stands_first sum P n readable)) c.scan_from.ensures.looks)
 
--- no read is of more than was asked for
-within : (g : Over) (c : After-scan_from g) → ReadsWithin (scan_bytes (non_zero_u16_get c.args.page_size) (non_zero_usize_get c.args.buffer_size)) (g.B.Blob.life c.args.blob.now) (g.B.Blob.life c.scan_from.new.blob)
-within g c =
+-- the batches that the scan reads
+reads : (g : Over) (c : After-scan_from g) → let P = non_zero_u16_get c.args.page_size in
+    ReadsUpToEnd g.H.Sum.sum_of P (scan_bytes P (non_zero_usize_get c.args.buffer_size)) 0 (c.args.size / (P + 12)) (g.B.Blob.life c.args.blob.now) (g.B.Blob.life c.scan_from.new.blob)
+reads g c =
     let P = non_zero_u16_get c.args.page_size in
-    forward_is_within (scan_bytes P (non_zero_usize_get c.args.buffer_size)) (0 * (P + 12)) (c.args.size / c.physical_page_size-physical_page_size.result * (P + 12)) (g.B.Blob.life c.args.blob.now) (g.B.Blob.life c.scan_from.new.blob)
-    c.scan_from.ensures.costs.forward
-
--- no read begins beyond the page in which the text ends
-stops : (g : Over) (c : After-scan_from g) → let P = non_zero_u16_get c.args.page_size in let old = g.B.Blob.life c.args.blob.now in
-    StopsAt P (prefix_from g.H.Sum.sum_of P 0 (c.args.size / (P + 12)) old.present.readable).full_pages old (g.B.Blob.life c.scan_from.new.blob)
-stops g c =
-    let P = non_zero_u16_get c.args.page_size in
-    let old = g.B.Blob.life c.args.blob.now in
-    subst (λ (n : ℕ). StopsAt P (prefix_from g.H.Sum.sum_of P 0 (c.args.size / n) old.present.readable).full_pages old (g.B.Blob.life c.scan_from.new.blob)) c.physical_page_size-physical_page_size.ensures c.scan_from.ensures.costs.stops
+    let most = scan_bytes P (non_zero_usize_get c.args.buffer_size) in
+    subst (λ (n : ℕ). ReadsUpToEnd g.H.Sum.sum_of P most 0 (c.args.size / n) (g.B.Blob.life c.args.blob.now) (g.B.Blob.life c.scan_from.new.blob)) c.physical_page_size-physical_page_size.ensures c.scan_from.ensures.costs
 
 pub returns-in_err-prefix-clause-leaves : goal.returns-in_err-prefix-clause-leaves
 returns-in_err-prefix-clause-leaves g c =
@@ -124,9 +116,7 @@ returns-clause-foretells g c =
 
 pub returns-in_err-prefix-clause-costs : goal.returns-in_err-prefix-clause-costs
 returns-in_err-prefix-clause-costs g c = record {
-  forward = search rules;
-  stops = stops g (goal.at.returns-in_err-prefix-clause-costs g c).After-scan_from;
-  within = within g (goal.at.returns-in_err-prefix-clause-costs g c).After-scan_from;
+  reads = reads g (goal.at.returns-in_err-prefix-clause-costs g c).After-scan_from;
   idle = λ less.
       let P = non_zero_u16_get c.args.page_size in
       let none : c.args.size / c.physical_page_size-physical_page_size.result ≡ 0 = div-eq_of_lt (omega (arith, less, c.physical_page_size-physical_page_size.ensures)) in
@@ -137,9 +127,7 @@ returns-in_err-prefix-clause-costs g c = record {
 pub returns-clause-costs : goal.returns-clause-costs
 unfolding answer
 returns-clause-costs g c = record {
-  forward = search rules;
-  stops = stops g (goal.at.returns-clause-costs g c).After-scan_from;
-  within = within g (goal.at.returns-clause-costs g c).After-scan_from;
+  reads = reads g (goal.at.returns-clause-costs g c).After-scan_from;
   idle = λ less.
       let sum = g.H.Sum.sum_of in
       let P = non_zero_u16_get c.args.page_size in

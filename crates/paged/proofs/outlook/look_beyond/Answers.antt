@@ -1,11 +1,10 @@
 use Rattle.std.proofs.Common.{◌≡◌, ℕ, ◌+◌, ◌-◌, ◌*◌, ◌/◌, ◌≤◌, max, Bool, refl, ap, sym, ◌∙◌, arith, subst, length, take, drop}
 use Rattle.std.specs.Prelude.{◌&&◌}
-use Rattle.std.proofs.Math.Nat.{mul-le-mul_left}
 use Rattle.std.proofs.lemmas.Result.{err_from_is_err_and}
 use Rattle.std.specs.Int.NonZero.{non_zero_u16_get, non_zero_usize_get}
 use Rattle.crash.specs.Looks.{looked_start}
 use Rattle.crash.proofs.LookLaws.{read_gives}
-use Rattle.paged_read.specs.Scans.{pages_from, ReadsForward}
+use Rattle.paged_read.specs.Scans.{batches, pages_from, ReadsForward}
 use Rattle.paged_read.specs.Searches.{scan_bytes}
 use Rattle.paged_read.proofs.Prefixes.{batch_fits}
 use Rattle.paged_read.specs.Failures.{none_failed_start}
@@ -20,7 +19,7 @@ use Rattle.paged.proofs.outlook.look_beyond.Goals.{After-are_zeros-blank, After-
 
 -- a batch was read, whatever the answer
 reads : (g : Over) (c : After-read_at g) → let P = non_zero_u16_get c.args.page_size in
-    ReadsForward (scan_bytes P (non_zero_usize_get c.args.buffer_size)) (c.args.first * (P + 12)) (c.args.pages * (P + 12)) (g.B.Blob.life c.args.blob.now) (g.B.Blob.life c.read_at.new.self)
+    ReadsForward (scan_bytes P (non_zero_usize_get c.args.buffer_size)) (c.args.first * (P + 12)) (c.args.pages * (P + 12)) (batches (scan_bytes P (non_zero_usize_get c.args.buffer_size)) (c.args.first * (P + 12)) (c.args.pages * (P + 12))) (g.B.Blob.life c.args.blob.now) (g.B.Blob.life c.read_at.new.self)
 reads g c =
     let life = g.B.Blob.life in
     let P = non_zero_u16_get c.args.page_size in
@@ -31,9 +30,8 @@ reads g c =
     let k = c.loop-done.done in
     let b = c.min-batch.result in
     let is : most * (P + 12) ≡ scan_bytes P (non_zero_usize_get c.args.buffer_size) = scan_bytes_is P size (non_zero_usize_get c.args.buffer_size) most c.physical_page_size-size.ensures (c.max-most.ensures ∙ ap (λ (n : ℕ). max (n / size) 1) c.get.ensures.value) in
-    let fits = batch_fits P (P + 12) k b c.args.pages (c.args.pages * (P + 12)) refl (omega arith) (omega arith) in
-    subst (λ (n : ℕ). ReadsForward n (c.args.first * (P + 12)) (c.args.pages * (P + 12)) old new) is
-    (forward_batch P size k b most (c.args.first * (P + 12)) (c.args.pages * (P + 12)) old (life c.loop-done.blob) new c.read_at.result c.physical_page_size-size.ensures (omega arith) fits c.loop-done.invariant.reads c.read_at.ensures.goes)
+    subst (λ (n : ℕ). ReadsForward n (c.args.first * (P + 12)) (c.args.pages * (P + 12)) (batches n (c.args.first * (P + 12)) (c.args.pages * (P + 12))) old new) is
+    (forward_batch P size k b most c.args.first c.args.pages c.args.pages old (life c.loop-done.blob) new c.read_at.result c.physical_page_size-size.ensures c.loop-done.invariant.some (omega arith) (omega arith) (omega arith) c.loop-done.invariant.reads c.read_at.ensures.goes)
 
 pub returns-in_err-bytes-clause-reads : goal.returns-in_err-bytes-clause-reads
 returns-in_err-bytes-clause-reads g c = reads g (goal.at.returns-in_err-bytes-clause-reads g c).After-read_at
@@ -115,7 +113,7 @@ loop-done-preserved-in_ok-bytes g c =
       blank = zeros g (goal.at.loop-done-preserved-in_ok-bytes g c).After-are_zeros-blank;
       looked = looked_on (k * size) (b * size) old (life c.loop-done.blob) new bytes c.loop-done.invariant.looked c.in_ok-bytes.ensures.goes;
       answered = none_failed_on (k * size) (b * size) old (life c.loop-done.blob) new bytes c.loop-done.invariant.answered c.in_ok-bytes.ensures.goes;
-      reads = next_batch P size k b c.max-most.result (c.args.first * (P + 12)) old (life c.loop-done.blob) new bytes c.physical_page_size-size.ensures (omega arith) c.loop-done.invariant.reads c.in_ok-bytes.ensures.goes;
+      reads = next_batch P size k b c.max-most.result c.args.first c.args.pages c.args.pages old (life c.loop-done.blob) new bytes c.physical_page_size-size.ensures c.loop-done.invariant.some (omega arith) (omega arith) (omega arith) c.loop-done.invariant.reads c.in_ok-bytes.ensures.goes;
     }
 
 pub loop-done-preserved : goal.loop-done-preserved
@@ -136,7 +134,7 @@ loop-done-preserved g c =
       blank = zeros g (goal.at.loop-done-preserved g c).After-are_zeros-blank;
       looked = looked_on (k * size) (b * size) old (life c.loop-done.blob) new bytes c.loop-done.invariant.looked c.in_ok-bytes.ensures.goes;
       answered = none_failed_on (k * size) (b * size) old (life c.loop-done.blob) new bytes c.loop-done.invariant.answered c.in_ok-bytes.ensures.goes;
-      reads = next_batch P size k b c.max-most.result (c.args.first * (P + 12)) old (life c.loop-done.blob) new bytes c.physical_page_size-size.ensures (omega arith) c.loop-done.invariant.reads c.in_ok-bytes.ensures.goes;
+      reads = next_batch P size k b c.max-most.result c.args.first c.args.pages c.args.pages old (life c.loop-done.blob) new bytes c.physical_page_size-size.ensures c.loop-done.invariant.some (omega arith) (omega arith) (omega arith) c.loop-done.invariant.reads c.in_ok-bytes.ensures.goes;
     }
 
 pub loop-done-init : goal.loop-done-init
@@ -151,7 +149,7 @@ loop-done-init g c =
       blank = sym (ap (λ (n : ℕ). are_zeros (take n (drop (c.args.first * (P + 12)) old.present.readable))) (ap (λ (n : ℕ). n * (P + 12)) (let e : c.args.first - c.args.first ≡ 0 = omega arith in e) ∙ (let e : 0 * (P + 12) ≡ 0 = omega arith in e)));
       looked = looked_start old;
       answered = none_failed_start old.present;
-      reads = forward_start (c.max-most.result * (P + 12)) (c.args.first * (P + 12)) old;
+      reads = forward_start P c.max-most.result c.args.first c.args.pages (batches (c.max-most.result * (P + 12)) (c.args.first * (P + 12)) (c.args.pages * (P + 12))) old c.requires.order;
     }
 
 pub returns-clause-counts : goal.returns-clause-counts
@@ -178,5 +176,4 @@ returns-clause-reads g c =
     let old = life c.args.blob.now in
     let now = life c.loop-done.blob in
     let is : most * (P + 12) ≡ scan_bytes P (non_zero_usize_get c.args.buffer_size) = scan_bytes_is P c.physical_page_size-size.result (non_zero_usize_get c.args.buffer_size) most c.physical_page_size-size.ensures (c.max-most.ensures ∙ ap (λ (n : ℕ). max (n / c.physical_page_size-size.result) 1) c.get.ensures.value) in
-    let more : (P + 12) * k ≤ (P + 12) * c.args.pages = mul-le-mul_left (P + 12) c.loop-done.invariant.within in
-    subst (λ (n : ℕ). ReadsForward n from to old now) is (forward_end (most * (P + 12)) from (k * (P + 12)) to old now (omega (arith, more)) c.loop-done.invariant.reads)
+    subst (λ (n : ℕ). ReadsForward n from to (batches n from to) old now) is (forward_end P most c.args.first c.args.pages (batches (most * (P + 12)) from to) k old now c.loop-done.invariant.reads)

@@ -2,7 +2,7 @@ use Rattle.std.proofs.Common.{◌≡◌, ◌≤◌, ◌<◌, ◌-◌, ◌+◌, �
 use Rattle.std.specs.Int.NonZero.{non_zero_u16_get}
 use Rattle.crash.specs.Looks.{Looked}
 use Rattle.paged_read.specs.Failures.{NoneFailed}
-use Rattle.paged_read.specs.Scans.{pages_from}
+use Rattle.paged_read.specs.Scans.{batches, pages_from}
 use Rattle.paged_read.proofs.Forward.{ReadsTo}
 use Rattle.paged.specs.Outlook.{are_zeros, values_of}
 use Rattle.paged.proofs.outlook.look_beyond.Given as goal
@@ -20,7 +20,7 @@ invariant-loop-done g l =
       blank : l.blank ≡ are_zeros (take ((l.done - l.first) * (P + 12)) (drop (l.first * (P + 12)) old.present.readable));
       looked : Looked old now;
       answered : NoneFailed old.present now.present;
-      reads : ReadsTo (l.most * (P + 12)) (l.first * (P + 12)) (l.done * (P + 12)) old now;
+      reads : ReadsTo P l.most l.first l.pages (batches (l.most * (P + 12)) (l.first * (P + 12)) (l.pages * (P + 12))) l.done old now;
     }
 
 abbrev pub decreases-loop-done : goal.decreases-loop-done

@@ -1,34 +1,16 @@
-use Rattle.std.proofs.Common.{◌≤◌, ◌*◌, ◌+◌, ◌-◌, ◌/◌, ℕ, List, length, refl, sym, ◌∙◌, ap, arith, subst, Err}
-use Rattle.std.proofs.Math.Nat.{mul-le-mul_left}
+use Rattle.std.proofs.Common.{◌≤◌, ◌*◌, ◌+◌, ◌-◌, ◌/◌, ◌%◌, min, ℕ, List, length, refl, sym, ◌∙◌, ap, arith, subst}
 use Rattle.std.proofs.lemmas.Result.{err_from_is_err_and}
 use Rattle.std.specs.Int.NonZero.{non_zero_u16_get, non_zero_usize_get}
-use Rattle.disk.specs.declared.error.Error.{Error}
 use Rattle.crash.specs.Looks.{Looked, looked_joins}
 use Rattle.crash.proofs.LookLaws.{looked_readable}
-use Rattle.paged_read.specs.Scans.{ReadsForward}
-use Rattle.paged_read.specs.Searches.{scan_bytes}
-use Rattle.paged_read.proofs.Forward.{forward_is_within}
+use Rattle.paged_read.specs.Searches.{ReadsWithin, scan_bytes}
+use Rattle.paged_read.proofs.RawCosts.{rising_none, rising_within}
 use Rattle.paged_read.proofs.Searching.{page_within}
-use Rattle.paged.specs.Outlook.{IsOutlook, ReadsLast, has_torn_page}
-use Rattle.paged.proofs.Surveying.{kept_within, last_reading, last_unread, look_fault_later, only_looks, reads_once, within_both}
+use Rattle.paged.specs.Outlook.{IsOutlook, ReadsToLast, has_torn_page, kept_pages, last_reads}
+use Rattle.paged.proofs.Surveying.{last_of, look_fault_later, look_within, only_looks, within_both}
 use Rattle.paged.proofs.outlook.look_to_last.Given.{Over}
 use Rattle.paged.proofs.outlook.look_to_last.Goals as goal
 use Rattle.paged.proofs.outlook.look_to_last.Goals.{After-last_is_torn}
-
--- the pages that are kept end before the whole ones do
-pages_end : (g : Over) (c : After-last_is_torn g) → let P = non_zero_u16_get c.args.page_size in c.in_ok-outlook.outlook.pages * (P + 12) ≤ c.args.size / (P + 12) * (P + 12)
-pages_end g c =
-    let P = non_zero_u16_get c.args.page_size in
-    let few : c.in_ok-outlook.outlook.pages ≤ c.args.size / (P + 12) = omega (
-      arith,
-      kept_within g.H.Sum.sum_of P (g.B.Blob.life c.args.blob.now).present.readable c.in_ok-outlook.outlook c.in_ok-outlook.ensures.goes,
-      ap (λ (n : ℕ). n / (P + 12)) c.requires.length,
-    ) in
-    let more : (P + 12) * c.in_ok-outlook.outlook.pages ≤ (P + 12) * (c.args.size / (P + 12)) = mul-le-mul_left (P + 12) few in
-    omega (arith, more)
-
-few : (g : Over) (c : After-last_is_torn g) → non_zero_u16_get c.args.page_size + 12 ≤ scan_bytes (non_zero_u16_get c.args.page_size) (non_zero_usize_get c.args.buffer_size)
-few g c = page_within (non_zero_u16_get c.args.page_size) (non_zero_usize_get c.args.buffer_size) (non_zero_u16_get c.args.page_size + 12) refl
 
 -- the call only looks
 looks : (g : Over) (c : After-last_is_torn g) → Looked (g.B.Blob.life c.args.blob.now) (g.B.Blob.life c.last_is_torn.new.blob)
@@ -60,8 +42,18 @@ returns-in_err-outlook-clause-looks g c =
 pub returns-in_err-outlook-clause-reads : goal.returns-in_err-outlook-clause-reads
 returns-in_err-outlook-clause-reads g c =
     let P = non_zero_u16_get c.args.page_size in
-    let p = err_from_is_err_and c.from_residual.result c.from_residual.ensures.1 in
-    rw (p.1) (reads_once (scan_bytes P (non_zero_usize_get c.args.buffer_size)) (c.args.size / (P + 12) * (P + 12)) (g.B.Blob.life c.args.blob.now) (g.B.Blob.life c.look.new.blob) c.look.ensures.costs.forward)
+    let readable = (g.B.Blob.life c.args.blob.now).present.readable in
+    let new = g.B.Blob.life c.look.new.blob in
+    record {
+      mid = new;
+      first = c.look.ensures.costs.reads;
+      last = rising_none P (kept_pages g.H.Sum.sum_of P readable - 1) (last_reads g.H.Sum.sum_of P readable) new;
+    }
+
+pub returns-in_err-outlook-clause-within : goal.returns-in_err-outlook-clause-within
+returns-in_err-outlook-clause-within g c =
+    let P = non_zero_u16_get c.args.page_size in
+    look_within g.H.Sum.sum_of P (scan_bytes P (non_zero_usize_get c.args.buffer_size)) c.args.size (g.B.Blob.life c.args.blob.now) (g.B.Blob.life c.look.new.blob) c.look.ensures.costs.reads
 
 -- ---- where the last page can't be read
 
@@ -73,33 +65,34 @@ returns-in_err-torn-clause-looks g c =
     rw (p.1, p.2)
     (look_fault_later g.H.Sum.sum_of P (length mid.present.readable) (has_torn_page g.H.Sum.sum_of P mid.present.readable c.in_ok-outlook.outlook) (g.B.Blob.life c.args.blob.now) mid (g.B.Blob.life c.last_is_torn.new.blob) c.in_err-torn.field-0.0 (omega arith) c.look.ensures.looked c.in_err-torn.ensures.tells)
 
-unread : (g : Over) (c : After-last_is_torn g) (e : Error) → ReadsLast (non_zero_u16_get c.args.page_size) c.in_ok-outlook.outlook (g.B.Blob.life c.look.new.blob) (g.B.Blob.life c.last_is_torn.new.blob) (Err e)
-    → let P = non_zero_u16_get c.args.page_size in
-    ReadsForward (scan_bytes P (non_zero_usize_get c.args.buffer_size)) ((c.in_ok-outlook.outlook.pages - 1) * (P + 12)) (c.args.size / (P + 12) * (P + 12)) (g.B.Blob.life c.look.new.blob) (g.B.Blob.life c.last_is_torn.new.blob)
-unread g c e last =
+-- the reads, whether the last page could be read or not
+reads : (g : Over) (c : After-last_is_torn g) → let P = non_zero_u16_get c.args.page_size in
+    ReadsToLast g.H.Sum.sum_of P (scan_bytes P (non_zero_usize_get c.args.buffer_size)) c.args.size (g.B.Blob.life c.args.blob.now) (g.B.Blob.life c.last_is_torn.new.blob)
+reads g c =
     let P = non_zero_u16_get c.args.page_size in
-    last_unread P (scan_bytes P (non_zero_usize_get c.args.buffer_size)) (c.args.size / (P + 12) * (P + 12)) c.in_ok-outlook.outlook (g.B.Blob.life c.look.new.blob) (g.B.Blob.life c.last_is_torn.new.blob) e (few g c) (pages_end g c) last
+    let mid = g.B.Blob.life c.look.new.blob in
+    record {
+      mid = mid;
+      first = c.look.ensures.costs.reads;
+      last = last_of g.H.Sum.sum_of P (g.B.Blob.life c.args.blob.now).present.readable c.in_ok-outlook.outlook mid (g.B.Blob.life c.last_is_torn.new.blob) c.in_ok-outlook.ensures.goes c.last_is_torn.ensures.reads;
+    }
 
-pub returns-in_err-torn-clause-reads : goal.returns-in_err-torn-clause-reads
-returns-in_err-torn-clause-reads g c =
-    let P = non_zero_u16_get c.args.page_size in
-    let k = (goal.at.returns-in_err-torn-clause-reads g c).After-last_is_torn in
-    let p = err_from_is_err_and c.from_residual-in_err-torn.result c.from_residual-in_err-torn.ensures.1 in
-    rw (p.1) (
-      g.B.Blob.life c.look.new.blob,
-      (c.in_ok-outlook.outlook.pages - 1) * (P + 12),
-      c.look.ensures.costs.forward,
-      unread g k c.in_err-torn.field-0.0 c.in_err-torn.ensures.reads,
-    )
-
-pub returns-in_err-torn-clause-within : goal.returns-in_err-torn-clause-within
-returns-in_err-torn-clause-within g c =
+within : (g : Over) (c : After-last_is_torn g) → let P = non_zero_u16_get c.args.page_size in
+    ReadsWithin (scan_bytes P (non_zero_usize_get c.args.buffer_size)) (g.B.Blob.life c.args.blob.now) (g.B.Blob.life c.last_is_torn.new.blob)
+within g c =
     let P = non_zero_u16_get c.args.page_size in
     let most = scan_bytes P (non_zero_usize_get c.args.buffer_size) in
+    let outlook = c.in_ok-outlook.outlook in
     let mid = g.B.Blob.life c.look.new.blob in
     let new = g.B.Blob.life c.last_is_torn.new.blob in
-    within_both most (g.B.Blob.life c.args.blob.now) mid new c.look.ensures.costs.within
-    (forward_is_within most ((c.in_ok-outlook.outlook.pages - 1) * (P + 12)) (c.args.size / (P + 12) * (P + 12)) mid new (unread g (goal.at.returns-in_err-torn-clause-within g c).After-last_is_torn c.in_err-torn.field-0.0 c.in_err-torn.ensures.reads))
+    within_both most (g.B.Blob.life c.args.blob.now) mid new (look_within g.H.Sum.sum_of P most c.args.size (g.B.Blob.life c.args.blob.now) mid c.look.ensures.costs.reads)
+    (rising_within P (outlook.pages - 1) (min 1 (outlook.len % P)) most mid new (page_within P (non_zero_usize_get c.args.buffer_size) (P + 12) refl) c.last_is_torn.ensures.reads)
+
+pub returns-in_err-torn-clause-reads : goal.returns-in_err-torn-clause-reads
+returns-in_err-torn-clause-reads g c = reads g (goal.at.returns-in_err-torn-clause-reads g c).After-last_is_torn
+
+pub returns-in_err-torn-clause-within : goal.returns-in_err-torn-clause-within
+returns-in_err-torn-clause-within g c = within g (goal.at.returns-in_err-torn-clause-within g c).After-last_is_torn
 
 pub returns-in_err-torn-clause-looked : goal.returns-in_err-torn-clause-looked
 returns-in_err-torn-clause-looked g c = looks g (goal.at.returns-in_err-torn-clause-looked g c).After-last_is_torn
@@ -113,17 +106,10 @@ returns-clause-looks g c = (
 )
 
 pub returns-clause-reads : goal.returns-clause-reads
-returns-clause-reads g c = (g.B.Blob.life c.look.new.blob, c.look.ensures.costs.forward, c.in_ok-torn.ensures.reads)
+returns-clause-reads g c = reads g (goal.at.returns-clause-reads g c).After-last_is_torn
 
 pub returns-clause-within : goal.returns-clause-within
-returns-clause-within g c =
-    let P = non_zero_u16_get c.args.page_size in
-    let most = scan_bytes P (non_zero_usize_get c.args.buffer_size) in
-    let mid = g.B.Blob.life c.look.new.blob in
-    let new = g.B.Blob.life c.last_is_torn.new.blob in
-    let k = (goal.at.returns-clause-within g c).After-last_is_torn in
-    let read = last_reading P most (c.args.size / (P + 12) * (P + 12)) c.in_ok-outlook.outlook mid new c.in_ok-torn.torn (few g k) (pages_end g k) c.in_ok-torn.ensures.reads in
-    within_both most (g.B.Blob.life c.args.blob.now) mid new c.look.ensures.costs.within (forward_is_within most read.0 (c.args.size / (P + 12) * (P + 12)) mid new read.1)
+returns-clause-within g c = within g (goal.at.returns-clause-within g c).After-last_is_torn
 
 pub returns-clause-looked : goal.returns-clause-looked
 returns-clause-looked g c = looks g (goal.at.returns-clause-looked g c).After-last_is_torn

@@ -1,16 +1,14 @@
 use Rattle.std.proofs.Common.{◌≡◌, ◌≤◌, ◌*◌, ◌+◌, ◌/◌, ℕ, List, length, refl, ◌∙◌, ap, arith, subst}
-use Rattle.std.proofs.Math.Nat.{mul-le-mul_left}
 use Rattle.std.proofs.lemmas.Result.{err_from_is_err_and}
 use Rattle.std.specs.Int.NonZero.{non_zero_u16_get, non_zero_usize_get}
 use Rattle.crash.specs.Looks.{Looked, looked_joins}
 use Rattle.crash.proofs.LookLaws.{looked_readable}
-use Rattle.paged_read.specs.Scans.{ReadsForward}
-use Rattle.paged_read.specs.Searches.{ReadsWithin, scan_bytes}
-use Rattle.paged_read.proofs.Forward.{forward_is_within}
-use Rattle.paged_read.proofs.Searching.{page_within}
-use Rattle.paged.specs.Outlook.{ReadsTwice, beyond_of}
+use Rattle.paged_read.specs.Scans.{batches, ReadsForward}
+use Rattle.paged_read.specs.Searches.{scan_bytes}
+use Rattle.paged_read.proofs.Forward.{forward_none}
+use Rattle.paged.specs.Outlook.{SurveyCosts, batches_beyond, beyond_of, kept_pages}
 use Rattle.paged.proofs.Foretelling.{foretold, whole_there}
-use Rattle.paged.proofs.Surveying.{kept_within, later_fault, leaves_as_is, only_looks, second_reading, survey_fault, survey_is, within_both}
+use Rattle.paged.proofs.Surveying.{beyond_reads, kept_within, later_fault, leaves_as_is, only_looks, survey_costs, survey_fault, survey_is}
 use Rattle.paged.proofs.outlook.survey.Given.{Over}
 use Rattle.paged.proofs.outlook.survey.Goals as goal
 use Rattle.paged.proofs.outlook.survey.Goals.{After-look_beyond}
@@ -26,39 +24,20 @@ last_looks g c =
 looks : (g : Over) (c : After-look_beyond g) → Looked (g.B.Blob.life c.args.blob.now) (g.B.Blob.life c.look_beyond.new.blob)
 looks g c = looked_joins (g.B.Blob.life c.args.blob.now) (g.B.Blob.life c.look_to_last.new.blob) (g.B.Blob.life c.look_beyond.new.blob) c.look_to_last.ensures.looked (last_looks g c)
 
--- the pages that are kept are among the whole ones
-kept : (g : Over) (c : After-look_beyond g) → c.in_ok-outlook.outlook.pages ≤ c.args.size / (non_zero_u16_get c.args.page_size + 12)
-kept g c =
-    let P = non_zero_u16_get c.args.page_size in
-    omega (
-      arith,
-      kept_within g.H.Sum.sum_of P (g.B.Blob.life c.args.blob.now).present.readable c.in_ok-outlook.outlook c.in_ok-outlook.ensures.looks.0,
-      ap (λ (n : ℕ). n / (P + 12)) c.requires.length,
-    )
-
-twice : (g : Over) (c : After-look_beyond g) → let P = non_zero_u16_get c.args.page_size in
-    ReadsTwice (scan_bytes P (non_zero_usize_get c.args.buffer_size)) (c.args.size / (P + 12) * (P + 12)) (g.B.Blob.life c.args.blob.now) (g.B.Blob.life c.look_beyond.new.blob)
-twice g c =
+-- what it asks for, whether the pages after the text could be read or not
+costs : (g : Over) (c : After-look_beyond g) → let P = non_zero_u16_get c.args.page_size in
+    SurveyCosts g.H.Sum.sum_of P (scan_bytes P (non_zero_usize_get c.args.buffer_size)) c.args.size (g.B.Blob.life c.args.blob.now) (g.B.Blob.life c.look_beyond.new.blob)
+costs g c =
+    let sum = g.H.Sum.sum_of in
     let P = non_zero_u16_get c.args.page_size in
     let most = scan_bytes P (non_zero_usize_get c.args.buffer_size) in
-    let pages = c.in_ok-outlook.outlook.pages in
+    let old = g.B.Blob.life c.args.blob.now in
     let mid = g.B.Blob.life c.look_to_last.new.blob in
     let new = g.B.Blob.life c.look_beyond.new.blob in
-    let first = c.in_ok-outlook.ensures.reads in
-    let few = page_within P (non_zero_usize_get c.args.buffer_size) (P + 12) refl in
-    let more : (P + 12) * pages ≤ (P + 12) * (c.args.size / (P + 12)) = mul-le-mul_left (P + 12) (kept g c) in
-    let second = second_reading P most (c.args.size / (P + 12) * (P + 12)) c.in_ok-outlook.outlook first.0 mid new c.in_ok-outlook.torn few (omega (arith, more)) first.2
-    (subst (λ (n : ℕ). ReadsForward most (pages * (P + 12)) (c.args.size / n * (P + 12)) mid new) c.physical_page_size.ensures c.look_beyond.ensures.reads) in
-    (first.0, second.0, first.1, second.1)
-
-within : (g : Over) (c : After-look_beyond g) → ReadsWithin (scan_bytes (non_zero_u16_get c.args.page_size) (non_zero_usize_get c.args.buffer_size)) (g.B.Blob.life c.args.blob.now) (g.B.Blob.life c.look_beyond.new.blob)
-within g c =
-    let P = non_zero_u16_get c.args.page_size in
-    let most = scan_bytes P (non_zero_usize_get c.args.buffer_size) in
-    let mid = g.B.Blob.life c.look_to_last.new.blob in
-    let new = g.B.Blob.life c.look_beyond.new.blob in
-    within_both most (g.B.Blob.life c.args.blob.now) mid new c.look_to_last.ensures.within
-    (forward_is_within most (c.in_ok-outlook.outlook.pages * (P + 12)) (c.args.size / c.physical_page_size.result * (P + 12)) mid new c.look_beyond.ensures.reads)
+    let from = c.in_ok-outlook.outlook.pages * (P + 12) in
+    let beyond : ReadsForward most from (c.args.size / (P + 12) * (P + 12)) (batches most from (c.args.size / (P + 12) * (P + 12))) mid new =
+    subst (λ (n : ℕ). ReadsForward most from (c.args.size / n * (P + 12)) (batches most from (c.args.size / n * (P + 12))) mid new) c.physical_page_size.ensures c.look_beyond.ensures.reads in
+    survey_costs sum P most c.args.size old mid new c.look_to_last.ensures.reads (beyond_reads sum P most (c.args.size / (P + 12)) old.present.readable c.in_ok-outlook.outlook mid new c.in_ok-outlook.ensures.looks.0 beyond)
 
 pub look_beyond-requires-clause-order : goal.look_beyond-requires-clause-order
 look_beyond-requires-clause-order g c =
@@ -82,6 +61,17 @@ returns-in_err-outlook-clause-goes g c =
 pub returns-in_err-outlook-clause-leaves : goal.returns-in_err-outlook-clause-leaves
 returns-in_err-outlook-clause-leaves g c = leaves_as_is (g.B.Blob.life c.args.blob.now) (g.B.Blob.life c.look_to_last.new.blob) c.look_to_last.ensures.looked
 
+pub returns-in_err-outlook-clause-costs : goal.returns-in_err-outlook-clause-costs
+returns-in_err-outlook-clause-costs g c =
+    let sum = g.H.Sum.sum_of in
+    let P = non_zero_u16_get c.args.page_size in
+    let most = scan_bytes P (non_zero_usize_get c.args.buffer_size) in
+    let old = g.B.Blob.life c.args.blob.now in
+    let new = g.B.Blob.life c.look_to_last.new.blob in
+    let readable = old.present.readable in
+    survey_costs sum P most c.args.size old new new c.look_to_last.ensures.reads
+    (forward_none most (kept_pages sum P readable * (P + 12)) (c.args.size / (P + 12) * (P + 12)) (batches_beyond sum P most c.args.size readable) new)
+
 -- ---- where the pages after the text can't be read
 
 pub returns-in_err-beyond-clause-goes : goal.returns-in_err-beyond-clause-goes
@@ -101,8 +91,7 @@ returns-in_err-beyond-clause-goes g c =
 
 pub returns-in_err-beyond-clause-costs : goal.returns-in_err-beyond-clause-costs
 returns-in_err-beyond-clause-costs g c =
-    let k = (goal.at.returns-in_err-beyond-clause-costs g c).After-look_beyond in
-    record { twice = twice g k; within = within g k }
+    costs g (goal.at.returns-in_err-beyond-clause-costs g c).After-look_beyond
 
 pub returns-in_err-beyond-clause-looked : goal.returns-in_err-beyond-clause-looked
 returns-in_err-beyond-clause-looked g c = looks g (goal.at.returns-in_err-beyond-clause-looked g c).After-look_beyond
@@ -125,8 +114,7 @@ returns-clause-foretells g c = foretold g.H.Sum.sum_of (non_zero_u16_get c.args.
 
 pub returns-clause-costs : goal.returns-clause-costs
 returns-clause-costs g c =
-    let k = (goal.at.returns-clause-costs g c).After-look_beyond in
-    record { twice = twice g k; within = within g k }
+    costs g (goal.at.returns-clause-costs g c).After-look_beyond
 
 pub returns-clause-looked : goal.returns-clause-looked
 returns-clause-looked g c = looks g (goal.at.returns-clause-looked g c).After-look_beyond

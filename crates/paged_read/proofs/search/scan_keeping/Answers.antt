@@ -1,16 +1,15 @@
-use Rattle.std.proofs.Common.{◌≡◌, ℕ, ◌+◌, ◌*◌, ◌/◌, ◌≤◌, max, refl, ap, ◌∙◌, arith, subst, sym}
+use Rattle.std.proofs.Common.{◌≡◌, ℕ, ◌+◌, ◌*◌, ◌/◌, ◌≤◌, ◌<◌, max, min, refl, ap, ◌∙◌, arith, subst, sym}
 use Rattle.std.proofs.lemmas.Grind.{common_steps}
-use Rattle.std.proofs.Math.Nat.{mul-le-mul_left}
 use Rattle.std.proofs.lemmas.Result.{err_from_is_err_and}
 use Rattle.std.specs.Int.NonZero.{non_zero_u16_get, non_zero_usize_get}
-use Rattle.paged_read.specs.Scans.{prefix_from, ReadsForward, ReadsUpToEnd, StopsAt}
+use Rattle.paged_read.specs.Scans.{batches, prefix_from, ReadsForward, ReadsUpToEnd}
 use Rattle.paged_read.proofs.Prefixes.{batch_fits, batch_read, stands_ended, stands_on, stands_reach, has_bytes_batch}
 use Rattle.crash.specs.Looks.{looked_start}
 use Rattle.crash.proofs.LookLaws.{read_gives}
 use Rattle.paged_read.specs.Failures.{none_failed_start}
 use Rattle.paged_read.proofs.Looking.{looked_on, none_failed_on, read_there, look_fault, look_memory}
 use Rattle.paged_read.specs.Searches.{scan_bytes}
-use Rattle.paged_read.proofs.Forward.{forward_start, forward_end, forward_batch, next_batch, stops_read, stops_start}
+use Rattle.paged_read.proofs.Forward.{forward_start, forward_end, forward_batch, next_batch}
 use Rattle.paged_read.proofs.Keeping.{kept_ended, kept_fits, kept_from, kept_on}
 use Rattle.paged_read.proofs.Searching.{scan_bytes_is}
 use Rattle.paged_read.proofs.search.scan_keeping.Given.{Over}
@@ -128,17 +127,16 @@ returns-then-prefix-batch-clause-bytes g c =
     let batch = batch_read sum P size k b old.present.readable bytes q c.physical_page_size-size.ensures there read c.in_ok-prefix.ensures.ok in
     has_bytes_batch sum P c.args.pages k b old.present.readable bytes q q.partial le batch c.if-prefix-batch.true c.in_ok-prefix.ensures.bytes
 
--- the next read begins at or before the page in which the text ends
-stops_next : (g : Over) (c : After-read_at g) → let P = non_zero_u16_get c.args.page_size in
-    StopsAt P (prefix_from g.H.Sum.sum_of P c.args.first c.args.pages (g.B.Blob.life c.args.blob.now).present.readable).full_pages (g.B.Blob.life c.args.blob.now) (g.B.Blob.life c.read_at.new.self)
-stops_next g c =
+-- the next read begins before the page after the one in which the text ends
+before_end : (g : Over) (c : After-read_at g) → let P = non_zero_u16_get c.args.page_size in
+    c.loop-done.done < min c.args.pages ((prefix_from g.H.Sum.sum_of P c.args.first c.args.pages (g.B.Blob.life c.args.blob.now).present.readable).full_pages + 1)
+before_end g c =
     let P = non_zero_u16_get c.args.page_size in
     let old = g.B.Blob.life c.args.blob.now in
     let k = c.loop-done.done in
-    let size = c.physical_page_size-size.result in
     let whole = prefix_from g.H.Sum.sum_of P c.args.first c.args.pages old.present.readable in
-    stops_read P size k (c.min-batch.result * size) whole.full_pages old (g.B.Blob.life c.loop-done.blob) (g.B.Blob.life c.read_at.new.self) c.read_at.result c.physical_page_size-size.ensures
-    (stands_reach g.H.Sum.sum_of P whole c.args.pages k old.present.readable c.loop-done.invariant.stands) c.loop-done.invariant.stops c.read_at.ensures.goes
+    let reach : k ≤ whole.full_pages = stands_reach g.H.Sum.sum_of P whole c.args.pages k old.present.readable c.loop-done.invariant.stands in
+    omega (arith, reach)
 
 pub loop-done-preserved : goal.loop-done-preserved
 loop-done-preserved g c =
@@ -167,8 +165,7 @@ loop-done-preserved g c =
       looked = looked_on (k * size) (b * size) old (life c.loop-done.blob) new bytes c.loop-done.invariant.looked c.in_ok-bytes.ensures.goes;
       answered = none_failed_on (k * size) (b * size) old (life c.loop-done.blob) new bytes c.loop-done.invariant.answered c.in_ok-bytes.ensures.goes;
       kept = kept_on sum P c.args.first c.args.pages k b readable bytes q le batch c.args.kept.now c.loop-done.kept c.keep.new.kept c.loop-done.invariant.kept c.in_ok-keep.ensures.kept (omega arith);
-      stops = stops_next g at;
-      reads = next_batch P size k b c.max-most.result (c.args.first * (P + 12)) old (life c.loop-done.blob) new bytes c.physical_page_size-size.ensures (omega arith) c.loop-done.invariant.reads c.in_ok-bytes.ensures.goes;
+      reads = next_batch P size k b c.max-most.result c.args.first c.args.pages (min c.args.pages ((prefix_from sum P c.args.first c.args.pages readable).full_pages + 1)) old (life c.loop-done.blob) new bytes c.physical_page_size-size.ensures c.loop-done.invariant.some (omega arith) (omega arith) (before_end g at) c.loop-done.invariant.reads c.in_ok-bytes.ensures.goes;
     }
 
 pub loop-done-preserved-else-prefix-batch : goal.loop-done-preserved-else-prefix-batch
@@ -198,8 +195,7 @@ loop-done-preserved-else-prefix-batch g c =
       looked = looked_on (k * size) (b * size) old (life c.loop-done.blob) new bytes c.loop-done.invariant.looked c.in_ok-bytes.ensures.goes;
       answered = none_failed_on (k * size) (b * size) old (life c.loop-done.blob) new bytes c.loop-done.invariant.answered c.in_ok-bytes.ensures.goes;
       kept = kept_on sum P c.args.first c.args.pages k b readable bytes q le batch c.args.kept.now c.loop-done.kept c.keep.new.kept c.loop-done.invariant.kept c.in_ok-keep.ensures.kept (omega arith);
-      stops = stops_next g at;
-      reads = next_batch P size k b c.max-most.result (c.args.first * (P + 12)) old (life c.loop-done.blob) new bytes c.physical_page_size-size.ensures (omega arith) c.loop-done.invariant.reads c.in_ok-bytes.ensures.goes;
+      reads = next_batch P size k b c.max-most.result c.args.first c.args.pages (min c.args.pages ((prefix_from sum P c.args.first c.args.pages readable).full_pages + 1)) old (life c.loop-done.blob) new bytes c.physical_page_size-size.ensures c.loop-done.invariant.some (omega arith) (omega arith) (before_end g at) c.loop-done.invariant.reads c.in_ok-bytes.ensures.goes;
     }
 
 -- a batch was read, whatever the answer
@@ -215,13 +211,10 @@ reads g c =
     let k = c.loop-done.done in
     let b = c.min-batch.result in
     let is : most * (P + 12) ≡ scan_bytes P (non_zero_usize_get c.args.buffer_size) = scan_bytes_is P size (non_zero_usize_get c.args.buffer_size) most c.physical_page_size-size.ensures (c.max-most.ensures ∙ ap (λ (n : ℕ). max (n / size) 1) c.get.ensures.value) in
-    let fits = batch_fits P (P + 12) k b c.args.pages (c.args.pages * (P + 12)) refl (omega arith) (omega arith) in
-    record {
-      forward =
-          subst (λ (n : ℕ). ReadsForward n (c.args.first * (P + 12)) (c.args.pages * (P + 12)) old new) is
-          (forward_batch P size k b most (c.args.first * (P + 12)) (c.args.pages * (P + 12)) old (life c.loop-done.blob) new c.read_at.result c.physical_page_size-size.ensures (omega arith) fits c.loop-done.invariant.reads c.read_at.ensures.goes);
-      stops = stops_next g c;
-    }
+    let from = c.args.first * (P + 12) in
+    let end : ℕ = min c.args.pages ((prefix_from g.H.Sum.sum_of P c.args.first c.args.pages old.present.readable).full_pages + 1) in
+    subst (λ (n : ℕ). ReadsForward n from (c.args.pages * (P + 12)) (batches n from (end * (P + 12))) old new) is
+    (forward_batch P size k b most c.args.first c.args.pages end old (life c.loop-done.blob) new c.read_at.result c.physical_page_size-size.ensures c.loop-done.invariant.some (omega arith) (omega arith) (before_end g c) c.loop-done.invariant.reads c.read_at.ensures.goes)
 
 pub returns-in_err-bytes-clause-reads : goal.returns-in_err-bytes-clause-reads
 returns-in_err-bytes-clause-reads g c = reads g (goal.at.returns-in_err-bytes-clause-reads g c).After-read_at
@@ -239,6 +232,7 @@ pub loop-done-init : goal.loop-done-init
 loop-done-init g c =
     let P = non_zero_u16_get c.args.page_size in
     let old = g.B.Blob.life c.args.blob.now in
+    let end : ℕ = min c.args.pages ((prefix_from g.H.Sum.sum_of P c.args.first c.args.pages old.present.readable).full_pages + 1) in
     record {
       some = omega (arith, c.max-most.ensures);
       begun = omega arith;
@@ -248,8 +242,7 @@ loop-done-init g c =
       answered = none_failed_start old.present;
       none = λ still. refl;
       kept = kept_from g.H.Sum.sum_of P c.args.first c.args.pages old.present.readable c.args.kept.now;
-      stops = stops_start P (prefix_from g.H.Sum.sum_of P c.args.first c.args.pages old.present.readable).full_pages old;
-      reads = forward_start (c.max-most.result * (P + 12)) (c.args.first * (P + 12)) old;
+      reads = forward_start P c.max-most.result c.args.first c.args.pages (batches (c.max-most.result * (P + 12)) (c.args.first * (P + 12)) (end * (P + 12))) old c.requires.order;
     }
 
 pub returns-clause-reads : goal.returns-clause-reads
@@ -263,11 +256,9 @@ returns-clause-reads g c =
     let old = life c.args.blob.now in
     let now = life c.loop-done.blob in
     let is : most * (P + 12) ≡ scan_bytes P (non_zero_usize_get c.args.buffer_size) = scan_bytes_is P c.physical_page_size-size.result (non_zero_usize_get c.args.buffer_size) most c.physical_page_size-size.ensures (c.max-most.ensures ∙ ap (λ (n : ℕ). max (n / c.physical_page_size-size.result) 1) c.get.ensures.value) in
-    let more : (P + 12) * k ≤ (P + 12) * c.args.pages = mul-le-mul_left (P + 12) c.loop-done.invariant.within in
-    record {
-      forward = subst (λ (n : ℕ). ReadsForward n from to old now) is (forward_end (most * (P + 12)) from (k * (P + 12)) to old now (omega (arith, more)) c.loop-done.invariant.reads);
-      stops = c.loop-done.invariant.stops;
-    }
+    let end : ℕ = min c.args.pages ((prefix_from g.H.Sum.sum_of P c.args.first c.args.pages old.present.readable).full_pages + 1) in
+    subst (λ (n : ℕ). ReadsForward n from to (batches n from (end * (P + 12))) old now) is
+    (forward_end P most c.args.first c.args.pages (batches (most * (P + 12)) from (end * (P + 12))) k old now c.loop-done.invariant.reads)
 
 pub returns-clause-finds : goal.returns-clause-finds
 returns-clause-finds g c = grind (arith, common_steps)

@@ -2,6 +2,7 @@ use Rattle.std.proofs.Common.{ap}
 use Rattle.writer_state.specs.WriterState.{WriterState}
 use Rattle.paged.specs.Flush.{paired}
 use Rattle.paged.proofs.Caching.{puts_alike, puts_waited, refused_before}
+use Rattle.paged.proofs.Refused.{puts_none}
 use Rattle.paged.proofs.Snapshotting.{seal_answers}
 use Rattle.paged.proofs.Starting.{starts_after}
 use Rattle.paged.proofs.Waits.{covers_after, pages_after}
@@ -44,3 +45,6 @@ pub returns-in_err-wait-clause-puts : goal.returns-in_err-wait-clause-puts
 returns-in_err-wait-clause-puts g c =
     refused_before _ c.args.self.now c.wait.new.self c.args.self.now.tip c.args.cache.now
     c.from_residual.result c.from_residual.ensures.1
+
+pub returns-in_err-wait-clause-refused : goal.returns-in_err-wait-clause-refused
+returns-in_err-wait-clause-refused g c = puts_none c.args.cache.now c.from_residual.result

@@ -4,6 +4,7 @@ use Rattle.writer_state.specs.Sound.{IsConsistent, content}
 use Rattle.crash.proofs.BelowLaws.{pages_none}
 use Rattle.writer_state.proofs.CoverLaws.{covers_none}
 use Rattle.writer_state.proofs.StandLaws.{consistent_stands}
+use Rattle.paged.proofs.Unsynced.{unsynced_none}
 use Rattle.paged.proofs.writer.Writer.append_buf.Goals as goal
 
 pub returns-then-not-fits-clause-pages : goal.returns-then-not-fits-clause-pages
@@ -20,3 +21,6 @@ pub returns-then-not-fits-clause-puts : goal.returns-then-not-fits-clause-puts
 returns-then-not-fits-clause-puts g c =
     let w = c.args.self.now in
     (w.full_pages, puts_nothing w.id w.full_pages w.page_size (w.tip ++ c.args.bytes.now) c.args.cache.now)
+
+pub returns-then-not-fits-clause-unsynced : goal.returns-then-not-fits-clause-unsynced
+returns-then-not-fits-clause-unsynced g c = unsynced_none (g.B.Blob.life c.args.blob.now)

@@ -13,6 +13,7 @@ use Rattle.paged.proofs.Flushes.{size_holds}
 use Rattle.paged.proofs.Appends.{append_flushed, append_unbuffered, buffered_goes, unbuffered_all, over_work}
 use Rattle.writer_state.specs.WriterState.{WriterState}
 use Rattle.writer_state.proofs.Soundness.{longer_consistent}
+use Rattle.paged.proofs.Unsynced.{unsynced_none}
 use Rattle.paged.proofs.writer.Writer.append_buffered.Goals as goal
 
 pub returns-in_err-buffer-clause-appends : goal.returns-in_err-buffer-clause-appends
@@ -93,3 +94,14 @@ returns-else-branch-clause-puts g c =
 
 pub returns-in_err-buffer-clause-refused : goal.returns-in_err-buffer-clause-refused
 returns-in_err-buffer-clause-refused g c = puts_none c.args.cache.now c.from_residual.result
+
+pub returns-in_err-buffer-clause-unsynced : goal.returns-in_err-buffer-clause-unsynced
+returns-in_err-buffer-clause-unsynced g c = unsynced_none (g.B.Blob.life c.args.blob.now)
+
+pub returns-else-branch-clause-unsynced : goal.returns-else-branch-clause-unsynced
+returns-else-branch-clause-unsynced g c = unsynced_none (g.B.Blob.life c.args.blob.now)
+
+pub returns-then-branch-clause-partial : goal.returns-then-branch-clause-partial
+returns-then-branch-clause-partial g c = λ over.
+    let tip = ap (λ (v : WriterState). length v.tip) c.in_ok-buffer.ensures.1 ∙ length-append c.args.self.now.tip c.args.bytes.now in
+    c.flush.ensures.partial refl (over_work c.buffer.new.self c.flush.ensures.room (omega (arith, over, tip, ap (λ (v : WriterState). v.capacity) c.in_ok-buffer.ensures.1)))

@@ -9,6 +9,7 @@ use Rattle.writer_state.proofs.CoverLaws.{covers_none}
 use Rattle.writer_state.proofs.StandLaws.{consistent_stands}
 use Rattle.paged.specs.Calls.{AppendsOver}
 use Rattle.paged.proofs.Appends.{append_unbuffered}
+use Rattle.paged.proofs.Unsynced.{unsynced_none}
 use Rattle.paged.proofs.writer.Writer.append_bytes.Goals as goal
 
 pub returns-then-not-fits-clause-pages : goal.returns-then-not-fits-clause-pages
@@ -51,3 +52,9 @@ returns-in_err-bytes-clause-puts g c =
 
 pub returns-in_err-bytes-clause-refused : goal.returns-in_err-bytes-clause-refused
 returns-in_err-bytes-clause-refused g c = puts_none c.args.cache.now c.from_residual.result
+
+pub returns-then-not-fits-clause-unsynced : goal.returns-then-not-fits-clause-unsynced
+returns-then-not-fits-clause-unsynced g c = unsynced_none (g.B.Blob.life c.args.blob.now)
+
+pub returns-in_err-bytes-clause-unsynced : goal.returns-in_err-bytes-clause-unsynced
+returns-in_err-bytes-clause-unsynced g c = unsynced_none (g.B.Blob.life c.args.blob.now)

@@ -15,6 +15,7 @@ use Rattle.paged.specs.Reads.{size_of}
 use Rattle.paged.specs.Writer.{FitsBlob}
 use Rattle.paged.proofs.Bypass.{IsCut, is_cut, big_enough, direct_offsets}
 use Rattle.paged.proofs.Joins.{direct_after, appends_refused, appends_stopped, appends_join, covers_join}
+use Rattle.paged.proofs.Unsynced.{unsynced_join}
 use Rattle.paged.proofs.writer.Writer.append_direct.Goals as goal
 
 cut : (w : WriterState) (fill P end n m : ℕ) (bytes one two whole : List ℕ) → 0 < w.page_size → fill ≡ fill_of w → P ≡ w.page_size → n ≡ length bytes → m ≡ length bytes → goes_direct w (length bytes) ≡ true
@@ -164,3 +165,7 @@ pub returns-clause-refused : goal.returns-clause-refused
 returns-clause-refused g c =
     puts_after c.args.cache.now c.fill_tip.new.cache c.write_direct.new.cache c.fill_tip.new.self.sync c.write_direct.result
     c.in_ok-fill_tip.ensures.once c.write_direct.ensures.refused c.write_direct.ensures.late
+
+pub returns-clause-unsynced : goal.returns-clause-unsynced
+returns-clause-unsynced g c =
+    unsynced_join (g.B.Blob.life c.args.blob.now) (g.B.Blob.life c.fill_tip.new.blob) (g.B.Blob.life c.write_direct.new.blob) c.in_ok-fill_tip.ensures.unsynced c.write_direct.ensures.unsynced

@@ -13,6 +13,7 @@ use Rattle.writer_state.proofs.StandLaws.{consistent_stands}
 use Rattle.paged.proofs.Appends.{append_flushed, append_unbuffered}
 use Rattle.paged.proofs.Covers.{longer_covers}
 use Rattle.paged.proofs.Joins.{filled_ok}
+use Rattle.paged.proofs.Unsynced.{unsynced_none}
 use Rattle.paged.proofs.writer.Writer.fill_tip.Goals as goal
 
 pub returns-in_err-buffer-clause-appends : goal.returns-in_err-buffer-clause-appends
@@ -66,3 +67,6 @@ returns-in_err-buffer-clause-refused g c = puts_none c.args.cache.now c.from_res
 pub returns-clause-once : goal.returns-clause-once
 returns-clause-once g c =
     flushed_once c.args.cache.now c.flush.new.cache c.flush.new.self.sync (has_work c.buffer.new.self false) c.flush.result c.flush.ensures.idle_cache c.flush.ensures.dirty
+
+pub returns-in_err-buffer-clause-unsynced : goal.returns-in_err-buffer-clause-unsynced
+returns-in_err-buffer-clause-unsynced g c = unsynced_none (g.B.Blob.life c.args.blob.now)

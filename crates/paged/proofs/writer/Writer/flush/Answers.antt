@@ -11,6 +11,7 @@ use Rattle.writer_state.proofs.StandLaws.{consistent_stands}
 use Rattle.paged.specs.Flush.{has_work, with_value}
 use Rattle.paged.specs.Calls.{WaitsForNone}
 use Rattle.paged.proofs.Flushes.{goes_on_same, idle_short_rest, idle_written}
+use Rattle.paged.proofs.Unsynced.{unsynced_join, unsynced_none}
 use Rattle.paged.proofs.Waits.{flushes_after, pages_after, covers_after, waits_for_none, on_ok_after}
 use Rattle.paged.proofs.writer.Writer.flush.Goals as goal
 
@@ -33,6 +34,8 @@ returns g c =
       short = idle_short_rest w c.args.rest idle;
       written = idle_written sum w c.args.rest life.present c.requires.holds idle;
       dirty = λ work. absurd (cc (work, idle));
+      partial = λ asked work. absurd (cc (work, idle));
+      unsynced = unsynced_none life;
       names = refl;
       idle = λ _. (refl, refl, refl);
       room = c.has_flush_work.ensures.room;
@@ -54,6 +57,8 @@ returns-in_err-wait g c =
       short = tt;
       written = λ _. tt;
       dirty = λ _. tt;
+      partial = λ asked work. tt;
+      unsynced = c.in_err-wait.ensures.unsynced;
       names = tt;
       idle = λ none. absurd (cc (work, none));
       room = c.has_flush_work.ensures.room;
@@ -95,6 +100,8 @@ returns-then-has_flush_work g c =
       short = subst (λ (P : ℕ). OnOk result (length now.tip < P)) first.same.page_size c.flush_pages.ensures.short;
       written = c.flush_pages.ensures.written;
       dirty = λ _. c.flush_pages.ensures.dirty;
+      partial = λ asked work. c.flush_pages.ensures.partial asked;
+      unsynced = unsynced_join old mid new c.in_ok-wait.ensures.unsynced c.flush_pages.ensures.unsynced;
       names = on_ok_after old.present.started mid.present.started new.present.started result c.in_ok-wait.ensures.names c.flush_pages.ensures.names;
       idle = λ none. absurd (cc (work, none));
       room = c.has_flush_work.ensures.room;

@@ -13,6 +13,7 @@ use Rattle.paged.proofs.Bypass.{direct_can, direct_left, direct_carried}
 use Rattle.paged.proofs.Causes.{write_asks}
 use Rattle.paged.proofs.Covers.{carried_covers, longer_covers}
 use Rattle.paged.proofs.Flushes.{flush_call, flush_dirty, ready_settled}
+use Rattle.paged.proofs.Unsynced.{flush_left, unsynced_write}
 use Rattle.paged.proofs.writer.Writer.flush_direct.Goals as goal
 
 pub returns : goal.returns
@@ -42,6 +43,8 @@ returns g c =
       covers = longer_covers sum w longer more old new c.requires.holds refl (carried_covers sum longer v false false old new result g.met.H.Sum.small sound c.carry.ensures.ready is can goes);
       tip = direct_left c.carry.new.self c.args.whole c.args.rest.now direct sum now result c.write_taken.ensures.state;
       dirty = flush_dirty sum v now false result c.write_taken.ensures.state;
+      partial = flush_left sum v now result c.write_taken.ensures.state;
+      unsynced = unsynced_write (offset_of v) bytes old new result goes;
       calls = write_asks (offset_of v) bytes false old new result goes;
       starts = write_stands (offset_of v) bytes false old new result (ready_settled sum w old.present c.requires.holds c.carry.ensures.ready) goes;
     }

@@ -11,6 +11,7 @@ use Rattle.paged.proofs.Covers.{carried_covers}
 use Rattle.paged.proofs.Flushing.{can_flush_rest}
 use Rattle.paged.proofs.Known.{carried_tells}
 use Rattle.paged.proofs.Flushes.{flush_call, flush_short, flush_written, flush_dirty, ready_settled}
+use Rattle.paged.proofs.Unsynced.{flush_partial, unsynced_write}
 use Rattle.paged.proofs.writer.Writer.flush_pages.Goals as goal
 
 pub write_pages-requires-clause-can : goal.write_pages-requires-clause-can
@@ -51,4 +52,6 @@ returns g c =
       written = flush_written sum w v now c.args.rest rest result c.requires.holds.stands.some c.carry.ensures.is c.writes_rest-after.ensures c.write_pages.ensures.state;
       names = write_names (offset_of v) bytes false old new result goes;
       dirty = flush_dirty sum v now rest result c.write_pages.ensures.state;
+      partial = flush_partial sum w v now c.args.rest rest result c.writes_rest-after.ensures c.write_pages.ensures.state;
+      unsynced = unsynced_write (offset_of v) bytes old new result goes;
     }

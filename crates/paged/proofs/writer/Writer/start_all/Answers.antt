@@ -1,4 +1,5 @@
 use Rattle.paged.proofs.Caching.{puts_before}
+use Rattle.paged.proofs.Refused.{puts_late}
 use Rattle.std.proofs.Common.{◌≡◌, refl, true, false}
 use Rattle.std.proofs.lemmas.Result.{err_from_is_err_and}
 use Rattle.paged.specs.Flush.{has_work, paired}
@@ -15,6 +16,7 @@ returns-in_err-flush g c =
     let work = λ (none : has_work w true ≡ false). absurd (cc ((c.in_err-flush.ensures.idle none).0)) in
     rw (p.1, p.2) (record {
       puts = c.in_err-flush.ensures.puts;
+      refused = c.in_err-flush.ensures.refused;
       idle_cache = λ none. c.in_err-flush.ensures.idle_cache none;
       starts_sync = c.in_err-flush.ensures.flushes;
       pages = c.in_err-flush.ensures.pages;
@@ -47,6 +49,7 @@ returns g c =
     let idle : has_work w true ≡ false → (m ≡ w) × (mid ≡ old) = λ none. ((c.in_ok-flush.ensures.idle none).1, (c.in_ok-flush.ensures.idle none).2) in
     record {
       puts = puts_before w m now w.tip c.args.cache.now c.flush.new.cache result c.start_written.ensures.same_pages c.in_ok-flush.ensures.puts;
+      refused = puts_late c.args.cache.now c.flush.new.cache result c.start_written.ensures.late;
       idle_cache = λ none. c.in_ok-flush.ensures.idle_cache none;
       starts_sync = starts_after sum w m old mid new first (paired now result) c.start_written.ensures.starts_sync;
       pages = pages_after sum w m old mid new first c.in_ok-flush.ensures.pages c.start_written.ensures.pages;

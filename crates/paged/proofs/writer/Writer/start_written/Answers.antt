@@ -8,6 +8,7 @@ use Rattle.writer_state.proofs.StandLaws.{consistent_stands}
 use Rattle.paged.specs.Calls.{unstarted_calls, started_already}
 use Rattle.std.specs.Prelude.{Ok}
 use Rattle.paged.proofs.Starting.{dirty_starts, clean_starts, pending_starts, start_fresh}
+use Rattle.paged.proofs.Unsynced.{start_late}
 use Rattle.paged.proofs.writer.Writer.start_written.Goals as goal
 
 pub returns-in-Clean : goal.returns-in-Clean
@@ -18,6 +19,7 @@ returns-in-Clean g c =
     let clean = sym (ap (λ s. s.sync) c.self.view_is) ∙ c.in-Clean.is in
     record {
       same_pages = refl;
+      late = tt;
       starts_sync = clean_starts g.H.Sum.sum_of w life c.requires.holds clean c.requires.written;
       pages = pages_none w.page_size w.full_pages life life refl;
       covers = covers_none g.H.Sum.sum_of w.page_size (content w life.present.readable) life life refl;
@@ -35,6 +37,7 @@ returns-in-Pending g c =
     let pending = sym (ap (λ s. s.sync) c.self.view_is) ∙ c.in-Pending.is in
     record {
       same_pages = refl;
+      late = tt;
       starts_sync = pending_starts g.H.Sum.sum_of w c.in-Pending.name life g.met.H.Sum.small c.requires.holds pending c.requires.written;
       pages = pages_none w.page_size w.full_pages life life refl;
       covers = covers_none g.H.Sum.sum_of w.page_size (content w life.present.readable) life life refl;
@@ -52,6 +55,7 @@ returns-in-Dirty g c =
     let dirty = sym (ap (λ s. s.sync) c.self.view_is) ∙ c.in-Dirty.is in
     let done = dirty_starts g.H.Sum.sum_of w c.start_blob.new.self old new c.start_blob.result g.met.H.Sum.small c.requires.holds dirty c.requires.written c.start_blob.ensures.goes c.start_blob.ensures.state in
     record {
+      late = start_late old new c.start_blob.result c.start_blob.ensures.goes;
       same_pages = started_pages started_state c.args.self.now c.start_blob.new.self c.start_blob.result c.start_blob.ensures.state;
       starts_sync = done.starts_sync;
       pages = done.pages;

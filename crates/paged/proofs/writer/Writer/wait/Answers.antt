@@ -4,6 +4,7 @@ use Rattle.crash.proofs.BelowLaws.{pages_none}
 use Rattle.writer_state.proofs.CoverLaws.{covers_none}
 use Rattle.writer_state.proofs.StandLaws.{consistent_stands}
 use Rattle.paged.proofs.Flushes.{goes_on_same}
+use Rattle.paged.proofs.Unsynced.{unsynced_none, unsynced_wait}
 use Rattle.paged.proofs.Waits.{wait_goes, wait_pages, wait_covers_through, wait_stands, wait_names, wait_completes, wait_asks_one, wait_settles, wait_due, waits_idle, none_pending, idle_calls, idle_completes}
 use Rattle.paged.proofs.writer.Writer.wait.Goals as goal
 
@@ -28,6 +29,7 @@ returns-in-Pending g c =
       names = wait_names name old new result goes;
       completes = wait_completes sum w.page_size w.sync name old new result state goes;
       calls = wait_asks_one sum w now name old new result small c.requires.holds state goes;
+      unsynced = unsynced_wait name old new result goes;
       settles = λ one. wait_settles sum w now name old new result small c.requires.holds state goes;
       idle = λ none. absurd (wait_due w.sync name state none);
     }
@@ -47,6 +49,7 @@ returns-in-Clean g c =
       names = refl;
       completes = idle_completes sum w.page_size w.sync life none;
       calls = omega arith;
+      unsynced = unsynced_none life;
       settles = λ one. absurd (omega (arith, one, idle_calls w.sync none));
       idle = λ _. (refl, refl, refl);
     }

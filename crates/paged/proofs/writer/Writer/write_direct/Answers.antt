@@ -11,6 +11,7 @@ use Rattle.paged.specs.Calls.{WaitsForNone}
 use Rattle.paged.proofs.Appends.{append_fails}
 use Rattle.paged.proofs.Bypass.{direct_waited, direct_offsets}
 use Rattle.paged.proofs.Joins.{refuses_longer, appends_join}
+use Rattle.paged.proofs.Unsynced.{unsynced_join}
 use Rattle.paged.proofs.Waits.{covers_after, waits_for_none}
 use Rattle.paged.proofs.writer.Writer.write_direct.Goals as goal
 
@@ -32,6 +33,8 @@ returns-in_err-wait g c =
       covers = c.in_err-wait.ensures.covers;
       tip = tt;
       dirty = tt;
+      partial = tt;
+      unsynced = c.in_err-wait.ensures.unsynced;
       calls = omega (arith, c.in_err-wait.ensures.calls);
       starts = c.in_err-wait.ensures.starts;
     })
@@ -70,6 +73,8 @@ returns g c =
       covers = covers_after sum w m old mid new first c.in_ok-wait.ensures.covers c.flush_direct.ensures.covers;
       tip = c.flush_direct.ensures.tip;
       dirty = c.flush_direct.ensures.dirty;
+      partial = c.flush_direct.ensures.partial;
+      unsynced = unsynced_join old mid new c.in_ok-wait.ensures.unsynced c.flush_direct.ensures.unsynced;
       calls = omega (arith, c.in_ok-wait.ensures.calls, c.flush_direct.ensures.calls);
       starts = c.flush_direct.ensures.starts;
     }

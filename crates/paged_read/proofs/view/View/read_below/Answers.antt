@@ -6,7 +6,7 @@ use Rattle.paged_read.specs.Parts.{ReadsBelow}
 use Rattle.crash.specs.Looks.{looked_start}
 use Rattle.paged_read.proofs.BelowReads.{below_joins, asks_joins, cached_reads, cached_tries, rest_many}
 use Rattle.paged_read.proofs.CachedBytes.{cached_within, cached_all, missing_rest}
-use Rattle.paged_read.proofs.PutLaws.{asked_empty}
+use Rattle.paged_read.proofs.PutLaws.{asked_calls, asked_empty}
 use Rattle.paged_read.specs.Puts.{PutsAsked}
 use Rattle.paged_read.proofs.view.View.read_below.Goals as goal
 
@@ -45,7 +45,8 @@ returns-clause-asks g c =
     let many = rest_many c.args.buf.now c.read_cached-count.new.buf count c.read_cached-count.ensures.size in
     asks_joins t c.args.cache.now c.args.offset c.args.buf.now c.read_cached-count.new.buf count c.args.self.page_size.ok c.read_cached-count.ensures old new c.requires.can.page_size below c.requires.view.fits
     (λ all. c.if-count-buf.false (all ∙ sym c.read_cached-count.ensures.size))
-    (subst (λ n. length new.present.log ≤ length old.present.log + length (missing c.args.cache.now t ((c.args.offset + count, n) ∷ []))) many c.read_missing.ensures.asks)
+    (asked_calls g.H.Sum.sum_of t (missing c.args.cache.now t ((c.args.offset + count, length c.args.buf.now - count) ∷ [])) old new c.args.cache.now c.read_missing.new.cache c.read_missing.result
+    (subst (λ n. PutsAsked g.H.Sum.sum_of t (missing c.args.cache.now t ((c.args.offset + count, n) ∷ [])) old new c.args.cache.now c.read_missing.new.cache c.read_missing.result) many c.read_missing.ensures.puts))
 
 pub returns-clause-served : goal.returns-clause-served
 returns-clause-served g c = λ served.

@@ -9,7 +9,7 @@ use Rattle.disk.specs.declared.error.Error.TheVariants.{OutOfMemory}
 use Rattle.paged_read.specs.Failures.{none_failed_start}
 use Rattle.paged_read.specs.Parts.{IsPieceOf, ReadsBelow}
 use Rattle.crash.specs.Looks.{looked_start}
-use Rattle.paged_read.proofs.BelowReads.{pieces_are, left_are, left_many, missing_read, page_lacks, left_pages, only_page, only_is, only_many, only_read, offsets_fit}
+use Rattle.paged_read.proofs.BelowReads.{pieces_are, left_are, missing_read, page_lacks, left_pages, only_page, only_is, only_read, offsets_fit}
 use Rattle.paged_read.proofs.PutLaws.{asked_none, asked_page}
 use Rattle.paged_read.specs.Puts.{PutsAsked}
 use Rattle.paged_read.specs.Ranges.{missing}
@@ -42,15 +42,6 @@ returns-clause-reads g c =
     missing_read t c.args.cache.now c.args.offset len some c.requires.below g.H.Sum.sum_of (g.B.Blob.life c.args.blob.now) (g.B.Blob.life c.read_pieces.new.blob) c.deref-2.result.now c.deref.result.now c.args.buf.now c.read_cached_many.new.buf c.read_pieces.new.buf c.read_pieces.result
     c.requires.can refl items (c.deref-2.ensures.value ∙ c.in_ok-left.ensures.copies.0) c.in_ok-left.ensures.copies.1 c.read_pieces.ensures.reads
 
-pub returns-clause-asks : goal.returns-clause-asks
-returns-clause-asks g c =
-    let t = tail_at c.args.self.page_size c.args.self.id c.args.self.tip.now in
-    let some : 0 < t.page_size = c.args.self.page_size.ok in
-    let len = length c.args.buf.now in
-    let items : c.deref.result.now ≡ pieces_of t.page_size (c.args.offset, len) 0 = c.deref.ensures.value ∙ c.in_ok-push_pieces.ensures.ok ∙ ap (λ (l : List Piece). l ++ pieces_of t.page_size (c.args.offset, len) 0) c.new-pieces.ensures.items in
-    let left : c.deref-2.result.now ≡ pieces_left c.args.cache.now t.id (pieces_of t.page_size (c.args.offset, len) 0) = c.deref-2.ensures.value ∙ c.in_ok-left.ensures.copies.0 ∙ ap (λ (l : List Piece). pieces_left c.args.cache.now t.id l) items in
-    omega (arith, c.read_pieces.ensures.asks, ap length left, left_many t c.args.cache.now c.args.offset len some c.requires.below)
-
 pub read_piece-requires-clause-piece : goal.read_piece-requires-clause-piece
 read_piece-requires-clause-piece g c =
     let t = tail_at c.args.self.page_size c.args.self.id c.args.self.tip.now in
@@ -64,14 +55,6 @@ returns-in-Some-clause-reads g c =
     let lacks = page_lacks t c.args.cache.now c.args.offset len c.args.self.page_size.ok c.requires.below c.in-Some.piece.page c.in-Some.ensures.0 c.requires.some fits c.requires.can.page_size c.requires.lacks in
     only_read t c.args.cache.now c.args.offset len c.args.self.page_size.ok c.requires.below g.H.Sum.sum_of (g.B.Blob.life c.args.blob.now) (g.B.Blob.life c.read_piece.new.blob) c.in-Some.piece c.args.buf.now c.read_piece.new.buf c.read_piece.result
     c.requires.can refl lacks c.in-Some.ensures.1 c.read_piece.ensures.reads
-
-pub returns-in-Some-clause-asks : goal.returns-in-Some-clause-asks
-returns-in-Some-clause-asks g c =
-    let t = tail_at c.args.self.page_size c.args.self.id c.args.self.tip.now in
-    let len = length c.args.buf.now in
-    let fits = offsets_fit t.page_size t.full_pages (c.args.offset + len) c.requires.view.fits c.requires.below in
-    let lacks = page_lacks t c.args.cache.now c.args.offset len c.args.self.page_size.ok c.requires.below c.in-Some.piece.page c.in-Some.ensures.0 c.requires.some fits c.requires.can.page_size c.requires.lacks in
-    omega (arith, c.read_piece.ensures.asks, only_many t c.args.cache.now c.args.offset len c.args.self.page_size.ok c.requires.below c.in-Some.piece lacks c.in-Some.ensures.1)
 
 pub returns-in_err-push_pieces-clause-puts : goal.returns-in_err-push_pieces-clause-puts
 returns-in_err-push_pieces-clause-puts g c =
@@ -95,7 +78,7 @@ returns-in-Some-clause-puts g c =
     let lacks = page_lacks t c.args.cache.now c.args.offset len c.args.self.page_size.ok c.requires.below c.in-Some.piece.page c.in-Some.ensures.0 c.requires.some fits c.requires.can.page_size c.requires.lacks in
     subst (λ (l : List ℕ). PutsAsked g.H.Sum.sum_of t l old new c.args.cache.now c.read_piece.new.cache c.read_piece.result)
     (only_page t c.args.cache.now c.args.offset len c.args.self.page_size.ok c.requires.below c.in-Some.piece lacks c.in-Some.ensures.1)
-    (asked_page g.H.Sum.sum_of t c.in-Some.piece.page old new c.args.cache.now c.read_piece.new.cache c.read_piece.result c.read_piece.ensures.puts c.read_piece.ensures.looked c.read_piece.ensures.asks c.read_piece.ensures.answered)
+    (asked_page g.H.Sum.sum_of t c.in-Some.piece.page old new c.args.cache.now c.read_piece.new.cache c.read_piece.result c.read_piece.ensures.puts c.read_piece.ensures.asks)
 
 pub returns-clause-puts : goal.returns-clause-puts
 returns-clause-puts g c =

@@ -1,5 +1,6 @@
 use Rattle.std.proofs.Common.{◌≡◌, ◌+◌, ◌-◌, ◌∙◌, List, ℕ, take, drop, length, sym, ap, arith}
 use Rattle.std.proofs.lemmas.List.{length-take-le}
+use Rattle.std.proofs.lemmas.Result.{err_from_is_err_and}
 use Rattle.cache.specs.Pages.{page_of_content}
 use Rattle.paged_read.specs.Tail.{logical_bytes, tail_at}
 use Rattle.paged_read.specs.Ranges.{page_at}
@@ -55,3 +56,11 @@ pub returns-in_err-bytes-clause-can : goal.returns-in_err-bytes-clause-can
 returns-in_err-bytes-clause-can g c =
     let t = tail_at c.args.self.page_size c.args.self.id c.args.self.tip.now in
     (leaves_cache t c.args.cache.now (g.B.Blob.life c.args.blob.now) (g.B.Blob.life c.read_page.new.blob) c.requires.can c.read_page.ensures.looked).can
+
+pub returns-clause-asks : goal.returns-clause-asks
+returns-clause-asks g c = c.in_ok-bytes.ensures.asks
+
+pub returns-in_err-bytes-clause-asks : goal.returns-in_err-bytes-clause-asks
+returns-in_err-bytes-clause-asks g c =
+    let p = err_from_is_err_and c.from_residual.result c.from_residual.ensures.1 in
+    rw p.1 c.in_err-bytes.ensures.asks

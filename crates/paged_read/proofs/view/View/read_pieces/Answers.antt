@@ -1,5 +1,5 @@
 use Rattle.std.proofs.Common.{◌≡◌, ◌∙◌, List, ℕ, [], ◌∷◌, take, drop, sym, ap, subst, arith, refl, get_or}
-use Rattle.std.proofs.lemmas.List.{take_all, drop_all, length-map}
+use Rattle.std.proofs.lemmas.List.{take_all, drop_all}
 use Rattle.std.proofs.lemmas.Result.{err_from_is_err_and}
 use Rattle.std.specs.List.{Contains}
 use Rattle.crash.proofs.LookLaws.{looked_readable}
@@ -10,7 +10,7 @@ use Rattle.paged_read.specs.Parts.{with_told, piece_pages, ArePagesFull}
 use Rattle.crash.specs.Looks.{looked_joins, looked_start}
 use Rattle.paged_read.proofs.Leaving.{told_later}
 use Rattle.paged_read.proofs.PageReads.{one_page, piece_among, told_step, full_step, full_same, faults_later}
-use Rattle.paged_read.proofs.PutLaws.{asked_first_pieces, puts_all_pieces, puts_piece_more}
+use Rattle.paged_read.proofs.PutLaws.{asked_first_pieces, asks_all_pieces, asks_none, asks_piece_more, puts_all_pieces, puts_piece_more}
 use Rattle.paged_read.proofs.view.View.read_pieces.Goals as goal
 
 none_full : (sum : List ℕ → ℕ) (P : ℕ) (readable : List ℕ) → ArePagesFull sum P [] readable
@@ -22,7 +22,7 @@ loop-piece-init g c = record {
   size = refl;
   full = none_full g.H.Sum.sum_of (tail_at c.args.self.page_size c.args.self.id c.args.self.tip.now).page_size (g.B.Blob.life c.args.blob.now).present.readable;
   within = omega arith;
-  asks = omega arith;
+  asks = asks_none (tail_at c.args.self.page_size c.args.self.id c.args.self.tip.now).page_size (g.B.Blob.life c.args.blob.now);
   puts = refl;
   none_failed = none_failed_start (g.B.Blob.life c.args.blob.now).present;
   looked = looked_start (g.B.Blob.life c.args.blob.now);
@@ -59,7 +59,7 @@ loop-piece-preserved g c =
           full_step g.H.Sum.sum_of t.page_size c.args.pieces.now k d old.present.readable c.loop-piece-test.true c.loop-piece.invariant.full
           (full_same g.H.Sum.sum_of t.page_size (item.page ∷ []) mid.present.readable old.present.readable (sym (looked_readable old mid looked)) c.in_ok-read_piece.ensures.reads.1);
       within = omega (arith, c.loop-piece-test.true);
-      asks = omega (arith, c.loop-piece.invariant.asks, c.in_ok-read_piece.ensures.answered);
+      asks = asks_piece_more t c.args.pieces.now k d old mid (g.B.Blob.life c.read_piece.new.blob) c.loop-piece-test.true c.loop-piece.invariant.asks c.in_ok-read_piece.ensures.asks;
       puts = puts_piece_more t c.args.pieces.now k d (logical_bytes t old.present.readable) (logical_bytes t mid.present.readable) c.args.cache.now c.loop-piece.cache c.read_piece.new.cache c.loop-piece-test.true (told_later t old mid looked) c.loop-piece.invariant.puts c.in_ok-read_piece.ensures.puts;
       none_failed = none_failed_joins old.present mid.present (g.B.Blob.life c.read_piece.new.blob).present c.loop-piece.invariant.none_failed c.in_ok-read_piece.ensures.reads.2;
       looked = looked_joins old mid (g.B.Blob.life c.read_piece.new.blob) looked c.read_piece.ensures.looked;
@@ -83,15 +83,16 @@ returns-in_err-read_piece-clause-puts g c =
     let t = tail_at c.args.self.page_size c.args.self.id c.args.self.tip.now in
     let p = err_from_is_err_and c.from_residual.result c.from_residual.ensures.1 in
     let inv = c.loop-piece.invariant in
-    rw p.1 (asked_first_pieces t c.args.pieces.now c.loop-piece.piece-index g.H.Sum.sum_of (g.B.Blob.life c.args.blob.now) (g.B.Blob.life c.loop-piece.blob) (g.B.Blob.life c.read_piece.new.blob) c.args.cache.now c.loop-piece.cache c.read_piece.new.cache p.0
-    inv.full inv.puts c.in_err-read_piece.ensures.puts inv.asks c.read_piece.ensures.looked c.read_piece.ensures.asks)
+    let d : Piece = record { page = 0; skip = 0; place = 0; len = 0 } in
+    rw p.1 (asked_first_pieces t c.args.pieces.now c.loop-piece.piece-index g.H.Sum.sum_of d (g.B.Blob.life c.args.blob.now) (g.B.Blob.life c.loop-piece.blob) (g.B.Blob.life c.read_piece.new.blob) c.args.cache.now c.loop-piece.cache c.read_piece.new.cache p.0 c.loop-piece-test.true
+    inv.full inv.puts c.in_err-read_piece.ensures.puts inv.asks c.in_err-read_piece.ensures.asks)
 
 pub returns-clause-puts : goal.returns-clause-puts
 returns-clause-puts g c =
     let t = tail_at c.args.self.page_size c.args.self.id c.args.self.tip.now in
     let pieces = c.args.pieces.now in (
       puts_all_pieces t pieces c.loop-piece.piece-index (logical_bytes t (g.B.Blob.life c.args.blob.now).present.readable) c.args.cache.now c.loop-piece.cache c.loop-piece-test.false c.loop-piece.invariant.puts,
-      omega (arith, c.loop-piece.invariant.asks, c.loop-piece.invariant.within, c.loop-piece-test.false, length-map pieces (λ (piece : Piece). piece.page)),
+      asks_all_pieces t pieces c.loop-piece.piece-index (g.B.Blob.life c.args.blob.now) (g.B.Blob.life c.loop-piece.blob) c.loop-piece-test.false c.loop-piece.invariant.asks,
     )
 
 pub returns-in_err-read_piece-clause-looked : goal.returns-in_err-read_piece-clause-looked
