@@ -45,7 +45,9 @@ pub mod OpenedReads
 pub mod Serves
 pub mod Snapshotting
 pub mod Scanned
+pub mod RecoveringCosts
 pub mod ScanExamples
+pub mod CostExamples
 pub mod Foretelling
 pub mod Surveying
 pub mod SurveyExamples

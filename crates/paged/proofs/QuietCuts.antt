@@ -1,11 +1,14 @@
 -- A cut reads nothing, so a search back and a cut after it read as the search does.
-use Rattle.std.proofs.Common.{◌≡◌, inl, inr, ℕ, ◌+◌, ◌*◌, List, [], ◌∷◌, ◌++◌, length, Bool, true, false, Result, Ok, Err, ap, ◌∙◌}
+use Rattle.std.proofs.Common.{◌≡◌, ◌≤◌, inl, inr, ℕ, ◌+◌, ◌-◌, ◌*◌, ◌/◌, List, [], ◌∷◌, ◌++◌, length, Bool, true, false, Result, Ok, Err, ap, ◌∙◌, subst, arith}
 use Rattle.std.specs.Prelude.{Option, Some, None}
+use Rattle.std.proofs.Math.Nat.{mul-le-mul_left}
 use Rattle.disk.specs.Disk.{Request, Life, ReadAt, ReadMany, StartReadMany, ResizeTo, SyncAll, WriteAt, ResizeGoes, SyncGoes, WriteGoes}
 use Rattle.disk.specs.declared.error.Error.{Error}
 use Rattle.disk.specs.declared.error.Error.TheVariants.{ReadFailed, WriteFailed, ResizeFailed, SyncFailed, InvalidChecksum, BlobInsufficientLength, OffsetOverflow, OutOfMemory, IdsExhausted}
 use Rattle.paged_read.specs.Searches.{Gained}
-use Rattle.paged_read.specs.Backward.{FallFrom, ReadsBack}
+use Rattle.paged_read.specs.Backward.{FallTo, ReadsDownTo}
+use Rattle.paged_read.specs.Prefix.{last_prefix, prefix_pages}
+use Rattle.paged_read.proofs.Backward.{down_start}
 use Rattle.paged_read.proofs.Searching.{gained_none, gained_once, gained_joins}
 use Rattle.writer_state.specs.declared.sync_state.SyncState.TheVariants.{Clean, Dirty, Pending}
 use Rattle.writer_state.specs.declared.sync_state.SyncState.{SyncState}
@@ -13,6 +16,8 @@ use Rattle.page.specs.Slot.{slot_offset}
 use Rattle.page.specs.Page.{slot_bytes}
 use Rattle.page.specs.declared.slot.Slot.{Slot}
 use Rattle.paged.specs.Recovery.{Cuts, CutsBack}
+use Rattle.paged.specs.RecoveryCosts.{OpenCosts, opened_pages}
+use Rattle.paged.proofs.Recoveries.{opened_size_le}
 use Rattle.paged.specs.Mends.{Empties, CutsAndMends, Mends, is_unsynced}
 
 -- none of these requests reads
@@ -31,16 +36,19 @@ quiet_joins (StartReadMany ranges ∷ xs) ys first second = absurd first
 quiet_joins (_ ∷ xs) ys first second = quiet_joins xs ys first second
 
 -- reads that fall, and then requests that don't read
-fall_then_quiet : (size top : ℕ) (xs ys : List Request) → FallFrom size top xs → AreQuiet ys → FallFrom size top (xs ++ ys)
-fall_then_quiet size top [] [] fall quiet = tt
-fall_then_quiet size top [] (ReadAt offset len ∷ ys) fall quiet = absurd quiet
-fall_then_quiet size top [] (ReadMany ranges ∷ ys) fall quiet = absurd quiet
-fall_then_quiet size top [] (StartReadMany ranges ∷ ys) fall quiet = absurd quiet
-fall_then_quiet size top [] (_ ∷ ys) fall quiet = fall_then_quiet size top [] ys fall quiet
-fall_then_quiet size top (ReadAt offset len ∷ xs) ys fall quiet = (fall.0, fall.1, fall_then_quiet size offset xs ys fall.2 quiet)
-fall_then_quiet size top (ReadMany ranges ∷ xs) ys fall quiet = absurd fall
-fall_then_quiet size top (StartReadMany ranges ∷ xs) ys fall quiet = absurd fall
-fall_then_quiet size top (_ ∷ xs) ys fall quiet = fall_then_quiet size top xs ys fall quiet
+quiet_falls : (size top bottom : ℕ) (ys : List Request) → bottom ≤ top → AreQuiet ys → FallTo size top bottom ys
+quiet_falls size top bottom [] low quiet = low
+quiet_falls size top bottom (ReadAt offset len ∷ ys) low quiet = absurd quiet
+quiet_falls size top bottom (ReadMany ranges ∷ ys) low quiet = absurd quiet
+quiet_falls size top bottom (StartReadMany ranges ∷ ys) low quiet = absurd quiet
+quiet_falls size top bottom (_ ∷ ys) low quiet = quiet_falls size top bottom ys low quiet
+
+fall_then_quiet : (size top bottom : ℕ) (xs ys : List Request) → FallTo size top bottom xs → AreQuiet ys → FallTo size top bottom (xs ++ ys)
+fall_then_quiet size top bottom [] ys fall quiet = quiet_falls size top bottom ys fall quiet
+fall_then_quiet size top bottom (ReadAt offset len ∷ xs) ys fall quiet = (fall.0, fall.1, fall_then_quiet size offset bottom xs ys fall.2 quiet)
+fall_then_quiet size top bottom (ReadMany ranges ∷ xs) ys fall quiet = absurd fall
+fall_then_quiet size top bottom (StartReadMany ranges ∷ xs) ys fall quiet = absurd fall
+fall_then_quiet size top bottom (_ ∷ xs) ys fall quiet = fall_then_quiet size top bottom xs ys fall quiet
 
 abbrev Quiet : Life → Life → Type 0
 Quiet old new = Gained AreQuiet old new
@@ -122,7 +130,23 @@ pages_quiet P kept page bad old new (Err e) (inr (state, mid, cuts, mends)) =
     quiet_both old mid new (cuts_back_quiet kept old mid (Ok state) cuts) (mends_quiet P page bad (is_unsynced state) mid new (Err e) mends)
 
 -- opening: a search back, and then a cut, and a slot emptied
-pub opens_back : (size P kept page : ℕ) (bad : Option Slot) (old mid new : Life) (answer : Result SyncState Error) → ReadsBack size old mid → CutsAndMends P kept page bad mid new answer → ReadsBack size old new
-opens_back size P kept page bad old mid new answer back keeps =
+pub opens_down : (size bottom P kept page : ℕ) (bad : Option Slot) (old mid new : Life) (answer : Result SyncState Error) → ReadsDownTo size bottom old mid → CutsAndMends P kept page bad mid new answer → ReadsDownTo size bottom old new
+opens_down size bottom P kept page bad old mid new answer down keeps =
     let top = length old.present.readable in
-    gained_joins (FallFrom size top) AreQuiet (FallFrom size top) old mid new (fall_then_quiet size top) back (pages_quiet P kept page bad mid new answer keeps)
+    gained_joins (FallTo size top bottom) AreQuiet (FallTo size top bottom) old mid new (fall_then_quiet size top bottom) down (pages_quiet P kept page bad mid new answer keeps)
+
+-- the search back of an opening, with the numbers that a program has
+pub open_reads : (sum : List ℕ → ℕ) (P Q size physical : ℕ) (old mid : Life) → physical ≡ Q + 12 → Q ≡ P → size ≡ length old.present.readable
+    → ReadsDownTo (Q + 12) ((prefix_pages (last_prefix sum Q (size / physical) old.present.readable) - 1) * (Q + 12)) old mid → OpenCosts sum P old mid
+open_reads sum P Q size physical old mid is same whole down =
+    let readable = old.present.readable in
+    let pages : size / physical ≡ length readable / (Q + 12) = ap (λ (n : ℕ). size / n) is ∙ ap (λ (n : ℕ). n / (Q + 12)) whole in
+    subst (λ (n : ℕ). ReadsDownTo (n + 12) ((prefix_pages (last_prefix sum n (length readable / (n + 12)) readable) - 1) * (n + 12)) old mid) same
+    (subst (λ (k : ℕ). ReadsDownTo (Q + 12) ((prefix_pages (last_prefix sum Q k readable) - 1) * (Q + 12)) old mid) pages down)
+
+-- no read yet
+pub open_none : (sum : List ℕ → ℕ) (P : ℕ) (life : Life) → OpenCosts sum P life life
+open_none sum P life =
+    let pages = opened_pages sum P life.present.readable in
+    let less : (P + 12) * (pages - 1) ≤ (P + 12) * pages = mul-le-mul_left (P + 12) (omega arith) in
+    down_start (P + 12) ((pages - 1) * (P + 12)) life (omega (arith, less, opened_size_le sum P life.present.readable))

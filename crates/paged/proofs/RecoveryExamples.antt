@@ -24,11 +24,12 @@ use Rattle.writer_state.proofs.Examples.{at_rest, durable, rewritten, six, seven
 use Rattle.paged_read.specs.Prefix.{bad_in, prefix_of, last_prefix, prefix_pages}
 use Rattle.paged.specs.Calls.{AsksAtMost, IsSettled}
 use Rattle.paged.specs.Recovery.{IsDurable, IsAsOpened, KeepsText, LeavesText, SoundWhereFull, TailIsMended, opened_bytes, opened_prefix, opened_size, opened_writer, at_prefix}
+use Rattle.paged.specs.RecoveryCosts.{OpenCosts}
 use Rattle.paged.specs.Recovers.{IsRecovered, recovered_writer, recovered_bytes}
 use Rattle.cache.specs.CacheState.{CacheState, empty_cache}
 use Rattle.paged.specs.Recovery.IsCutBack.{whole}
 use Rattle.paged_read.specs.Searches.{AreReadsWithin, ReadsWithin, scan_bytes}
-use Rattle.paged_read.specs.Backward.{FallFrom, ReadsBack}
+use Rattle.paged_read.specs.Backward.{FallTo, ReadsDownTo}
 use Rattle.paged.proofs.Opened.{opened_sound}
 use Rattle.paged.proofs.Trims.{keeps_text, leaves_text}
 
@@ -232,16 +233,23 @@ abbrev read : ℕ → ℕ → Entry
 read offset len = record { request = ReadAt offset len; failed = false }
 
 -- the second page, and then the first
-pub read_back : ReadsBack 16 before (reads (read 16 16 ∷ read 0 16 ∷ []))
-read_back = (read 16 16 ∷ read 0 16 ∷ [], refl, (refl, omega arith, (refl, omega arith, tt)))
+pub read_back : ReadsDownTo 16 0 before (reads (read 16 16 ∷ read 0 16 ∷ []))
+read_back = (read 16 16 ∷ read 0 16 ∷ [], refl, (refl, omega arith, (refl, omega arith, omega arith)))
 
 -- the first page isn't read twice
-pub not_twice : ReadsBack 16 before (reads (read 0 16 ∷ read 0 16 ∷ [])) → ⊥
-not_twice (more, is, fall) = let here : FallFrom 16 32 (ReadAt 0 16 ∷ ReadAt 0 16 ∷ []) = subst (λ (l : List Entry). FallFrom 16 32 (map (λ e. e.request) l)) (sym is) fall in omega (arith, here.2.1)
+pub not_twice : ReadsDownTo 16 0 before (reads (read 0 16 ∷ read 0 16 ∷ [])) → ⊥
+not_twice (more, is, fall) = let here : FallTo 16 32 0 (ReadAt 0 16 ∷ ReadAt 0 16 ∷ []) = subst (λ (l : List Entry). FallTo 16 32 0 (map (λ e. e.request) l)) (sym is) fall in omega (arith, here.2.1)
+
+-- the first page isn't read where the second has a value
+pub not_below : OpenCosts add_sum 4 before (reads (read 16 16 ∷ read 0 16 ∷ [])) → ⊥
+not_below (more, is, fall) = let here : FallTo 16 32 16 (ReadAt 16 16 ∷ ReadAt 0 16 ∷ []) = subst (λ (l : List Entry). FallTo 16 32 16 (map (λ e. e.request) l)) (sym is) fall in omega (arith, here.2.2)
+
+pub an_opening_reads_a_page : OpenCosts add_sum 4 before (reads (read 16 16 ∷ []))
+an_opening_reads_a_page = (read 16 16 ∷ [], refl, (refl, omega arith, omega arith))
 
 -- two pages aren't read in one read
-pub not_both : ReadsBack 16 before (reads (read 0 32 ∷ [])) → ⊥
-not_both (more, is, fall) = let here : FallFrom 16 32 (ReadAt 0 32 ∷ []) = subst (λ (l : List Entry). FallFrom 16 32 (map (λ e. e.request) l)) (sym is) fall in omega (arith, here.0)
+pub not_both : ReadsDownTo 16 0 before (reads (read 0 32 ∷ [])) → ⊥
+not_both (more, is, fall) = let here : FallTo 16 32 0 (ReadAt 0 32 ∷ []) = subst (λ (l : List Entry). FallTo 16 32 0 (map (λ e. e.request) l)) (sym is) fall in omega (arith, here.0)
 
 -- 40 bytes have room for two pages of 16, and 8 for none: then a read is of one
 pub bytes_of_a_scan : scan_bytes 4 40 ∷ scan_bytes 4 8 ∷ [] ≡ 32 ∷ 16 ∷ []

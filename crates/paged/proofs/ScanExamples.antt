@@ -1,12 +1,13 @@
 -- What scans answer, and what raw reads find in a blob that nobody opened, at a few bytes. Pages
 -- have 4 bytes, and the checksum is their sum.
-use Rattle.std.proofs.Common.{◌≡◌, ℕ, List, [], ◌∷◌, ◌++◌, Ok, Err, refl, arith}
+use Rattle.std.proofs.Common.{◌≡◌, ℕ, List, [], ◌∷◌, ◌++◌, map, Ok, Err, refl}
+use Rattle.std.specs.List.{range_with_len}
 use Rattle.disk.specs.Disk.{ReadAt}
 use Rattle.disk.specs.declared.error.Error.TheVariants.{InvalidChecksum, BlobInsufficientLength}
 use Rattle.page.specs.Sums.{add_sum}
 use Rattle.page.proofs.Examples.{abcd_page, ef_page}
 use Rattle.paged_read.specs.RawReads.{range_told, tail_told}
-use Rattle.paged_read.specs.Scans.{AreForward, scan}
+use Rattle.paged_read.specs.Scans.{batch_request, batches, batches_to_end, scan}
 use Rattle.paged.proofs.RecoveryExamples.{no_page}
 
 -- "abcdef"
@@ -29,17 +30,16 @@ scans_of_six = refl
 pub a_damaged_scan : scan add_sum 4 2 3 0 100 damaged ∷ scan add_sum 4 2 3 0 6 damaged ∷ scan add_sum 4 2 3 8 100 damaged ∷ [] ≡ 4 ∷ 4 ∷ 10 ∷ []
 a_damaged_scan = refl
 
--- one page after another
-pub reads_forward : AreForward 16 0 32 (ReadAt 0 16 ∷ ReadAt 16 16 ∷ [])
-reads_forward = (refl, omega arith, omega arith, (refl, omega arith, omega arith, tt))
+-- two pages at once, and then the one that is left
+pub requests_of_batches : map (batch_request 32 0 48) (range_with_len 0 2) ≡ ReadAt 0 32 ∷ ReadAt 32 16 ∷ []
+requests_of_batches = refl
 
--- no read ends after the bound
-pub not_past_the_bound : AreForward 16 0 16 (ReadAt 0 16 ∷ ReadAt 16 16 ∷ []) → ⊥
-not_past_the_bound go = omega (arith, go.3.2)
+pub two_batches : batches 32 0 48 ≡ 2
+two_batches = refl
 
--- reads don't begin with the second page
-pub not_a_page_late : AreForward 16 0 32 (ReadAt 16 16 ∷ []) → ⊥
-not_a_page_late go = omega (arith, go.0)
+-- "abcd" and then "ef": the text ends on the second page, whatever comes after it
+pub up_to_the_end : batches_to_end add_sum 4 16 0 3 (six ++ abcd_page) ≡ 2
+up_to_the_end = refl
 
 -- the last three bytes, of both pages
 pub a_tail : tail_told add_sum 4 32 3 six ≡ Ok (6, 100 ∷ 101 ∷ 102 ∷ [])

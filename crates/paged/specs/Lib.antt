@@ -18,3 +18,4 @@ pub mod Owes
 pub mod Goes
 pub mod Costs
 pub mod RecoveryCalls
+pub mod RecoveryCosts

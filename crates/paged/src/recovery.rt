@@ -15,9 +15,8 @@ ghost use Rattle.paged.specs.Recovery.{IsDurable, TailIsMended};
 ghost use Rattle.paged.specs.Mends.{CutsAndMends, Empties};
 ghost use Rattle.paged.specs.Truncate.{WritesSlot};
 ghost use Rattle.paged.specs.Recovers.{Recovers, GivesId};
-ghost use Rattle.paged_read.specs.Backward.{ReadsBack};
 ghost use Rattle.paged_read.specs.Hand.{IsEmptyHand, kept_with};
-ghost use Rattle.paged_read.specs.Searches.{ReadsWithin, scan_bytes};
+ghost use Rattle.paged_read.specs.Searches.{scan_bytes};
 ghost use Rattle.page.specs.Page.{text};
 ghost use Rattle.paged.specs.Reads.{HasWriterPages};
 ghost use Rattle.paged.specs.Caches.{tail_of};
@@ -29,6 +28,7 @@ ghost use Rattle.paged_read.specs.Snapshots.{LeavesReads};
 ghost use Rattle.paged.specs.Ready.{IsReady};
 ghost use Rattle.paged.specs.RecoveryCalls.{OpenGoes, OwesRecovering, RecoverGoes};
 ghost use Rattle.paged.specs.RecoveryCalls.{RecoverKeepingGoes};
+ghost use Rattle.paged.specs.RecoveryCosts.{OpenCosts, RecoverCosts};
 
 use crate::{Recovery, Writer};
 use cache::CacheRef;
@@ -227,8 +227,8 @@ impl<B: Blob, H: Sum> Recovery<B, H> {
         ensures owes { let old = B.life blob.old in let new = B.life blob.new in
             OwesRecovering H.sum_of cache.old.page_size cache.old cache.new old new }
 
-        // Pages are read one by one, from the last back.
-        ensures costs { ReadsBack (cache.old.page_size + 12) (B.life blob.old) (B.life blob.new) }
+        ensures costs { let old = B.life blob.old in let new = B.life blob.new in
+            OpenCosts H.sum_of cache.old.page_size old new }
     {
         Self::open_all(alloc, blob, size, capacity, cache)
     }
@@ -276,7 +276,8 @@ impl<B: Blob, H: Sum> Recovery<B, H> {
         ensures only { LeavesText H.sum_of cache.old.page_size (B.life blob.old) (B.life blob.new) }
 
         // Pages are read one by one, from the last back.
-        ensures reads { ReadsBack (cache.old.page_size + 12) (B.life blob.old) (B.life blob.new) }
+        ensures reads { let old = B.life blob.old in let new = B.life blob.new in
+            OpenCosts H.sum_of cache.old.page_size old new }
     {
         let page_size = cache.page_size();
         let capacity = adjusted_capacity(capacity, u64::from(page_size.get()))?;
@@ -309,8 +310,8 @@ impl<B: Blob, H: Sum> Writer<B, H> {
         ensures owes { let old = B.life blob.old in let new = B.life blob.new in
             OwesRecovering H.sum_of cache.old.page_size cache.old cache.new old new }
 
-        // Pages are read one by one, from the last back.
-        ensures costs { ReadsBack (cache.old.page_size + 12) (B.life blob.old) (B.life blob.new) }
+        ensures costs { let old = B.life blob.old in let new = B.life blob.new in
+            OpenCosts H.sum_of cache.old.page_size old new }
     {
         let recovery = Recovery::<B, H>::open(alloc, blob, size, capacity, cache)?;
         Ok(Writer::from(recovery))
@@ -320,8 +321,11 @@ impl<B: Blob, H: Sum> Writer<B, H> {
 /// Recovers a blob of `size` physical bytes, whatever they are, even if something is unsynced, as
 /// after a call that failed. The writer's content is the text of the bytes: the values of the pages
 /// from the first on, joined while each is full, and the next page's value. What else the blob had
-/// is cut, as by [`Recovery::truncate`], and all that is left is durable. Each read has at most as
-/// many pages as fit `buffer_size` bytes, and at least one.
+/// is cut, as by [`Recovery::truncate`], and all that is left is durable.
+///
+/// The blob is opened, which reads pages one by one, from the last one back to the last that has a
+/// value. Then the text is read once, from the first page on: each read has as many pages as fit
+/// `buffer_size` bytes, and at least one. Then the page that is to keep a part is read.
 ///
 /// Errors are those of [`Recovery::open`]. After an error everything that was durable still is, and
 /// the cache may have given an id.
@@ -340,10 +344,10 @@ pub fn recover<B: Blob, H: Sum>(
         → IfOk result (λ w. IsReady H.sum_of w cache.new (B.life blob.new)) }
     ensures owes { let old = B.life blob.old in let new = B.life blob.new in
         OwesRecovering H.sum_of cache.old.page_size cache.old cache.new old new }
-
-    // No read has more pages than fit `buffer_size`, and each may have one page.
     ensures costs { let old = B.life blob.old in let new = B.life blob.new in
-        ReadsWithin (scan_bytes cache.old.page_size (non_zero_usize_get buffer_size)) old new }
+        let P = cache.old.page_size in
+        let most = scan_bytes P (non_zero_usize_get buffer_size) in
+        RecoverCosts H.sum_of P most old new }
 {
     recover_all::<B, H>(alloc, blob, size, capacity, cache, buffer_size, &mut None)
 }
@@ -370,10 +374,10 @@ pub fn recover_keeping<B: Blob, H: Sum>(
         → IfOk result (λ w. IsReady H.sum_of w cache.new (B.life blob.new)) }
     ensures owes { let old = B.life blob.old in let new = B.life blob.new in
         OwesRecovering H.sum_of cache.old.page_size cache.old cache.new old new }
-
-    // No read has more pages than fit `buffer_size`, and each may have one page.
     ensures costs { let old = B.life blob.old in let new = B.life blob.new in
-        ReadsWithin (scan_bytes cache.old.page_size (non_zero_usize_get buffer_size)) old new }
+        let P = cache.old.page_size in
+        let most = scan_bytes P (non_zero_usize_get buffer_size) in
+        RecoverCosts H.sum_of P most old new }
 {
     recover_all::<B, H>(alloc, blob, size, capacity, cache, buffer_size, kept)
 }
@@ -425,9 +429,10 @@ fn recover_all<B: Blob, H: Sum>(
     ensures kept { KeepsText H.sum_of cache.old.page_size (B.life blob.old) (B.life blob.new) }
     ensures only { LeavesText H.sum_of cache.old.page_size (B.life blob.old) (B.life blob.new) }
 
-    // No read has more pages than fit `buffer_size`, except that it may have one.
     ensures reads { let old = B.life blob.old in let new = B.life blob.new in
-        ReadsWithin (scan_bytes cache.old.page_size (non_zero_usize_get buffer_size)) old new }
+        let P = cache.old.page_size in
+        let most = scan_bytes P (non_zero_usize_get buffer_size) in
+        RecoverCosts H.sum_of P most old new }
 
     // The content is kept, and no page is read again for it.
     ensures kept_text { let old = B.life blob.old in

@@ -6,7 +6,7 @@ ghost use Rattle.page.specs.Page.{text};
 ghost use Rattle.cache.specs.Pages.{IsFresh};
 ghost use Rattle.crash.specs.Stays.{KeepsAll, KeepsAllFloors};
 ghost use Rattle.writer_state.specs.Sound.{IsSound};
-ghost use Rattle.paged_read.specs.Searches.{ReadsWithin, scan_bytes};
+ghost use Rattle.paged_read.specs.Searches.{scan_bytes};
 ghost use Rattle.paged_read.specs.Snapshots.{LeavesReads};
 ghost use Rattle.paged_read.specs.Tail.{CanRead};
 ghost use Rattle.paged.specs.Caches.{tail_of};
@@ -17,6 +17,7 @@ ghost use Rattle.paged.specs.Recovery.{KeepsText, LeavesText, TailIsMended};
 ghost use Rattle.paged.specs.Within.{RecoversWithin, GivesIdWithin};
 ghost use Rattle.paged.specs.Ready.{IsReady};
 ghost use Rattle.paged.specs.RecoveryCalls.{OwesRecovering, RecoverWithinGoes};
+ghost use Rattle.paged.specs.RecoveryCosts.{OpensAndCuts, RecoverWithinCosts};
 
 use crate::Recovery;
 use crate::outlook::look_to_last;
@@ -80,7 +81,8 @@ fn recover_text<B: Blob, H: Sum>(
         KeepsAllFloors H.sum_of cache.old.page_size old new }
     ensures kept { KeepsText H.sum_of cache.old.page_size (B.life blob.old) (B.life blob.new) }
     ensures only { LeavesText H.sum_of cache.old.page_size (B.life blob.old) (B.life blob.new) }
-    ensures reads { ReadsWithin (cache.old.page_size + 12) (B.life blob.old) (B.life blob.new) }
+    ensures reads { let old = B.life blob.old in let new = B.life blob.new in
+        OpensAndCuts H.sum_of cache.old.page_size old new }
 {
     let recovery = Recovery::<B, H>::open_all(alloc, blob, size, capacity, cache)?;
     recovery.truncate_all(blob, cache, len)
@@ -114,10 +116,10 @@ pub fn recover_within<B: Blob, H: Sum>(
         → IfOk result (λ w. IsReady H.sum_of w cache.new (B.life blob.new)) }
     ensures owes { let old = B.life blob.old in let new = B.life blob.new in
         OwesRecovering H.sum_of cache.old.page_size cache.old cache.new old new }
-
-    // No read has more pages than fit `buffer_size`, and each may have one page.
     ensures costs { let old = B.life blob.old in let new = B.life blob.new in
-        ReadsWithin (scan_bytes cache.old.page_size (non_zero_usize_get buffer_size)) old new }
+        let P = cache.old.page_size in
+        let most = scan_bytes P (non_zero_usize_get buffer_size) in
+        RecoverWithinCosts H.sum_of P most size old new }
 {
     recover_looked::<B, H>(alloc, blob, size, capacity, cache, buffer_size, allowed)
 }
@@ -168,10 +170,10 @@ fn recover_looked<B: Blob, H: Sum>(
     // At each of these moments, where all was durable as the call began.
     ensures kept { KeepsText H.sum_of cache.old.page_size (B.life blob.old) (B.life blob.new) }
     ensures only { LeavesText H.sum_of cache.old.page_size (B.life blob.old) (B.life blob.new) }
-
-    // No read has more pages than fit `buffer_size`, and each may have one page.
     ensures reads { let old = B.life blob.old in let new = B.life blob.new in
-        ReadsWithin (scan_bytes cache.old.page_size (non_zero_usize_get buffer_size)) old new }
+        let P = cache.old.page_size in
+        let most = scan_bytes P (non_zero_usize_get buffer_size) in
+        RecoverWithinCosts H.sum_of P most size old new }
 {
     let page_size = cache.page_size();
     adjusted_capacity(capacity, u64::from(page_size.get()))?;

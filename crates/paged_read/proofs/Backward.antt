@@ -3,24 +3,16 @@ use Rattle.std.proofs.Common.{◌≡◌, inl, inr, ℕ, ◌+◌, ◌-◌, ◌*�
 use Rattle.disk.specs.Disk.{Request, Life, ReadAt, ReadMany, StartReadMany, DeviceReadGoes}
 use Rattle.disk.specs.declared.error.Error.{Error}
 use Rattle.paged_read.specs.Searches.{AreReadsWithin, ReadsWithin}
-use Rattle.paged_read.specs.Backward.{FallFrom, FallTo, ReadsBack, ReadsDownTo}
+use Rattle.paged_read.specs.Backward.{FallTo, ReadsDownTo}
 use Rattle.paged_read.proofs.Searching.{within_joins, gained_none, gained_once, gained_joins, gained_then, read_asks}
 
 -- reads that fall are each of one page
-fall_within : (size top most : ℕ) (xs : List Request) → size ≤ most → FallFrom size top xs → AreReadsWithin most xs
-fall_within size top most [] enough fall = tt
-fall_within size top most (ReadAt offset len ∷ xs) enough fall = (omega (arith, fall.0), fall_within size offset most xs enough fall.2)
-fall_within size top most (ReadMany ranges ∷ xs) enough fall = absurd fall
-fall_within size top most (StartReadMany ranges ∷ xs) enough fall = absurd fall
-fall_within size top most (_ ∷ xs) enough fall = fall_within size top most xs enough fall
-
--- reads that fall, however low they end
-fall_forget : (size top bottom : ℕ) (xs : List Request) → FallTo size top bottom xs → FallFrom size top xs
-fall_forget size top bottom [] fall = tt
-fall_forget size top bottom (ReadAt offset len ∷ xs) fall = (fall.0, fall.1, fall_forget size offset bottom xs fall.2)
-fall_forget size top bottom (ReadMany ranges ∷ xs) fall = absurd fall
-fall_forget size top bottom (StartReadMany ranges ∷ xs) fall = absurd fall
-fall_forget size top bottom (_ ∷ xs) fall = fall_forget size top bottom xs fall
+fall_within : (size top bottom most : ℕ) (xs : List Request) → size ≤ most → FallTo size top bottom xs → AreReadsWithin most xs
+fall_within size top bottom most [] enough fall = tt
+fall_within size top bottom most (ReadAt offset len ∷ xs) enough fall = (omega (arith, fall.0), fall_within size offset bottom most xs enough fall.2)
+fall_within size top bottom most (ReadMany ranges ∷ xs) enough fall = absurd fall
+fall_within size top bottom most (StartReadMany ranges ∷ xs) enough fall = absurd fall
+fall_within size top bottom most (_ ∷ xs) enough fall = fall_within size top bottom most xs enough fall
 
 -- one read more, lower than the others
 fall_read : (size top bottom offset : ℕ) (xs : List Request) → FallTo size top bottom xs → offset + size ≤ bottom → FallTo size top offset (xs ++ ReadAt offset size ∷ [])
@@ -66,15 +58,13 @@ down_lower size bottom offset old new below reads =
     let top = length old.present.readable in
     gained_then (FallTo size top bottom) (FallTo size top offset) old new (λ xs fall. fall_lower size top bottom offset xs fall below) reads
 
--- reads down to an offset go back
-pub down_back : (size bottom : ℕ) (old new : Life) → ReadsDownTo size bottom old new → ReadsBack size old new
-down_back size bottom old new down = gained_then (FallTo size (length old.present.readable) bottom) (FallFrom size (length old.present.readable)) old new (λ xs fall. fall_forget size (length old.present.readable) bottom xs fall) down
-
 -- reads that go back are within any bound that has room for a page
-pub back_within : (size most : ℕ) (old new : Life) → size ≤ most → ReadsBack size old new → ReadsWithin most old new
-back_within size most old new enough back = gained_then (FallFrom size (length old.present.readable)) (AreReadsWithin most) old new (λ xs fall. fall_within size (length old.present.readable) most xs enough fall) back
+pub down_within : (size bottom most : ℕ) (old new : Life) → size ≤ most → ReadsDownTo size bottom old new → ReadsWithin most old new
+down_within size bottom most old new enough down =
+    let top = length old.present.readable in
+    gained_then (FallTo size top bottom) (AreReadsWithin most) old new (λ xs fall. fall_within size top bottom most xs enough fall) down
 
 -- a scan of what was opened
-pub scans_within : (size most : ℕ) (old mid new : Life) → size ≤ most → ReadsBack size old mid → ReadsWithin most mid new → ReadsWithin most old new
-scans_within size most old mid new enough back within =
-    gained_joins (AreReadsWithin most) (AreReadsWithin most) (AreReadsWithin most) old mid new (within_joins most) (back_within size most old mid enough back) within
+pub scans_within : (size bottom most : ℕ) (old mid new : Life) → size ≤ most → ReadsDownTo size bottom old mid → ReadsWithin most mid new → ReadsWithin most old new
+scans_within size bottom most old mid new enough down within =
+    gained_joins (AreReadsWithin most) (AreReadsWithin most) (AreReadsWithin most) old mid new (within_joins most) (down_within size bottom most old mid enough down) within

@@ -9,7 +9,7 @@ use Rattle.std.proofs.lemmas.List.FromFn.{length-map-range_with_len, map-range_w
 use Rattle.disk.specs.Disk.{Request, Entry, Life, ReadAt, AskedOnce, DeviceReadGoes}
 use Rattle.disk.specs.declared.error.Error.{Error}
 use Rattle.paged_read.specs.Scans.{batch_request, batches, ReadsForward, ReadsInBatches}
-use Rattle.paged_read.specs.Searches.{Gained, AreReadsWithin, ReadsWithin}
+use Rattle.paged_read.specs.Searches.{AreReadsWithin, ReadsWithin}
 use Rattle.paged_read.proofs.Searching.{gained_none, gained_once, gained_joins, gained_then, read_asks}
 
 -- batches of `most` pages were read, at most `limit` of them, up to before the page `done`

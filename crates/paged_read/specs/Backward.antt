@@ -4,21 +4,7 @@ use Rattle.disk.specs.Disk.{Request, Life, ReadAt, ReadMany, StartReadMany}
 use Rattle.paged_read.specs.Searches.{Gained}
 
 -- each request that reads asks for `size` bytes, which end at or before the offset of the read
--- before it. Those of the first read end at or before `top`
-abbrev pub FallFrom : (size top : ℕ) → List Request → Type 0
-FallFrom size top [] = Unit {0}
-FallFrom size top (ReadAt offset len ∷ rest) =
-    (len ≡ size) × (offset + size ≤ top) × FallFrom size offset rest
-FallFrom size top (ReadMany ranges ∷ rest) = ⊥
-FallFrom size top (StartReadMany ranges ∷ rest) = ⊥
-FallFrom size top (_ ∷ rest) = FallFrom size top rest
-
--- each read since then is of a page of this size, from the blob's end back, and no page is read
--- twice
-abbrev pub ReadsBack : ℕ → Life → Life → Type 0
-ReadsBack size old new = Gained (FallFrom size (length old.present.readable)) old new
-
--- `FallFrom`, where also no read begins before `bottom`
+-- before it, and don't begin before `bottom`. Those of the first read end at or before `top`
 abbrev pub FallTo : (size top bottom : ℕ) → List Request → Type 0
 FallTo size top bottom [] = bottom ≤ top
 FallTo size top bottom (ReadAt offset len ∷ rest) =

@@ -3,7 +3,8 @@ ghost use Rattle.std.specs.Prelude.{◌≡◌, length, IfOk, OnOk, OnErr, IsOkUn
 ghost use Rattle.std.specs.Int.NonZero.{non_zero_usize_get};
 ghost use Rattle.disk.specs.History.{life_of};
 ghost use Rattle.disk.specs.Torn.{torn};
-ghost use Rattle.paged_read.specs.Searches.{ReadsWithin, scan_bytes};
+ghost use Rattle.paged_read.specs.Searches.{scan_bytes};
+ghost use Rattle.paged.specs.RecoveryCosts.{RecoverCosts, RecoverWithinCosts};
 ghost use Rattle.cache.specs.Pages.{IsFresh};
 ghost use Rattle.session.specs.Others.{LeavesOthersAnew};
 ghost use Rattle.session.specs.Run.{IsSessionReady};
@@ -48,7 +49,9 @@ impl<B: Blob, H: Sum> Session<B, H> {
         ensures owes { let old = B.life blob.old in let new = B.life blob.new in
             OwesBeginning H.sum_of cache.old.page_size cache.old cache.new old new }
         ensures costs { let old = B.life blob.old in let new = B.life blob.new in
-            ReadsWithin (scan_bytes cache.old.page_size (non_zero_usize_get buffer_size)) old new }
+            let P = cache.old.page_size in
+            let most = scan_bytes P (non_zero_usize_get buffer_size) in
+            RecoverCosts H.sum_of P most old new }
     {
         let writer = paged::recover::<B, H>(alloc, blob, size, capacity, cache, buffer_size)?;
         Ok(Session::new(alloc, writer))
@@ -80,7 +83,9 @@ impl<B: Blob, H: Sum> Session<B, H> {
         ensures owes { let old = B.life blob.old in let new = B.life blob.new in
             OwesBeginning H.sum_of cache.old.page_size cache.old cache.new old new }
         ensures costs { let old = B.life blob.old in let new = B.life blob.new in
-            ReadsWithin (scan_bytes cache.old.page_size (non_zero_usize_get buffer_size)) old new }
+            let P = cache.old.page_size in
+            let most = scan_bytes P (non_zero_usize_get buffer_size) in
+            RecoverWithinCosts H.sum_of P most size old new }
     {
         let writer = paged::recover_within::<B, H>(
             alloc,

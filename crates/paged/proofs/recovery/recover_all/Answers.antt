@@ -9,13 +9,15 @@ use Rattle.page.specs.Page.{pieces, text}
 use Rattle.paged_read.specs.Prefix.{prefix_of, prefix_pages}
 use Rattle.paged.specs.Recovers.{Recovers}
 use Rattle.paged.proofs.Recoveries.{opened_size_le, finds_cause}
-use Rattle.paged.proofs.Recovered.{counted_length, kept_is, on_ok, opened_length, opened_page_size, opened_positive, found_is, found_within, found_short, counted_text, no_work, CutToText, scanned_length, scanned_as_opened, recovers_unfound, recovers_end, recovers_keep}
+use Rattle.paged.proofs.Recovered.{counted_length, kept_is, on_ok, opened_length, opened_count, opened_page_size, opened_positive, found_is, found_within, found_short, counted_text, no_work, CutToText, scanned_length, scanned_as_opened, recovers_unfound, recovers_end, recovers_keep}
 use Rattle.paged.proofs.MendedTails.{recovers_mended}
 use Rattle.paged.proofs.Trims.{Owes, scanned_owe, recovers_owe, finds_looked}
 use Rattle.paged_read.specs.Searches.{ReadsWithin, scan_bytes}
-use Rattle.paged_read.proofs.Forward.{forward_is_within}
-use Rattle.paged_read.proofs.Backward.{back_within, scans_within}
-use Rattle.paged_read.proofs.Searching.{page_within, cuts_within}
+use Rattle.paged_read.specs.Scans.{ReadsForward, ReadsUpToEnd}
+use Rattle.paged_read.proofs.Searching.{page_within}
+use Rattle.paged.specs.Calls.{AsksAtMost}
+use Rattle.paged.specs.RecoveryCosts.{opened_pages, RecoverCosts, text_batches}
+use Rattle.paged.proofs.RecoveringCosts.{cut_few, recover_cut, recover_scanned, recover_unopened, scan_reads}
 use Rattle.paged_read.specs.Hand.{IsEmptyHand, kept_with}
 use Rattle.paged.proofs.There.{recovered_sound}
 use Rattle.paged.proofs.recovery.recover_all.Given.{Over}
@@ -227,23 +229,38 @@ returns-in_err-recovery-clause-reads g c =
     let life = g.B.Blob.life in
     let P = c.args.cache.now.page_size in
     let buffer_size = non_zero_usize_get c.args.buffer_size in
-    back_within (P + 12) (scan_bytes P buffer_size) (life c.args.blob.now) (life c.open_all.new.blob) (page_within P buffer_size (P + 12) refl) c.open_all.ensures.reads
+    recover_unopened g.H.Sum.sum_of P (scan_bytes P buffer_size) (life c.args.blob.now) (life c.open_all.new.blob) (page_within P buffer_size (P + 12) refl) c.open_all.ensures.reads
 
--- what the scan read, and the opening before it
-reads : (g : Over) (c : After-scan g) → ReadsWithin (scan_bytes c.args.cache.now.page_size (non_zero_usize_get c.args.buffer_size)) (g.B.Blob.life c.args.blob.now) (g.B.Blob.life c.scan.new.blob)
-reads g c =
+-- what the scan read
+scans : (g : Over) (c : After-scan g) → let P = c.args.cache.now.page_size in let bytes = (g.B.Blob.life c.args.blob.now).present.readable in let most = scan_bytes P (non_zero_usize_get c.args.buffer_size) in
+    ReadsForward most 0 (opened_pages g.H.Sum.sum_of P bytes * (P + 12)) (text_batches g.H.Sum.sum_of P most bytes) (g.B.Blob.life c.open_all.new.blob) (g.B.Blob.life c.scan.new.blob)
+scans g c =
     let life = g.B.Blob.life in
+    let sum = g.H.Sum.sum_of in
     let cache = c.args.cache.now in
     let P = cache.page_size in
     let old = life c.args.blob.now in
     let mid = life c.open_all.new.blob in
     let new = life c.scan.new.blob in
+    let w = c.in_ok-recovery.recovery in
+    let opened = c.in_ok-recovery.ensures.opens in
     let buffer_size = non_zero_usize_get c.args.buffer_size in
-    let same = ap (λ (x : WriterState). x.page_size) c.recovery.view_is ∙ opened_page_size g.H.Sum.sum_of cache c.args.capacity old mid c.in_ok-recovery.recovery c.in_ok-recovery.ensures.opens in
-    let Q = non_zero_u16_get c.recovery.inside.page_size in
-    let scanned = subst (λ (n : ℕ). ReadsWithin (scan_bytes n buffer_size) mid new) same
-    (forward_is_within (scan_bytes Q buffer_size) (0 * (Q + 12)) (c.flushed_pages-pages.result * (Q + 12)) mid new c.scan.ensures.costs.forward) in
-    scans_within (P + 12) (scan_bytes P buffer_size) old mid new (page_within P buffer_size (P + 12) refl) c.in_ok-recovery.ensures.reads scanned
+    let n = c.flushed_pages-pages.result in
+    let is = ap (λ (x : WriterState). x.page_size) c.recovery.view_is in
+    let same = is ∙ opened_page_size sum cache c.args.capacity old mid w opened in
+    let some = opened_positive sum cache c.args.capacity old mid w opened (non_zero_u16_get c.recovery.inside.page_size) c.recovery.inside.page_size.ok is in
+    let texts = kept_is sum cache c.args.capacity old mid w opened n P some refl c.flushed_pages-pages.ensures in
+    let pages = c.flushed_pages-pages.ensures ∙ opened_count sum cache c.args.capacity old mid w opened in
+    scan_reads sum P (scan_bytes P buffer_size) n old mid new some texts pages
+    (subst (λ (k : ℕ). ReadsUpToEnd sum k (scan_bytes k buffer_size) 0 n mid new) same c.scan.ensures.costs)
+
+-- what the scan read, and the opening before it
+reads : (g : Over) (c : After-scan g) → let P = c.args.cache.now.page_size in RecoverCosts g.H.Sum.sum_of P (scan_bytes P (non_zero_usize_get c.args.buffer_size)) (g.B.Blob.life c.args.blob.now) (g.B.Blob.life c.scan.new.blob)
+reads g c =
+    let life = g.B.Blob.life in
+    let P = c.args.cache.now.page_size in
+    let buffer_size = non_zero_usize_get c.args.buffer_size in
+    recover_scanned g.H.Sum.sum_of P (scan_bytes P buffer_size) (life c.args.blob.now) (life c.open_all.new.blob) (life c.scan.new.blob) (page_within P buffer_size (P + 12) refl) c.in_ok-recovery.ensures.reads (scans g c)
 
 pub returns-in_err-prefix-clause-reads : goal.returns-in_err-prefix-clause-reads
 returns-in_err-prefix-clause-reads g c = reads g (goal.at.returns-in_err-prefix-clause-reads g c).After-scan
@@ -261,10 +278,13 @@ returns-clause-reads g c =
     let n = c.size_of-text_size.result in
     let P = cache.page_size in
     let buffer_size = non_zero_usize_get c.args.buffer_size in
+    let most = scan_bytes P buffer_size in
+    let enough = page_within P buffer_size (P + 12) refl in
     let all = cuts g (goal.at.returns-clause-reads g c).After-size_of-text_size in
     let none = no_work sum w scanned.present (scanned_as_opened sum cache c.args.capacity n old mid scanned w all) in
     let last = subst (λ (k : ℕ). ReadsWithin (k + 12) scanned new) (opened_page_size sum cache c.args.capacity old mid w c.in_ok-recovery.ensures.opens) (c.truncate_all.ensures.reads none) in
-    cuts_within (P + 12) (scan_bytes P buffer_size) old scanned new (page_within P buffer_size (P + 12) refl) (reads g (goal.at.returns-clause-reads g c).After-scan) last
+    let few : AsksAtMost 7 scanned new = omega (arith, c.truncate_all.ensures.calls, cut_few w n none) in
+    recover_cut sum P most old mid scanned new enough c.in_ok-recovery.ensures.reads (scans g (goal.at.returns-clause-reads g c).After-scan) few last
 
 pub returns-clause-ids : goal.returns-clause-ids
 returns-clause-ids g c =

@@ -9,7 +9,10 @@ use Rattle.paged.proofs.Trims.{Owes, looked_owe}
 use Rattle.paged.proofs.Surveying.{stake_there}
 use Rattle.paged.proofs.LookedFirst.{none_owe, owe_after, recovers_after, may_cut}
 use Rattle.paged_read.specs.Searches.{ReadsWithin, scan_bytes}
-use Rattle.paged_read.proofs.Searching.{page_within, cuts_within}
+use Rattle.paged_read.proofs.Searching.{page_within}
+use Rattle.paged.specs.Outlook.{ReadsToLast}
+use Rattle.paged.specs.RecoveryCosts.{RecoverWithinCosts}
+use Rattle.paged.proofs.RecoveringCosts.{within_cut, within_looked, within_none}
 use Rattle.paged.proofs.within.recover_looked.Given.{Over}
 use Rattle.paged.proofs.within.recover_looked.Goals as goal
 use Rattle.paged.proofs.within.recover_looked.Goals.{In_err-adjusted_capacity, After-look_to_last, After-recover_text}
@@ -98,20 +101,59 @@ returns-clause-kept g c = (owes g (goal.at.returns-clause-kept g c).After-recove
 pub returns-clause-only : goal.returns-clause-only
 returns-clause-only g c = (owes g (goal.at.returns-clause-only g c).After-recover_text).only
 
--- no read is longer than those of the look, or a page
-reads : (g : Over) (c : After-recover_text g) → ReadsWithin (scan_bytes c.args.cache.now.page_size (non_zero_usize_get c.args.buffer_size)) (g.B.Blob.life c.args.blob.now) (g.B.Blob.life c.recover_text.new.blob)
-reads g c =
+-- what the look reads, with the cache's page size
+looks : (g : Over) (c : After-look_to_last g) → let P = c.args.cache.now.page_size in
+    ReadsToLast g.H.Sum.sum_of P (scan_bytes P (non_zero_usize_get c.args.buffer_size)) c.args.size (g.B.Blob.life c.args.blob.now) (g.B.Blob.life c.look_to_last.new.blob)
+looks g c =
+    let life = g.B.Blob.life in
+    let buffer_size = non_zero_usize_get c.args.buffer_size in
+    subst (λ (n : ℕ). ReadsToLast g.H.Sum.sum_of n (scan_bytes n buffer_size) c.args.size (life c.args.blob.now) (life c.look_to_last.new.blob)) c.page_size-page_size.ensures c.look_to_last.ensures.reads
+
+looks_within : (g : Over) (c : After-look_to_last g) → ReadsWithin (scan_bytes c.args.cache.now.page_size (non_zero_usize_get c.args.buffer_size)) (g.B.Blob.life c.args.blob.now) (g.B.Blob.life c.look_to_last.new.blob)
+looks_within g c =
+    let life = g.B.Blob.life in
+    let buffer_size = non_zero_usize_get c.args.buffer_size in
+    subst (λ (n : ℕ). ReadsWithin (scan_bytes n buffer_size) (life c.args.blob.now) (life c.look_to_last.new.blob)) c.page_size-page_size.ensures c.look_to_last.ensures.within
+
+-- the blob was looked at alone
+looked : (g : Over) (c : After-look_to_last g) → let P = c.args.cache.now.page_size in
+    RecoverWithinCosts g.H.Sum.sum_of P (scan_bytes P (non_zero_usize_get c.args.buffer_size)) c.args.size (g.B.Blob.life c.args.blob.now) (g.B.Blob.life c.look_to_last.new.blob)
+looked g c =
+    let P = c.args.cache.now.page_size in
+    within_looked g.H.Sum.sum_of P (scan_bytes P (non_zero_usize_get c.args.buffer_size)) c.args.size (g.B.Blob.life c.args.blob.now) (g.B.Blob.life c.look_to_last.new.blob) (looks g c) (looks_within g c)
+
+pub returns-in_err-adjusted_capacity-clause-reads : goal.returns-in_err-adjusted_capacity-clause-reads
+returns-in_err-adjusted_capacity-clause-reads g c =
+    let P = c.args.cache.now.page_size in
+    let buffer_size = non_zero_usize_get c.args.buffer_size in
+    within_none g.H.Sum.sum_of P (scan_bytes P buffer_size) c.args.size (g.B.Blob.life c.args.blob.now) (page_within P buffer_size (P + 12) refl)
+
+pub returns-in_err-outlook-clause-reads : goal.returns-in_err-outlook-clause-reads
+returns-in_err-outlook-clause-reads g c = looked g (goal.at.returns-in_err-outlook-clause-reads g c).After-look_to_last
+
+pub returns-then-stake-allowed-clause-reads : goal.returns-then-stake-allowed-clause-reads
+returns-then-stake-allowed-clause-reads g c = looked g (goal.at.returns-then-stake-allowed-clause-reads g c).After-look_to_last
+
+-- what a recovery reads, whatever it answers
+recovered : (g : Over) (c : After-recover_text g) → let P = c.args.cache.now.page_size in
+    ReadsToLast g.H.Sum.sum_of P (scan_bytes P (non_zero_usize_get c.args.buffer_size)) c.args.size (g.B.Blob.life c.args.blob.now) (g.B.Blob.life c.look_to_last.new.blob)
+    → ReadsWithin (scan_bytes P (non_zero_usize_get c.args.buffer_size)) (g.B.Blob.life c.args.blob.now) (g.B.Blob.life c.look_to_last.new.blob)
+    → RecoverWithinCosts g.H.Sum.sum_of P (scan_bytes P (non_zero_usize_get c.args.buffer_size)) c.args.size (g.B.Blob.life c.args.blob.now) (g.B.Blob.life c.recover_text.new.blob)
+recovered g c first within =
     let life = g.B.Blob.life in
     let P = c.args.cache.now.page_size in
     let buffer_size = non_zero_usize_get c.args.buffer_size in
-    let first = subst (λ (n : ℕ). ReadsWithin (scan_bytes n buffer_size) (life c.args.blob.now) (life c.look_to_last.new.blob)) c.page_size-page_size.ensures c.look_to_last.ensures.within in
-    cuts_within (P + 12) (scan_bytes P buffer_size) (life c.args.blob.now) (life c.look_to_last.new.blob) (life c.recover_text.new.blob) (page_within P buffer_size (P + 12) refl) first c.recover_text.ensures.reads
+    within_cut g.H.Sum.sum_of P (scan_bytes P buffer_size) c.args.size (life c.args.blob.now) (life c.look_to_last.new.blob) (life c.recover_text.new.blob) (page_within P buffer_size (P + 12) refl) first within c.recover_text.ensures.reads
 
 pub returns-in_err-recovery-clause-reads : goal.returns-in_err-recovery-clause-reads
-returns-in_err-recovery-clause-reads g c = reads g (goal.at.returns-in_err-recovery-clause-reads g c).After-recover_text
+returns-in_err-recovery-clause-reads g c =
+    let at = goal.at.returns-in_err-recovery-clause-reads g c in
+    recovered g at.After-recover_text (looks g at.After-look_to_last) (looks_within g at.After-look_to_last)
 
 pub returns-clause-reads : goal.returns-clause-reads
-returns-clause-reads g c = reads g (goal.at.returns-clause-reads g c).After-recover_text
+returns-clause-reads g c =
+    let at = goal.at.returns-clause-reads g c in
+    recovered g at.After-recover_text (looks g at.After-look_to_last) (looks_within g at.After-look_to_last)
 
 -- nothing was changed
 owes-looked : (g : Over) (c : After-look_to_last g) → Owes g.H.Sum.sum_of c.args.cache.now.page_size (g.B.Blob.life c.args.blob.now) (g.B.Blob.life c.look_to_last.new.blob)

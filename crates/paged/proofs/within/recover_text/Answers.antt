@@ -9,8 +9,8 @@ use Rattle.paged.proofs.Recovered.{opened_page_size, kept_readable, no_work, Cut
 use Rattle.paged.proofs.There.{recovered_sound}
 use Rattle.paged.proofs.Trims.{Owes, recovers_owe}
 use Rattle.paged_read.specs.Searches.{ReadsWithin}
-use Rattle.paged_read.proofs.Backward.{back_within}
-use Rattle.paged_read.proofs.Searching.{cuts_within}
+use Rattle.paged.specs.Calls.{AsksAtMost}
+use Rattle.paged.proofs.RecoveringCosts.{cut_few, opens_alone, opens_and_cuts}
 use Rattle.paged.proofs.within.recover_text.Given.{Over}
 use Rattle.paged.proofs.within.recover_text.Goals as goal
 use Rattle.paged.proofs.within.recover_text.Goals.{After-truncate_all}
@@ -111,8 +111,7 @@ returns-clause-only g c = (owes g (goal.at.returns-clause-only g c).After-trunca
 pub returns-in_err-recovery-clause-reads : goal.returns-in_err-recovery-clause-reads
 returns-in_err-recovery-clause-reads g c =
     let life = g.B.Blob.life in
-    let size = c.args.cache.now.page_size + 12 in
-    back_within size size (life c.args.blob.now) (life c.open_all.new.blob) (omega arith) c.open_all.ensures.reads
+    opens_alone g.H.Sum.sum_of c.args.cache.now.page_size (life c.args.blob.now) (life c.open_all.new.blob) c.open_all.ensures.reads
 
 pub returns-clause-reads : goal.returns-clause-reads
 returns-clause-reads g c =
@@ -123,11 +122,11 @@ returns-clause-reads g c =
     let mid = life c.open_all.new.blob in
     let new = life c.truncate_all.new.blob in
     let w = c.in_ok-recovery.recovery in
-    let size = cache.page_size + 12 in
     let all = cuts g (goal.at.returns-clause-reads g c).After-truncate_all in
     let none = no_work sum w mid.present (scanned_as_opened sum cache c.args.capacity c.args.len old mid mid w all) in
     let last = subst (λ (k : ℕ). ReadsWithin (k + 12) mid new) (opened_page_size sum cache c.args.capacity old mid w c.in_ok-recovery.ensures.opens) (c.truncate_all.ensures.reads none) in
-    cuts_within size size old mid new (omega arith) (back_within size size old mid (omega arith) c.in_ok-recovery.ensures.reads) last
+    let few : AsksAtMost 7 mid new = omega (arith, c.truncate_all.ensures.calls, cut_few w c.args.len none) in
+    opens_and_cuts sum cache.page_size old mid new c.in_ok-recovery.ensures.reads few last
 
 pub returns-clause-ids : goal.returns-clause-ids
 returns-clause-ids g c =

@@ -105,13 +105,13 @@ pub returns-clause-leaves : goal.returns-clause-leaves
 returns-clause-leaves g c = left g (goal.at.returns-clause-leaves g c).After-trim
 
 pub returns-in_err-recovery-clause-costs : goal.returns-in_err-recovery-clause-costs
-returns-in_err-recovery-clause-costs g c = c.recover_keeping.ensures.costs
+returns-in_err-recovery-clause-costs g c = c.recover_keeping.ensures.costs.within
 
 -- the reads of the recovery, and of the trim
 reads : (g : Over) (c : After-trim g) → ReadsWithin (scan_bytes c.args.cache.now.page_size (non_zero_usize_get c.args.buffer_size)) (g.B.Blob.life c.args.blob.now) (g.B.Blob.life c.trim.new.blob)
 reads g c =
     trim_within c.args.cache.now.page_size c.in_ok-recovery.recovery.page_size (non_zero_usize_get c.args.buffer_size) (g.B.Blob.life c.args.blob.now) (g.B.Blob.life c.recover_keeping.new.blob) (g.B.Blob.life c.trim.new.blob)
-    c.in_ok-recovery.ensures.goes.goes.answers.page_size c.recover_keeping.ensures.costs c.trim.ensures.costs
+    c.in_ok-recovery.ensures.goes.goes.answers.page_size c.recover_keeping.ensures.costs.within c.trim.ensures.costs
 
 pub returns-in_err-recovery-2-clause-costs : goal.returns-in_err-recovery-2-clause-costs
 returns-in_err-recovery-2-clause-costs g c = reads g (goal.at.returns-in_err-recovery-2-clause-costs g c).After-trim

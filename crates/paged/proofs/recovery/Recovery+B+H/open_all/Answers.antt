@@ -1,6 +1,5 @@
-use Rattle.paged_read.proofs.Backward.{down_back}
 use Rattle.paged.proofs.OpenedReads.{opened_reads, opened_others}
-use Rattle.std.proofs.Common.{◌≡◌, ◌+◌, ◌*◌, ◌/◌, ◌%◌, ◌^◌, ◌<◌, ℕ, length, ◌∙◌, ap, arith, refl, subst}
+use Rattle.std.proofs.Common.{◌≡◌, ◌+◌, ◌-◌, ◌*◌, ◌/◌, ◌%◌, ◌^◌, ◌<◌, ℕ, length, ◌∙◌, ap, arith, refl, subst}
 use Rattle.std.proofs.lemmas.Grind.{common_steps}
 use Rattle.std.proofs.lemmas.Result.{err_from_is_err_and}
 use Rattle.std.specs.Int.NonZero.{non_zero_u16_get}
@@ -11,8 +10,8 @@ use Rattle.paged.specs.Recovery.{Opens, opened_prefix}
 use Rattle.crash.specs.Looks.{looked_start}
 use Rattle.paged.proofs.Mends.{mend_fits, opened_back, opened_cause, opened_trims}
 use Rattle.paged.proofs.Recoveries.{opened_is, opened_last, opened_reach, opened_kept, opened_size_le, pages_count, fits_prefix, opens_cause}
-use Rattle.paged_read.specs.Backward.{ReadsBack}
-use Rattle.paged.proofs.QuietCuts.{opens_back}
+use Rattle.paged.specs.RecoveryCosts.{OpenCosts, opened_pages}
+use Rattle.paged.proofs.QuietCuts.{open_none, open_reads, opens_down}
 use Rattle.paged.proofs.Opened.{opens_end, opened_there, opens_as_opened, opens_mended}
 use Rattle.paged.proofs.Trims.{Owes, opens_owe, finds_looked, looked_owe}
 use Rattle.paged.proofs.Offsets.{opens_within, adjusted_whole, adjusted_room}
@@ -155,19 +154,22 @@ pub returns-clause-only : goal.returns-clause-only
 returns-clause-only g c = (owes g (goal.at.returns-clause-only g c).After-keep_pages).only
 
 -- what was read, whatever the answer
-reads : (g : Over) (c : After-keep_pages g) → ReadsBack (c.args.cache.now.page_size + 12) (g.B.Blob.life c.args.blob.now) (g.B.Blob.life c.keep_pages.new.blob)
+reads : (g : Over) (c : After-keep_pages g) → OpenCosts g.H.Sum.sum_of c.args.cache.now.page_size (g.B.Blob.life c.args.blob.now) (g.B.Blob.life c.keep_pages.new.blob)
 reads g c =
     let life = g.B.Blob.life in
+    let P = c.args.cache.now.page_size in
     let old = life c.args.blob.now in
     let mid = life c.last_pages.new.blob in
-    let back = subst (λ (n : ℕ). ReadsBack (n + 12) old mid) c.page_size-page_size.ensures (down_back _ _ old mid c.in_ok-last.ensures.costs) in
-    opens_back (c.args.cache.now.page_size + 12) _ _ _ _ old mid (life c.keep_pages.new.blob) c.keep_pages.result back c.keep_pages.ensures.keeps
+    let down = open_reads g.H.Sum.sum_of P (non_zero_u16_get c.page_size-page_size.result) c.args.size c.physical_page_size-physical_page_size.result old mid c.physical_page_size-physical_page_size.ensures c.page_size-page_size.ensures c.requires.length c.in_ok-last.ensures.costs in
+    opens_down (P + 12) ((opened_pages g.H.Sum.sum_of P old.present.readable - 1) * (P + 12)) _ _ _ _ old mid (life c.keep_pages.new.blob) c.keep_pages.result down c.keep_pages.ensures.keeps
 
 pub returns-in_err-last-clause-reads : goal.returns-in_err-last-clause-reads
 returns-in_err-last-clause-reads g c =
-    let old = g.B.Blob.life c.args.blob.now in
-    let new = g.B.Blob.life c.last_pages.new.blob in
-    subst (λ (n : ℕ). ReadsBack (n + 12) old new) c.page_size-page_size.ensures (down_back _ _ old new c.last_pages.ensures.costs)
+    let life = g.B.Blob.life in
+    open_reads g.H.Sum.sum_of c.args.cache.now.page_size (non_zero_u16_get c.page_size-page_size.result) c.args.size c.physical_page_size-physical_page_size.result (life c.args.blob.now) (life c.last_pages.new.blob) c.physical_page_size-physical_page_size.ensures c.page_size-page_size.ensures c.requires.length c.last_pages.ensures.costs
+
+pub returns-in_err-capacity-clause-reads : goal.returns-in_err-capacity-clause-reads
+returns-in_err-capacity-clause-reads g c = open_none g.H.Sum.sum_of c.args.cache.now.page_size (g.B.Blob.life c.args.blob.now)
 
 pub returns-in_err-sync_state-clause-reads : goal.returns-in_err-sync_state-clause-reads
 returns-in_err-sync_state-clause-reads g c = reads g (goal.at.returns-in_err-sync_state-clause-reads g c).After-keep_pages
