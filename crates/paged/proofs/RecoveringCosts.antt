@@ -45,9 +45,9 @@ scan_reads sum P most k old mid new some texts pages reads =
     let full : (prefix_from sum P 0 k mid.present.readable).full_pages ≡ size / P = text_end sum P k mid.present.readable some ∙ ap (λ (l : List ℕ). length l / P) texts in
     let none : 0 * (P + 12) ≡ 0 = omega arith in
     let one : ReadsForward most (0 * (P + 12)) (k * (P + 12)) (batches most (0 * (P + 12)) (min k (size / P + 1) * (P + 12))) mid new =
-        subst (λ (f : ℕ). ReadsForward most (0 * (P + 12)) (k * (P + 12)) (batches most (0 * (P + 12)) (min k (f + 1) * (P + 12))) mid new) full reads in
+    subst (λ (f : ℕ). ReadsForward most (0 * (P + 12)) (k * (P + 12)) (batches most (0 * (P + 12)) (min k (f + 1) * (P + 12))) mid new) full reads in
     let two : ReadsForward most 0 (k * (P + 12)) (batches most 0 (min k (size / P + 1) * (P + 12))) mid new =
-        subst (λ (z : ℕ). ReadsForward most z (k * (P + 12)) (batches most z (min k (size / P + 1) * (P + 12))) mid new) none one in
+    subst (λ (z : ℕ). ReadsForward most z (k * (P + 12)) (batches most z (min k (size / P + 1) * (P + 12))) mid new) none one in
     subst (λ (j : ℕ). ReadsForward most 0 (j * (P + 12)) (batches most 0 (min j (size / P + 1) * (P + 12))) mid new) pages two
 
 -- ---- how many calls a cut takes
