@@ -8,6 +8,8 @@ ghost use Rattle.disk.specs.Disk.{Life};
 ghost use Rattle.paged_read.specs.Ranges.{AsksForMissing, AsksOnce};
 ghost use Rattle.paged.specs.Caches.{tail_of};
 ghost use Rattle.paged.specs.Calls.{AsksAtMost, start_calls, sync_calls, wait_calls};
+ghost use Rattle.paged_read.specs.Searches.{scan_bytes};
+ghost use Rattle.paged.specs.RecoveryCosts.{RecoverAndCutCosts};
 ghost use Rattle.paged.specs.Replays.{replay_calls};
 ghost use Rattle.paged.specs.Snapshots.{snapshot_calls};
 ghost use Rattle.items.specs.Calls.{AreGivenBack, AreRising, GetGoes, GetManyGoes, ItemIsAt};
@@ -121,6 +123,9 @@ impl<B: Blob, H: Sum> Items<B, H> {
         ensures leaves { let old = B.life blob.old in let new = B.life blob.new in
             let s = non_zero_usize_get size in
             ItemsRecoveryLeaves H.sum_of s cache.old cache.new old new }
+        ensures costs { let P = cache.old.page_size in
+            let most = scan_bytes P (non_zero_usize_get buffer_size) in
+            RecoverAndCutCosts H.sum_of P most (B.life blob.old) (B.life blob.new) }
     {
         let recovery = paged::recover::<B, H>(
             alloc,

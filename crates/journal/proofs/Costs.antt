@@ -12,12 +12,12 @@ use Rattle.writer_state.specs.WriterState.{WriterState}
 use Rattle.paged_read.specs.Puts.{PutsInOrder, PutsPages}
 use Rattle.paged_read.specs.Ranges.{is_served, missing, touches}
 use Rattle.paged_read.specs.Reads.{ReadCosts}
-use Rattle.paged_read.specs.Searches.{AreReadsWithin, ReadsWithin, scan_bytes}
+use Rattle.paged_read.specs.Searches.{AreReadsWithin, ReadsWithin}
 use Rattle.paged_read.specs.Tail.{Tail, logical_bytes}
 use Rattle.paged_read.proofs.PutLaws.{asked_in_order}
 use Rattle.paged_read.proofs.RangedPages.{is_lacked, lacks_served, served_lacks, touch_true}
 use Rattle.paged_read.proofs.Windows.{touches_yes}
-use Rattle.paged_read.proofs.Searching.{cuts_within, gained_none, page_within}
+use Rattle.paged_read.proofs.Searching.{gained_none}
 use Rattle.paged.specs.Caches.{PutsOnceWaited}
 use Rattle.paged.specs.Calls.{AsksAtMost, BuffersAll, IsSettled, TryAppendGoes}
 use Rattle.paged.specs.Costs.{AppendCosts, SnapshotCosts}
@@ -114,11 +114,6 @@ reader_refused w cache after old new e (Err x) is costs = subst (λ (y : Error).
 -- a recovered writer has nothing to write
 pub settled_idle : (w : WriterState) → IsSettled w → has_work w true ≡ false
 settled_idle w settled = written_idle w (record { short = settled.short; flushed = settled.flushed })
-
--- the cut after a recovery reads no more at once
-pub trim_within : (P Q buffer_size : ℕ) (old mid new : Life) → Q ≡ P → ReadsWithin (scan_bytes P buffer_size) old mid → ReadsWithin (Q + 12) mid new → ReadsWithin (scan_bytes P buffer_size) old new
-trim_within P Q buffer_size old mid new same first second =
-    cuts_within (P + 12) (scan_bytes P buffer_size) old mid new (page_within P buffer_size (P + 12) refl) first (subst (λ (n : ℕ). ReadsWithin (n + 12) mid new) same second)
 
 -- where nothing was asked nothing was read
 pub unread : (most : ℕ) (life : Life) → ReadsWithin most life life

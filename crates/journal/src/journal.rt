@@ -6,7 +6,7 @@ ghost use Rattle.cache.specs.CacheState.{CacheState};
 ghost use Rattle.writer_state.specs.Sound.{IsSound, content};
 ghost use Rattle.crash.specs.Stays.{LeavesOnly};
 ghost use Rattle.paged.specs.Caches.{tail_of};
-ghost use Rattle.paged.specs.Calls.{BuffersOver, TryAppendGoes};
+ghost use Rattle.paged.specs.Calls.{AsksAtMost, BuffersOver, TryAppendGoes};
 ghost use Rattle.paged.specs.Costs.{AppendCosts, SnapshotCosts, StartSyncCosts, SyncCosts};
 ghost use Rattle.paged.specs.Costs.{WaitForSyncCosts};
 ghost use Rattle.paged.specs.Flush.{has_work};
@@ -15,6 +15,7 @@ ghost use Rattle.paged.specs.Goes.{WaitForSyncGoes};
 ghost use Rattle.paged.specs.Owes.{Owes, OwesWaiting};
 ghost use Rattle.paged.specs.Ready.{IsReady};
 ghost use Rattle.paged.specs.Reads.{size_of};
+ghost use Rattle.paged.specs.RecoveryCosts.{RecoverAndCutCosts};
 ghost use Rattle.paged.specs.Truncate.{KeepsFloorsWithin};
 ghost use Rattle.journal.specs.Frame.{frame, whole_frames};
 ghost use Rattle.paged.specs.Caches.{KeepsReads};
@@ -85,6 +86,7 @@ fn trim<B: Blob, H: Sum, R: Sum>(
         let held = content recovery old.present.readable in
         let P = recovery.page_size in
         LeavesOnly H.sum_of P held (whole_frames held) old (B.life blob.new) }
+    ensures calls { AsksAtMost 7 (B.life blob.old) (B.life blob.new) }
     ensures costs { ReadsWithin (recovery.page_size + 12) (B.life blob.old) (B.life blob.new) }
 {
     let (found, end) = records_of::<R>(alloc, held)?;
@@ -377,10 +379,9 @@ impl<B: Blob, H: Sum, R: Sum> Journal<B, H, R> {
         ensures ready { IfOk result (λ r. IsJournal H.sum_of r.0 cache.new (B.life blob.new)) }
         ensures leaves { let old = B.life blob.old in let new = B.life blob.new in
             JournalRecoveryLeaves H.sum_of R.sum_of cache.old cache.new old new }
-
-        // No read has more pages than fit `buffer_size` bytes, but each may have one page.
-        ensures costs { let most = scan_bytes cache.old.page_size (non_zero_usize_get buffer_size) in
-            ReadsWithin most (B.life blob.old) (B.life blob.new) }
+        ensures costs { let P = cache.old.page_size in
+            let most = scan_bytes P (non_zero_usize_get buffer_size) in
+            RecoverAndCutCosts H.sum_of P most (B.life blob.old) (B.life blob.new) }
     {
         let nothing = Hand::new(alloc, cache.page_size());
         let mut kept = Some(nothing);

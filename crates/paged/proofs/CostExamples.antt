@@ -11,7 +11,7 @@ use Rattle.paged_read.specs.Searches.{AreReadsWithin, Gained, ReadsWithin}
 use Rattle.paged_read.proofs.Forward.{forward_calls}
 use Rattle.paged_read.proofs.RawCosts.{rising_calls}
 use Rattle.paged.specs.Calls.{AreUnsynced, SyncsNothing}
-use Rattle.paged.specs.Outlook.{ReadsToLast, SurveyCosts, batches_beyond, kept_pages, last_reads, survey_calls}
+use Rattle.paged.specs.Outlook.{ReadsToLast, SurveyCosts, batches_beyond, text_pages, last_reads, survey_calls}
 use Rattle.paged.specs.RecoveryCosts.{RecoverCosts, opened_pages, text_batches}
 
 -- the life that goes on by these calls
@@ -23,7 +23,7 @@ entries requests = map (λ request. record { request = request; failed = false }
 
 -- ---- numbers
 
-pub pages_of_the_text : kept_pages add_sum 4 durable.readable ∷ opened_pages add_sum 4 durable.readable ∷ [] ≡ 2 ∷ 2 ∷ []
+pub pages_of_the_text : text_pages add_sum 4 durable.readable ∷ opened_pages add_sum 4 durable.readable ∷ [] ≡ 2 ∷ 2 ∷ []
 pages_of_the_text = refl
 
 -- the last page is partial

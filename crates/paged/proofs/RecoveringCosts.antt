@@ -20,9 +20,9 @@ use Rattle.paged_read.proofs.Scanning.{prefix_counts}
 use Rattle.paged_read.proofs.Searching.{cuts_within}
 use Rattle.paged.specs.Calls.{AsksAtMost, settle_calls}
 use Rattle.paged.specs.Flush.{has_work}
-use Rattle.paged.specs.Outlook.{ReadsToLast, kept_pages, last_reads}
+use Rattle.paged.specs.Outlook.{ReadsToLast, text_pages, last_reads}
 use Rattle.paged.specs.Reads.{size_of}
-use Rattle.paged.specs.RecoveryCosts.{OpenCosts, OpensAndCuts, opened_pages, RecoverCosts, RecoverWithinCosts, text_batches}
+use Rattle.paged.specs.RecoveryCosts.{OpenCosts, OpensAndCuts, opened_pages, RecoverAndCutCosts, RecoverCosts, RecoverWithinCosts, text_batches}
 use Rattle.paged.specs.Truncate.{shorten_calls, truncate_calls}
 use Rattle.paged.proofs.QuietCuts.{open_none}
 use Rattle.paged.proofs.Scanned.{scanned_short}
@@ -114,6 +114,18 @@ recover_cut sum P most old opened mid new enough opens scans few within = record
   within = cuts_within (P + 12) most old mid new enough (recover_scanned sum P most old opened mid enough opens scans).within within;
 }
 
+-- and then no more is cut, or more
+pub cut_no_more : (sum : List ℕ → ℕ) (P most : ℕ) (old new : Life) → RecoverCosts sum P most old new → RecoverAndCutCosts sum P most old new
+cut_no_more sum P most old new costs = record { recovered = new; recovers = costs; more = omega arith; within = costs.within }
+
+pub cut_more : (sum : List ℕ → ℕ) (P most : ℕ) (old mid new : Life) → P + 12 ≤ most → RecoverCosts sum P most old mid → AsksAtMost 7 mid new → ReadsWithin (P + 12) mid new → RecoverAndCutCosts sum P most old new
+cut_more sum P most old mid new enough costs few within = record {
+  recovered = mid;
+  recovers = costs;
+  more = few;
+  within = cuts_within (P + 12) most old mid new enough costs.within within;
+}
+
 -- an opening that failed, with no scan
 pub opens_alone : (sum : List ℕ → ℕ) (P : ℕ) (old new : Life) → OpenCosts sum P old new → OpensAndCuts sum P old new
 opens_alone sum P old new opens = record {
@@ -145,7 +157,7 @@ within_none sum P most size life enough =
       looks = record {
         mid = life;
         first = forward_none most (0 * (P + 12)) (size / (P + 12) * (P + 12)) (batches_to_end sum P most 0 (size / (P + 12)) bytes) life;
-        last = rising_none P (kept_pages sum P bytes - 1) (last_reads sum P bytes) life;
+        last = rising_none P (text_pages sum P bytes - 1) (last_reads sum P bytes) life;
       };
       recovers = opens;
       within = down_within (P + 12) ((opened_pages sum P bytes - 1) * (P + 12)) most life life enough (open_none sum P life);

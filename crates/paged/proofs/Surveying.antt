@@ -27,7 +27,7 @@ use Rattle.paged_read.proofs.OutlivingReplays.{look_leaves_replays}
 use Rattle.paged_read.proofs.Searching.{gained_joins, within_joins}
 use Rattle.paged.specs.declared.outlook.Outlook.{Outlook}
 use Rattle.paged.specs.declared.verdict.Survey.{Survey}
-use Rattle.paged.specs.Outlook.{IsOutlook, IsSurvey, LeavesAsIs, LookGoes, ReadsToLast, SurveyCosts, SurveyGoes, batches_beyond, kept_pages, last_reads, are_zeros, beyond_bytes, beyond_of, has_torn_page, last_page, values_of}
+use Rattle.paged.specs.Outlook.{IsOutlook, IsSurvey, LeavesAsIs, LookGoes, ReadsToLast, SurveyCosts, SurveyGoes, batches_beyond, text_pages, last_reads, are_zeros, beyond_bytes, beyond_of, has_torn_page, last_page, values_of}
 use Rattle.paged.proofs.Foretelling.{look_keeps_text, look_leaves_text}
 
 -- ---- counting
@@ -224,16 +224,16 @@ only_looks reach a old new (Err IdsExhausted) looks = absurd looks
 
 -- the last page of an outlook is that of the text
 pub last_of : (sum : List ℕ → ℕ) (P : ℕ) (bytes : List ℕ) (outlook : Outlook) (old new : Life) → IsOutlook sum P bytes outlook → ReadsRising P (outlook.pages - 1) (min 1 (outlook.len % P)) old new
-    → ReadsRising P (kept_pages sum P bytes - 1) (last_reads sum P bytes) old new
+    → ReadsRising P (text_pages sum P bytes - 1) (last_reads sum P bytes) old new
 last_of sum P bytes outlook old new is reads =
     subst (λ (n : ℕ). ReadsRising P (div_ceil n P - 1) (min 1 (n % P)) old new) is.len (subst (λ (n : ℕ). ReadsRising P (n - 1) (min 1 (outlook.len % P)) old new) is.pages reads)
 
 -- the pages after those of an outlook are those after the text
 pub beyond_reads : (sum : List ℕ → ℕ) (P most whole : ℕ) (bytes : List ℕ) (outlook : Outlook) (old new : Life) → IsOutlook sum P bytes outlook
     → ReadsForward most (outlook.pages * (P + 12)) (whole * (P + 12)) (batches most (outlook.pages * (P + 12)) (whole * (P + 12))) old new
-    → ReadsForward most (kept_pages sum P bytes * (P + 12)) (whole * (P + 12)) (batches most (kept_pages sum P bytes * (P + 12)) (whole * (P + 12))) old new
+    → ReadsForward most (text_pages sum P bytes * (P + 12)) (whole * (P + 12)) (batches most (text_pages sum P bytes * (P + 12)) (whole * (P + 12))) old new
 beyond_reads sum P most whole bytes outlook old new is reads =
-    let kept : outlook.pages ≡ kept_pages sum P bytes = is.pages ∙ ap (λ (n : ℕ). div_ceil n P) is.len in
+    let kept : outlook.pages ≡ text_pages sum P bytes = is.pages ∙ ap (λ (n : ℕ). div_ceil n P) is.len in
     subst (λ (n : ℕ). ReadsForward most (n * (P + 12)) (whole * (P + 12)) (batches most (n * (P + 12)) (whole * (P + 12))) old new) kept reads
 
 -- a look asks for no more at once
@@ -243,7 +243,7 @@ look_within sum P most size old new reads =
 
 -- what a survey asks for
 pub survey_costs : (sum : List ℕ → ℕ) (P most size : ℕ) (old mid new : Life) → ReadsToLast sum P most size old mid
-    → ReadsForward most (kept_pages sum P old.present.readable * (P + 12)) (size / (P + 12) * (P + 12)) (batches_beyond sum P most size old.present.readable) mid new → SurveyCosts sum P most size old new
+    → ReadsForward most (text_pages sum P old.present.readable * (P + 12)) (size / (P + 12) * (P + 12)) (batches_beyond sum P most size old.present.readable) mid new → SurveyCosts sum P most size old new
 survey_costs sum P most size old mid new first beyond =
     let readable = old.present.readable in
     let whole = size / (P + 12) in
@@ -254,8 +254,8 @@ survey_costs sum P most size old mid new first beyond =
       calls = omega (
         arith,
         forward_calls most (0 * (P + 12)) (whole * (P + 12)) (batches_to_end sum P most 0 whole readable) old first.mid first.first,
-        rising_calls P (kept_pages sum P readable - 1) (last_reads sum P readable) first.mid mid first.last,
-        forward_calls most (kept_pages sum P readable * (P + 12)) (whole * (P + 12)) (batches_beyond sum P most size readable) mid new beyond,
+        rising_calls P (text_pages sum P readable - 1) (last_reads sum P readable) first.mid mid first.last,
+        forward_calls most (text_pages sum P readable * (P + 12)) (whole * (P + 12)) (batches_beyond sum P most size readable) mid new beyond,
       );
     }
 

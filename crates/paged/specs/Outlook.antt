@@ -101,8 +101,8 @@ SurveyGoes sum P old new (Err OutOfMemory) = Unit {0}
 SurveyGoes sum P old new (Err _) = ⊥
 
 -- how many pages a recovery of these bytes would keep
-abbrev pub kept_pages : (List ℕ → ℕ) → (P : ℕ) → List ℕ → ℕ
-kept_pages sum P bytes = div_ceil (length (text sum P bytes)) P
+abbrev pub text_pages : (List ℕ → ℕ) → (P : ℕ) → List ℕ → ℕ
+text_pages sum P bytes = div_ceil (length (text sum P bytes)) P
 
 -- how often a look that goes on to the last page of the text reads that page once more: once if it
 -- is partial
@@ -114,7 +114,7 @@ pub record ReadsToLast (sum : List ℕ → ℕ) (P most size : ℕ) (old new : L
   pub mid : Life
   pub first : ReadsUpToEnd sum P most 0 (size / (P + 12)) old mid
   pub last : let readable = old.present.readable in
-      ReadsRising P (kept_pages sum P readable - 1) (last_reads sum P readable) mid new
+      ReadsRising P (text_pages sum P readable - 1) (last_reads sum P readable) mid new
 
 -- each writer, snapshot, replay and read that was valid before the call still is, with any cache,
 -- and what a crash at any moment keeps and leaves is as it was
@@ -138,7 +138,7 @@ pub record LookCosts (sum : List ℕ → ℕ) (P most size : ℕ) (old new : Lif
 -- how many batches of `most` bytes the whole pages after the kept ones are
 abbrev pub batches_beyond : (List ℕ → ℕ) → (P most size : ℕ) → List ℕ → ℕ
 batches_beyond sum P most size bytes =
-    batches most (kept_pages sum P bytes * (P + 12)) (size / (P + 12) * (P + 12))
+    batches most (text_pages sum P bytes * (P + 12)) (size / (P + 12) * (P + 12))
 
 -- how many device calls a survey takes: the batches of a look, a read of the last page of the text
 -- if it is partial, and the batches of the pages after that one
@@ -152,7 +152,7 @@ survey_calls sum P most size bytes =
 pub record SurveyCosts (sum : List ℕ → ℕ) (P most size : ℕ) (old new : Life) : Type 0 where
   pub mid : Life
   pub first : ReadsToLast sum P most size old mid
-  pub beyond : let kept : ℕ = kept_pages sum P old.present.readable * (P + 12) in
+  pub beyond : let kept : ℕ = text_pages sum P old.present.readable * (P + 12) in
       let limit = batches_beyond sum P most size old.present.readable in
       ReadsForward most kept (size / (P + 12) * (P + 12)) limit mid new
   pub calls : let most_calls = survey_calls sum P most size old.present.readable in

@@ -41,6 +41,13 @@ pub record RecoverCosts (sum : List ℕ → ℕ) (P most : ℕ) (old new : Life)
   pub cuts : AsksAtMost 7 scanned new
   pub within : ReadsWithin most old new
 
+-- the costs of a recovery after which more is cut: that takes seven calls at most, too
+pub record RecoverAndCutCosts (sum : List ℕ → ℕ) (P most : ℕ) (old new : Life) : Type 0 where
+  pub recovered : Life
+  pub recovers : RecoverCosts sum P most old recovered
+  pub more : AsksAtMost 7 recovered new
+  pub within : ReadsWithin most old new
+
 -- a blob is opened, and then cut, by seven calls at most, with no read that is longer than a page
 pub record OpensAndCuts (sum : List ℕ → ℕ) (P : ℕ) (old new : Life) : Type 0 where
   pub opened : Life

@@ -60,8 +60,8 @@ abbrev pub prefix_from : (List ℕ → ℕ) → (P first pages : ℕ) → List �
 prefix_from sum P first pages readable =
     after_pages first (prefix_of sum P (pages_from P (pages - first) first readable))
 
--- the request that reads one batch of a blob's bytes from one offset up to another: `most` bytes, or
--- what is left of them. Batches are numbered from 0 on
+-- the request that reads one batch of a blob's bytes from one offset up to another: `most` bytes,
+-- or what is left of them. Batches are numbered from 0 on
 abbrev pub batch_request : (most from to number : ℕ) → Request
 batch_request most from to number =
     let at : ℕ = from + number * most in

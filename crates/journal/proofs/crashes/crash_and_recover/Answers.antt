@@ -72,4 +72,4 @@ returns-in_err-crash-clause-costs g c =
 pub returns-clause-costs : goal.returns-clause-costs
 returns-clause-costs g c =
     let most = scan_bytes c.args.cache.now.page_size (non_zero_usize_get c.args.buffer_size) in
-    same_log most (life_of c.args.blob.now) (life_of c.crash.new.self) (life_of c.recover.new.blob) (ap (λ (l : Life). l.present.log) c.in_ok-crash.ensures.life) c.recover.ensures.costs
+    same_log most (life_of c.args.blob.now) (life_of c.crash.new.self) (life_of c.recover.new.blob) (ap (λ (l : Life). l.present.log) c.in_ok-crash.ensures.life) c.recover.ensures.costs.within

@@ -1,4 +1,4 @@
-use Rattle.std.proofs.Common.{◌≡◌, ◌+◌, ◌∙◌, List, length, subst, sym, ap, ℕ}
+use Rattle.std.proofs.Common.{◌≡◌, ◌+◌, ◌∙◌, List, length, subst, sym, ap, ℕ, arith}
 use Rattle.disk.specs.Disk.{Life}
 use Rattle.cache.specs.CacheState.{CacheState}
 use Rattle.writer_state.specs.WriterState.{WriterState}
@@ -6,6 +6,7 @@ use Rattle.writer_state.specs.Sound.{content}
 use Rattle.crash.specs.Stays.{LeavesOnly}
 use Rattle.paged.specs.Reads.{size_of}
 use Rattle.paged.specs.Truncate.{KeepsFloorsWithin}
+use Rattle.paged.proofs.RecoveringCosts.{cut_few}
 use Rattle.journal.specs.Frame.{records, whole_frames}
 use Rattle.journal.specs.Journal.{IsBetweenCalls}
 use Rattle.journal.proofs.Journals.{floors_within, leaves_or, reads_start, trim_leaves, trim_goes, trim_stays, trim_refused, trim_unread}
@@ -125,3 +126,9 @@ returns-in-Ok-clause-costs g c = c.truncate.ensures.costs.reads c.requires.idle
 
 pub returns-in-Err-clause-costs : goal.returns-in-Err-clause-costs
 returns-in-Err-clause-costs g c = c.truncate.ensures.costs.reads c.requires.idle
+
+pub returns-in-Ok-clause-calls : goal.returns-in-Ok-clause-calls
+returns-in-Ok-clause-calls g c = omega (arith, c.truncate.ensures.costs.calls, cut_few c.args.recovery c.in_ok-found.end c.requires.idle)
+
+pub returns-in-Err-clause-calls : goal.returns-in-Err-clause-calls
+returns-in-Err-clause-calls g c = omega (arith, c.truncate.ensures.costs.calls, cut_few c.args.recovery c.in_ok-found.end c.requires.idle)

@@ -6,7 +6,7 @@ use Rattle.crash.proofs.LookLaws.{looked_readable}
 use Rattle.paged_read.specs.Searches.{ReadsWithin, scan_bytes}
 use Rattle.paged_read.proofs.RawCosts.{rising_none, rising_within}
 use Rattle.paged_read.proofs.Searching.{page_within}
-use Rattle.paged.specs.Outlook.{IsOutlook, ReadsToLast, has_torn_page, kept_pages, last_reads}
+use Rattle.paged.specs.Outlook.{IsOutlook, ReadsToLast, has_torn_page, text_pages, last_reads}
 use Rattle.paged.proofs.Surveying.{last_of, look_fault_later, look_within, only_looks, within_both}
 use Rattle.paged.proofs.outlook.look_to_last.Given.{Over}
 use Rattle.paged.proofs.outlook.look_to_last.Goals as goal
@@ -47,7 +47,7 @@ returns-in_err-outlook-clause-reads g c =
     record {
       mid = new;
       first = c.look.ensures.costs.reads;
-      last = rising_none P (kept_pages g.H.Sum.sum_of P readable - 1) (last_reads g.H.Sum.sum_of P readable) new;
+      last = rising_none P (text_pages g.H.Sum.sum_of P readable - 1) (last_reads g.H.Sum.sum_of P readable) new;
     }
 
 pub returns-in_err-outlook-clause-within : goal.returns-in_err-outlook-clause-within

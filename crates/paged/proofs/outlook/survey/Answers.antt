@@ -6,7 +6,7 @@ use Rattle.crash.proofs.LookLaws.{looked_readable}
 use Rattle.paged_read.specs.Scans.{batches, ReadsForward}
 use Rattle.paged_read.specs.Searches.{scan_bytes}
 use Rattle.paged_read.proofs.Forward.{forward_none}
-use Rattle.paged.specs.Outlook.{SurveyCosts, batches_beyond, beyond_of, kept_pages}
+use Rattle.paged.specs.Outlook.{SurveyCosts, batches_beyond, beyond_of, text_pages}
 use Rattle.paged.proofs.Foretelling.{foretold, whole_there}
 use Rattle.paged.proofs.Surveying.{beyond_reads, kept_within, later_fault, leaves_as_is, only_looks, survey_costs, survey_fault, survey_is}
 use Rattle.paged.proofs.outlook.survey.Given.{Over}
@@ -70,7 +70,7 @@ returns-in_err-outlook-clause-costs g c =
     let new = g.B.Blob.life c.look_to_last.new.blob in
     let readable = old.present.readable in
     survey_costs sum P most c.args.size old new new c.look_to_last.ensures.reads
-    (forward_none most (kept_pages sum P readable * (P + 12)) (c.args.size / (P + 12) * (P + 12)) (batches_beyond sum P most c.args.size readable) new)
+    (forward_none most (text_pages sum P readable * (P + 12)) (c.args.size / (P + 12) * (P + 12)) (batches_beyond sum P most c.args.size readable) new)
 
 -- ---- where the pages after the text can't be read
 

@@ -1,8 +1,15 @@
-use Rattle.std.proofs.Common.{◌≡◌, ◌*◌, ◌/◌, ℕ, ap₂, ◌∙◌}
+use Rattle.std.proofs.Common.{◌≡◌, ◌+◌, ◌*◌, ◌/◌, ℕ, ap₂, ◌∙◌, refl, subst, arith, true, false}
 use Rattle.std.proofs.lemmas.Result.{err_from_is_err_and}
 use Rattle.std.specs.Int.NonZero.{non_zero_usize_get}
 use Rattle.cache.specs.Pages.{IsFresh}
+use Rattle.paged_read.specs.Searches.{ReadsWithin, scan_bytes}
+use Rattle.paged_read.proofs.Searching.{page_within}
+use Rattle.paged.specs.Calls.{AsksAtMost}
+use Rattle.paged.specs.Flush.{has_work}
 use Rattle.paged.specs.Reads.{size_of}
+use Rattle.paged.specs.RecoveryCosts.{RecoverAndCutCosts}
+use Rattle.paged.proofs.RecoveringCosts.{cut_few, cut_more, cut_no_more}
+use Rattle.paged.proofs.Truncating.{written_idle}
 use Rattle.items.specs.Standing.{ItemsRecoveryLeaves}
 use Rattle.items.proofs.Calls.{are_ready}
 use Rattle.items.proofs.Recovery.{refused_at_first, cut_leaves, cut_refused, recovered_items, recovers_not, recovers_so}
@@ -65,3 +72,28 @@ pub returns-in-Ok-clause-ready : goal.returns-in-Ok-clause-ready
 returns-in-Ok-clause-ready g c =
     let has = (returns-in-Ok-clause-goes g c).answers in
     (are_ready g.H.Sum.sum_of c.new.result c.truncate.new.cache (g.B.Blob.life c.truncate.new.blob) has.stand, has.size)
+
+pub returns-in_err-recovery-clause-costs : goal.returns-in_err-recovery-clause-costs
+returns-in_err-recovery-clause-costs g c =
+    let P = c.args.cache.now.page_size in
+    cut_no_more g.H.Sum.sum_of P (scan_bytes P (non_zero_usize_get c.args.buffer_size)) (g.B.Blob.life c.args.blob.now) (g.B.Blob.life c.recover.new.blob) c.recover.ensures.costs
+
+-- the costs of the recovery, and of the cut
+costs : (g : Over) (c : After-truncate g) → let P = c.args.cache.now.page_size in RecoverAndCutCosts g.H.Sum.sum_of P (scan_bytes P (non_zero_usize_get c.args.buffer_size)) (g.B.Blob.life c.args.blob.now) (g.B.Blob.life c.truncate.new.blob)
+costs g c =
+    let P = c.args.cache.now.page_size in
+    let buffer_size = non_zero_usize_get c.args.buffer_size in
+    let mid = g.B.Blob.life c.recover.new.blob in
+    let new = g.B.Blob.life c.truncate.new.blob in
+    let w = c.in_ok-recovery.recovery in
+    let was = c.in_ok-recovery.ensures.goes.answers in
+    let idle : has_work w true ≡ false = written_idle w (record { short = was.settled.short; flushed = was.settled.flushed }) in
+    let few : AsksAtMost 7 mid new = omega (arith, c.truncate.ensures.costs.calls, cut_few w (c.size.result / c.get-len.result * c.get-len.result) idle) in
+    cut_more g.H.Sum.sum_of P (scan_bytes P buffer_size) (g.B.Blob.life c.args.blob.now) mid new (page_within P buffer_size (P + 12) refl) c.in_ok-recovery.ensures.costs few
+    (subst (λ (n : ℕ). ReadsWithin (n + 12) mid new) was.page_size (c.truncate.ensures.costs.reads idle))
+
+pub returns-in-Ok-clause-costs : goal.returns-in-Ok-clause-costs
+returns-in-Ok-clause-costs g c = costs g (goal.at.returns-in-Ok-clause-costs g c).After-truncate
+
+pub returns-in-Err-clause-costs : goal.returns-in-Err-clause-costs
+returns-in-Err-clause-costs g c = costs g (goal.at.returns-in-Err-clause-costs g c).After-truncate

@@ -1,14 +1,17 @@
-use Rattle.std.proofs.Common.{◌≡◌, ◌∙◌, sym, subst, ap₂, length, ℕ, List}
+use Rattle.std.proofs.Common.{◌≡◌, ◌+◌, ◌∙◌, refl, sym, subst, ap₂, length, ℕ, List}
 use Rattle.std.specs.Int.NonZero.{non_zero_usize_get}
 use Rattle.page.specs.Page.{text}
 use Rattle.paged_read.specs.Searches.{ReadsWithin, scan_bytes}
 use Rattle.writer_state.specs.WriterState.{WriterState}
+use Rattle.paged_read.proofs.Searching.{page_within}
+use Rattle.paged.specs.RecoveryCosts.{RecoverAndCutCosts}
 use Rattle.paged.specs.Truncate.{KeepsFloorsWithin}
+use Rattle.paged.proofs.RecoveringCosts.{cut_more, cut_no_more}
 use Rattle.journal.specs.Calls.{JournalRecoveryLeaves}
 use Rattle.journal.specs.Frame.{whole_frames}
 use Rattle.journal.specs.Journal.{JournalHasRecovered}
 use Rattle.journal.proofs.Journals.{kept_held, recovery_goes, recovery_refused, recovery_unbegun}
-use Rattle.journal.proofs.Costs.{settled_idle, trim_within}
+use Rattle.journal.proofs.Costs.{settled_idle}
 use Rattle.journal.proofs.Readers.{owed_recovery, recovers_not, recovers_so, trim_leaves_all}
 use Rattle.journal.proofs.journal.Journal.recover.Given.{Over}
 use Rattle.journal.proofs.journal.Journal.recover.Goals as goal
@@ -105,13 +108,19 @@ pub returns-clause-leaves : goal.returns-clause-leaves
 returns-clause-leaves g c = left g (goal.at.returns-clause-leaves g c).After-trim
 
 pub returns-in_err-recovery-clause-costs : goal.returns-in_err-recovery-clause-costs
-returns-in_err-recovery-clause-costs g c = c.recover_keeping.ensures.costs.within
+returns-in_err-recovery-clause-costs g c =
+    let P = c.args.cache.now.page_size in
+    cut_no_more g.H.Sum.sum_of P (scan_bytes P (non_zero_usize_get c.args.buffer_size)) (g.B.Blob.life c.args.blob.now) (g.B.Blob.life c.recover_keeping.new.blob) c.recover_keeping.ensures.costs
 
 -- the reads of the recovery, and of the trim
-reads : (g : Over) (c : After-trim g) → ReadsWithin (scan_bytes c.args.cache.now.page_size (non_zero_usize_get c.args.buffer_size)) (g.B.Blob.life c.args.blob.now) (g.B.Blob.life c.trim.new.blob)
+reads : (g : Over) (c : After-trim g) → let P = c.args.cache.now.page_size in RecoverAndCutCosts g.H.Sum.sum_of P (scan_bytes P (non_zero_usize_get c.args.buffer_size)) (g.B.Blob.life c.args.blob.now) (g.B.Blob.life c.trim.new.blob)
 reads g c =
-    trim_within c.args.cache.now.page_size c.in_ok-recovery.recovery.page_size (non_zero_usize_get c.args.buffer_size) (g.B.Blob.life c.args.blob.now) (g.B.Blob.life c.recover_keeping.new.blob) (g.B.Blob.life c.trim.new.blob)
-    c.in_ok-recovery.ensures.goes.goes.answers.page_size c.recover_keeping.ensures.costs.within c.trim.ensures.costs
+    let P = c.args.cache.now.page_size in
+    let buffer_size = non_zero_usize_get c.args.buffer_size in
+    let mid = g.B.Blob.life c.recover_keeping.new.blob in
+    let new = g.B.Blob.life c.trim.new.blob in
+    cut_more g.H.Sum.sum_of P (scan_bytes P buffer_size) (g.B.Blob.life c.args.blob.now) mid new (page_within P buffer_size (P + 12) refl) c.recover_keeping.ensures.costs c.trim.ensures.calls
+    (subst (λ (n : ℕ). ReadsWithin (n + 12) mid new) c.in_ok-recovery.ensures.goes.goes.answers.page_size c.trim.ensures.costs)
 
 pub returns-in_err-recovery-2-clause-costs : goal.returns-in_err-recovery-2-clause-costs
 returns-in_err-recovery-2-clause-costs g c = reads g (goal.at.returns-in_err-recovery-2-clause-costs g c).After-trim
