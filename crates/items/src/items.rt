@@ -123,9 +123,9 @@ impl<B: Blob, H: Sum> Items<B, H> {
         ensures leaves { let old = B.life blob.old in let new = B.life blob.new in
             let s = non_zero_usize_get size in
             ItemsRecoveryLeaves H.sum_of s cache.old cache.new old new }
-        ensures costs { let P = cache.old.page_size in
-            let most = scan_bytes P (non_zero_usize_get buffer_size) in
-            RecoverAndCutCosts H.sum_of P most (B.life blob.old) (B.life blob.new) }
+        ensures costs { let old = B.life blob.old in let new = B.life blob.new in
+            let most = scan_bytes cache.old.page_size (non_zero_usize_get buffer_size) in
+            RecoverAndCutCosts H.sum_of cache.old.page_size most old new }
     {
         let recovery = paged::recover::<B, H>(
             alloc,

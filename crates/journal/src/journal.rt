@@ -379,9 +379,9 @@ impl<B: Blob, H: Sum, R: Sum> Journal<B, H, R> {
         ensures ready { IfOk result (λ r. IsJournal H.sum_of r.0 cache.new (B.life blob.new)) }
         ensures leaves { let old = B.life blob.old in let new = B.life blob.new in
             JournalRecoveryLeaves H.sum_of R.sum_of cache.old cache.new old new }
-        ensures costs { let P = cache.old.page_size in
-            let most = scan_bytes P (non_zero_usize_get buffer_size) in
-            RecoverAndCutCosts H.sum_of P most (B.life blob.old) (B.life blob.new) }
+        ensures costs { let old = B.life blob.old in let new = B.life blob.new in
+            let most = scan_bytes cache.old.page_size (non_zero_usize_get buffer_size) in
+            RecoverAndCutCosts H.sum_of cache.old.page_size most old new }
     {
         let nothing = Hand::new(alloc, cache.page_size());
         let mut kept = Some(nothing);

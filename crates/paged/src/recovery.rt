@@ -345,9 +345,8 @@ pub fn recover<B: Blob, H: Sum>(
     ensures owes { let old = B.life blob.old in let new = B.life blob.new in
         OwesRecovering H.sum_of cache.old.page_size cache.old cache.new old new }
     ensures costs { let old = B.life blob.old in let new = B.life blob.new in
-        let P = cache.old.page_size in
-        let most = scan_bytes P (non_zero_usize_get buffer_size) in
-        RecoverCosts H.sum_of P most old new }
+        let most = scan_bytes cache.old.page_size (non_zero_usize_get buffer_size) in
+        RecoverCosts H.sum_of cache.old.page_size most old new }
 {
     recover_all::<B, H>(alloc, blob, size, capacity, cache, buffer_size, &mut None)
 }
@@ -375,9 +374,8 @@ pub fn recover_keeping<B: Blob, H: Sum>(
     ensures owes { let old = B.life blob.old in let new = B.life blob.new in
         OwesRecovering H.sum_of cache.old.page_size cache.old cache.new old new }
     ensures costs { let old = B.life blob.old in let new = B.life blob.new in
-        let P = cache.old.page_size in
-        let most = scan_bytes P (non_zero_usize_get buffer_size) in
-        RecoverCosts H.sum_of P most old new }
+        let most = scan_bytes cache.old.page_size (non_zero_usize_get buffer_size) in
+        RecoverCosts H.sum_of cache.old.page_size most old new }
 {
     recover_all::<B, H>(alloc, blob, size, capacity, cache, buffer_size, kept)
 }
@@ -430,9 +428,8 @@ fn recover_all<B: Blob, H: Sum>(
     ensures only { LeavesText H.sum_of cache.old.page_size (B.life blob.old) (B.life blob.new) }
 
     ensures reads { let old = B.life blob.old in let new = B.life blob.new in
-        let P = cache.old.page_size in
-        let most = scan_bytes P (non_zero_usize_get buffer_size) in
-        RecoverCosts H.sum_of P most old new }
+        let most = scan_bytes cache.old.page_size (non_zero_usize_get buffer_size) in
+        RecoverCosts H.sum_of cache.old.page_size most old new }
 
     // The content is kept, and no page is read again for it.
     ensures kept_text { let old = B.life blob.old in

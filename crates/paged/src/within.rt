@@ -117,9 +117,8 @@ pub fn recover_within<B: Blob, H: Sum>(
     ensures owes { let old = B.life blob.old in let new = B.life blob.new in
         OwesRecovering H.sum_of cache.old.page_size cache.old cache.new old new }
     ensures costs { let old = B.life blob.old in let new = B.life blob.new in
-        let P = cache.old.page_size in
-        let most = scan_bytes P (non_zero_usize_get buffer_size) in
-        RecoverWithinCosts H.sum_of P most size old new }
+        let most = scan_bytes cache.old.page_size (non_zero_usize_get buffer_size) in
+        RecoverWithinCosts H.sum_of cache.old.page_size most size old new }
 {
     recover_looked::<B, H>(alloc, blob, size, capacity, cache, buffer_size, allowed)
 }
@@ -171,9 +170,8 @@ fn recover_looked<B: Blob, H: Sum>(
     ensures kept { KeepsText H.sum_of cache.old.page_size (B.life blob.old) (B.life blob.new) }
     ensures only { LeavesText H.sum_of cache.old.page_size (B.life blob.old) (B.life blob.new) }
     ensures reads { let old = B.life blob.old in let new = B.life blob.new in
-        let P = cache.old.page_size in
-        let most = scan_bytes P (non_zero_usize_get buffer_size) in
-        RecoverWithinCosts H.sum_of P most size old new }
+        let most = scan_bytes cache.old.page_size (non_zero_usize_get buffer_size) in
+        RecoverWithinCosts H.sum_of cache.old.page_size most size old new }
 {
     let page_size = cache.page_size();
     adjusted_capacity(capacity, u64::from(page_size.get()))?;

@@ -49,9 +49,8 @@ impl<B: Blob, H: Sum> Session<B, H> {
         ensures owes { let old = B.life blob.old in let new = B.life blob.new in
             OwesBeginning H.sum_of cache.old.page_size cache.old cache.new old new }
         ensures costs { let old = B.life blob.old in let new = B.life blob.new in
-            let P = cache.old.page_size in
-            let most = scan_bytes P (non_zero_usize_get buffer_size) in
-            RecoverCosts H.sum_of P most old new }
+            let most = scan_bytes cache.old.page_size (non_zero_usize_get buffer_size) in
+            RecoverCosts H.sum_of cache.old.page_size most old new }
     {
         let writer = paged::recover::<B, H>(alloc, blob, size, capacity, cache, buffer_size)?;
         Ok(Session::new(alloc, writer))
@@ -83,9 +82,8 @@ impl<B: Blob, H: Sum> Session<B, H> {
         ensures owes { let old = B.life blob.old in let new = B.life blob.new in
             OwesBeginning H.sum_of cache.old.page_size cache.old cache.new old new }
         ensures costs { let old = B.life blob.old in let new = B.life blob.new in
-            let P = cache.old.page_size in
-            let most = scan_bytes P (non_zero_usize_get buffer_size) in
-            RecoverWithinCosts H.sum_of P most size old new }
+            let most = scan_bytes cache.old.page_size (non_zero_usize_get buffer_size) in
+            RecoverWithinCosts H.sum_of cache.old.page_size most size old new }
     {
         let writer = paged::recover_within::<B, H>(
             alloc,

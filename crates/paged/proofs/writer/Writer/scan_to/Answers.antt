@@ -3,8 +3,9 @@ use Rattle.std.proofs.lemmas.Result.{err_from_is_err_and}
 use Rattle.std.specs.Int.NonZero.{non_zero_u16_get, non_zero_usize_get}
 use Rattle.disk.specs.declared.error.Error.TheVariants.{OffsetOverflow}
 use Rattle.writer_state.specs.WriterState.{WriterState}
-use Rattle.paged_read.specs.Scans.{prefix_from, ReadsUpToEnd, ScanAnswers, scan_start, scan_to}
+use Rattle.paged_read.specs.Scans.{batches_to_end, prefix_from, ReadsUpToEnd, ScanAnswers, scan_start, scan_to}
 use Rattle.paged_read.specs.Searches.{scan_bytes}
+use Rattle.paged_read.proofs.Forward.{forward_none}
 use Rattle.paged.specs.Writer.{FitsBlob}
 use Rattle.paged.proofs.Scanned.{look_refused, scan_within, scanned_fits, scanned_short, scanned_size}
 use Rattle.paged.proofs.writer.Writer.scan_to.Given.{Over}
@@ -83,6 +84,16 @@ reads g c =
     let there : ReadsUpToEnd g.H.Sum.sum_of Q (scan_bytes Q B) (scan_start Q full c.args.end c.args.proven) c.args.end old new =
     subst (λ (n : ℕ). ReadsUpToEnd g.H.Sum.sum_of Q (scan_bytes Q B) n c.args.end old new) (begins g c) c.scan_from.ensures.costs in
     subst (λ (n : ℕ). ReadsUpToEnd g.H.Sum.sum_of n (scan_bytes n B) (scan_start n full c.args.end c.args.proven) c.args.end old new) (same_size g c) there
+
+-- where the end of the pages passes the greatest offset nothing is read
+pub returns-then-is_none-clause-reads : goal.returns-then-is_none-clause-reads
+returns-then-is_none-clause-reads g c =
+    let old = g.B.Blob.life c.args.blob.now in
+    let w = c.args.self.now in
+    let P = w.page_size in
+    let most = scan_bytes P (non_zero_usize_get c.args.buffer_size) in
+    let start = scan_start P w.full_pages c.args.end c.args.proven in
+    forward_none most (start * (P + 12)) (c.args.end * (P + 12)) (batches_to_end g.H.Sum.sum_of P most start c.args.end old.present.readable) old
 
 pub returns-clause-reads : goal.returns-clause-reads
 returns-clause-reads g c = reads g (goal.at.returns-clause-reads g c).After-scan_from
