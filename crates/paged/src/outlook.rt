@@ -54,9 +54,9 @@ impl Outlook {
 /// size or checksum function than it was written with, a blob may well look empty, and a recovery
 /// would cut all of it. So look first unless both are known for sure.
 ///
-/// Pages are read from the first one on, each once at most. Each read has at most as many pages as
-/// fit `buffer_size` bytes, and at least one. Pages after the read in which the text ends aren't
-/// read. For a blob of less than a page no device is asked.
+/// Pages are read from the first one on, each once at most. Each read has as many pages as fit
+/// `buffer_size` bytes, and at least one; the last has those that are left. Pages after the read in
+/// which the text ends aren't read. For a blob of less than a page no device is asked.
 ///
 /// `ReadFailed` where the device failed, `OutOfMemory` where memory was refused. The blob is only
 /// read, even where the call fails.
@@ -126,8 +126,8 @@ fn are_zeros(bytes: &[u8]) -> bool
 }
 
 /// How many of a blob's physical pages from `first` to before `pages`, which must be there, have a
-/// value, and whether all bytes of these pages are zero. Each read has at most as many pages as fit
-/// `buffer_size` bytes, and at least one.
+/// value, and whether all bytes of these pages are zero. Each read has as many pages as fit
+/// `buffer_size` bytes, and at least one, or those that are left.
 fn look_beyond<B: Blob, H: Sum>(
     alloc: Global,
     blob: &mut B,
@@ -223,9 +223,9 @@ pub(crate) fn look_to_last<B: Blob, H: Sum>(
 /// to do, and [`Survey::set_aside_len`] how many bytes to set aside before a recovery.
 ///
 /// The pages of the text are read, from the first one on, up to the read in which the text ends.
-/// Then its last page is read, if that is partial, and then the pages after those of the text. So
-/// each page is read twice at most. Each read has at most as many pages as fit `buffer_size` bytes,
-/// and at least one.
+/// Then its last page is read once more, if that is partial, and then the pages after those of the
+/// text. Apart from the read of the last page, each read has as many pages as fit `buffer_size`
+/// bytes, and at least one, or those that are left.
 ///
 /// `ReadFailed` where the device failed, `OutOfMemory` where memory was refused. The blob is only
 /// read, even where the call fails.

@@ -324,8 +324,9 @@ impl<B: Blob, H: Sum> Writer<B, H> {
 /// is cut, as by [`Recovery::truncate`], and all that is left is durable.
 ///
 /// The blob is opened, which reads pages one by one, from the last one back to the last that has a
-/// value. Then the text is read once, from the first page on: each read has as many pages as fit
-/// `buffer_size` bytes, and at least one. Then the page that is to keep a part is read.
+/// value. Then the text is read once, from the first page on. Each of these reads has as many pages
+/// as fit `buffer_size` bytes, and at least one, or those that are left. Then the page that is to
+/// keep a part is read.
 ///
 /// Errors are those of [`Recovery::open`]. After an error everything that was durable still is, and
 /// the cache may have given an id.
