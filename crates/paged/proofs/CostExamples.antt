@@ -6,6 +6,7 @@ use Rattle.disk.specs.Disk.{Life, Entry, ReadAt, Request, SyncAll, WaitSync, Wri
 use Rattle.page.specs.Sums.{add_sum}
 use Rattle.writer_state.proofs.Examples.{before, durable}
 use Rattle.cache.specs.CacheState.{CacheState}
+use Rattle.paged_read.specs.Backward.{FallTo}
 use Rattle.paged_read.specs.Puts.{AsksEachPage, PutsFirstAsked}
 use Rattle.paged_read.specs.RawReads.{page_request}
 use Rattle.paged_read.specs.Scans.{ReadsForward, ReadsInBatches, ReadsUpToEnd, batch_request}
@@ -158,12 +159,15 @@ not_three_to_the_last first = not_three_reads (last_calls (asked (ReadAt 0 16 �
 
 -- ---- recoveries
 
+last_page_falls : FallTo 16 32 16 (ReadAt 16 16 ∷ [])
+last_page_falls = (refl, omega arith, omega arith)
+
 -- the last page, which has a value, and then the text
 pub a_recovery : RecoverCosts add_sum 4 32 before (asked (ReadAt 16 16 ∷ ReadAt 0 32 ∷ []))
 a_recovery = record {
   opened = asked (ReadAt 16 16 ∷ []);
   scanned = asked (ReadAt 16 16 ∷ ReadAt 0 32 ∷ []);
-  opens = (entries (ReadAt 16 16 ∷ []), refl, (refl, omega arith, omega arith));
+  opens = (entries (ReadAt 16 16 ∷ []), refl, last_page_falls);
   scans = record { count = 1; few = lit≤ tt; forward = (entries (ReadAt 0 32 ∷ []), refl, refl) };
   cuts = omega arith;
   within = (entries (ReadAt 16 16 ∷ ReadAt 0 32 ∷ []), refl, (omega arith, omega arith, tt));
@@ -185,7 +189,7 @@ not_longer_with_a_cut costs = not_longer costs.within
 
 -- the last page is read, and then nothing is cut
 pub an_opening_alone : OpensAndCuts add_sum 4 before (asked (ReadAt 16 16 ∷ []))
-an_opening_alone = opens_alone add_sum 4 before (asked (ReadAt 16 16 ∷ [])) (entries (ReadAt 16 16 ∷ []), refl, (refl, omega arith, omega arith))
+an_opening_alone = opens_alone add_sum 4 before (asked (ReadAt 16 16 ∷ [])) (entries (ReadAt 16 16 ∷ []), refl, last_page_falls)
 
 pub not_longer_than_a_page : OpensAndCuts add_sum 4 before (asked (ReadAt 0 32 ∷ [])) → ⊥
 not_longer_than_a_page costs = not_longer costs.pages

@@ -245,7 +245,7 @@ pub not_below : OpenCosts add_sum 4 before (reads (read 16 16 ∷ read 0 16 ∷ 
 not_below (more, is, fall) = let here : FallTo 16 32 16 (ReadAt 16 16 ∷ ReadAt 0 16 ∷ []) = subst (λ (l : List Entry). FallTo 16 32 16 (map (λ e. e.request) l)) (sym is) fall in omega (arith, here.2.2)
 
 pub an_opening_reads_a_page : OpenCosts add_sum 4 before (reads (read 16 16 ∷ []))
-an_opening_reads_a_page = (read 16 16 ∷ [], refl, (refl, omega arith, omega arith))
+an_opening_reads_a_page = let here : FallTo 16 32 16 (ReadAt 16 16 ∷ []) = (refl, omega arith, omega arith) in (read 16 16 ∷ [], refl, here)
 
 -- two pages aren't read in one read
 pub not_both : ReadsDownTo 16 0 before (reads (read 0 32 ∷ [])) → ⊥
