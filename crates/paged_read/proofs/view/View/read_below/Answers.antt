@@ -1,4 +1,4 @@
-use Rattle.std.proofs.Common.{◌+◌, ◌≤◌, ◌∙◌, [], ◌∷◌, List, ℕ, length, sym, subst, arith, refl, ◌≡◌}
+use Rattle.std.proofs.Common.{◌+◌, ◌-◌, ◌≤◌, ◌∙◌, [], ◌∷◌, List, ℕ, length, sym, subst, arith, refl, ◌≡◌}
 use Rattle.std.proofs.lemmas.Bool.Decides.{nat_tests}
 use Rattle.paged_read.specs.Tail.{tail_at}
 use Rattle.paged_read.specs.Ranges.{missing}
