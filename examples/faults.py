@@ -460,6 +460,195 @@ def appending(program, folder):
            "not all of it came")
 
 
+def a_limit():
+    """Lets a write past eight pages of a file fail, as on a full disk: without the signal it is an error of the system."""
+    signal.signal(signal.SIGXFSZ, signal.SIG_IGN)
+    resource.setrlimit(resource.RLIMIT_FSIZE, (8 * PAGE, 8 * PAGE))
+
+
+def lines_of(program, *words):
+    """The lines that cat writes, and its status."""
+    status, out, _ = play(program, "cat", *words)
+    return status, out.split(b"\n")[:-1]
+
+
+def appending_to_a_log(program, folder):
+    log = os.path.join(folder, "log")
+    expect(play(program, "append", "--log", log, given=b"one\n\nlast")[:2] == (0, b"appended 3 records, from 0:0 to 0:28\n")
+           and lines_of(program, log) == (0, [b"one", b"", b"last"]), "append --log makes a log of three lines",
+           "a line is a record, also one without bytes, and one without an end")
+    expect(play(program, "append", log, given=b"more\n")[:2] == (0, b"appended 1 record, from 0:28 to 0:39\n")
+           and lines_of(program, log, "--from", "0:28") == (0, [b"more"]), "a second one needs no --log, and goes on there",
+           "the folder has a log")
+    expect(play(program, "append", "--null", log, given=b"a\nb\0c\0")[0] == 0
+           and play(program, "cat", "--null", "--from=0:39", log)[1] == b"a\nb\0c\0", "with --null a record may have line ends",
+           "a zero byte ends it")
+    out = play(program, "cat", "--json", log, "--from", "0:28")[1].decode().splitlines()
+    expect([json.loads(line) for line in out][:2] == [{"segment": 0, "offset": 28, "end": 39, "text": "more"},
+                                                      {"segment": 0, "offset": 39, "end": 49, "text": "a\nb"}],
+           "cat --json has each record with its place", "they are texts")
+    play(program, "append", log, given=b"\xff\x00\n")
+    expect(json.loads(play(program, "cat", "--json", log)[1].splitlines()[-1])["hex"] == "ff00",
+           "a record that isn't UTF-8 stands in hex", "JSON has no bytes")
+    for place, status in (("9", 1), ("0:9:9", 1), ("10K", 1), ("0:0", 0)):
+        ended = play(program, "cat", "--from", place, log)
+        expect(ended[0] == status and (status == 0 or tells(ended[2])), f"cat --from {place} has status {status}",
+               "it is a place of the log" if status == 0 else "there is no such place")
+    expect(play(program, "append", "--keep-bytes", "0", log)[0] == 1, "--keep-bytes 0 is refused", "nothing would be kept")
+
+
+def refused_lines(program, folder):
+    log, before = os.path.join(folder, "log"), [b"%d" % number for number in range(100)]
+    status, out, said = play(program, "append", "--log", log, given=b"\n".join([*before, bytes(70_000), b"after"]))
+    expect((status, out) == (1, b"") and tells(said, "line 101", "65535", "100 records") and
+           lines_of(program, log) == (0, before), "a line of 70,000 bytes is refused by its number, and those before it stay",
+           "a record has at most 65,535 bytes")
+    longest = bytes(65_535)
+    expect(play(program, "append", log, given=longest)[0] == 0 and lines_of(program, log)[1][-1] == longest,
+           "one of 65,535 bytes is a record", "it may be as long")
+    full = os.path.join(folder, "full")
+    given = b"".join(b"%06d %s\n" % (number, b"x" * 90) for number in range(2000))
+    ended = subprocess.run([program, "append", "--log", "--each-line", full], input=given, capture_output=True, timeout=120,
+                           check=False, preexec_fn=a_limit)
+    found = lines_of(program, full)[1]
+    said = ended.stderr.decode()
+    committed = re.search(r"(\d+) records, from 0:0 to (0:\d+), are committed", said)
+    expect(ended.returncode == 1 and tells(said, "File too large", "cat --from") and committed
+           and len(found) >= int(committed[1]) > 100 and found == given.split(b"\n")[:len(found)]
+           and lines_of(program, full, "--from", committed[2])[1] == found[int(committed[1]):],
+           "on a full disk a line says what is committed, and from which place on there may be more", "each line was committed")
+
+
+def refused_logs(program, folder):
+    plain = os.path.join(folder, "plain")
+    os.mkdir(plain)
+    status, _, said = play(program, "append", plain, given=b"x\n")
+    expect(status == 1 and tells(said, "--log") and not os.listdir(plain), "append to a folder without a log is refused",
+           "--log begins one")
+    put(os.path.join(plain, "letter"), b"Dear diary")
+    status, _, said = play(program, "append", "--log", plain, given=b"x\n")
+    expect(status == 1 and tells(said, "letter") and os.listdir(plain) == ["letter"],
+           "append --log in a folder with another file is refused", "it is no folder of a log")
+    status, _, said = play(program, "append", "--log", os.path.join(plain, "letter"), given=b"x\n")
+    expect(status == 1 and tells(said, "no folder"), "append --log to a file is refused", "a log is a folder")
+    log = os.path.join(folder, "log")
+    play(program, "append", "--log", "--page-size", "1012", log, given=b"x\n")
+    before = log_statuses.image(log)
+    status, _, said = play(program, "append", log, given=b"y\n")
+    expect(status == 3 and "--page-size 1012" in said and log_statuses.image(log) == before,
+           "append to a log of another page size is refused, and says which", "its manifest has it")
+    log = os.path.join(folder, "closed")
+    process = subprocess.run(f"'{program}' append --log '{log}' | true", shell=True, input=b"x\n" * 10, timeout=60,
+                             stderr=subprocess.PIPE, check=False)
+    expect(process.stderr == b"" and len(lines_of(program, log)[1]) == 10, "with its output closed all is appended",
+           "the output comes last")
+
+
+def kept_segments(program, folder):
+    log = os.path.join(folder, "log")
+    given = b"".join(b"%06d\n" % number for number in range(3000))
+    small = ("--segment-size=1K", "--log")
+    expect(play(program, "append", *small, log, given=given)[0] == 0, "a log of many segments", "each has a KiB")
+    first = json.loads(play(program, "where", "--json", log)[1])
+    status, out, _ = play(program, "drop", log, "5")
+    found = lines_of(program, log)[1]
+    expect((status, out.count(b"\n")) == (0, 1) and b"0 to 4" in out and first["first"] == 0 and found[-1] == b"002999"
+           and sorted(os.listdir(log))[0].startswith(f"{5:020}"), "drop 5 drops segments 0 to 4, and their files",
+           "they stand before 5")
+    expect(play(program, "drop", log, "5")[0] == 0, "a second drop has nothing to do", "the first one dropped them")
+    status, _, said = play(program, "drop", log, "1000000")
+    expect(status == 1 and tells(said, "1000000"), "drop of a segment that isn't there yet is refused", "the open one stays")
+    for number in range(3):
+        play(program, "append", "--segment-size=1K", "--keep-segments=3", log, given=given)
+    where = json.loads(play(program, "where", "--json", log)[1])
+    expect(where["last"] - where["first"] == 2, "with --keep-segments 3 three segments are left", "the others are dropped")
+    play(program, "append", "--segment-size=1K", "--keep-bytes=10K", log, given=given)
+    where = json.loads(play(program, "where", "--json", log)[1])
+    length = sum(part["bytes"] for part in where["closed"])
+    expect(10_240 <= length <= 10_240 + 3 * 1100, "with --keep-bytes 10K so many bytes are left, and some of a segment",
+           "only whole segments are dropped")
+    out = os.path.join(folder, "out")
+    expect(play(program, "copy", log, out)[0] == 0, "the log is copied", "it is whole")
+    play(program, "append", "--segment-size=1K", "--keep-segments=2", log, given=given)
+    expect(play(program, "copy", log, out)[0] == 0 and lines_of(program, out) == lines_of(program, log),
+           "a copy all of whose segments were dropped is brought up to date", "it lists what the log listed first")
+
+
+def waiting(program, folder):
+    log, path = os.path.join(folder, "log"), os.path.join(folder, "file")
+    for server, words in ((ServedLog(program, log), ("append", log)), (Served(program, path), ("append", path))):
+        status, _, said = play(program, *words, given=b"x\n")
+        expect(status == 1 and tells(said, "another process has it open", f"process {server.process.pid} (pagedd)"),
+               "a refusal names the process that has the lock", "the system lists it")
+        begun = time.monotonic()
+        status, _, said = play(program, *words, "--wait=1", given=b"x\n")
+        expect(status == 1 and tells(said, "another process has it open") and 0.9 < time.monotonic() - begun < 20,
+               "--wait=1 gives up after a second", "the lock doesn't come free")
+        with subprocess.Popen([program, *words, "--wait"], stdin=subprocess.PIPE, stdout=subprocess.PIPE) as process:
+            process.stdin.write(b"waited\n")
+            process.stdin.close()
+            time.sleep(0.2)
+            server.close()
+            process.wait(60)
+        expect(process.returncode == 0 and b"waited" in play(program, "cat", words[1])[1], "--wait waits for the lock",
+               "it comes free")
+    five = [subprocess.Popen([program, "append", "--wait", log], stdin=subprocess.PIPE, stdout=subprocess.DEVNULL)
+            for _ in range(5)]
+    for number, process in enumerate(five):
+        process.communicate(b"of five: %d\n" % number)
+    found = lines_of(program, log)[1]
+    expect(sorted(line for line in found if line.startswith(b"of five")) == [b"of five: %d" % number for number in range(5)],
+           "five appends at once all get in with --wait", "one after the other has the lock")
+
+
+def looks_at_what_is_served(program, folder):
+    log, path = os.path.join(folder, "log"), os.path.join(folder, "file")
+    server = ServedLog(program, log)
+    server.append_many([b"first", b"second"], sync=True)
+    for words in (("check", log), ("map", log), ("where", log), ("cat", log), ("nth", log, "0", "1")):
+        status, _, said = play(program, *words)
+        expect(status == 0 and "of the moment" in said, f"{words[0]} looks at a log that is served, and says so",
+               "it changes nothing")
+    expect(lines_of(program, log) == (0, [b"first", b"second"]), "its records are there", "they are committed")
+    server.close()
+    blob = Served(program, path)
+    blob.append(b"content")
+    blob.sync()
+    for words in (("check", path), ("map", path), ("cat", path)):
+        status, out, said = play(program, *words)
+        expect(status == 0 and "of the moment" in said and (words[0] != "cat" or out == b"content"),
+               f"{words[0]} looks at a file that is served, and says so", "it changes nothing")
+    blob.close()
+    out = play(program, "check", path)[1].decode()
+    expect(out.startswith(f"{path}: whole\n"), "check begins with the verdict", "a reader looks for it")
+
+
+def words_of_a_shell(program, folder):
+    path = os.path.join(folder, "sizes")
+    a_blob(program, path, 3000)
+    expect(play(program, "cat", "--from=1K", "--len=1K", path)[1] == some(3000)[1024:2048], "1K is 1,024 bytes",
+           "it is a unit")
+    for word in ("1X", "K", "-1", "+1", "16777216T", ""):
+        status, out, said = play(program, "cat", f"--len={word}", path)
+        expect((status, out) == (1, b"") and said, f"--len={word} is refused", "it is no number of bytes")
+    status, _, said = play(program, "check", os.path.join(folder, "\033[31mred\nline"))
+    expect(status == 1 and said.count("\n") == 1 and "\033" not in said and "\\u{1b}" in said,
+           "control characters of a name stand as escapes", "they would change the terminal")
+    script = put(os.path.join(folder, "completion"), play(program, "completion", "bash")[1])
+    tried = f"""source '{script}'
+    tries() {{ COMP_WORDS=("$@"); COMP_CWORD=$(($# - 1)); COMPREPLY=(); _pagedd; echo "${{COMPREPLY[@]}}"; }}
+    cd '{folder}'; tries pagedd sal; tries pagedd append --keep-; tries pagedd serve --checksum c; tries pagedd check siz"""
+    said = subprocess.run(["bash", "-c", tried], capture_output=True, timeout=60, check=False)
+    expect(said.stdout == b"salvage\n--keep-segments --keep-bytes\ncrc32c\nsizes\n" and said.stderr == b"",
+           "bash completes commands, options, values and files by the completion", "it has the table of options")
+    for shell, words in (("zsh", ["-n"]), ("fish", ["--no-execute"])):
+        script = put(os.path.join(folder, shell), play(program, "completion", shell)[1])
+        expect(b"keep-segments" in contents(script), f"{shell} has the options", "it has the table")
+        if shutil.which(shell):
+            done = subprocess.run([shell, *words, script], capture_output=True, timeout=60, check=False)
+            expect(done.returncode == 0, f"{shell} reads its completion", "it is in its words")
+
+
 def held(path):
     """The content of a file that may not be there yet."""
     return reader.read(contents(path), PAYLOAD, reader.crc32c)[1] if os.path.exists(path) else b""
@@ -574,7 +763,8 @@ def the_log_table(program, _):
 
 FAULTS = (a_good_blob, a_wrong_file, a_flipped_bit, a_last_page, a_torn_page, salvage_of_copies, outputs,
           another_page_size, reading_alone, an_empty_file, a_torn_tail, a_part_of_a_request, a_lost_writer,
-          mistyped_commands, names, permissions, a_size_limit, a_cause, appending, signals, for_programs, a_salvage, a_copy,
+          mistyped_commands, names, permissions, a_size_limit, a_cause, appending, appending_to_a_log, refused_lines,
+          refused_logs, kept_segments, waiting, looks_at_what_is_served, words_of_a_shell, signals, for_programs, a_salvage, a_copy,
           the_table, the_log_table)
 
 

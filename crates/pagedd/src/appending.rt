@@ -4,7 +4,7 @@ ghost use Rattle.session.specs.Run.{IsSessionReady};
 
 use crate::ending::{fail, fail_stop};
 use crate::look::InMemory;
-use crate::opening::{allow, open};
+use crate::opening::{allow, open_waiting};
 use crate::request::Request;
 use crate::rewrite::Unsynced;
 use crate::serving::fail_file;
@@ -20,29 +20,34 @@ use std::alloc::{AllocError, Global};
 use std::io::{ErrorKind, Read};
 
 /// So many bytes of the input are appended at once.
-const PIECE: usize = 1 << 16;
+pub const PIECE: usize = 1 << 16;
 
 /// At most so many bytes of the input are appended and not synced.
-const MOST_UNSYNCED: u64 = 1 << 22;
+pub const MOST_UNSYNCED: u64 = 1 << 22;
 
 /// Standard input, piece by piece.
 #[derive(Drop)]
-struct Pieces {
+pub struct Pieces {
     input: Input,
     piece: Vec<u8>,
 }
 
 impl Pieces {
     /// The input of the running program.
-    fn of(rt: &HostRuntime) -> Result<Self, AllocError> {
+    pub fn of(rt: &HostRuntime) -> Result<Self, AllocError> {
         Ok(Pieces {
             input: Input::of(rt),
             piece: vec![in rt.alloc(); 0; PIECE]?,
         })
     }
 
+    /// The input itself, which keeps why it failed.
+    pub fn input(&self) -> &Input {
+        &self.input
+    }
+
     /// The next piece; no byte at the input's end, or where it failed.
-    fn next(&mut self) -> &[u8] {
+    pub fn next(&mut self) -> &[u8] {
         for _ in 0..u64::MAX {
             match self.input.read(&mut self.piece) {
                 Ok(count) => return self.piece.get(..count).unwrap_or_default(),
@@ -69,7 +74,7 @@ pub fn append<H: Sum>(
     request: &Request,
     each_line: bool,
 ) -> Result<Status, Status> {
-    let mut blob = open(rt, request.file)?;
+    let mut blob = open_waiting(rt, request.file, request.patience)?;
     append_to::<H>(rt, request, each_line, &mut blob)
 }
 
@@ -96,7 +101,7 @@ fn append_to<H: Sum>(
         &mut synced,
     );
     match appended {
-        Ok(()) => tell_appended(rt, &pieces.input, start, synced),
+        Ok(()) => tell_appended(rt, pieces.input(), start, synced),
         Err(error) => Err(tell_lost(rt, request, blob, error, synced)),
     }
 }

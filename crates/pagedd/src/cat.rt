@@ -1,7 +1,7 @@
 // Writing the content of a file.
 use crate::ending::{fail, or_end, tell};
 use crate::look::{Look, looked};
-use crate::request::Request;
+use crate::request::{Cat, Request};
 use crate::status::Status;
 use disk::VecBlob;
 use page::Sum;
@@ -10,21 +10,26 @@ use std::io::{self, BufWriter, Write};
 
 /// Writes the content of a file to standard output, at most `len` bytes from an offset on. The file
 /// is whole where a recovery would give up none of it.
-pub fn cat<H: Sum>(
+pub fn cat_file<H: Sum>(
     rt: &HostRuntime,
     request: &Request,
     blob: &mut VecBlob,
-    from: u64,
-    len: u64,
+    cat: Cat,
 ) -> Result<Status, Status> {
     let file = request.file;
+    if cat.null || request.json {
+        return Err(fail(rt, file, "--null and --json are for the folder of a log"));
+    }
+    let Some(from) = cat.start.offset else {
+        return Err(fail(rt, file, "--from takes an offset of its content"));
+    };
     let look = looked::<VecBlob, H>(rt, request, blob)?;
     let end = look.survey.outlook.len;
     if from > end {
         let words = "is after the end of its content";
         return Err(fail(rt, file, format_args!("--from {from} {words}, {end}")));
     }
-    let stop = from.saturating_add(len).min(end);
+    let stop = from.saturating_add(cat.len).min(end);
     or_end(rt, write_content(rt, blob.bytes(), &look, from, stop))?;
     if look.keeps_all() {
         return Ok(Status::Done);

@@ -42,11 +42,25 @@ fn tell_check<H: Sum>(
     census: &Census,
 ) -> io::Result<()> {
     let look = causes.look();
-    println!(rt; "{} {look}", request.file)?;
+    let verdict = word_of(look.verdict(request.cut_limit), census.is_empty());
+    println!(rt; "{}: {verdict}", request.file)?;
+    println!(rt; "it {look}")?;
     tell_outlook(rt, request, causes)?;
     tell_pages::<H>(rt, bytes, look, &census.bad_pages, "have no value")?;
     tell_pages::<H>(rt, bytes, look, &census.bad_slots, "have a bad slot")?;
     tell_tail(rt, look)
+}
+
+// The verdict on a file in a few words. `has_all` says whether each page has a value, and no slot is
+// bad.
+fn word_of(verdict: Verdict, has_all: bool) -> &'static str {
+    match verdict {
+        Verdict::Whole if has_all => "whole",
+        Verdict::Whole => "not whole, and a recovery cuts nothing",
+        Verdict::Cut => "not whole: a recovery cuts pages of zeros",
+        Verdict::Keep => "not whole: a recovery cuts some of its end",
+        Verdict::Refuse => "not whole, and refused",
+    }
 }
 
 // What a recovery would do.

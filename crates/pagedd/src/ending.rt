@@ -5,10 +5,30 @@ use protocol::Stop;
 use std::fmt;
 use std::io::{self, ErrorKind};
 
-/// Prints a line on standard error. Where that fails, nothing else changes: there is no other place
-/// to report it.
+/// Prints a line on standard error, in which control characters, as a file's name may have, stand as
+/// escapes. Where that fails, nothing else changes: there is no other place to report it.
 pub fn tell<E: fmt::Display + Drop>(rt: &HostRuntime, words: E) {
-    let _ = eprintln!(rt; "pagedd: {words}");
+    let _ = match format!(in rt.alloc(); "{words}") {
+        Ok(line) => eprintln!(rt; "pagedd: {}", Shown(line.as_str())),
+        Err(_) => eprintln!(rt; "pagedd: out of memory"),
+    };
+}
+
+/// A text whose control characters stand as escapes.
+#[derive(Clone, Copy)]
+pub struct Shown<'a>(pub &'a str);
+
+impl fmt::Display for Shown<'_> {
+    fn fmt<W: fmt::Write>(&self, f: &mut fmt::Formatter<W>) -> fmt::Result {
+        for letter in self.0.chars() {
+            if letter.is_control() {
+                write!(f, "\\u{{{:x}}}", letter as u32)?;
+            } else {
+                write!(f, "{letter}")?;
+            }
+        }
+        Ok(())
+    }
 }
 
 /// Says in a line why a file can't be used, and answers the status.

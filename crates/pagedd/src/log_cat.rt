@@ -1,40 +1,64 @@
 // Writing the records of a log.
 ghost use Rattle.segments.specs.Log.{IsLog};
 
-use crate::ending::{or_end, tell};
+use crate::ending::{fail, or_end, tell};
 use crate::log_files::{manifest_in, segment_in};
+use crate::log_out::RecordsOut;
 use crate::log_parts::Part;
 use crate::log_told::LogCopy;
-use crate::request::Request;
+use crate::request::{Cat, Request};
 use crate::status::Status;
 use digest::Digest;
-use journal::Found;
 use page::Sum;
 use page_digests::Source;
 use segments::{ClosedSegment, Error, Passed, Place};
-use std::io::{self, BufWriter, Stdout, Write};
 
-/// So many bytes of records are given by one call of the system.
-const OUTPUT_PIECE: usize = 1 << 16;
-
-/// Writes the bytes of each record of a log to standard output, with a line end after it. Behind a
-/// page that can't be read the records go on, if their segment has marks; else its other records
-/// are left out. A line on standard error says what is.
+/// Writes the bytes of each record of a log to standard output, from a place on, each with its end.
+/// Behind a page that can't be read the records go on, if their segment has marks; else its other
+/// records are left out. A line on standard error says what is.
 pub fn cat_log<H: Sum, D: Digest>(
     rt: &HostRuntime,
     request: &Request,
     log: &mut LogCopy<H, D>,
+    cat: Cat,
 ) -> Result<Status, Status>
     requires log { IsLog H.sum_of H.sum_of log.old }
 {
+    let start = start_in::<H, D>(rt, request, log, cat)?;
     let keeps_all = keeps_all::<H, D>(rt, request, log)?;
-    let mut out = or_end(
-        rt,
-        BufWriter::with_capacity(rt.alloc(), OUTPUT_PIECE, rt.stdout()),
-    )?;
-    let are_read = write_segments::<H, D>(rt, request, log, &mut out)?;
+    let mut out = or_end(rt, RecordsOut::of(rt, cat.form(request.json)))?;
+    let are_read = write_segments::<H, D>(rt, request, log, start, &mut out)?;
     or_end(rt, out.flush())?;
     Ok(Status::of_file(are_read && keeps_all))
+}
+
+// Where the records begin that are to be written. 0:0 is the log's begin, also if its first segment
+// was dropped.
+fn start_in<H: Sum, D: Digest>(
+    rt: &HostRuntime,
+    request: &Request,
+    log: &LogCopy<H, D>,
+    cat: Cat,
+) -> Result<Place, Status> {
+    let (first, last) = (log.first_segment(), log.last_segment());
+    match cat.start.place {
+        Some(
+            Place {
+                segment: 0,
+                offset: 0,
+            },
+        ) => Ok(log.start()),
+        Some(place) if first <= place.segment && place.segment <= last => Ok(place),
+        Some(place) => {
+            let segment = place.segment;
+            let words = format_args!("there is no segment {segment}, it has {first} to {last}");
+            Err(fail(rt, request.file, words))
+        }
+        None => {
+            let words = "--from takes the number of a segment, or SEGMENT:OFFSET";
+            Err(fail(rt, request.file, words))
+        }
+    }
 }
 
 // Whether a recovery gives up nothing of the manifest and of the open segment. A line names each
@@ -69,59 +93,67 @@ fn keeps<H: Sum>(
     Ok(part.keeps_all())
 }
 
-// Writes the records of all segments, and answers whether each segment was read.
+// Writes the records of all segments from a place on, and answers whether each segment was read.
 fn write_segments<H: Sum, D: Digest>(
     rt: &HostRuntime,
     request: &Request,
     log: &mut LogCopy<H, D>,
-    out: &mut BufWriter<Stdout>,
+    start: Place,
+    out: &mut RecordsOut,
 ) -> Result<bool, Status>
     requires log { IsLog H.sum_of H.sum_of log.old }
 {
     let mut are_read = true;
-    for segment in log.first_segment()..=log.last_segment() {
-        let is_read = write_segment::<H, D>(rt, request, log, segment, out)?;
+    for segment in start.segment..=log.last_segment() {
+        let offset = if segment == start.segment {
+            start.offset
+        } else {
+            0
+        };
+        let is_read = write_segment::<H, D>(rt, request, log, Place { segment, offset }, out)?;
         are_read = are_read && is_read;
     }
     Ok(are_read)
 }
 
-// Writes the records of a segment, and answers whether all were read.
+// Writes the records of a segment from a place on, and answers whether all were read.
 fn write_segment<H: Sum, D: Digest>(
     rt: &HostRuntime,
     request: &Request,
     log: &mut LogCopy<H, D>,
-    segment: u64,
-    out: &mut BufWriter<Stdout>,
+    from: Place,
+    out: &mut RecordsOut,
 ) -> Result<bool, Status>
     requires log { IsLog H.sum_of H.sum_of log.old }
     ensures log { IsLog H.sum_of H.sum_of log.new }
 {
-    if segment == log.last_segment() {
-        return write_open::<H, D>(rt, request, log, segment, out);
+    if from.segment == log.last_segment() {
+        return write_open::<H, D>(rt, request, log, from, out);
     }
     // A reader looks its segment up once, and not for each record.
-    match log.closed_reader(segment) {
-        Ok(mut reader) => write_closed(rt, request, segment, &mut reader, out),
-        Err(error) => Ok(tell_end(rt, request, segment, &error)),
+    match log.closed_reader(from.segment) {
+        Ok(mut reader) => write_closed(rt, request, from, &mut reader, out),
+        Err(error) => Ok(tell_end(rt, request, from.segment, &error)),
     }
 }
 
-// Writes the records of the open segment.
+// Writes the records of the open segment from a place on.
 fn write_open<H: Sum, D: Digest>(
     rt: &HostRuntime,
     request: &Request,
     log: &mut LogCopy<H, D>,
-    segment: u64,
-    out: &mut BufWriter<Stdout>,
+    from: Place,
+    out: &mut RecordsOut,
 ) -> Result<bool, Status>
     requires log { IsLog H.sum_of H.sum_of log.old }
     ensures log { IsLog H.sum_of H.sum_of log.new }
 {
-    let mut offset = 0;
+    let segment = from.segment;
+    let mut offset = from.offset;
     for _ in 0..u64::MAX {
-        match log.read(Place { segment, offset }) {
-            Ok(Some(found)) => offset = or_end(rt, write_found(out, &found))?,
+        let place = Place { segment, offset };
+        match log.read(place) {
+            Ok(Some(found)) => offset = or_end(rt, out.write_found(place, &found))?,
             Ok(None) => break,
             Err(error) => return Ok(tell_end(rt, request, segment, &error)),
         }
@@ -129,20 +161,22 @@ fn write_open<H: Sum, D: Digest>(
     Ok(true)
 }
 
-// Writes the records of a closed segment. Behind what can't be read it goes on by the marks.
+// Writes the records of a closed segment from a place on. Behind what can't be read it goes on by
+// the marks.
 fn write_closed<S: Source + Drop, H: Sum, D: Digest>(
     rt: &HostRuntime,
     request: &Request,
-    segment: u64,
+    from: Place,
     reader: &mut ClosedSegment<S, H, H, D>,
-    out: &mut BufWriter<Stdout>,
+    out: &mut RecordsOut,
 ) -> Result<bool, Status> {
-    let mut offset = 0;
+    let segment = from.segment;
+    let mut offset = from.offset;
     let mut is_read = true;
     for _ in 0..u64::MAX {
         let error = match reader.read(offset) {
             Ok(Some(found)) => {
-                offset = or_end(rt, write_found(out, &found))?;
+                offset = or_end(rt, out.write_found(Place { segment, offset }, &found))?;
                 continue;
             }
             Ok(None) => break,
@@ -152,10 +186,10 @@ fn write_closed<S: Source + Drop, H: Sum, D: Digest>(
             return Ok(tell_end(rt, request, segment, &error));
         }
         is_read = false;
-        let from = offset;
+        let begin = offset;
         match reader.pass_damage(&mut offset) {
             Ok(passed) if passed.bytes > 0 => tell_passed(
-                rt, request, segment, &error, from, passed,
+                rt, request, segment, &error, begin, passed,
             ),
             _ => return Ok(tell_end(rt, request, segment, &error)),
         }
@@ -194,18 +228,4 @@ fn tell_passed(
             format_args!("{file}: segment {segment}: {error}: the records in {left_out}"),
         ),
     }
-}
-
-// Writes the record of a frame, if it is one, and answers where the frame ends.
-fn write_found(out: &mut BufWriter<Stdout>, found: &Found) -> io::Result<u64> {
-    if let Some(bytes) = &found.bytes {
-        write_line(out, bytes.as_ref())?;
-    }
-    Ok(found.end)
-}
-
-// Writes a record, and a line end after it.
-fn write_line(out: &mut BufWriter<Stdout>, bytes: &[u8]) -> io::Result<()> {
-    out.write_all(bytes)?;
-    out.write_all(b"\n")
 }

@@ -121,6 +121,12 @@ fn held_at<D: Digest>(
     }
 }
 
+// Whether a copy all of whose segments were dropped from the log lists what the log listed first: at
+// least one closed segment, by its digest. An open segment alone could be any log's.
+fn begins(had: &Known, known: &Known) -> bool {
+    had.entries > 1 && known.frames.as_slice().starts_with(had.frames.as_slice())
+}
+
 impl<'a, 'b> Target<'a, 'b> {
     /// The folder of a copy of a log that lists `known`, unless it has something else.
     pub fn of<H: Sum>(
@@ -164,8 +170,11 @@ impl<'a, 'b> Target<'a, 'b> {
         known: &Known,
     ) -> Result<bool, Status> {
         let (old, new) = (&had.listing, &known.listing);
-        if had.is_empty() || old.open() > new.open() || old.open() < new.first() {
+        if had.is_empty() || old.open() > new.open() {
             return Ok(false);
+        }
+        if old.open() < new.first() {
+            return Ok(begins(had, known));
         }
         for number in old.first().max(new.first())..old.open() {
             let is_same = match (old.closed(number), new.closed(number)) {

@@ -30,7 +30,7 @@ pub fn copy_log<H: Sum, D: Digest>(
     refuse_other_shape::<H>(rt, request, &names)?;
     drop(listed::<H, D>(rt, request)?);
     begin_out(rt, request.file, out)?;
-    let lock = lock_folder(rt, out, false)?;
+    let lock = lock_folder(rt, out, false, request.patience)?;
     let ended = copy_to::<H, D>(rt, request, out);
     drop(lock);
     ended

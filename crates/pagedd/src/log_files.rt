@@ -37,7 +37,8 @@ pub fn log_around<'a>(rt: &HostRuntime, path: &'a str) -> Option<&'a str> {
     has_log(rt, folder).then_some(folder)
 }
 
-fn has_log(rt: &HostRuntime, folder: &str) -> bool {
+/// Whether a folder has a manifest and a segment.
+pub fn has_log(rt: &HostRuntime, folder: &str) -> bool {
     let Ok(mut copy) = FolderCopy::new(rt, folder) else {
         return false;
     };

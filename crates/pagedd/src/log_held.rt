@@ -6,7 +6,7 @@ ghost use Rattle.segments.specs.Folders.{call_for};
 
 use disk::{Blob, VecBlob};
 use file::OpenError;
-use segments::{Asked, Folder, FolderCall, FolderPast, Known, SegmentLevels};
+use segments::{Asked, Folder, FolderCall, FolderCopy, FolderPast, Known, SegmentLevels};
 use std::alloc::Global;
 use std::io;
 use std::marker::Model;
@@ -145,6 +145,15 @@ impl<F: Folder<B> + Drop, B: Blob + Drop> HeldFolder<F, B> {
             Ok(blob) => self.past = FolderPast::opened(&self.past, call, blob),
             Err(_) => self.note(call, true),
         }
+    }
+}
+
+impl HeldFolder<FolderCopy, VecBlob> {
+    /// Holds these bytes as those of a file.
+    pub fn put_copy(&mut self, file: Asked, bytes: Vec<u8>)
+        ensures { self.new ≡ self.old }
+    {
+        self.put(file, VecBlob::from_vec(bytes));
     }
 }
 

@@ -2,32 +2,29 @@
 use crate::ending::fail;
 use crate::log_files::is_folder;
 use crate::status::Status;
+use crate::waiting::{Patience, fail_locked, lock_once_free};
 use std::fs::{self, File, TryLockError};
 use std::path::PathBuf;
 
 /// Locks the folder of a log as long as the answer lives, so that nobody else who asks for this
 /// lock changes the log between a look at it and its opening. `is_shared` is for those who only
-/// read. If another process has the lock, a line says so. A system that has no locks of folders is
+/// read. If another process has the lock for longer than this command waits, a line says so. A system that has no locks of folders is
 /// no error: then the locks of the files are all that there is.
 pub fn lock_folder(
     rt: &HostRuntime,
     folder: &str,
     is_shared: bool,
+    patience: Patience,
 ) -> Result<Option<File>, Status> {
     let file = match File::open(rt, folder) {
         Ok(file) => file,
         Err(error) => return Err(fail(rt, folder, error)),
     };
-    let locked = if is_shared {
-        file.try_lock_shared()
-    } else {
-        file.try_lock()
-    };
-    match locked {
+    match lock_once_free(rt, &file, is_shared, patience) {
         Ok(()) => Ok(Some(file)),
         Err(TryLockError::WouldBlock) => {
             let words = "another process has it open: end that one first";
-            Err(fail(rt, folder, words))
+            Err(fail_locked(rt, folder, words))
         }
         Err(TryLockError::Error(_)) => Ok(None),
     }

@@ -1,8 +1,10 @@
 // The states of a log's files.
 use crate::census::Census;
+use crate::ending::fail;
 use crate::log_closed::{Held, ListState};
 use crate::log_marks::Marked;
-use crate::look::{looked, read};
+use crate::log_now::frames_of;
+use crate::look::{looked, read_unlocked};
 use crate::request::Request;
 use crate::status::Status;
 use digest::Digest;
@@ -251,15 +253,16 @@ pub struct Part {
 }
 
 impl Part {
-    /// The state of the file at this path, of whose text `frames` bytes are whole frames. Where it
-    /// can't be read, or for want of memory, a line says so.
+    /// The state of the file at this path, of whose text `frames` bytes are whole frames. If another
+    /// process has it open, the state is that of the moment. Where it can't be read, or for want of
+    /// memory, a line says so.
     pub fn of<H: Sum>(
         rt: &HostRuntime,
         request: &Request,
         path: &str,
         frames: u64,
     ) -> Result<Self, Status> {
-        let mut blob = read(rt, path)?;
+        let (mut blob, frames) = read_part::<H>(rt, request, path, frames)?;
         let part = request.about(path);
         let look = looked::<VecBlob, H>(rt, &part, &mut blob)?.with_frames(frames);
         let census = Census::of::<H>(rt, blob.bytes(), &look)?;
@@ -276,6 +279,25 @@ impl Part {
     /// Whether a recovery would give up nothing of the file.
     pub fn keeps_all(&self) -> bool {
         self.cut == 0 && !self.torn
+    }
+}
+
+// The bytes of a file, of whose text so many are whole frames. If another process has it open, it is
+// read as it is at the moment, and its frames are counted anew.
+fn read_part<H: Sum>(
+    rt: &HostRuntime,
+    request: &Request,
+    path: &str,
+    frames: u64,
+) -> Result<(VecBlob, u64), Status> {
+    match file::read(rt, path) {
+        Err(error) if error.kind() == ErrorKind::WouldBlock => {
+            let bytes = read_unlocked(rt, path)?;
+            let frames = frames_of::<H>(rt.alloc(), request.shape, bytes.as_slice())?;
+            Ok((VecBlob::from_vec(bytes), frames))
+        }
+        Err(error) => Err(fail(rt, path, error)),
+        Ok(blob) => Ok((blob, frames)),
     }
 }
 

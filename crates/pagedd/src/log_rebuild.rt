@@ -28,7 +28,7 @@ const MOST_DROPPED: u64 = 1 << 20;
 /// they don't list. Each of these must be whole. The old manifest is set aside.
 pub fn rebuild<H: Sum, D: Digest>(rt: &HostRuntime, request: &Request) -> Result<Status, Status> {
     let folder = request.file;
-    let lock = lock_folder(rt, folder, false)?;
+    let lock = lock_folder(rt, folder, false, request.patience)?;
     let names = FolderNames::of(rt, folder)?;
     let Some(last) = names.numbers.last() else {
         let words = "no file in it is that of a segment: there is nothing to make a manifest of";

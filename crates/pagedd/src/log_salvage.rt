@@ -37,7 +37,7 @@ pub fn salvage_log<H: Sum, D: Digest>(
     out: &str,
     dropped: bool,
 ) -> Result<Status, Status> {
-    let lock = lock_folder(rt, request.file, true)?;
+    let lock = lock_folder(rt, request.file, true, request.patience)?;
     let names = FolderNames::of(rt, request.file)?;
     if names.numbers.is_empty() {
         let words = "no file in it is that of a segment, so nothing was salvaged";

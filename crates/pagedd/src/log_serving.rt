@@ -51,7 +51,7 @@ fn lock_for(rt: &HostRuntime, request: &Request) -> Result<Option<File>, Status>
     if request.read_only {
         return Ok(None);
     }
-    lock_folder(rt, request.file, false)
+    lock_folder(rt, request.file, false, request.patience)
 }
 
 // Serves the log in a folder, or for reading alone a copy of it.
@@ -128,9 +128,16 @@ fn serve_folder<F: Folder<B> + Drop, B: Blob + Cause + Drop, H: Sum, D: Digest>(
 
 // Says why a log isn't opened. A client is greeted with an error of a device, or of memory.
 fn refuse(rt: &HostRuntime, request: &Request, error: &Error) -> Status {
-    if let Error::Layer(why) = error {
+    if let Error::Layer(_) = error {
         // Where the output fails too, standard error still says why.
         let _ = greet_refused(&mut rt.stdout(), status_of(error));
+    }
+    refuse_unopened(rt, request, error)
+}
+
+/// Says why a log isn't opened that was to be changed, and answers the status.
+pub fn refuse_unopened(rt: &HostRuntime, request: &Request, error: &Error) -> Status {
+    if let Error::Layer(why) = error {
         if is_failed_sync(error) {
             let how = Unsynced(request.file);
             let words = format_args!("the recovery failed: {error}: {how}");
@@ -182,8 +189,8 @@ fn serve_streams<F: Folder<B> + Drop, B: Blob + Cause + Drop, H: Sum, D: Digest>
     }
 }
 
-// Says why the copy of the manifest couldn't be kept, if it couldn't.
-fn tell_unkept(rt: &HostRuntime, request: &Request, failure: Option<&io::Error>) {
+/// Says why the copy of the manifest couldn't be kept, if it couldn't.
+pub fn tell_unkept(rt: &HostRuntime, request: &Request, failure: Option<&io::Error>) {
     if let Some(error) = failure {
         let words = "so the manifest stands once, until an opening can write its copy";
         tell(

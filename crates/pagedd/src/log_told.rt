@@ -6,6 +6,7 @@ use crate::log_check::{check_log, check_unopened};
 use crate::log_durable::tell_missing;
 use crate::log_files::{copy_of, open_log};
 use crate::log_map::{Drawn, map_log};
+use crate::log_now::{FolderNow, folder_now};
 use crate::log_nth::nth_log;
 use crate::log_refusing::refuse_log;
 use crate::log_where::where_log;
@@ -14,10 +15,10 @@ use crate::status::Status;
 use digest::Digest;
 use disk::VecBlob;
 use page::Sum;
-use segments::{Error, FolderCopy, SegmentedLog};
+use segments::{Error, SegmentedLog};
 
 /// A log over a copy of its folder.
-pub type LogCopy<H, D> = SegmentedLog<FolderCopy, VecBlob, H, H, D>;
+pub type LogCopy<H, D> = SegmentedLog<FolderNow, VecBlob, H, H, D>;
 
 /// Reports what is asked about the log in a folder. `cat` writes all its records.
 pub fn tell_log<H: Sum, D: Digest>(
@@ -25,8 +26,8 @@ pub fn tell_log<H: Sum, D: Digest>(
     request: &Request,
     told: Told,
 ) -> Result<Status, Status> {
-    let folder = copy_of(rt, request.file)?;
-    match open_log::<FolderCopy, VecBlob, H, D>(rt.alloc(), request, folder) {
+    let folder = folder_now::<H>(rt, request, copy_of(rt, request.file)?)?;
+    match open_log::<FolderNow, VecBlob, H, D>(rt.alloc(), request, folder) {
         Ok(mut log) => tell_opened::<H, D>(rt, request, told, &mut log),
         Err(error) => tell_unopened(rt, request, told, &error),
     }
@@ -46,7 +47,7 @@ fn tell_opened<H: Sum, D: Digest>(
         Told::Map { from, to, long } => map_log::<H, D>(rt, request, log, Drawn { from, to, long }),
         Told::Where { from, to } => where_log::<H, D>(rt, request, log, from, to),
         Told::Nth { segment, n } => nth_log::<H, D>(rt, request, log, segment, n),
-        Told::Cat { .. } => cat_log::<H, D>(rt, request, log),
+        Told::Cat(cat) => cat_log::<H, D>(rt, request, log, cat),
     }?;
     Ok(match status {
         Status::Done if !has_all => Status::NotWhole,

@@ -1,5 +1,5 @@
 // A look at a file before anything is done with it.
-use crate::ending::fail;
+use crate::ending::{fail, tell};
 use crate::pages::{Page, Pages, says_full};
 use crate::request::{Request, Shape};
 use crate::status::Status;
@@ -7,7 +7,8 @@ use disk::{Blob, VecBlob};
 use file::FileBlob;
 use page::Sum;
 use paged::{Outlook, Survey, Verdict, physical_page_size, survey};
-use std::fmt;
+use std::io::ErrorKind;
+use std::{fmt, fs};
 
 /// What a survey found in a file, and the two pages that its words are about.
 #[derive(Clone, Copy)]
@@ -60,6 +61,36 @@ pub fn read(rt: &HostRuntime, path: &str) -> Result<VecBlob, Status> {
         Ok(blob) => Ok(blob),
         Err(error) => Err(fail(rt, path, error)),
     }
+}
+
+/// Reads a file into memory, also one that another process has open: what is said of that is of the
+/// moment, and a line says so.
+pub fn read_now(rt: &HostRuntime, path: &str) -> Result<VecBlob, Status> {
+    match file::read(rt, path) {
+        Err(error) if error.kind() == ErrorKind::WouldBlock => {
+            tell_of_moment(rt, path);
+            Ok(VecBlob::from_vec(read_unlocked(rt, path)?))
+        }
+        Err(error) => Err(fail(rt, path, error)),
+        Ok(blob) => Ok(blob),
+    }
+}
+
+/// Reads a file that another process has open as it is at the moment.
+pub fn read_unlocked(rt: &HostRuntime, path: &str) -> Result<Vec<u8>, Status> {
+    match fs::read(rt, path) {
+        Ok(bytes) => Ok(bytes),
+        Err(error) => Err(fail(rt, path, error)),
+    }
+}
+
+/// Says that another process has a file or a log open.
+pub fn tell_of_moment(rt: &HostRuntime, path: &str) {
+    let words = "another process has it open, so this is of the moment";
+    tell(
+        rt,
+        format_args!("{path}: {words}: what it is writing may look cut off"),
+    );
 }
 
 /// Looks at a blob that nobody opened. Where that fails, as for want of memory, a line says why.

@@ -23,27 +23,36 @@ mod cat;
 mod census;
 mod check;
 mod command;
+mod completing;
 mod ending;
 mod fits;
 mod log_answer;
+mod log_appending;
+mod log_begin;
 mod log_cat;
 mod log_check;
 mod log_closed;
 mod log_copied;
 mod log_copying;
+mod log_dropping;
 mod log_durable;
 mod log_files;
 mod log_guard;
 mod log_held;
 mod log_hello;
 mod log_input;
+mod log_kept;
 mod log_known;
 mod log_levels;
+mod log_lines;
 mod log_lock;
+mod log_lost;
 mod log_map;
 mod log_marks;
 mod log_names;
+mod log_now;
 mod log_nth;
+mod log_out;
 mod log_parts;
 mod log_put;
 mod log_rebuild;
@@ -64,7 +73,10 @@ mod log_where;
 mod log_whole;
 mod look;
 mod map;
+mod misfit;
 mod opening;
+mod options;
+mod page_file;
 mod pages;
 mod refusing;
 mod report;
@@ -73,23 +85,30 @@ mod rewrite;
 mod salvage;
 mod salvaged;
 mod serving;
+mod start;
 mod status;
 mod streams;
+mod waiting;
 mod words;
 
 use crate::appending::append;
-use crate::cat::cat;
+use crate::cat::cat_file;
 use crate::check::check;
 use crate::command::{VERSION, command};
-use crate::ending::{end, fail, or_end};
+use crate::completing::print_completion;
+use crate::ending::{end, fail, or_end, tell};
+use crate::log_appending::append_log;
 use crate::log_copying::copy_log;
+use crate::log_dropping::drop_segments;
 use crate::log_files::{fail_folder, fail_log_file, is_folder, log_around};
+use crate::log_map::Drawn;
 use crate::log_rebuild::rebuild;
 use crate::log_salvage::salvage_log;
 use crate::log_serving::serve_log;
 use crate::log_told::tell_log;
-use crate::look::read;
+use crate::look::read_now;
 use crate::map::map;
+use crate::misfit::misfit_in;
 use crate::request::{Checksum, DigestName, Request, Task, Told, set_aside_in};
 use crate::rewrite::rewrite;
 use crate::salvage::salvage;
@@ -99,7 +118,6 @@ use crate::words::{put_command_first, read_words, tell_unknown, unknown_name};
 use clap::ArgMatches;
 use crc32c::Crc32c;
 use digest::{Digest, PolyDigest, ShaDigest};
-use disk::VecBlob;
 use page::{AddSum, Sum};
 use std::process::ExitCode;
 
@@ -120,14 +138,18 @@ fn perform<H: Sum, D: Digest>(
     match request.task {
         Task::ServeLog => serve_log::<H, D>(rt, request),
         Task::Serve { create } => serve::<H>(rt, request, create),
-        Task::Append { each_line } => append::<H>(rt, request, each_line),
-        Task::Tell(told) => tell_of::<H>(rt, request, told, &mut read(rt, request.file)?),
+        Task::Append(appending) if appending.log => append_log::<H, D>(rt, request, appending),
+        Task::Append(appending) if appending.is_for_log() => {
+            Err(fail(rt, request.file, "it is no log: --log begins one"))
+        }
+        Task::Append(appending) => append::<H>(rt, request, appending.each_line),
+        Task::Tell(told) => tell_of::<H>(rt, request, told),
         Task::Salvage { dropped, .. } if dropped || request.json => {
             let words = "--dropped and --json are for the folder of a log";
             Err(fail(rt, request.file, words))
         }
         Task::Salvage { out, .. } => salvage::<H>(rt, request, set_aside, out),
-        Task::Rebuild | Task::Copy { .. } => {
+        Task::Rebuild | Task::Copy { .. } | Task::Drop { .. } => {
             Err(fail(
                 rt,
                 request.file,
@@ -135,18 +157,25 @@ fn perform<H: Sum, D: Digest>(
             ))
         }
         Task::Rewrite => rewrite(rt, request),
-        Task::Version => {
-            or_end(rt, println!(rt; "pagedd {VERSION}"))?;
-            Ok(Status::Done)
-        }
+        Task::Version | Task::Completion(_) => print_own(rt, request.task),
     }
+}
+
+// Prints what is about no file.
+fn print_own(rt: &HostRuntime, task: Task) -> Result<Status, Status> {
+    let printed = match task {
+        Task::Completion(shell) => print_completion(rt, shell),
+        _ => println!(rt; "pagedd {VERSION}"),
+    };
+    or_end(rt, printed)?;
+    Ok(Status::Done)
 }
 
 // What is to be done in place of a request that isn't for a file of a log. None where it is.
 fn advice_for_log(request: &Request) -> Option<&'static str> {
     match request.task {
         Task::Serve { .. } if request.read_only => None,
-        Task::Serve { .. } | Task::Append { .. } => Some("'pagedd serve-log' changes it"),
+        Task::Serve { .. } | Task::Append(_) => Some("'pagedd serve-log' changes it"),
         Task::Salvage { .. } => {
             Some("'pagedd salvage FOLDER OUT' takes all its records, also behind a bad page")
         }
@@ -162,20 +191,14 @@ fn perform_on_folder<H: Sum, D: Digest>(
 ) -> Result<Status, Status> {
     let folder = request.file;
     match request.task {
-        Task::Tell(Told::Cat { from, len }) if from > 0 || len < u64::MAX => {
-            Err(fail_folder(rt, folder, "--from and --len are of a file's content"))
+        Task::Tell(Told::Cat(cat)) if cat.len < u64::MAX => {
+            Err(fail_folder(rt, folder, "--len is of a file's content"))
         }
         Task::Tell(told) => tell_log::<H, D>(rt, request, told),
         Task::Serve { .. } => {
             Err(fail_folder(rt, folder, "'pagedd serve-log' serves the log in it"))
         }
-        Task::Append { .. } => {
-            Err(fail_folder(
-                rt,
-                folder,
-                "append isn't supported for a log: 'pagedd serve-log' appends its records",
-            ))
-        }
+        Task::Append(appending) => append_log::<H, D>(rt, request, appending),
         Task::Salvage { .. } if !set_aside.is_empty() => {
             Err(fail_folder(rt, folder, "CUT is for a file, not for a log"))
         }
@@ -184,30 +207,30 @@ fn perform_on_folder<H: Sum, D: Digest>(
         Task::Copy { out } => copy_log::<H, D>(rt, request, out),
         Task::ServeLog => serve_log::<H, D>(rt, request),
         Task::Rewrite => rewrite(rt, request),
-        Task::Version => Ok(Status::Done),
+        Task::Drop { segment } => drop_segments::<H, D>(rt, request, segment),
+        Task::Version | Task::Completion(_) => print_own(rt, request.task),
     }
 }
 
-// Reports what is asked about a file that was read.
-fn tell_of<H: Sum>(
-    rt: &HostRuntime,
-    request: &Request,
-    told: Told,
-    blob: &mut VecBlob,
-) -> Result<Status, Status> {
+// Reports what is asked about a file.
+fn tell_of<H: Sum>(rt: &HostRuntime, request: &Request, told: Told) -> Result<Status, Status> {
     match told {
-        Told::Check => check::<H>(rt, request, blob),
-        Told::Map { from, to, long } => map::<H>(rt, request, blob, from, to, long),
+        Told::Check => check::<H>(rt, request, &mut read_now(rt, request.file)?),
+        Told::Cat(cat) => cat_file::<H>(rt, request, &mut read_now(rt, request.file)?, cat),
+        Told::Map { from, to, long } => map::<H>(rt, request, Drawn { from, to, long }),
         Told::Where { .. } | Told::Nth { .. } => {
-            let words = "it is no folder: name the folder of a log";
+            let words = "it is no folder, or isn't there: name the folder of a log";
             Err(fail(rt, request.file, words))
         }
-        Told::Cat { from, len } => cat::<H>(rt, request, blob, from, len),
     }
 }
 
 // Does what these matches ask for.
 fn perform_matched(rt: &HostRuntime, matches: &ArgMatches<'_>) -> Result<Status, Status> {
+    if let Some(misfit) = misfit_in(matches) {
+        tell(rt, misfit);
+        return Err(Status::Failed);
+    }
     let request = Request::of(matches);
     let set_aside = set_aside_in(matches).unwrap_or_default();
     match request.digest {

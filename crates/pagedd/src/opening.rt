@@ -7,18 +7,27 @@ use crate::refusing::refuse;
 use crate::request::Request;
 use crate::serving::fail_file;
 use crate::status::Status;
+use crate::waiting::{Patience, fail_locked, open_once_free};
 use disk::{Blob, Error};
 use file::{FileBlob, OpenError};
 use page::Sum;
 use paged::Verdict;
 use std::fs::{self, File};
-use std::io;
+use std::io::{self, ErrorKind};
 
 /// Opens a file, or makes it. Where that fails, a line says why, and after a failed sync how to go
 /// on.
 pub fn open(rt: &HostRuntime, path: &str) -> Result<FileBlob, Status> {
-    match file::open(rt, path) {
+    open_waiting(rt, path, Patience::none())
+}
+
+/// The same, once no other process has the file open.
+pub fn open_waiting(rt: &HostRuntime, path: &str, patience: Patience) -> Result<FileBlob, Status> {
+    match open_once_free(rt, path, patience) {
         Ok(blob) => Ok(blob),
+        Err(OpenError::System(error)) if error.kind() == ErrorKind::WouldBlock => {
+            Err(fail_locked(rt, path, error))
+        }
         Err(OpenError::System(error)) => Err(fail(rt, path, error)),
         Err(OpenError::Unsynced(error)) => Err(fail_file(rt, path, &error, true)),
     }

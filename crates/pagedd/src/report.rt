@@ -118,10 +118,10 @@ pub fn print_check(
 pub fn print_map(
     rt: &HostRuntime,
     request: &Request,
-    from: usize,
-    to: usize,
+    from: u64,
+    to: u64,
     marks: &str,
-    tail: usize,
+    tail: u64,
 ) -> Result<(), Status> {
     let file = quoted(rt, request.file)?;
     let page_size = request.shape.page_size;

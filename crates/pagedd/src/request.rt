@@ -1,4 +1,9 @@
 // What the command line asks for.
+use crate::completing::Shell;
+use crate::log_kept::Kept;
+use crate::log_out::Form;
+use crate::start::{Start, bytes_of};
+use crate::waiting::Patience;
 use clap::ArgMatches;
 use digest::{Digest, PolyDigest, ShaDigest};
 use std::fmt;
@@ -83,8 +88,8 @@ pub enum Task<'a> {
     Serve { create: bool },
     /// Serve the log in a folder to the program's input and output.
     ServeLog,
-    /// Append the program's input to it, with a sync after each line, if `each_line`.
-    Append { each_line: bool },
+    /// Append the program's input to it.
+    Append(Appending),
     /// Read it into memory, and report this about it.
     Tell(Told),
     /// Put all that verifies into a new file of this name. Of a log, all records whose frames fit
@@ -96,8 +101,45 @@ pub enum Task<'a> {
     Copy { out: &'a str },
     /// Put a synced copy of it in its place.
     Rewrite,
+    /// Drop the segments of a log before this one.
+    Drop { segment: u64 },
     /// Print the program's version.
     Version,
+    /// Print what this shell is to read so that it completes words.
+    Completion(Shell),
+}
+
+/// How the program's input is appended.
+#[derive(Clone, Copy)]
+pub struct Appending {
+    /// A sync follows each line.
+    pub each_line: bool,
+    /// Each line is a record of a log, which may be begun.
+    pub log: bool,
+    /// A record of a log ends with a zero byte, and not with a line end.
+    pub null: bool,
+    /// What is kept of a log.
+    pub kept: Kept,
+}
+
+impl Appending {
+    /// Whether anything is asked for that a log alone has.
+    pub fn is_for_log(self) -> bool {
+        self.log || self.null || !self.kept.is_all()
+    }
+
+    // What these words ask for.
+    fn of(words: &ArgMatches<'_>) -> Self {
+        Appending {
+            each_line: words.get_flag("each-line"),
+            log: words.get_flag("log"),
+            null: words.get_flag("null"),
+            kept: Kept {
+                segments: words.get_one::<u64>("keep-segments").unwrap_or(u64::MAX),
+                bytes: size_in(words, "keep-bytes").unwrap_or(u64::MAX),
+            },
+        }
+    }
 }
 
 /// What can be reported about a file, or about a log.
@@ -113,8 +155,40 @@ pub enum Told {
     Where { from: u64, to: u64 },
     /// Where record `n` of a segment of the log in a folder stands.
     Nth { segment: u64, n: u64 },
-    /// Its content from the byte `from` on, at most `len` bytes. For a log, all its records.
-    Cat { from: u64, len: u64 },
+    /// Its content, or the records of a log.
+    Cat(Cat),
+}
+
+/// What is written of a file's content, or of a log's records.
+#[derive(Clone, Copy)]
+pub struct Cat {
+    /// From where on.
+    pub start: Start,
+    /// At most so many bytes of a file's content.
+    pub len: u64,
+    /// A zero byte ends each record of a log, and not a line end.
+    pub null: bool,
+}
+
+impl Cat {
+    /// How a record is written.
+    pub fn form(self, json: bool) -> Form {
+        match (json, self.null) {
+            (true, _) => Form::Json,
+            (false, true) => Form::Null,
+            (false, false) => Form::Line,
+        }
+    }
+
+    // What these words ask for.
+    fn of(words: &ArgMatches<'_>) -> Self {
+        let start = words.get_str("from").and_then(Start::of);
+        Cat {
+            start: start.unwrap_or(Start::begin()),
+            len: size_in(words, "len").unwrap_or(u64::MAX),
+            null: words.get_flag("null"),
+        }
+    }
 }
 
 /// What the words of the command line ask for. Sizes are bytes, except for the cache's: pages.
@@ -135,6 +209,8 @@ pub struct Request<'a> {
     pub segment_size: u64,
     /// The answer is one JSON object.
     pub json: bool,
+    /// How long to wait for a lock.
+    pub patience: Patience,
 }
 
 impl<'a> Request<'a> {
@@ -148,14 +224,15 @@ impl<'a> Request<'a> {
             task,
             file: file_of(words),
             shape: shape_of(words),
-            buffer: non_zero(words.get_one::<usize>("buffer")),
+            buffer: non_zero(size_in(words, "buffer").map(|size| size as usize)),
             cache: non_zero(words.get_one::<usize>("cache")),
             read_only: words.get_flag("read-only"),
             cut: words.get_flag("cut"),
-            cut_limit: words.get_one::<u64>("cut-limit").unwrap_or(0),
+            cut_limit: size_in(words, "cut-limit").unwrap_or(0),
             digest: DigestName::of(words.get_str("digest").unwrap_or_default()),
-            segment_size: words.get_one::<u64>("segment-size").unwrap_or(u64::MAX),
+            segment_size: size_in(words, "segment-size").unwrap_or(u64::MAX),
             json: words.get_flag("json"),
+            patience: patience_in(words),
         }
     }
 }
@@ -184,9 +261,7 @@ fn file_of<'a>(words: &ArgMatches<'a>) -> &'a str {
 // What a command of this name asks for.
 fn task_of<'a>(name: &str, words: &ArgMatches<'a>) -> Task<'a> {
     match name {
-        "append" => Task::Append {
-            each_line: words.get_flag("each-line"),
-        },
+        "append" => Task::Append(Appending::of(words)),
         "check" => Task::Tell(Told::Check),
         "map" => Task::Tell(Told::Map {
             from: words.get_one::<u64>("from").unwrap_or(0),
@@ -201,10 +276,10 @@ fn task_of<'a>(name: &str, words: &ArgMatches<'a>) -> Task<'a> {
             segment: words.get_one::<u64>("SEGMENT").unwrap_or(0),
             n: words.get_one::<u64>("N").unwrap_or(0),
         }),
-        "cat" => Task::Tell(Told::Cat {
-            from: words.get_one::<u64>("from").unwrap_or(0),
-            len: words.get_one::<u64>("len").unwrap_or(u64::MAX),
-        }),
+        "cat" => Task::Tell(Told::Cat(Cat::of(words))),
+        "drop" => Task::Drop {
+            segment: words.get_one::<u64>("SEGMENT").unwrap_or(0),
+        },
         "salvage" => Task::Salvage {
             out: words.get_str("OUT").unwrap_or_default(),
             dropped: words.get_flag("dropped"),
@@ -216,6 +291,7 @@ fn task_of<'a>(name: &str, words: &ArgMatches<'a>) -> Task<'a> {
         "rewrite" => Task::Rewrite,
         "serve-log" => Task::ServeLog,
         "version" => Task::Version,
+        "completion" => Task::Completion(Shell::of(words.get_str("SHELL").unwrap_or_default())),
         _ => Task::Serve { create: true },
     }
 }
@@ -225,6 +301,19 @@ fn serve_task<'a>(words: &ArgMatches<'a>) -> Task<'a> {
     Task::Serve {
         create: words.get_flag("create"),
     }
+}
+
+// How long to wait for a lock.
+fn patience_in(words: &ArgMatches<'_>) -> Patience {
+    match words.get_str("wait") {
+        Some(word) => Patience::of(word.parse().ok()),
+        None => Patience::none(),
+    }
+}
+
+// The number of bytes that an option has.
+fn size_in(words: &ArgMatches<'_>, name: &str) -> Option<u64> {
+    words.get_str(name).and_then(bytes_of)
 }
 
 fn shape_of(words: &ArgMatches<'_>) -> Shape {

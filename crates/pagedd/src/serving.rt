@@ -1,7 +1,7 @@
 // Serving a file to the program's input and output.
 use crate::ending::{fail, fail_output, fail_stop, or_end};
 use crate::look::{InMemory, read};
-use crate::opening::{allow, open};
+use crate::opening::{allow, open_waiting};
 use crate::request::Request;
 use crate::rewrite::Unsynced;
 use crate::status::Status;
@@ -24,7 +24,8 @@ pub fn serve<H: Sum>(rt: &HostRuntime, request: &Request, create: bool) -> Resul
     if !create && !fs::exists(rt, file).unwrap_or(true) {
         return Ok(tell_unknown(rt, file)?);
     }
-    serve_blob::<FileBlob, H>(rt, request, &mut open(rt, file)?)
+    let mut blob = open_waiting(rt, file, request.patience)?;
+    serve_blob::<FileBlob, H>(rt, request, &mut blob)
 }
 
 // Serves a blob that nobody opened.

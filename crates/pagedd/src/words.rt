@@ -1,5 +1,6 @@
 // The words of the command line, before they are parsed.
 use crate::ending::{fail_output, tell};
+use crate::options::{COMMANDS, ROWS, Row, is_command, option_named};
 use crate::status::Status;
 use std::alloc::{AllocError, Global};
 use std::env::{Env, FillError};
@@ -7,52 +8,8 @@ use std::io::ErrorKind;
 use std::{env, fs, str};
 use strsim::levenshtein;
 
-/// The commands.
-const COMMANDS: [&str; 14] = [
-    "serve",
-    "serve-log",
-    "append",
-    "check",
-    "map",
-    "where",
-    "nth",
-    "cat",
-    "salvage",
-    "rebuild",
-    "copy",
-    "rewrite",
-    "version",
-    "help",
-];
-
-/// The options that take no value.
-const FLAGS: [&str; 11] = [
-    "--create",
-    "--read-only",
-    "--cut",
-    "--each-line",
-    "--long",
-    "--json",
-    "--dropped",
-    "--help",
-    "-h",
-    "--version",
-    "-V",
-];
-
-/// The options that take a value, which may be the next word.
-const WITH_VALUE: [&str; 10] = [
-    "--page-size",
-    "--checksum",
-    "--digest",
-    "--buffer",
-    "--cache",
-    "--cut-limit",
-    "--segment-size",
-    "--from",
-    "--to",
-    "--len",
-];
+/// The options that each command has.
+const PLAIN: [&str; 4] = ["--help", "-h", "--version", "-V"];
 
 /// A word is near a command where at most so many edits lie between them.
 const NEAR: usize = 2;
@@ -102,20 +59,21 @@ fn place_of_name(words: &[String]) -> Option<usize> {
             is_value = false;
         } else if !word.starts_with('-') {
             return Some(place);
-        } else if is_one_of(&WITH_VALUE, word) {
-            is_value = true;
-        } else if !is_one_of(&FLAGS, word) && !has_value(word) {
-            return None;
+        } else {
+            is_value = takes_next(&ROWS, word)?;
         }
     }
     None
 }
 
-// Whether a word is an option with its value.
-fn has_value(word: &str) -> bool {
+// Whether the word after this option is its value. `None` where no command has the option.
+fn takes_next(rows: &[Row], word: &str) -> Option<bool> {
+    if is_one_of(&PLAIN, word) {
+        return Some(false);
+    }
     match word.split_once('=') {
-        Some((name, _)) => is_one_of(&WITH_VALUE, name),
-        None => false,
+        Some((name, _)) => option_named(rows, name).map(|_| false),
+        None => option_named(rows, word).map(|row| row.takes_next()),
     }
 }
 
@@ -128,7 +86,7 @@ fn is_one_of(names: &[&str], word: &str) -> bool {
 pub fn unknown_name<'a>(rt: &HostRuntime, words: &'a [String]) -> Option<&'a str> {
     let name = words.get(place_of_name(words)?)?.as_str();
     let creates = words.iter().any(|word| word.as_str() == "--create");
-    let is_known = creates || is_one_of(&COMMANDS, name) || fs::exists(rt, name).unwrap_or(true);
+    let is_known = creates || is_command(name) || fs::exists(rt, name).unwrap_or(true);
     if is_known { None } else { Some(name) }
 }
 
@@ -153,7 +111,7 @@ pub fn tell_unknown(rt: &HostRuntime, name: &str) -> Result<Status, AllocError> 
 fn nearest_command(alloc: Global, name: &str) -> Result<Option<&'static str>, AllocError> {
     let mut nearest = None;
     let mut least = NEAR.saturating_add(1);
-    for command in COMMANDS {
+    for (command, _) in COMMANDS {
         let edits = levenshtein(alloc, name, command)?;
         if edits < least && edits < name.len() {
             least = edits;
@@ -176,5 +134,5 @@ pub fn put_command_first(words: &mut [String]) {
 fn place_of_command(words: &[String]) -> Option<usize> {
     let place = place_of_name(words)?;
     let name = words.get(place)?.as_str();
-    is_one_of(&COMMANDS, name).then_some(place)
+    is_command(name).then_some(place)
 }
