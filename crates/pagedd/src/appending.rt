@@ -275,18 +275,27 @@ fn tell_lost(
     synced: u64,
 ) -> Status {
     let kept = "what was synced is kept: the content up to byte";
+    let more = "more of the input may be there: see 'pagedd check'";
     if let Some(error) = blob.failure() {
         if blob.failed_sync() {
             let how = Unsynced(request.file);
             let words = format_args!("{error}; {kept} {synced}; {how}");
             return fail(rt, request.file, words);
         }
-        return fail(rt, request.file, format_args!("{error}; {kept} {synced}"));
+        return fail(
+            rt,
+            request.file,
+            format_args!("{error}; {kept} {synced}; {more}"),
+        );
     }
     let why = match error {
         Error::OutOfMemory => "out of memory",
         Error::OffsetOverflow => "its content is as long as it can be",
         _ => "a request was refused",
     };
-    fail(rt, request.file, format_args!("{why}; {kept} {synced}"))
+    fail(
+        rt,
+        request.file,
+        format_args!("{why}; {kept} {synced}; {more}"),
+    )
 }

@@ -75,8 +75,8 @@ fn option_of<'a>(alloc: Global, row: Row) -> Arg<'a> {
         Takes::Number => with_number(option, row.name, value_parser!(u64)),
         Takes::Count => with_number(option, row.name, value_parser!(u64).range(1..)),
         Takes::Pages => with_number(option, row.name, value_parser!(usize).range(1..=MOST)),
-        Takes::Bytes | Takes::Length | Takes::Room => option.long(row.name).value_name("BYTES"),
-        Takes::Start => option.long(row.name).value_name("START"),
+        Takes::Bytes | Takes::Length | Takes::Room => with_word(option, row.name, "BYTES"),
+        Takes::Start => with_word(option, row.name, "START"),
         Takes::Seconds => option
             .long(row.name)
             .value_name("SECONDS")
@@ -99,4 +99,12 @@ fn option_of<'a>(alloc: Global, row: Row) -> Arg<'a> {
 // The option with this name, which a number follows.
 fn with_number<'a>(option: Arg<'a>, name: &'a str, number: ValueParser<'a>) -> Arg<'a> {
     option.long(name).value_name("N").value_parser(number)
+}
+
+// The option with this name, which a word follows that is looked at later.
+fn with_word<'a>(option: Arg<'a>, name: &'a str, value: &'a str) -> Arg<'a> {
+    option
+        .long(name)
+        .value_name(value)
+        .allow_hyphen_values(true)
 }

@@ -12,6 +12,7 @@ use digest::Digest;
 use page::Sum;
 use page_digests::Source;
 use segments::{ClosedSegment, Error, Passed, Place};
+use std::fmt;
 
 /// Writes the bytes of each record of a log to standard output, from a place on, each with its end.
 /// Behind a page that can't be read the records go on, if their segment has marks; else its other
@@ -202,7 +203,7 @@ fn tell_end(rt: &HostRuntime, request: &Request, segment: u64, error: &Error) ->
     let words = "its other records are left out";
     tell(
         rt,
-        format_args!("{}: segment {segment}: {error}: {words}", request.file),
+        format_args!("{}: {}: {words}", request.file, In(segment, error)),
     );
     false
 }
@@ -221,11 +222,32 @@ fn tell_passed(
     match passed.frames {
         Some(frames) => tell(
             rt,
-            format_args!("{file}: segment {segment}: {error}: {frames} records in {left_out}"),
+            format_args!(
+                "{file}: {}: {frames} records in {left_out}",
+                In(segment, error)
+            ),
         ),
         None => tell(
             rt,
-            format_args!("{file}: segment {segment}: {error}: the records in {left_out}"),
+            format_args!("{file}: {}: the records in {left_out}", In(segment, error)),
         ),
+    }
+}
+
+// An error of a segment, which is named once.
+#[derive(Clone, Copy)]
+struct In<'a>(u64, &'a Error);
+
+impl fmt::Display for In<'_> {
+    fn fmt<W: fmt::Write>(&self, f: &mut fmt::Formatter<W>) -> fmt::Result {
+        let In(segment, error) = self;
+        match error {
+            Error::Damaged(_)
+            | Error::NoSegment(_)
+            | Error::NoFrame(_, _)
+            | Error::Unmarked(_)
+            | Error::Missing(_) => write!(f, "{error}"),
+            _ => write!(f, "segment {segment}: {error}"),
+        }
     }
 }

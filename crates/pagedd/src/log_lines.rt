@@ -1,5 +1,5 @@
 // The records of a log that standard input has: its lines.
-ghost use Rattle.std.specs.Prelude.{◌≤◌, length, IfSome};
+ghost use Rattle.std.specs.Prelude.{◌≡◌, ◌≤◌, ◌<◌, length, IfSome, IsNone};
 
 use crate::appending::{MOST_UNSYNCED, PIECE};
 use journal::MOST_BYTES;
@@ -116,6 +116,8 @@ impl Begun {
 /// These bytes, if they aren't too many for a record.
 pub fn fitting(bytes: &[u8]) -> Option<&[u8]>
     ensures short { IfSome result (λ found. length found.now ≤ 65535) }
+    ensures same { IfSome result (λ found. found.now ≡ bytes.now) }
+    ensures long { IsNone result → 65535 < length bytes.now }
 {
     if bytes.len() <= MOST_BYTES {
         Some(bytes)

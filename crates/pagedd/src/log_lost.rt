@@ -1,5 +1,5 @@
 // How an appending to a log ends, and what is told of it then.
-use crate::ending::{fail, fail_output};
+use crate::ending::fail;
 use crate::log_begin::FileLog;
 use crate::log_lines::{Progress, Unfit};
 use crate::log_status::{Failure, is_failed_sync};
@@ -80,9 +80,6 @@ pub fn tell_appended(
     let Some(error) = input.failure() else {
         return Ok(Status::Done);
     };
-    if error.kind() == ErrorKind::OutOfMemory {
-        return Err(fail_output(rt, error));
-    }
     let words = if is_cut {
         "the lines before that are appended and committed, and not the one in which it failed"
     } else {

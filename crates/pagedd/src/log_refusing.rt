@@ -70,7 +70,8 @@ pub fn refuse_log(rt: &HostRuntime, request: &Request, error: &Error) -> Status 
 // Which command helps after an error, in words.
 fn advice_after(error: &Error) -> &'static str {
     match error {
-        Error::Unlisted(_) | Error::Outdated(_) => "; 'pagedd rebuild' makes the manifest anew",
+        Error::Unlisted(_) => "; 'pagedd rebuild' makes the manifest anew; or move that file away",
+        Error::Outdated(_) => "; 'pagedd rebuild' makes the manifest anew",
         Error::Missing(_) => "; 'pagedd salvage' takes what is there",
         Error::Short(_) => "; '--cut' goes on with less, and 'pagedd salvage' takes what is there",
         _ => "",

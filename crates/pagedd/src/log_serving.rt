@@ -18,7 +18,7 @@ use crate::request::Request;
 use crate::rewrite::Unsynced;
 use crate::serving::{flushed, tell_stop};
 use crate::status::Status;
-use crate::streams::Streams;
+use crate::streams::{Streams, refuse_terminal};
 use digest::Digest;
 use disk::{Blob, VecBlob};
 use file::FileBlob;
@@ -33,6 +33,7 @@ use std::io::{self, BufRead, BufReader, BufWriter, Read, Write};
 /// missing is made, except for reading alone.
 pub fn serve_log<H: Sum, D: Digest>(rt: &HostRuntime, request: &Request) -> Result<Status, Status> {
     let folder = request.file;
+    refuse_terminal(rt)?;
     if !is_folder(rt, folder) {
         make_folder(rt, request)?;
     }

@@ -257,6 +257,7 @@ impl fmt::Display for Look {
             )?;
         }
         match self.survey.beyond {
+            0 => Ok(()),
             1 => write!(f, "; 1 page after it has a value"),
             number => write!(f, "; {number} pages after it have a value"),
         }

@@ -140,7 +140,10 @@ fn keep(rt: &HostRuntime, file: &str, bytes: &[u8], look: &Look) -> Result<Strin
         }
         Err(error) => {
             let why = "no copy could be made of what a recovery would give up, so nothing was cut";
-            let advice = "make its folder writable, or use --read-only";
+            let advice = match error.kind() {
+                ErrorKind::StorageFull => "make room on the disk, or use --read-only",
+                _ => "make its folder writable, or use --read-only",
+            };
             tell(rt, format_args!("{file}.cut-N: {error}: {why}; {advice}"));
             Err(Status::Failed)
         }

@@ -5,7 +5,7 @@ use crate::opening::{allow, open_waiting};
 use crate::request::Request;
 use crate::rewrite::Unsynced;
 use crate::status::Status;
-use crate::streams::Streams;
+use crate::streams::{Streams, refuse_terminal};
 use crate::words::tell_unknown;
 use disk::{Blob, VecBlob};
 use file::FileBlob;
@@ -18,6 +18,7 @@ use std::io::{self, Write};
 /// `create` asks.
 pub fn serve<H: Sum>(rt: &HostRuntime, request: &Request, create: bool) -> Result<Status, Status> {
     let file = request.file;
+    refuse_terminal(rt)?;
     if request.read_only {
         return serve_blob::<VecBlob, H>(rt, request, &mut read(rt, file)?);
     }

@@ -1,5 +1,7 @@
 // Standard input and output, each of which keeps why it failed last.
-use std::io::{self, BufReader, BufWriter, Read, Stdin, Stdout, Write};
+use crate::ending::fail;
+use crate::status::Status;
+use std::io::{self, BufReader, BufWriter, IsTerminal, Read, Stdin, Stdout, Write};
 
 /// So many bytes of requests are taken by one call of the system. Requests that have come whole are
 /// read where they stand, so the buffer has room for several long ones.
@@ -86,6 +88,15 @@ impl Write for Output {
     fn flush(&mut self) -> io::Result<()> {
         self.stdout.flush()
     }
+}
+
+/// Refuses a terminal as standard input: what is served takes the requests of a program.
+pub fn refuse_terminal(rt: &HostRuntime) -> Result<(), Status> {
+    if !rt.stdin().is_terminal() {
+        return Ok(());
+    }
+    let words = "it is a terminal, and requests come from a program: 'pagedd append' takes lines";
+    Err(fail(rt, "standard input", words))
 }
 
 /// Standard input and output, each with a buffer.
