@@ -1,21 +1,19 @@
 // Writing the content of a file.
 use crate::ending::{fail, or_end, tell};
-use crate::look::{Look, looked};
+use crate::page_file::PageFile;
+use crate::page_survey::survey_file;
 use crate::request::{Cat, Request};
 use crate::status::Status;
-use disk::VecBlob;
 use page::Sum;
-use paged::physical_page_size;
-use std::io::{self, BufWriter, Write};
+use std::io::{BufWriter, Write};
+
+/// So many bytes are given by one call of the system.
+const OUTPUT_PIECE: usize = 1 << 16;
 
 /// Writes the content of a file to standard output, at most `len` bytes from an offset on. The file
-/// is whole where a recovery would give up none of it.
-pub fn cat_file<H: Sum>(
-    rt: &HostRuntime,
-    request: &Request,
-    blob: &mut VecBlob,
-    cat: Cat,
-) -> Result<Status, Status> {
+/// is whole where a recovery would give up none of it. It is read page by page: once to find where
+/// its content ends, and then once more.
+pub fn cat_file<H: Sum>(rt: &HostRuntime, request: &Request, cat: Cat) -> Result<Status, Status> {
     let file = request.file;
     if cat.null || request.json {
         return Err(fail(rt, file, "--null and --json are for the folder of a log"));
@@ -23,14 +21,15 @@ pub fn cat_file<H: Sum>(
     let Some(from) = cat.start.offset else {
         return Err(fail(rt, file, "--from takes an offset of its content"));
     };
-    let look = looked::<VecBlob, H>(rt, request, blob)?;
+    let mut pages = PageFile::open(rt, request)?;
+    let look = survey_file::<H>(rt, request, &mut pages)?.look;
     let end = look.survey.outlook.len;
     if from > end {
         let words = "is after the end of its content";
         return Err(fail(rt, file, format_args!("--from {from} {words}, {end}")));
     }
     let stop = from.saturating_add(cat.len).min(end);
-    or_end(rt, write_content(rt, blob.bytes(), &look, from, stop))?;
+    write_content(rt, request, &mut pages, from, stop)?;
     if look.keeps_all() {
         return Ok(Status::Done);
     }
@@ -43,21 +42,25 @@ pub fn cat_file<H: Sum>(
 // the text is full, except for the last one.
 fn write_content(
     rt: &HostRuntime,
-    bytes: &[u8],
-    look: &Look,
+    request: &Request,
+    pages: &mut PageFile,
     from: u64,
     stop: u64,
-) -> io::Result<()> {
-    let page_size = u64::from(look.shape.page_size.get());
-    let size = physical_page_size(look.shape.page_size) as usize;
-    let mut out = BufWriter::new(rt.alloc(), rt.stdout())?;
-    let mut at = 0u64;
-    let count = look.survey.outlook.pages as usize;
-    for page in bytes.chunks_exact(size).take(count) {
+) -> Result<(), Status> {
+    let page_size = u64::from(request.shape.page_size.get());
+    let mut out = or_end(
+        rt,
+        BufWriter::with_capacity(rt.alloc(), OUTPUT_PIECE, rt.stdout()),
+    )?;
+    for number in from / page_size..stop.div_ceil(page_size) {
+        let at = number.saturating_mul(page_size);
         let first = from.saturating_sub(at).min(page_size) as usize;
         let end = stop.saturating_sub(at).min(page_size) as usize;
-        out.write_all(page.get(first..end).unwrap_or_default())?;
-        at = at.saturating_add(page_size);
+        let page = match pages.page(number) {
+            Ok(page) => page,
+            Err(error) => return Err(fail(rt, request.file, error)),
+        };
+        or_end(rt, out.write_all(page.get(first..end).unwrap_or_default()))?;
     }
-    out.flush()
+    or_end(rt, out.flush())
 }

@@ -1,7 +1,6 @@
 // The pages of a file that aren't whole.
 use crate::look::Look;
-use crate::pages::{Page, tell_progress};
-use crate::status::Status;
+use crate::pages::Page;
 use page::Sum;
 use paged::physical_page_size;
 
@@ -53,23 +52,27 @@ pub struct Census {
 
 impl Census {
     /// The pages that aren't whole in a file of these bytes, at which `look` was taken.
-    pub fn of<H: Sum>(rt: &HostRuntime, bytes: &[u8], look: &Look) -> Result<Self, Status> {
+    pub fn of<H: Sum>(bytes: &[u8], look: &Look) -> Self {
         let size = physical_page_size(look.shape.page_size) as usize;
-        let count = bytes.len() / size;
-        let mut census = Census {
-            bad_pages: Numbers::none(),
-            bad_slots: Numbers::none(),
-        };
+        let mut census = Census::nothing();
         for (number, page) in bytes.chunks_exact(size).enumerate() {
-            tell_progress(rt, number, count)?;
             if !look.knows_whole(number as u64, page) {
                 census.add(number as u64, &Page::of::<H>(page));
             }
         }
-        Ok(census)
+        census
     }
 
-    fn add(&mut self, number: u64, page: &Page) {
+    /// No page.
+    pub fn nothing() -> Self {
+        Census {
+            bad_pages: Numbers::none(),
+            bad_slots: Numbers::none(),
+        }
+    }
+
+    /// A page of this number, if it isn't whole.
+    pub fn add(&mut self, number: u64, page: &Page) {
         if page.len == 0 {
             self.bad_pages.add(number);
         } else if page.bad.is_some() {

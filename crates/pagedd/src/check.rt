@@ -1,33 +1,35 @@
 // Reporting what a file holds.
 use crate::census::{Census, Numbers};
-use crate::ending::or_end;
-use crate::look::{Look, looked};
-use crate::pages::{Page, Pages};
+use crate::ending::{fail, or_end};
+use crate::fits::other_fits_in;
+use crate::look::Look;
+use crate::page_file::PageFile;
+use crate::page_survey::{Surveyed, page_at, survey_file};
+use crate::pages::Pages;
 use crate::refusing::Causes;
 use crate::report::print_check;
 use crate::request::Request;
 use crate::status::Status;
-use disk::VecBlob;
 use page::Sum;
 use paged::Verdict;
 use std::io;
 
 /// Reports what a recovery would make of a file, and which of its pages aren't whole. The file is
-/// whole where nothing would be cut, each page has a value, and no slot is bad.
-pub fn check<H: Sum>(
-    rt: &HostRuntime,
-    request: &Request,
-    blob: &mut VecBlob,
-) -> Result<Status, Status> {
-    let look = looked::<VecBlob, H>(rt, request, blob)?;
-    let census = Census::of::<H>(rt, blob.bytes(), &look)?;
-    let causes = Causes::of(rt.alloc(), blob.bytes(), look)?;
+/// whole where nothing would be cut, each page has a value, and no slot is bad. It is read page by
+/// page.
+pub fn check<H: Sum>(rt: &HostRuntime, request: &Request) -> Result<Status, Status> {
+    let mut file = PageFile::open(rt, request)?;
+    let Surveyed { look, census } = survey_file::<H>(rt, request, &mut file)?;
+    let causes = match other_fits_in(rt.alloc(), &mut file, request.shape) {
+        Ok(fits) => Causes::with(look, fits),
+        Err(error) => return Err(fail(rt, request.file, error)),
+    };
     if request.json {
         print_check(rt, request, &look, &census, causes.fits())?;
     } else {
         or_end(
             rt,
-            tell_check::<H>(rt, request, blob.bytes(), &causes, &census),
+            tell_check::<H>(rt, request, &mut file, &causes, &census),
         )?;
     }
     let is_whole = look.survey.outlook.cut == 0 && census.is_empty();
@@ -37,7 +39,7 @@ pub fn check<H: Sum>(
 fn tell_check<H: Sum>(
     rt: &HostRuntime,
     request: &Request,
-    bytes: &[u8],
+    file: &mut PageFile,
     causes: &Causes,
     census: &Census,
 ) -> io::Result<()> {
@@ -46,8 +48,8 @@ fn tell_check<H: Sum>(
     println!(rt; "{}: {verdict}", request.file)?;
     println!(rt; "it {look}")?;
     tell_outlook(rt, request, causes)?;
-    tell_pages::<H>(rt, bytes, look, &census.bad_pages, "have no value")?;
-    tell_pages::<H>(rt, bytes, look, &census.bad_slots, "have a bad slot")?;
+    tell_pages::<H>(rt, file, &census.bad_pages, "have no value")?;
+    tell_pages::<H>(rt, file, &census.bad_slots, "have a bad slot")?;
     tell_tail(rt, look)
 }
 
@@ -103,13 +105,12 @@ fn tell_keep(rt: &HostRuntime, look: &Look) -> io::Result<()> {
 // Prints the first pages of a kind, with what their slots say, and how many others there are.
 fn tell_pages<H: Sum>(
     rt: &HostRuntime,
-    bytes: &[u8],
-    look: &Look,
+    file: &mut PageFile,
     numbers: &Numbers,
     kind: &str,
 ) -> io::Result<()> {
     for number in numbers.first() {
-        if let Some(page) = Page::at::<H>(bytes, look.shape.page_size, *number) {
+        if let Some(page) = page_at::<H>(file, *number)? {
             println!(rt; "page {number}: {page}")?;
         }
     }

@@ -265,7 +265,7 @@ impl Part {
         let (mut blob, frames) = read_part::<H>(rt, request, path, frames)?;
         let part = request.about(path);
         let look = looked::<VecBlob, H>(rt, &part, &mut blob)?.with_frames(frames);
-        let census = Census::of::<H>(rt, blob.bytes(), &look)?;
+        let census = Census::of::<H>(blob.bytes(), &look);
         let cut = look.cut_len();
         Ok(Part {
             bytes: look.size,

@@ -126,6 +126,25 @@ impl Look {
         }
     }
 
+    /// What this survey says of a file of so many bytes. `torn` is the last page of the text, if its
+    /// other slot fails, and `next` the page after those of the text, if the file has one.
+    pub fn with_pages(
+        survey: Survey,
+        shape: Shape,
+        size: u64,
+        torn: Option<Page>,
+        next: Option<Page>,
+    ) -> Self {
+        Look {
+            survey,
+            shape,
+            size,
+            torn,
+            next,
+            frames: None,
+        }
+    }
+
     /// The look at a file of a log, of whose text so many bytes are whole frames. An opening of the
     /// log keeps only these.
     pub fn with_frames(self, len: u64) -> Self {

@@ -77,6 +77,7 @@ mod misfit;
 mod opening;
 mod options;
 mod page_file;
+mod page_survey;
 mod pages;
 mod refusing;
 mod report;
@@ -106,7 +107,6 @@ use crate::log_rebuild::rebuild;
 use crate::log_salvage::salvage_log;
 use crate::log_serving::serve_log;
 use crate::log_told::tell_log;
-use crate::look::read_now;
 use crate::map::map;
 use crate::misfit::misfit_in;
 use crate::request::{Checksum, DigestName, Request, Task, Told, set_aside_in};
@@ -215,8 +215,8 @@ fn perform_on_folder<H: Sum, D: Digest>(
 // Reports what is asked about a file.
 fn tell_of<H: Sum>(rt: &HostRuntime, request: &Request, told: Told) -> Result<Status, Status> {
     match told {
-        Told::Check => check::<H>(rt, request, &mut read_now(rt, request.file)?),
-        Told::Cat(cat) => cat_file::<H>(rt, request, &mut read_now(rt, request.file)?, cat),
+        Told::Check => check::<H>(rt, request),
+        Told::Cat(cat) => cat_file::<H>(rt, request, cat),
         Told::Map { from, to, long } => map::<H>(rt, request, Drawn { from, to, long }),
         Told::Where { .. } | Told::Nth { .. } => {
             let words = "it is no folder, or isn't there: name the folder of a log";

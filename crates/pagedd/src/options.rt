@@ -139,7 +139,7 @@ pub struct Row {
 }
 
 /// The options, in the order in which help has them.
-pub const ROWS: [Row; 32] = [
+pub const ROWS: [Row; 33] = [
     Row {
         name: "FILE",
         takes: Takes::Word,
@@ -377,6 +377,13 @@ pub const ROWS: [Row; 32] = [
         default: None,
         help: "takes the records of segments that were dropped, and whose files were left, too",
         commands: &["salvage"],
+    },
+    Row {
+        name: "progress",
+        takes: Takes::Nothing,
+        default: None,
+        help: "tells on standard error how far it is, also where that is no terminal",
+        commands: &["check", "cat"],
     },
     Row {
         name: "json",

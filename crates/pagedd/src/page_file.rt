@@ -8,6 +8,9 @@ use paged::physical_page_size;
 use std::fs::{self, File, TryLockError};
 use std::io;
 
+/// The most bytes of a page of another size.
+const MOST: u64 = 4096;
+
 /// A file that is read page by page.
 #[derive(Drop)]
 pub struct PageFile {
@@ -39,7 +42,7 @@ impl PageFile {
         let size = physical_page_size(request.shape.page_size);
         Ok(PageFile {
             source: FileSource::new(rt.alloc(), file),
-            page: vec![in rt.alloc(); 0; size as usize]?,
+            page: vec![in rt.alloc(); 0; size.max(MOST) as usize]?,
             len,
             size,
         })
@@ -52,8 +55,14 @@ impl PageFile {
 
     /// The bytes of the page of this number: fewer at the file's end, and none behind it.
     pub fn page(&mut self, number: u64) -> io::Result<&[u8]> {
-        let start = number.saturating_mul(self.size);
-        let count = self.len.saturating_sub(start).min(self.size) as usize;
+        let size = self.size;
+        self.page_of(number, size)
+    }
+
+    /// The same, where pages have so many bytes: at most 4,096, or as many as those of this file.
+    pub fn page_of(&mut self, number: u64, size: u64) -> io::Result<&[u8]> {
+        let start = number.saturating_mul(size);
+        let count = self.len.saturating_sub(start).min(size) as usize;
         match self.page.get_mut(..count) {
             Some(bytes) => {
                 self.source.read_at(bytes, start)?;

@@ -1,5 +1,6 @@
 // What a physical page holds.
 use crate::ending::or_end;
+use crate::request::Request;
 use crate::status::Status;
 use page::{Checksum, Slot, Sum};
 use paged::physical_page_size;
@@ -180,12 +181,21 @@ impl fmt::Display for Pages {
 }
 
 /// So many pages make one line of progress.
-const STEP: usize = 1 << 16;
+const STEP: u64 = 1 << 16;
 
-/// Says on standard error, where that is a terminal, how many pages of a large file were gone
-/// through.
-pub fn tell_progress(rt: &HostRuntime, done: usize, count: usize) -> Result<(), Status> {
-    if count < STEP || done % STEP != 0 || !rt.stderr().is_terminal() {
+/// Whether progress is told: where it is asked for, or standard error is a terminal.
+pub fn shows_progress(rt: &HostRuntime, request: &Request) -> bool {
+    request.progress || has_terminal(rt)
+}
+
+/// Whether standard error is a terminal.
+pub fn has_terminal(rt: &HostRuntime) -> bool {
+    rt.stderr().is_terminal()
+}
+
+/// Says on standard error, where `shows` asks, how many pages of a large file were gone through.
+pub fn tell_progress(rt: &HostRuntime, shows: bool, done: u64, count: u64) -> Result<(), Status> {
+    if !shows || count < STEP || done % STEP != 0 {
         return Ok(());
     }
     or_end(rt, eprintln!(rt; "pagedd: {done} of {count} pages"))

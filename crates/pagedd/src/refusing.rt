@@ -24,6 +24,11 @@ impl Causes {
         Ok(Causes { look, fits })
     }
 
+    /// The causes for a file that looks so, of which these shapes fit.
+    pub fn with(look: Look, fits: Vec<Fit>) -> Self {
+        Causes { look, fits }
+    }
+
     /// What the file looks like.
     pub fn look(&self) -> &Look {
         &self.look

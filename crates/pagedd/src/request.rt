@@ -209,6 +209,8 @@ pub struct Request<'a> {
     pub segment_size: u64,
     /// The answer is one JSON object.
     pub json: bool,
+    /// Long work tells its progress.
+    pub progress: bool,
     /// How long to wait for a lock.
     pub patience: Patience,
 }
@@ -232,6 +234,7 @@ impl<'a> Request<'a> {
             digest: DigestName::of(words.get_str("digest").unwrap_or_default()),
             segment_size: size_in(words, "segment-size").unwrap_or(u64::MAX),
             json: words.get_flag("json"),
+            progress: words.get_flag("progress"),
             patience: patience_in(words),
         }
     }

@@ -1,5 +1,5 @@
 // The values of all pages that have one, and what is missing among them.
-use crate::pages::{Page, tell_progress};
+use crate::pages::{Page, has_terminal, tell_progress};
 use crate::request::Shape;
 use crate::status::Status;
 use page::Sum;
@@ -148,8 +148,10 @@ impl Salvaged {
             short: Vec::new(rt.alloc()),
             tail: bytes.len() % size,
         };
+        let shows = has_terminal(rt);
+        let count = bytes.len() / size;
         for (number, page) in bytes.chunks_exact(size).enumerate() {
-            tell_progress(rt, number, bytes.len() / size)?;
+            tell_progress(rt, shows, number as u64, count as u64)?;
             salvaged.add::<H>(shape, number, page, content)?;
         }
         Ok(salvaged)
