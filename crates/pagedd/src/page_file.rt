@@ -54,7 +54,7 @@ impl PageFile {
     pub fn page(&mut self, number: u64) -> io::Result<&[u8]> {
         let start = number.saturating_mul(self.size);
         let count = self.len.saturating_sub(start).min(self.size) as usize;
-        match self.page.get_mut(..count) {
+        match self.page.as_mut_slice().get_mut(..count) {
             Some(bytes) => {
                 self.source.read_at(bytes, start)?;
                 Ok(bytes)
