@@ -564,7 +564,7 @@ def kept_segments(program, folder):
     expect(where["last"] - where["first"] == 2, "with --keep-segments 3 three segments are left", "the others are dropped")
     play(program, "append", "--segment-size=1K", "--keep-bytes=10K", log, given=given)
     where = json.loads(play(program, "where", "--json", log)[1])
-    length = sum(part["bytes"] for part in where["closed"])
+    length = sum(part["content_bytes"] for part in where["closed"])
     expect(10_240 <= length <= 10_240 + 3 * 1100, "with --keep-bytes 10K so many bytes are left, and some of a segment",
            "only whole segments are dropped")
     out = os.path.join(folder, "out")
@@ -595,7 +595,10 @@ def waiting(program, folder):
     five = [subprocess.Popen([program, "append", "--wait", log], stdin=subprocess.PIPE, stdout=subprocess.DEVNULL)
             for _ in range(5)]
     for number, process in enumerate(five):
-        process.communicate(b"of five: %d\n" % number)
+        process.stdin.write(b"of five: %d\n" % number)
+        process.stdin.close()
+    for process in five:
+        process.wait(60)
     found = lines_of(program, log)[1]
     expect(sorted(line for line in found if line.startswith(b"of five")) == [b"of five: %d" % number for number in range(5)],
            "five appends at once all get in with --wait", "one after the other has the lock")
