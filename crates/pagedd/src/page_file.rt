@@ -1,4 +1,6 @@
 // A file that is read page by page, and never held whole.
+ghost use Rattle.std.specs.Prelude.{◌<◌};
+
 use crate::ending::fail;
 use crate::look::{read_now, tell_of_moment};
 use crate::request::Request;
@@ -18,6 +20,7 @@ pub struct PageFile {
     pub len: u64,
     /// How many bytes a page has in the file.
     pub size: u64,
+    ghost sized: { 0 < size },
 }
 
 impl PageFile {
