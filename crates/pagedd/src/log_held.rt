@@ -150,6 +150,7 @@ impl<F: Folder<B> + Drop, B: Blob + Drop> HeldFolder<F, B> {
 
 impl HeldFolder<FolderCopy, VecBlob> {
     /// Holds these bytes as those of a file.
+    #[tactic(auto, using(crate::proofs::Resting::begun_rests))]
     pub fn put_copy(&mut self, file: Asked, bytes: Vec<u8>)
         ensures { self.new ≡ self.old }
     {
