@@ -1,1 +1,1 @@
-mod Resting
+pub mod Resting
