@@ -763,7 +763,7 @@ def tampering(program, folder):
                 or state not in out.decode() or states != {n: state if n == 1 else "whole" for n in range(last)}
                 or mapped != "#" + ("!" if data is not None else "?") + "#" * (last - 2) + "+"
                 or (written[0], written[1]) != (3, b"".join(it + b"\n" for it in inside))
-                or not written[2].startswith(f"pagedd: {folder}: segment 1: ")):
+                or not re.match(f"pagedd: {re.escape(folder)}: segment 1[: ]", written[2]) or "1: segment" in written[2]):
             raise SystemExit(f"NOT SO: check, map and cat tell that it is {what}: {out} {told} {mapped} {written}")
         print(f"a closed segment that is {what}: its reads are refused with {expected}, check, map and cat tell it, "
               "and the others are read")
@@ -973,10 +973,11 @@ def commands(program, folder):
     file = put(folder + "-file", b"")
     before = image(folder)
     manifest, out = os.path.join(folder, "manifest"), folder + "-out"
-    for words in (["serve-log", file], ["append", folder], ["salvage", manifest, out], ["salvage", folder, folder],
+    for words in (["serve-log", file], ["append", "--null", file], ["append", folder + "-not", "--keep-bytes=1K"],
+                  ["drop", file, "1"], ["drop", folder, "99"], ["salvage", manifest, out], ["salvage", folder, folder],
                   ["salvage", folder, out, "CUT"], ["salvage", "--json", file, out], ["rebuild", file],
                   ["copy", file, out], ["copy", folder, os.path.join(folder, "in")], ["copy", folder, file],
-                  ["serve", folder], [folder], ["cat", "--from", "3", folder], ["cat", "--len", "3", folder],
+                  ["serve", folder], [folder], ["cat", "--from", "99", folder], ["cat", "--len", "3", folder],
                   ["map", "--from", "99", folder], ["where", file], ["where", folder + "-not"], ["nth", file, "0", "0"],
                   ["nth", folder + "-not", "0", "0"]):
         status, out, said = play(program, *words)

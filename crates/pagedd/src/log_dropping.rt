@@ -3,6 +3,7 @@ ghost use Rattle.segments.specs.Log.{IsLog};
 
 use crate::ending::{fail, or_end};
 use crate::log_begin::{FileLog, begin_log, open_for_change};
+use crate::log_known::{Known, manifest_bytes};
 use crate::log_lock::lock_folder;
 use crate::log_status::is_failed_sync;
 use crate::request::Request;
@@ -32,8 +33,22 @@ fn drop_locked<H: Sum, D: Digest>(
     request: &Request,
     segment: u64,
 ) -> Result<Status, Status> {
+    refuse_unbegun::<H>(rt, request, segment)?;
     let mut log = open_for_change::<H, D>(rt, request)?;
     drop_in::<H, D>(rt, request, &mut log, segment)
+}
+
+// Refuses a segment that isn't there yet, before the log is opened: an opening writes the copy of the
+// manifest.
+fn refuse_unbegun<H: Sum>(rt: &HostRuntime, request: &Request, segment: u64) -> Result<(), Status> {
+    let Ok(Some(bytes)) = manifest_bytes(rt, request.file) else {
+        return Ok(());
+    };
+    let known = Known::of::<H>(rt.alloc(), request.shape, bytes.as_slice())?;
+    if known.is_empty() || segment <= known.listing.open() {
+        return Ok(());
+    }
+    Err(tell_kept(rt, request.file, &Error::NoSegment(segment)))
 }
 
 fn drop_in<H: Sum, D: Digest>(
