@@ -1,30 +1,21 @@
-"""Writes docs/INDEX.md, the list of the public items: python3 examples/public_items.py, at the top of the repository.
+"""Finds the public items of the crates; a module of reference.py, unexampled.py and uncalled.py.
 
-For each crate that a program imports (CRATES) it lists what `src/lib.rt` gives out: the items of its own, those that it
-takes from its modules by `pub use`, and those that it takes from another crate so. Under a type or a trait stand its
-public fields, its variants and its calls. A row has the item's path, its kind, its type or signature without clauses,
-and the first sentence of its doc comment.
-
-With --check it writes nothing: it ends with status 1 if docs/INDEX.md isn't what it would write.
+A crate's public items are what its `src/lib.rt` gives out: the items of its own, those that it takes from its modules
+by `pub use`, and those that it takes from another crate so. Under a type or a trait stand its public fields, its
+variants and its calls. A row has the item's path, its kind, its type or signature without clauses, and the first
+sentence of its doc comment.
 """
 import glob
 import os
 import re
 import sys
-import textwrap
+
+import usage
 
 ROOT = os.path.join(os.path.dirname(os.path.abspath(__file__)), "..")
-PAGE = "docs/INDEX.md"
 
 # The crates that a program imports, the lowest first.
 CRATES = ["disk", "page", "crc32c", "digest", "page_digests", "cache", "file", "paged", "items", "journal", "store", "segments", "session", "scripts"]
-
-HEAD = """# The public items
-
-What each crate gives to a program that imports it, one line an item: the type or the signature without its clauses, and
-the first sentence of its comment. [CONTRACTS](CONTRACTS.md) has the clauses, [ERRORS](ERRORS.md) the errors, and
-[GUIDE](GUIDE.md) shows the calls at work. `python3 examples/public_items.py` writes this page from the sources.
-"""
 
 # A doc comment, attributes and comments between it and the item, and the item's first words.
 ITEM = re.compile(r"(?P<doc>(?:^ *///[^\n]*\n)*)(?:^ *(?:#\[|// )[^\n]*\n)*^(?P<indent> *)(?P<pub>pub )?"
@@ -73,10 +64,6 @@ def signature(text, start):
         depth += {"(": 1, "[": 1, ")": -1, "]": -1}.get(text[end], 0)
         end += 1
     return in_one_line(re.split(r"^ *(?:requires|ensures|ghost)\b", text[start:end], flags=re.M)[0])
-
-
-def words(code):
-    return code.replace("|", "\\|")
 
 
 class Crate:
@@ -172,26 +159,5 @@ def calls_of(crate, owner):
     return rows
 
 
-def page():
-    """The page as it is to be."""
-    out = [HEAD]
-    for name in CRATES:
-        crate = Crate(name)
-        about = textwrap.fill(re.sub(r"\[(`[^`]*`)\]", r"\1", crate.about), 120)
-        out.append(f"## {name}\n\n{about}\n")
-        rows = [f"| `{path}` | {kind} | `{words(code)}` | {words(said)} |" for path, kind, code, said in crate.rows()]
-        out.append("\n".join(["| Item | Kind | Type or signature | What it is |", "|---|---|---|---|"] + rows) + "\n")
-    return "\n".join(out)
-
-
-def main():
-    if "--check" in sys.argv[1:]:
-        there = os.path.exists(os.path.join(ROOT, PAGE)) and read(PAGE) == page()
-        print(f"{PAGE} is {'' if there else 'not '}what the sources say")
-        sys.exit(0 if there else 1)
-    with open(os.path.join(ROOT, PAGE), "w", encoding="utf-8") as file:
-        file.write(page())
-
-
 if __name__ == "__main__":
-    main()
+    usage.module("reference.py, unexampled.py and uncalled.py")

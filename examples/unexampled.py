@@ -2,8 +2,8 @@
 them for the other crates: python3 examples/unexampled.py, or with --all to list these too.
 
 It begins at `Promises` in crates/session/specs/Promise.antt, and at each public clause of each crate with a library:
-the clauses of the calls that its src/lib.rt gives out, those of the traits that it gives out, and the ghost members of
-these. From there it goes from each definition to those of the specs of all crates that it names, by the imports of its
+the clauses of the calls that its src/lib.rt gives out, those of the traits that it gives out, the ghost members of
+these, and what stands in clauses for the values of its types. From there it goes from each definition to those of the specs of all crates that it names, by the imports of its
 file. A definition counts for the crate in whose specs it stands. An example or a refutation is a lemma in a file of
 crates/*/proofs whose name ends in Examples.antt, at the top or in a module there, two spaces further in. Its statement
 counts, that is its type, and its proof doesn't:
@@ -66,7 +66,7 @@ def imports(text):
 
 def modules(pattern):
     """The files of such names: each with its crate, its module, its text and what it imports."""
-    for path in glob.glob(os.path.join(ROOT, pattern)):
+    for path in sorted(glob.glob(os.path.join(ROOT, pattern))):
         text = read(path)
         yield path.split(os.sep)[-3], os.path.basename(path)[:-5], text, imports(text)
 
@@ -93,10 +93,14 @@ def clauses(text):
 
 
 def given_out(text, names):
-    """The parts of a file that are public: calls and traits of these names, and the public calls of their types."""
+    """The parts of a file that are public: calls and traits of these names, what stands in clauses for the values of
+    types of these names, and the public calls of such types."""
     for part in re.split(r"^(?=impl\b|pub (?:const )?fn |pub trait )", text, flags=re.M)[1:]:
         head = re.match(r"impl(?:<(?:[^<>]|<[^<>]*>)*>)? (\w+)|pub (?:const )?fn (\w+)|pub trait (\w+)", part)
-        if head and head[3] in names:
+        model = re.match(r"impl\b[^\n]* Model for (\w+).*?^( *ghost Value = .*?\};)", part, re.M | re.S)
+        if model and model[1] in names:
+            yield model[2]
+        elif head and head[3] in names:
             yield re.split(r"^\}", part, flags=re.M)[0]
         elif head and (head[1] or head[2]) in names:
             yield from re.findall(r"^ *pub (?:const )?fn \w+.*?^ *\{$", part, re.M | re.S)
@@ -148,7 +152,7 @@ def relations(found):
 
 
 def lemmas():
-    """The statements of the files of examples: each with what its words stand for."""
+    """The statements of the files of examples: each with what its words stand for, its name and its file."""
     shorts, found = {}, []
     for crate, module, text, known in modules("crates/*/proofs/*Examples.antt"):
         stated = list(LEMMA.finditer(text))
@@ -159,7 +163,7 @@ def lemmas():
             if "abbrev" in lemma[2]:
                 shorts[known[lemma[3]]] = (lemma[4] + " " + lemma[5], known)
             else:
-                found.append((lemma[4], known))
+                found.append((lemma[4], known, (lemma[3], f"crates/{crate}/proofs/{module}.antt")))
     return shorts, found
 
 
@@ -215,7 +219,7 @@ def main():
     are = relations(found)
     shorts, stated = lemmas()
     shown, refuted = set(), set()
-    for statement, known in stated:
+    for statement, known, _ in stated:
         parts = premises(statement)
         if parts[-1] == "⊥" and len(parts) > 1:
             refuted.add(known.get((words_in(parts[-2]) or [""])[0]))
@@ -246,4 +250,5 @@ def main():
     sys.exit(1 if wrong else 0)
 
 
-main()
+if __name__ == "__main__":
+    main()
