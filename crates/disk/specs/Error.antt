@@ -6,7 +6,7 @@ use Rattle.disk.specs.declared.error.Error.TheVariants.{SyncFailed, InvalidCheck
 use Rattle.disk.specs.declared.error.Error.TheVariants.{BlobInsufficientLength, OffsetOverflow}
 use Rattle.disk.specs.declared.error.Error.TheVariants.{OutOfMemory, IdsExhausted}
 
--- the number of an error
+-- the number of an error, by which files, scripts and clients name it
 abbrev pub number_of : Error → ℕ
 number_of ReadFailed = 1
 number_of WriteFailed = 2

@@ -4,7 +4,7 @@ use Rattle.std.specs.Prelude.{◌+◌, ◌-◌, ◌*◌, ◌++◌, ℕ, zero, su
 use Rattle.std.specs.Prelude.{slice_range}
 use Rattle.std.specs.Int.{div_ceil}
 
--- page i of some bytes, by pages of P bytes: the last one may be shorter
+-- page i of some bytes, by pages of P bytes; the last page may be shorter
 abbrev pub content_page : (P i : ℕ) → List ℕ → List ℕ
 content_page P i bytes = take P (drop (i * P) bytes)
 

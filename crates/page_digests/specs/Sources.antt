@@ -16,7 +16,8 @@ gave offset bytes = record { offset = offset; len = length bytes; given = Some b
 abbrev pub refused : (offset len : ℕ) → SourceRead
 refused offset len = record { offset = offset; len = len; given = None }
 
--- a read into a buffer, with the outcome that it answered
+-- a read into a buffer, with the outcome that it answered: it gave the bytes that the buffer holds
+-- now, or it was refused
 abbrev pub read_outcome : {T E : Type 0} → (offset : ℕ) → List ℕ → Result T E → SourceRead
 read_outcome offset bytes (Ok _) = gave offset bytes
 read_outcome offset bytes (Err _) = refused offset (length bytes)

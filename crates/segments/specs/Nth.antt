@@ -46,7 +46,8 @@ pub record OpenReadFails (sum own : List ℕ → ℕ) (s t : LogState) (e : laye
   pub before : LeavesReading sum own s mid
   pub fails : OwnedReadGoes own at mid.current t.current (Err (errors.Layer e))
 
--- where frame n of the open segment begins, by the answer
+-- where frame n of the open segment begins, by the answer: it is read on by the lengths of the
+-- frames
 abbrev pub NthOfOpenGoes : (sum own : List ℕ → ℕ) → LogState → LogState → (n : ℕ)
     → Result (Option ℕ) Error → Type 0
 NthOfOpenGoes sum own s t n (Ok found) = HasJournal s.current.journal (λ w. Unit {0})

@@ -22,7 +22,7 @@ PassesTo d P seal first offset frames there = (content : List ℕ) → IsSealOf 
     → ((n : ℕ) → frame_begin content n ≡ first → FramesBegin content offset n frames there)
     ⊎ HasSecondPreimage d P content
 
--- the two bytes of the length of a frame can't be read, which begins between
+-- between these offsets begins a frame, the two bytes of whose length can't be read
 abbrev pub LengthFails : (List ℕ → List ℕ) → (first offset : ℕ) → (old new : PagedState)
     → Error → Type 0
 LengthFails d first offset old new e =
@@ -48,7 +48,7 @@ pub record PassGoes (d : List ℕ → List ℕ) (first offset : ℕ) (old new : 
 
 -- ---- begins
 
--- in every content with this seal and these marks it is so, unless a second preimage is at hand
+-- in each content with this seal and these marks it is so, unless a second preimage is at hand
 abbrev pub IsOfMarked : (List ℕ → List ℕ) → Seal → MarksState → ((P : ℕ) → List ℕ → Type 0)
     → Type 0
 IsOfMarked d seal m is = let P = m.bytes.page_size in (content : List ℕ)
@@ -66,8 +66,8 @@ pub record IsFirstBehind (P : ℕ) (content : List ℕ) (offset : ℕ) (b : Begi
 abbrev pub IsBegin : (content : List ℕ) → (offset : ℕ) → Type 0
 IsBegin content offset = (n : ℕ) × (frame_begin content n ≡ offset)
 
--- the length of a frame can't be read, which begins in the offset's page before the offset. The
--- first one that begins there is known by its mark
+-- the length can't be read of a frame that begins in the offset's page before the offset. The first
+-- frame that begins in that page is known by its mark.
 abbrev pub BeforeFails : (List ℕ → List ℕ) → (offset : ℕ) → MarksState
     → (before after : PagedState) → Error → Type 0
 BeforeFails d offset old before after e = let P = old.bytes.page_size in
@@ -75,8 +75,8 @@ BeforeFails d offset old before after e = let P = old.bytes.page_size in
     × IsOfMarks d old (λ Q content. IsFirstFrom Q content (offset / Q) b)
     × LengthFails d b.offset offset before after e
 
--- no begin is found: a mark of the offset's page or behind it can't be read, or the length of a
--- frame that begins in that page before the offset can't
+-- no begin is found: a mark of the offset's page or behind it can't be read, or the length can't be
+-- read of a frame that begins in that page before the offset
 abbrev pub BehindFails : (List ℕ → List ℕ) → (offset : ℕ) → (old new : MarksState)
     → (before after : PagedState) → Error → Type 0
 BehindFails d offset old new before after e = let P = old.bytes.page_size in
@@ -123,7 +123,7 @@ CountsTo d P seal first frames there = (content : List ℕ) → IsSealOf d P con
     → ((n : ℕ) → frame_begin content n ≡ first → frame_begin content (n + frames) ≡ there)
     ⊎ HasSecondPreimage d P content
 
--- the two bytes of the length of a frame can't be read, which begins at an offset or behind it
+-- the two bytes can't be read of the length of a frame that begins at this offset or behind it
 abbrev pub CountFails : (List ℕ → List ℕ) → (first : ℕ) → (old new : PagedState) → Error → Type 0
 CountFails d first old new e = (at : ℕ) × (first ≤ at) × RangeFails d at 2 old new e
 
