@@ -1,12 +1,13 @@
-"""Lists the definitions that the promise, or a complete crate, has and that lack an example or a refutation, and counts
-them for the other crates: python3 examples/unexampled.py, or with --all to list these too.
+"""Lists the definitions that lack an example or a refutation, and counts them by crate: python3 examples/unexampled.py,
+or with --all to list those too that examples/unexampled.txt has.
 
 It begins at `Promises` in crates/session/specs/Promise.antt, and at each public clause of each crate with a library:
 the clauses of the calls that its src/lib.rt gives out, those of the traits that it gives out, the ghost members of
-these, and what stands in clauses for the values of its types. From there it goes from each definition to those of the specs of all crates that it names, by the imports of its
-file. A definition counts for the crate in whose specs it stands. An example or a refutation is a lemma in a file of
-crates/*/proofs whose name ends in Examples.antt, at the top or in a module there, two spaces further in. Its statement
-counts, that is its type, and its proof doesn't:
+these, and what stands in clauses for the values of its types. From there it goes from each definition to those of the
+specs of all crates that it names, by the imports of its file. A definition counts for the crate in whose specs it
+stands. Of a crate of COMPLETE each definition counts, whether a public clause reaches it or not. An example or a
+refutation is a lemma in a file of crates/*/proofs whose name ends in Examples.antt, at the top or in a module there,
+two spaces further in. Its statement counts, that is its type, and its proof doesn't:
 
 - A lemma whose statement ends in `→ ⊥` refutes the word with which the premise before the `⊥` begins:
   `RunIsExact .. → EachStepIsExact .. → ⊥` refutes `EachStepIsExact`.
@@ -16,10 +17,10 @@ counts, that is its type, and its proof doesn't:
 A relation needs an example and a refutation. It is a definition with arguments whose result is a type, a record with a
 proposition among its fields, or an indexed family. A function that computes a value needs an example alone, since an
 equation leaves no other value; and so does a type of data. Whether what is refuted is nearly right, a reader has to
-judge. A sentence is one of docs/DEFINITIONS.md that has the definition's name in bold.
+judge.
 
-It ends with status 1 if a definition that the promise reaches lacks an example, a refutation or a sentence, or if one
-in the specs of a crate of COMPLETE, whether a public clause reaches it or not, lacks an example or a refutation.
+It ends with status 1 if a definition lacks something and examples/unexampled.txt doesn't have it. That list has those
+that lacked something as the rule was made, and may only shrink: `--shrink` takes out what is no longer so.
 """
 import glob
 import os
@@ -33,8 +34,12 @@ START = ("session", "specs", "Promise", "Promises")
 
 # The crates of whose definitions each has its examples: none may lack one.
 COMPLETE = ["store", "segments"]
-# The crates of which each definition that a public clause reaches has all three.
-SHOWN = ["cache", "scripts"]
+
+# Those that lack something, one to a line: the crate, the file of specs/, the name and what is lacking.
+LIST = os.path.join(ROOT, "examples", "unexampled.txt")
+HEAD_OF_LIST = """# The definitions that lack an example, or a refutation, since they are older than the rule that each has both. A line
+# may only go: prove what is lacking, and run 'python3 examples/unexampled.py --shrink'. New definitions don't come here.
+"""
 HEAD = re.compile(r"^((?:(?:abbrev|opaque|unfoldable|pub|record|data) )+)([^\s:()]+)", re.M)
 LEMMA = re.compile(
     r"^((?:  )?)((?:(?:abbrev|pub) )*)([^\s:()]+) : ([^\n]*(?:\n\1 +[^\n]*)*)\n"
@@ -192,31 +197,19 @@ def premises(statement):
     return [part.strip() for part in parts]
 
 
-def sentences():
-    """The names that the page of definitions has in bold."""
-    with open(os.path.join(ROOT, "docs", "DEFINITIONS.md"), encoding="utf-8") as file:
-        bold = re.findall(r"\*\*(.+?)\*\*", file.read(), re.S)
-    return {name for names in bold for name in re.findall(r"`([^`]+)`", names)}
-
-
 def missing(names, are, shown, refuted):
     """Those of some definitions that lack an example, and those that lack a refutation."""
     return sorted(names - shown), sorted((names & are) - refuted)
 
 
-def report(what, names):
-    for crate, folder, module, name in names:
-        print(f"crates/{crate}/{folder}/{module}.antt: {name} has no {what}")
+def row(name):
+    """A definition as the list of those that lack something names it."""
+    return f"{name[0]} {name[2]} {name[3]}"
 
 
-def counted(names, are, bare, open_ones):
-    return (f"{len(names)} definitions, {len(names & are)} of them relations: {len(bare)} without an example, "
-            f"{len(open_ones)} without a refutation")
-
-
-def main():
+def measured():
+    """The definitions, which of them are relations, which have an example, and which a refutation."""
     found = definitions()
-    are = relations(found)
     shorts, stated = lemmas()
     shown, refuted = set(), set()
     for statement, known, _ in stated:
@@ -225,29 +218,64 @@ def main():
             refuted.add(known.get((words_in(parts[-2]) or [""])[0]))
         else:
             shown |= named(parts[-1], known, shorts)
-    names = reached(found, [START])
-    bare, open_ones = missing(names, are, shown, refuted)
-    told = sentences()
-    mute = sorted(name for name in names if name[3] not in told)
-    report("example", bare)
-    report("refutation", open_ones)
-    report("sentence", mute)
-    wrong = len(bare) + len(open_ones) + len(mute)
-    public = reached(found, public_words())
-    rows = []
-    for crate in sorted({name[0] for name in public} | set(COMPLETE)):
-        its = {name for name in (found if crate in COMPLETE else public) if name[0] == crate}
-        lacking = missing(its, are, shown, refuted)
-        if crate in COMPLETE + SHOWN or "--all" in sys.argv:
-            report("example", lacking[0])
-            report("refutation", lacking[1])
-        if crate in COMPLETE:
-            wrong += len(lacking[0]) + len(lacking[1])
-        silent = sum(name[3] not in told for name in its)
-        rows.append(f"{crate}: {counted(its, are, *lacking)}, {silent} without a sentence")
-    print(f"the promise: {counted(names, are, bare, open_ones)}, {len(mute)} without a sentence")
-    print("\n".join(rows))
-    sys.exit(1 if wrong else 0)
+    return found, relations(found), shown, refuted
+
+
+def held(found):
+    """The definitions that are held to the rule, by crate: those that a public clause reaches, or the promise, and all of
+    a complete crate."""
+    public = reached(found, public_words()) | reached(found, [START])
+    crates = sorted({name[0] for name in public} | set(COMPLETE))
+    return {crate: {name for name in (found if crate in COMPLETE else public) if name[0] == crate} for crate in crates}
+
+
+def lacking():
+    """What lacks something: each definition with `example` or `refutation`."""
+    found, are, shown, refuted = measured()
+    for names in held(found).values():
+        bare, open_ones = missing(names, are, shown, refuted)
+        yield from ((name, "example") for name in bare)
+        yield from ((name, "refutation") for name in open_ones)
+
+
+def listed():
+    """What the list of those that lack something has."""
+    with open(LIST, encoding="utf-8") as file:
+        return [line for line in file.read().split("\n") if line and not line.startswith("#")]
+
+
+def shrink():
+    """Takes out of the list what is no longer so. It never adds to it."""
+    now = {f"{row(name)} {what}" for name, what in lacking()}
+    kept = [line for line in listed() if line in now]
+    with open(LIST, "w", encoding="utf-8") as file:
+        file.write(HEAD_OF_LIST + "\n".join(kept) + "\n")
+
+
+def counted(names, are, bare, open_ones):
+    return (f"{len(names)} definitions, {len(names & are)} of them relations: {len(bare)} without an example, "
+            f"{len(open_ones)} without a refutation")
+
+
+def main():
+    if sys.argv[1:] == ["--shrink"]:
+        shrink()
+        return
+    if sys.argv[1:] not in ([], ["--all"]):
+        print("usage: python3 examples/unexampled.py [--all | --shrink]", file=sys.stderr)
+        sys.exit(2)
+    found, are, shown, refuted = measured()
+    known, new = set(listed()), 0
+    rows = [("the promise", reached(found, [START])), *held(found).items()]
+    for where, names in rows:
+        bare, open_ones = missing(names, are, shown, refuted)
+        for what, lack in (("example", bare), ("refutation", open_ones)):
+            fresh = [name for name in lack if f"{row(name)} {what}" not in known]
+            new += len(fresh)
+            for crate, folder, module, name in lack if "--all" in sys.argv and where != "the promise" else fresh:
+                print(f"crates/{crate}/{folder}/{module}.antt: {name} has no {what}")
+        print(f"{where}: {counted(names, are, bare, open_ones)}")
+    sys.exit(1 if new else 0)
 
 
 if __name__ == "__main__":

@@ -1,0 +1,612 @@
+"""Compares the pages with the sources: python3 examples/check_pages.py, at the top of the repository.
+
+It prints a line `file:line: what` for each flaw, and ends with status 1 if there is one. It takes some seconds, and needs
+python3 alone. `--only KIND` checks one kind, `--list` prints the kinds, and `--selftest` plants a flaw of each kind in a
+copy of the repository, one after another, and shows the line that reports it.
+
+The pages are README.md, CHANGELOG.md, docs/*.md, and the README.md of each crate and of each client. What
+examples/reference.py makes below docs/reference is checked by its age and its links alone. The kinds:
+
+- **code**: a block of code that follows a line `In FILE:` stands in that file, word for word, at whatever indentation.
+- **clauses**: a clause that a page quotes, four blanks in front, stands in a file of crates/*/src.
+- **crates**: a line of crates.txt that a page quotes stands there; the crate `mine` is the reader's own.
+- **links**: a link leads to a file, and to a heading of it if it has an anchor.
+- **paths**: a path below crates/, clients/, docs/ or examples/ that a page names is there. CHANGELOG.md may name what
+  has gone.
+- **commands**: a command as a page has it, four blanks in front or in a block, has a script of examples/ that is there
+  and knows its options, a folder that is there, a command of `rt`, or a command and options of `pagedd`.
+- **words**: a name in backticks on the pages that speak of definitions (WORDS) stands in a source.
+- **errors**: an error that a row of a table of calls lists stands in the clauses of each call of the row, or in a
+  definition that these reach. Only definitions that take an error, or an answer that may be one, are followed. So it is
+  text that is compared: a clause speaks of this error. "the same" means the row above, an error that is "never of" a
+  call isn't looked for there, and "those of" a call isn't followed.
+- **statuses**: a table with the status 141 has just the exit statuses of `pagedd`; one with the status 17 has just those
+  of an answer of the protocol, of the log's if it has 38, and else of the blob's; a table of kinds of requests has the
+  blob's kinds, by their numbers.
+- **edits**: an edit that a page lists as one that stays has a file in the crate's must-fail/.
+- **reference**: docs/reference is what examples/reference.py makes.
+- **sentences**: a definition that a public clause reaches has a comment over it.
+- **examples**: such a definition has an example, and a refutation if it can be false, by the rules of
+  examples/unexampled.py, or stands in examples/unexampled.txt. That list may only shrink: a definition that has both,
+  or that is gone, has to leave it.
+- **names**: no word of the contracts has two meanings, by the rules of examples/names.py.
+- **columns**: no line of crates/*/specs has more than 100 letters.
+"""
+import functools
+import glob
+import os
+import re
+import shutil
+import subprocess
+import sys
+import tempfile
+import textwrap
+
+import names
+import public_items
+import reference
+import unexampled
+
+ROOT = public_items.ROOT
+WORDS = ["docs/DEFINITIONS.md", "docs/CONTRACTS.md"]
+LACKING = "examples/unexampled.txt"
+
+# What pages write shorter than the source does.
+SHORT = [
+    ("let old = B.life blob.old in", ""), ("let new = B.life blob.new in", ""), ("(B.life blob.old)", "old"),
+    ("(B.life blob.new)", "new"), ("B.life blob.old", "old"), ("B.life blob.new", "new"), ("H.sum_of", "sum"),
+]
+
+# The crates in which a call of a table of errors is looked for, by the heading above it, the first that has one.
+CALLS = {"The calls": ["paged", "paged_read"], "Items of one size": ["items"], "Items": ["items"]}
+
+RT = "check verdict lib run test try fmt tidy plant all ci must-fail selftest doc version help lemma seed new names expand"
+
+
+@functools.cache
+def read(path):
+    with open(os.path.join(ROOT, path), encoding="utf-8") as file:
+        return file.read()
+
+
+def there(path):
+    return os.path.exists(os.path.join(ROOT, path))
+
+
+def files(pattern):
+    """The files that fit a pattern, as paths from the top, without what was built."""
+    found = glob.glob(os.path.join(ROOT, pattern), recursive=True)
+    return sorted(os.path.relpath(path, ROOT) for path in found if "/out/" not in path)
+
+
+@functools.cache
+def pages():
+    patterns = ["README.md", "CHANGELOG.md", "docs/*.md", "crates/*/README.md", "clients/*/README.md"]
+    return [path for pattern in patterns for path in files(pattern)]
+
+
+def line_of(text, offset):
+    return text.count("\n", 0, offset) + 1
+
+
+def matches(pattern, page, flags=re.M):
+    """The matches of a pattern in a page, each with its line."""
+    text = read(page)
+    return [(line_of(text, match.start()), match) for match in re.finditer(pattern, text, flags)]
+
+
+# ---- code and clauses
+
+def lines_of(text):
+    """A text's lines, without what they have in common in front."""
+    return textwrap.dedent(text).strip("\n").split("\n")
+
+
+def stands_in(snippet, source):
+    """Whether some lines stand in a source, one after the other, all moved by the same indentation."""
+    want, have = lines_of(snippet), source.split("\n")
+    first = want[0].strip()
+    for start, line in enumerate(have):
+        if line.strip() == first and lines_of("\n".join(have[start:start + len(want)])) == want:
+            return True
+    return False
+
+
+def check_code():
+    for page in pages():
+        for line, match in matches(r"^In `(\S+)`:\n\n```\w*\n(.*?)^```$", page, re.M | re.S):
+            if not there(match[1]):
+                yield page, line, f"no such file: {match[1]}"
+            elif not stands_in(match[2], read(match[1])):
+                yield page, line, f"this code doesn't stand in {match[1]}"
+
+
+def short(clause):
+    clause = re.sub(r"\s+", " ", re.sub(r"//[^\n]*", "", clause))
+    for long_form, short_form in SHORT:
+        clause = re.sub(r"\s+", " ", clause.replace(long_form, short_form))
+    return clause.strip()
+
+
+def clauses(text):
+    """The clauses of a text, each with the offset at which it begins."""
+    for match in re.finditer(r"\b(?:requires|ensures)(?: \w+)? \{", text):
+        end, depth = match.end(), 1
+        while depth and end < len(text):
+            depth += {"{": 1, "}": -1}.get(text[end], 0)
+            end += 1
+        yield match.start(), short(text[match.start():end])
+
+
+def check_clauses():
+    source = {clause for path in files("crates/*/src/**/*.rt") for _, clause in clauses(read(path))}
+    for page in pages():
+        text = re.sub(r"^(?!    ).*$", lambda match: " " * len(match[0]), read(page), flags=re.M)
+        for offset, clause in clauses(text):
+            if clause not in source:
+                yield page, line_of(text, offset), f"no source has this clause: {clause[:80]}"
+
+
+def check_crates():
+    listed = read("crates.txt").split("\n")
+    for page in pages():
+        for line, match in matches(r"^    (?!mine:)([a-z_0-9]+:(?: [a-z_0-9]+)+)$", page):
+            if match[1] not in listed:
+                yield page, line, f"not in crates.txt: {match[1]}"
+
+
+# ---- links, paths, commands
+
+def plain(text):
+    """A page without its code: each letter of it is a blank."""
+    def blank(match):
+        return re.sub(r"[^\n]", " ", match[0])
+    return re.sub(r"^```.*?^```$|`[^`\n]*`", blank, text, flags=re.M | re.S)
+
+
+@functools.cache
+def anchors(page):
+    """The anchors of a page's headings, as a forge makes them, and those that it names itself."""
+    text = re.sub(r"^```.*?^```$", "", read(page), flags=re.M | re.S)
+    made = reference.Page()
+    for heading in re.findall(r"^#+ (.*)$", text, re.M):
+        made.heading(1, re.sub(r"\[([^\]]*)\]\([^)]*\)", r"\1", heading))
+    found = set(re.findall(r'<a (?:id|name)="([^"]+)"', text))
+    for anchor, count in made.counts.items():
+        found |= {anchor} | {f"{anchor}-{number}" for number in range(1, count)}
+    return found
+
+
+def check_links():
+    for page in pages() + files("docs/reference/*.md"):
+        text = plain(read(page))
+        for match in re.finditer(r"\]\(([^)\s]+)\)", text):
+            place, _, anchor = match[1].partition("#")
+            target = os.path.normpath(os.path.join(os.path.dirname(page), place)) if place else page
+            if re.match(r"\w+:", match[1]):
+                continue
+            if not there(target):
+                yield page, line_of(text, match.start()), f"leads nowhere: {match[1]}"
+            elif anchor and anchor not in anchors(target):
+                yield page, line_of(text, match.start()), f"no such heading: {match[1]}"
+
+
+def check_paths():
+    for page in pages():
+        if page == "CHANGELOG.md":
+            continue
+        for line, match in matches(r"(?<![\w/.])(?:crates|clients|docs|examples)/[\w/.-]*\w", page):
+            path = match[0]
+            near = os.path.join(os.path.dirname(page), path)
+            if "crates/mine" not in path and "/out/" not in path + "/" and not there(path) and not there(near):
+                yield page, line, f"not there: {path}"
+
+
+@functools.cache
+def pagedd_words():
+    """The commands and the options of pagedd."""
+    text = read("crates/pagedd/src/command.rt")
+    rows = set(re.findall(r'^\s+name: "([a-z-]+)"', text, re.M))
+    table = re.search(r"const COMMANDS.*?^\];", text, re.M | re.S)[0]
+    return set(re.findall(r'\(\s*"([a-z-]+)",', table)), rows | {"help", "version"}
+
+
+def wrong_script(words, folder):
+    """What is wrong with a call of a script of examples/."""
+    path = os.path.normpath(os.path.join(folder, words[0]))
+    if not there(path):
+        return f"no such script: {words[0]}"
+    text = read(path) + read("examples/usage.py")
+    for word in words[1:]:
+        if word.startswith("--") and word.split("=")[0] not in text:
+            return f"{words[0]} has no {word.split('=')[0]}"
+    return None
+
+
+def wrong_pagedd(words):
+    """What is wrong with a call of pagedd."""
+    commands, options = pagedd_words()
+    for word in words[1:]:
+        if word.startswith("--") and word[2:].split("=")[0] not in options:
+            return f"pagedd has no {word.split('=')[0]}"
+    if len(words) > 1 and re.fullmatch(r"[a-z]+(-[a-z]+)*", words[1]) and words[1] not in commands:
+        return f"pagedd has no command {words[1]}"
+    return None
+
+
+def wrong_command(command, folder):
+    """What is wrong with a command in a folder, and the folder after it."""
+    words = command.strip("() ").split()
+    if words[:1] == ["cd"] and len(words) > 1:
+        path = os.path.normpath(os.path.join(folder, words[1]))
+        strange = re.match(r"(?:crates|clients|examples|docs)\b", words[1]) and "mine" not in words[1]
+        return (f"no such folder: {words[1]}" if strange and not there(path) else None), path
+    if words[:1] == ["python3"] and len(words) > 1 and words[1].endswith(".py"):
+        return (wrong_script(words[1:], folder) if "examples/" in words[1] else None), folder
+    if words[:1] == ["rt"] and len(words) > 1 and words[1] not in RT.split():
+        return f"rt has no command {words[1]}", folder
+    if words and re.fullmatch(r"\$P|\$PAGEDD|\$pagedd|[\w./-]*\bpagedd", words[0]):
+        return wrong_pagedd(words), folder
+    return None, folder
+
+
+def commands(page):
+    """The lines of commands of a page: those of its shell blocks, and those with four blanks in front."""
+    shell, block = False, ""
+    for number, line in enumerate(read(page).split("\n"), 1):
+        if line.startswith("```"):
+            shell, block = not shell, "" if shell else line[3:].strip()
+        elif shell and block in ("", "sh", "console", "bash"):
+            yield number, line
+        elif not shell and line.startswith("    "):
+            yield number, line
+
+
+def check_commands():
+    for page in pages():
+        folder, before = "", 0
+        for number, line in commands(page):
+            folder, before = folder if number == before + 1 else "", number
+            line = re.split(r"   +", re.sub(r"^\s*(?:\$ )?", "", line))[0]
+            outside = folder
+            for command in re.split(r"\s*(?:&&|\|\||;|\|)\s*", line):
+                outside = folder if command.startswith("(") else outside
+                what, folder = wrong_command(command, folder)
+                folder = outside if command.endswith(")") else folder
+                if what:
+                    yield page, number, what
+        for line, match in matches(r"`((?:pagedd|rt|python3) [^`\n]*)`", page):
+            what, _ = wrong_command(match[1], "")
+            if what and page != "CHANGELOG.md":
+                yield page, line, what
+
+
+# ---- words and errors
+
+@functools.cache
+def source_words():
+    found = set()
+    for path in files("crates/**/*.antt") + files("crates/**/*.rt"):
+        found.update([os.path.basename(path)], re.findall(r"[A-Za-z_]\w*", read(path)))
+    return found
+
+
+def check_words():
+    for page in WORDS:
+        for line, match in matches(r"`([A-Za-z_]\w*(?:\.antt)?)`", page):
+            if match[1] not in source_words():
+                yield page, line, f"no source has this word: {match[1]}"
+
+
+@functools.cache
+def public_calls(crate):
+    """The public calls of a crate: the type or the crate, the name, the clauses, and what their words mean."""
+    library = read(f"crates/{crate}/src/lib.rt")
+    exported = set(re.findall(r"\w+", " ".join(re.findall(r"^pub use [^;]*;", library, re.M))))
+    calls = []
+    for path in files(f"crates/{crate}/src/**/*.rt"):
+        for part in re.split(r"^(?=impl\b|pub fn )", read(path), flags=re.M)[1:]:
+            owner = re.match(r"impl(?:<[^>]*>)? (\w+)|pub fn (\w+)", part)
+            if owner and (owner[1] or owner[2]) in exported:
+                for call in re.finditer(r"^ *pub fn (\w+).*?^ *\{$", part, re.M | re.S):
+                    known = unexampled.imports(re.sub(r"^ *ghost use ", "use ", read(path), flags=re.M))
+                    its = " ".join(clause for _, clause in clauses(call[0]))
+                    calls.append((owner[1] or crate, call[1], its, known))
+    return calls
+
+
+def takes_an_error(definition):
+    """Whether a definition takes an error, or an answer that may be one. `HasFailed` isn't followed: it takes the error
+    that a device call failed with, and its own words are all of them."""
+    head = re.split(r"\n(?=\w)|\bwhere\b", definition)[0]
+    return re.search(r"\b(Error|Refusal)\b", head) and not re.match(r"abbrev pub HasFailed\b", head)
+
+
+@functools.cache
+def all_definitions():
+    return unexampled.definitions()
+
+
+def reached(text, known):
+    """A text, and the definitions that it reaches through those that take an error."""
+    found, seen = all_definitions(), set()
+    todo, texts = [known[word] for word in re.findall(r"\w+", text) if word in known], [text]
+    while todo:
+        key = todo.pop()
+        if key in found and key not in seen:
+            seen.add(key)
+            if takes_an_error(found[key][0]):
+                texts.append(found[key][0])
+                todo += found[key][1]
+    return set(re.findall(r"\w+", " ".join(texts)))
+
+
+def tables(page):
+    """The tables of a page: the line, the heading above it, and the cells of each row."""
+    heading, rows, start = "", [], 0
+    for number, line in enumerate(read(page).split("\n") + [""], 1):
+        if line.startswith("|"):
+            start = start or number
+            rows.append([cell.strip() for cell in re.split(r"(?<!\\)\|", line)[1:-1]])
+            continue
+        if rows:
+            yield start, heading, rows
+        rows, start = [], 0
+        heading = line.lstrip("# ") if line.startswith("#") else heading
+
+
+def named_calls(name, crates):
+    """The public calls of this name, in the first of some crates that has one."""
+    owner, _, name = name.rpartition("::")
+    found = ([call for call in public_calls(crate) if call[1] == name and owner in ("", call[0])] for crate in crates)
+    return next(filter(None, found), [])
+
+
+def check_errors():
+    known = re.findall(r"^    (\w+),$", read("crates/disk/src/error.rt"), re.M)
+    for page in pages():
+        for start, heading, rows in tables(page):
+            if "Errors" not in rows[0] or heading not in CALLS:
+                continue
+            listed, never = [], []
+            for number, row in enumerate(rows[2:], start + 2):
+                cell = row[rows[0].index("Errors")]
+                if not cell.startswith("the same"):
+                    listed = [error for error in re.findall(r"`(\w+)`", cell) if error in known]
+                    never = re.findall(r"`(\w+)` \(never of `(\w+)`\)", cell)
+                for name in re.findall(r"`([\w:]+)", row[0]):
+                    for what in wrong_errors(name, CALLS[heading], listed, never):
+                        yield page, number, what
+
+
+def wrong_errors(name, crates, listed, never):
+    """The errors of a row that no clause of one of its calls reaches."""
+    calls = named_calls(name, crates)
+    if not calls:
+        yield f"no such call: {name}"
+    for owner, call, its, words in calls if listed else []:
+        found = reached(its, words)
+        for error in listed:
+            if error not in found and (error, name) not in never:
+                yield f"in no clause of {owner}::{call}: {error}"
+
+
+# ---- statuses
+
+def numbers_in(path, pattern):
+    return {int(number) for number in re.findall(pattern, read(path), re.M)}
+
+
+@functools.cache
+def sources_of_statuses():
+    """The exit statuses of pagedd, and the statuses of the blob's answers and of the log's."""
+    exits = numbers_in("crates/pagedd/src/status.rt", r"^ +Status::[^=]*=> (\d+),")
+    errors = numbers_in("crates/disk/specs/Error.antt", r"^number_of \w+ = (\d+)")
+    answer = "crates/protocol/specs/Answer.antt"
+    flaws = numbers_in(answer, r"^flaw_status [^=]* = (\d+)")
+    shared = numbers_in(answer, r"^(?:unreadable|read_only)_status = (\d+)") | numbers_in(
+        "crates/protocol/specs/Opening.antt", r"^no_version_status = (\d+)")
+    blob = {0} | errors | flaws | shared | numbers_in(answer, r"^status_byte \w+ = (\d+)")
+    log = {0} | errors | shared | {flaw for flaw in flaws if flaw < 36}
+    log |= numbers_in("crates/pagedd/src/log_status.rt", r"^pub const \w+: u8 = (\d+);")
+    log |= numbers_in("crates/pagedd/src/log_status.rt", r"Error::\w+(?:\([_, ]*\))? => (\d\d),$")
+    return exits, blob, log
+
+
+def first_numbers(rows):
+    """The numbers in the first cells of a table's rows: of `32 to 35` each."""
+    found = set()
+    for row in rows[2:]:
+        match = re.fullmatch(r"(\d+)(?: to (\d+))?", row[0])
+        if match:
+            found |= set(range(int(match[1]), int(match[2] or match[1]) + 1))
+    return found
+
+
+def check_statuses():
+    exits, blob, log = sources_of_statuses()
+    for page in pages():
+        for start, _, rows in tables(page):
+            has = first_numbers(rows)
+            if not re.search(r"[Ss]tatus$", rows[0][0]):
+                continue
+            if 141 in has:
+                want = exits
+            elif 17 in has:
+                want = log if 38 in has else blob
+            else:
+                continue
+            for number in sorted(has - want):
+                yield page, start, f"no source has the status {number}"
+            for number in sorted(want - has):
+                yield page, start, f"the status {number} is missing"
+    yield from wrong_kinds()
+
+
+def snake(name):
+    return re.sub(r"(?<!^)(?=[A-Z])", "_", name).lower()
+
+
+def wrong_kinds():
+    """The rows of tables of the blob's requests whose number is of another kind."""
+    form = r"^kind_of \(?(?:Step )?\(?(\w+)(?: [\w. ]*)?\)* = ([1-9]\d*)"
+    found = re.findall(form, read("crates/protocol/specs/Request.antt"), re.M)
+    kinds = {int(number): snake(name) for name, number in found}
+    for page in pages():
+        for start, _, rows in tables(page):
+            table = {row[0]: row[1] for row in rows[2:] if len(row) > 1}
+            if rows[0][:2] != ["Kind", "Name"] or "count_open" not in table.values():
+                continue
+            for number, row in enumerate(rows[2:], start + 2):
+                want = kinds.get(int(row[0])) if row[0].isdigit() else None
+                if want is None or want not in ("records", "ranges") and want != row[1]:
+                    yield page, number, f"kind {row[0]} is {want or 'none'} in the sources"
+
+
+# ---- edits, the reference, sentences, examples, names, columns
+
+def check_edits():
+    for page in pages():
+        for line, match in matches(r"^\| `(\w+)` \| ((?:`\w+`(?:, | and )?)+)[^|]*\|", page):
+            heading = next((head for start, head, rows in tables(page) if start <= line < start + len(rows)), "")
+            if "stay edits" in heading:
+                for name in re.findall(r"`(\w+)`", match[2]):
+                    if not there(f"crates/{match[1]}/must-fail/{name}.edit"):
+                        yield page, line, f"no such edit: crates/{match[1]}/must-fail/{name}.edit"
+
+
+def split(flaw):
+    path, line, what = flaw.split(":", 2)
+    return path, int(line), what.strip()
+
+
+def check_reference():
+    yield from map(split, reference.old_pages())
+
+
+def check_sentences():
+    yield from map(split, reference.mute_definitions())
+
+
+def check_examples():
+    lacking = unexampled.lacking()
+    listed = {}
+    for number, line in enumerate(read(LACKING).split("\n"), 1):
+        if line and not line.startswith("#"):
+            listed[line] = number
+    places = {unexampled.row(name): one for name, one in reference.all_definitions().items()}
+    for name, what in lacking:
+        line = f"{unexampled.row(name)} {what}"
+        if line not in listed:
+            one = places[unexampled.row(name)]
+            yield one.path, one.line, f"{one.name} has no {what}"
+        listed.pop(line, None)
+    for line, number in listed.items():
+        yield LACKING, number, f"no longer so: {line}"
+
+
+def check_names():
+    found = names.definitions()
+    for what, lines in (("names", names.same_names), ("stems", names.same_stems), ("labels", names.wrong_labels)):
+        for line in lines(found):
+            match = re.search(r"([\w-]+)/(\w+\.antt)", line)
+            path = f"crates/{match[1]}/specs/{match[2]}" if match else "examples/names.py"
+            if not match and (call := re.search(r"(\w+/src/\w+\.rt)", line)):
+                path = f"crates/{call[1]}"
+            yield path, 1, f"{what}: {line}"
+
+
+def check_columns():
+    for path in files("crates/*/specs/*.antt"):
+        for number, line in enumerate(read(path).split("\n"), 1):
+            if len(line) > 100:
+                yield path, number, f"has {len(line)} letters"
+
+
+KINDS = {name[6:]: value for name, value in list(globals().items()) if name.startswith("check_")}
+
+
+# ---- the flaws that the self-test plants: for each kind a file, and what becomes of its text
+
+def put_in(old, new):
+    return lambda text: text.replace(old, new, 1)
+
+
+def append(more):
+    return lambda text: text + more
+
+
+PLANTED = {
+    "code": ("docs/FORMAT.md", append("\nIn `crates/disk/src/blob.rt`:\n\n```rust\nfn other() {}\n```\n")),
+    "clauses": ("docs/FORMAT.md", append("\n    ensures goes { NothingOfTheKind }\n")),
+    "crates": ("docs/FORMAT.md", append("\n    page: disk nothing\n")),
+    "links": ("docs/FORMAT.md", append("\n[there](ERRORS.md#no-such-heading) and [here](NOWHERE.md)\n")),
+    "paths": ("docs/FORMAT.md", append("\nSee crates/disk/src/nothing.rt.\n")),
+    "commands": ("docs/FORMAT.md", append("\n    python3 examples/nothing.py\n    pagedd chekc FILE\n    pagedd check --nothing FILE\n")),
+    "words": ("docs/DEFINITIONS.md", append("\n`NoSuchWordAnywhere` is a word.\n")),
+    "errors": ("docs/ERRORS.md", put_in("| `next` of a replay | `OutOfMemory`", "| `next` of a replay | `IdsExhausted`")),
+    "statuses": ("crates/pagedd/src/status.rt", put_in("Status::NotWhole => 3", "Status::NotWhole => 4")),
+    "edits": ("docs/FORMAT.md", append("\n## Wrong bodies that stay edits\n\n| Crate | Edits |\n|---|---|\n| `disk` | `no_such_edit` |\n")),
+    "reference": ("crates/disk/src/blob.rt", put_in("/// How a read is to be done.", "/// How a read is done.")),
+    "sentences": ("crates/disk/specs/Disk.antt", append("\nabbrev pub IsMute : Disk → Type 0\nIsMute d = d ≡ d\n\n"
+                                                         "-- an operation that is mute\nabbrev pub IsSaid : Disk → Type 0\nIsSaid d = IsMute d\n")),
+    "examples": ("examples/unexampled.txt", lambda text: "\n".join(text.split("\n")[:-3]) + "\n"),
+    "names": ("crates/page/specs/Page.antt", append("\n-- another disk\nabbrev pub Disk : Type 0\nDisk = ℕ\n")),
+    "columns": ("crates/page/specs/Page.antt", append("\n-- " + "long " * 25 + "\n")),
+}
+
+
+def selftest():
+    """Plants a flaw of each kind in a copy, and shows what reports it."""
+    bad = 0
+    with tempfile.TemporaryDirectory() as room:
+        copy = os.path.join(room, "copy")
+        shutil.copytree(ROOT, copy, ignore=shutil.ignore_patterns("out", ".git", "inc-*", "build", "*.rlib", "target"))
+        for kind, (path, change) in PLANTED.items():
+            place = os.path.join(copy, path)
+            with open(place, encoding="utf-8") as file:
+                text = file.read()
+            with open(place, "w", encoding="utf-8") as file:
+                file.write(plant(change, text))
+            script = os.path.join(copy, "examples", "check_pages.py")
+            ended = subprocess.run([sys.executable, script, "--only", kind], capture_output=True, text=True, check=False)
+            found = [line for line in ended.stdout.split("\n") if re.match(r"[\w./-]+:\d+: ", line)]
+            good = ended.returncode == 1 and found
+            bad += not good
+            print(f"{kind}: " + (found[0] if good else f"NOT FOUND, status {ended.returncode} {ended.stderr[-200:]}"))
+            with open(place, "w", encoding="utf-8") as file:
+                file.write(text)
+    print(f"{len(PLANTED)} flaws were planted, {bad} of them not found")
+    return 1 if bad or set(PLANTED) != set(KINDS) else 0
+
+
+def plant(change, text):
+    changed = change(text)
+    if changed == text:
+        raise SystemExit("the self-test changes nothing")
+    return changed
+
+
+def main():
+    words = sys.argv[1:]
+    if words == ["--list"]:
+        print("\n".join(KINDS))
+        sys.exit(0)
+    if words == ["--selftest"]:
+        sys.exit(selftest())
+    if words and (len(words) != 2 or words[0] != "--only" or words[1] not in KINDS):
+        print("usage: python3 examples/check_pages.py [--only KIND | --list | --selftest]", file=sys.stderr)
+        sys.exit(2)
+    counts = {}
+    for kind in words[1:] or KINDS:
+        flaws = list(KINDS[kind]())
+        counts[kind] = len(flaws)
+        for path, line, what in flaws:
+            print(f"{path}:{line}: {what}")
+    print(f"{len(pages())} pages: " + ", ".join(f"{count} {kind}" for kind, count in counts.items() if count)
+          if any(counts.values()) else f"{len(pages())} pages: no flaw of {len(counts)} kinds")
+    sys.exit(1 if any(counts.values()) else 0)
+
+
+if __name__ == "__main__":
+    main()
