@@ -4,7 +4,7 @@ A body that always answers `OutOfMemory` meets its contract, so each public call
 succeeds. This script looks for the calls by their names. It ends with status 1 if it lists one. Its rules:
 
 - **Public calls** are the functions, the methods and the methods of traits that examples/public_items.py finds: what
-  docs/INDEX.md lists, and what the crate `protocol` gives out.
+  docs/reference has of the crates that a program imports, and what the crate `protocol` gives out.
 - **Callers** are the crates with a `main`, `system_tests`, the tests in other crates, and the libraries that stand above
   `paged`. A library's calls count, since its own public calls are looked for too. The libraries below don't count: each
   of their calls is to be made by itself. `conformance` is a program, so what a case can play is called.

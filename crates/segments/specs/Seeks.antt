@@ -55,8 +55,8 @@ IsOfMarked d seal m is = let P = m.bytes.page_size in (content : List ℕ)
     → IsSealOf d P content seal → HasMarks d P content m.len m.root
     → is P content ⊎ HasSecondPreimage d P content ⊎ HasMarksPreimage d P content
 
--- a frame begins there, the first at this offset or behind it; if none begins in the pages, it is
--- told at their end
+-- a frame begins at this place: the first at an offset or behind it. If none begins there in the
+-- pages, the place is their end.
 pub record IsFirstBehind (P : ℕ) (content : List ℕ) (offset : ℕ) (b : Begin) : Type 0 where
   pub number : b.number ≡ begins_before content offset
   pub there : let n = begins_before content offset in
