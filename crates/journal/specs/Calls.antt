@@ -31,7 +31,7 @@ pub record JournalCallLeaves (sum own : List ℕ → ℕ) (w : WriterState) (all
   pub their_readers : OtherReadersStay w.id cache after
   -- what was committed is so at each moment since the call began
   pub kept : KeepsCommitted sum own w.page_size old new
-  -- and chance aside a crash at any of these moments leaves only the first of these records
+  -- and a crash at any of these moments, if no checksum collides, leaves a prefix of these records
   pub only : LeavesRecords sum own w.page_size all old new
 
 -- what a read of a journal leaves, whatever it answers: what a call leaves that adds no record, and
@@ -53,7 +53,8 @@ pub record ReaderLeaves (sum own : List ℕ → ℕ) (r : ReaderState) (cache af
   pub their_readers : OtherReadersStay r.tail.id cache after
   -- what was committed is so at each moment since the call began
   pub kept : KeepsCommitted sum own r.tail.page_size old new
-  -- and chance aside a crash at any of these moments leaves only the first of the journal's records
+  -- and a crash at any of these moments, if no checksum collides, leaves a prefix of the records of
+  -- each journal
   pub only : LeavesTheirRecords sum own cache old new
   pub starts : KeepsTheirStarts sum own old new
 
@@ -78,7 +79,7 @@ pub record JournalRecoveryLeaves (sum own : List ℕ → ℕ) (cache after : Cac
   -- what was committed is so at each moment since the call began
   pub kept : KeepsCommitted sum own cache.page_size old new
   -- if all was durable as the call began, all records of the text are committed at each of these
-  -- moments, and chance aside a crash leaves only the first of them
+  -- moments, and a crash, if no checksum collides, leaves a prefix of them
   pub all : KeepsAllRecords sum own cache.page_size old new
   pub only : LeavesAllRecords sum own cache.page_size old new
 

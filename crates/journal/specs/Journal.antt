@@ -71,7 +71,7 @@ abbrev pub IsNewToJournals : ℕ → CacheState → Type 0
 IsNewToJournals id cache =
     (sum : List ℕ → ℕ) (w : WriterState) (life : Life) → IsJournal sum w cache life → w.id ≢ id
 
--- chance aside, a crash at any moment since leaves a prefix of this content
+-- at each moment since, a crash, if no checksum collides, leaves a prefix of this content
 abbrev pub LeavesContent : (List ℕ → ℕ) → ℕ → List ℕ → Life → Life → Type 0
 LeavesContent sum P content old new = LeavesOnly sum P content content old new
 

@@ -171,9 +171,8 @@ abbrev pub EnterGoes : (own : List ℕ → ℕ) → Entry → LogState → LogSt
 EnterGoes own entry s t (Ok u) = IsEntered own entry s t
 EnterGoes own entry s t (Err e) = IsNotEntered entry s t e
 
--- what was committed of the manifest is so at each moment since, and chance aside (no checksum
--- collides) a crash at any of these moments leaves only the first of its entries with this one
--- after them
+-- what was committed of the manifest is so at each moment since, and a crash at any of these
+-- moments, if no checksum collides, leaves a prefix of its entries with this one after them
 abbrev pub ManifestKeeps : (sum own : List ℕ → ℕ) → Entry → LogState → LogState → Type 0
 ManifestKeeps sum own entry s t = IfSome s.manifest.journal (λ w.
     KeepsRecords sum own s.page_size (records_now own s.manifest ++ entered_bytes entry s ∷ [])
@@ -410,7 +409,7 @@ RotateGoes sum own d s t (Err e) = (t.current.journal ≡ None)
     × (IsNotClosed sum own d s t e ⊎ IsNotWritten sum own d s t e
     ⊎ IsNotFollowed sum own d s t e ⊎ IsNotListed sum own d s t e)
 
--- where the blob was durable, chance aside a crash leaves only the first of its records
+-- if all of the blob was durable, a crash, if no checksum collides, leaves a prefix of its records
 abbrev pub LeavesOpened : (sum own : List ℕ → ℕ) → ℕ → Life → OwnedState → Type 0
 LeavesOpened sum own P old o = IsDurable old.present
     → OnlyRecords sum own P (records own (text sum P old.present.readable)) o.life.present
