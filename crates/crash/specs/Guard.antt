@@ -63,7 +63,7 @@ pub record IsGuarded (sum : List ℕ → ℕ) (P : ℕ) (content : List ℕ) (fl
 abbrev pub Guards : (List ℕ → ℕ) → ℕ → List ℕ → ℕ → Disk → Type 0
 Guards sum P content floor d = (p : ℕ) → p * P < floor → IsGuarded sum P content floor d p
 
--- each slot that verifies in a whole state does so over bytes of the content
+-- each slot that verifies in a whole state does so over bytes of the content, at the page's offset
 abbrev pub IsTruthful : (List ℕ → ℕ) → ℕ → List ℕ → Disk → Type 0
 IsTruthful sum P content d =
     (whole : List ℕ) → IsWhole d.base d.since whole → (p : ℕ) (page : List ℕ) →

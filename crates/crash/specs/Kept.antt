@@ -35,7 +35,7 @@ pub record AllOnly (sum : List ℕ → ℕ) (P : ℕ) (before after : List ℕ) 
       (text sum P image ≡ take (length (text sum P image)) after)
   pub vouched : IsVouched sum P d
 
--- Q holds of each disk in the list
+-- Q holds at each of these moments
 abbrev pub Each : (Disk → Type 0) → List Disk → Type 0
 Each Q [] = Unit {0}
 Each Q (d ∷ ds) = Q d × Each Q ds

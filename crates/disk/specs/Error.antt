@@ -18,7 +18,7 @@ number_of OffsetOverflow = 7
 number_of OutOfMemory = 8
 number_of IdsExhausted = 9
 
--- the bytes of an error's name
+-- the bytes of an error's name, such as `ReadFailed`
 abbrev pub name_of : Error → List ℕ
 name_of ReadFailed = codes "ReadFailed"
 name_of WriteFailed = codes "WriteFailed"

@@ -54,7 +54,7 @@ listed (Some bytes) = bytes ∷ []
 unfoldable pub records : (List ℕ → ℕ) → List ℕ → List (List ℕ)
 records sum bytes = flat_map (λ f. listed (record_of sum f)) (frames bytes)
 
--- a frame, unless it is cut short
+-- a frame, or none if it is cut short
 abbrev pub if_whole : List ℕ → List ℕ
 if_whole f = if nat_lt (length f) (frame_len f) then [] else f
 

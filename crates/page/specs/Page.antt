@@ -18,11 +18,11 @@ slot_bytes len crc = to_be_bytes w16 len ++ to_be_bytes w32 crc
 abbrev pub slot_of : ℕ → Slot → List ℕ → List ℕ
 slot_of P s page = take 6 (drop (P + slot_offset s) page)
 
--- the length that a slot holds
+-- the length that the six bytes of a slot hold
 abbrev pub slot_len : List ℕ → ℕ
 slot_len slot = from_be_bytes w16 (take 2 slot)
 
--- the checksum that a slot holds
+-- the checksum that the six bytes of a slot hold
 abbrev pub slot_crc : List ℕ → ℕ
 slot_crc slot = from_be_bytes w32 (drop 2 slot)
 

@@ -8,7 +8,7 @@ abbrev pub slot_offset : Slot → ℕ
 slot_offset First = 0
 slot_offset Second = 6
 
--- the other slot of a footer
+-- the other of the two slots of a footer
 abbrev pub other : Slot → Slot
 other First = Second
 other Second = First

@@ -36,7 +36,7 @@ drained t = record t { offset = t.offset + full_len t; bytes = drop (full_len t)
 abbrev pub AreWholePages : ℕ → List (List ℕ) → Type 0
 AreWholePages P chunks = All (λ chunk. length chunk % P ≡ 0) chunks
 
--- each of these is a page
+-- each of these byte strings is a page: it has P bytes
 abbrev pub ArePages : ℕ → List (List ℕ) → Type 0
 ArePages P pages = All (λ page. length page ≡ P) pages
 

@@ -68,7 +68,7 @@ abbrev pub IsKnown : (List ℕ → List ℕ) → (P len : ℕ) → (top : List �
 IsKnown d P len top of bytes = (all : List ℕ) → length all ≡ len → list_of d P all ≡ top
     → (bytes ≡ of all) ⊎ HasPagePreimage d P all
 
--- the same bytes, of which perhaps more was read
+-- the same bytes in a file, of which perhaps more was read
 pub record IsSameBytes (old new : BytesState) : Type 0 where
   pub start : new.start ≡ old.start
   pub len : new.len ≡ old.len

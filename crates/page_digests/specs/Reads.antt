@@ -12,7 +12,7 @@ use Rattle.page_digests.specs.declared.seal.Seal.{Seal}
 abbrev pub page_offset : (P i : ℕ) → ℕ
 page_offset P i = i * (P + 12)
 
--- a range has bytes of page i
+-- a range of so many bytes from an offset on has bytes of page i
 abbrev pub IsTouched : (P offset len i : ℕ) → Type 0
 IsTouched P offset len i = (i * P < offset + len) × (offset < i * P + P)
 

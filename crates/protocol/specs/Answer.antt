@@ -49,7 +49,7 @@ abbrev pub started_bytes : StartedSync → List ℕ
 started_bytes AllDone = 0 ∷ []
 started_bytes (Named name) = 1 ∷ number_bytes name
 
--- yes or no, as a byte
+-- yes or no, as a byte: 1 or 0
 abbrev pub flag_byte : Bool → ℕ
 flag_byte flag = if flag then 1 else 0
 

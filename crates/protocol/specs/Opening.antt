@@ -22,7 +22,7 @@ use Rattle.protocol.specs.Request.{frame_bytes, number_bytes}
 
 -- ---- what a client begins with
 
--- the byte of version 1
+-- the byte with which a client of version 1 begins, and by which an answer names it
 abbrev pub version_byte : ℕ
 version_byte = 1
 
@@ -34,7 +34,7 @@ offer_byte = 2
 abbrev pub offer_bytes : List ℕ → List ℕ
 offer_bytes versions = offer_byte ∷ length versions ∷ versions
 
--- whether a version is one of these
+-- whether this version is one of those that an offer has
 abbrev pub offers : List ℕ → ℕ → Bool
 offers versions version = list_any (λ other. other == version) versions
 

@@ -145,7 +145,7 @@ IsRequest version request = CanBeAsked request × (kind_of request ≤ last_kind
 
 -- ---- kinds
 
--- whether this kind is among these
+-- whether this number of a kind is among these
 abbrev pub has_kind : List ℕ → ℕ → Bool
 has_kind kinds kind = list_any (λ k. kind == k) kinds
 
@@ -187,7 +187,7 @@ abbrev pub EndsInside : Version → (n : ℕ) → List ℕ → Type 0
 EndsInside version n [] = 0 < n
 EndsInside version n (kind ∷ fields) = (length fields + 1 < n) × TakesLength version kind n
 
--- the version has no such kind
+-- the version has no request of this kind
 abbrev pub IsNoKind : Version → ℕ → Type 0
 IsNoKind version kind =
     (last_kind version < kind) ⊎ ((takes_bytes kind ≡ false) × (field_count kind ≡ None))

@@ -55,7 +55,7 @@ use Rattle.protocol.specs.Request.{number_bytes}
 use Rattle.protocol.specs.Together.{tells_records, tells_ranges, record_bytes, record_lengths}
 use Rattle.protocol.specs.Together.{ranges_in, record_starts}
 
--- requests, one after another
+-- some requests as they are written, one after another
 abbrev pub requests_bytes : List Request → List ℕ
 requests_bytes requests = flat_map request_bytes requests
 

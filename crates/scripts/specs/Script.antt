@@ -89,7 +89,7 @@ without_last_feed input =
 abbrev pub lines_of : List ℕ → List (List ℕ)
 lines_of input = parts_of 10 (without_last_feed input)
 
--- a checksum function's name
+-- the name of a checksum function
 abbrev pub sum_word : SumName → List ℕ
 sum_word Add = codes "add"
 sum_word Const = codes "const"
@@ -121,7 +121,7 @@ first_words (first.Items start) = item_start_words start
 abbrev pub range_word : ℕ × ℕ → List ℕ
 range_word range = decimal range.0 ++ 58 ∷ decimal range.1
 
--- ranges as words
+-- ranges as words, each an offset, a colon and a length
 abbrev pub ranges_words : List (ℕ × ℕ) → List (List ℕ)
 ranges_words ranges = map range_word ranges
 
@@ -165,7 +165,7 @@ line_words (Crash keep) = codes "crash" ∷ flags_text keep.items ∷ []
 line_words Recover = codes "recover" ∷ []
 line_words Dump = codes "dump" ∷ []
 
--- the words of a step of items
+-- the words of a step of a script of items
 abbrev pub item_step_words : ItemStep → List (List ℕ)
 item_step_words (item.Push bytes) = codes "push" ∷ hex_of bytes.items ∷ []
 item_step_words (item.Get i) = codes "get" ∷ decimal i ∷ []
@@ -241,7 +241,7 @@ IsStart start =
     IsPageSize (non_zero_u16_get start.page_size) × IsU64 start.capacity
     × IsCacheSize (non_zero_usize_get start.pages)
 
--- an item's size in bytes
+-- an item's size in bytes, which may be greater than a page's
 abbrev pub IsItemSize : ℕ → Type 0
 IsItemSize n = (0 < n) × (n ≤ 65535)
 

@@ -695,12 +695,12 @@ abbrev pub EndsUnsynced : List FolderEvent → Type 0
 EndsUnsynced events = (before : List FolderEvent)
     × (events ≡ before ++ plain_event calls.Syncs true ∷ [])
 
--- none of these calls failed
+-- none of these calls of a folder failed
 abbrev pub AreDone : List FolderEvent → Type 0
 AreDone [] = Unit {0}
 AreDone (e ∷ es) = (e.failed ≡ false) × AreDone es
 
--- none of these calls is a sync
+-- none of these calls of a folder is a sync
 abbrev pub NoneSyncs : List FolderEvent → Type 0
 NoneSyncs [] = Unit {0}
 NoneSyncs (e ∷ es) = (e.call ≢ calls.Syncs) × NoneSyncs es

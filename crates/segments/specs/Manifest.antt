@@ -40,7 +40,7 @@ closing_bytes records (Whole kept) =
 closing_bytes records (Paged kept) =
     paged_front (paged_kind kept.marks) records kept ++ marks_root kept.marks
 
--- the record of an entry
+-- the record of an entry, without zeros behind it
 abbrev pub entry_bytes : Entry → List ℕ
 entry_bytes (Starts first page_size) = 0 ∷ to_be_bytes w64 first ++ to_be_bytes w16 page_size
 entry_bytes (Closes c) = closing_bytes c.records c.fingerprint

@@ -56,7 +56,7 @@ NthOfOpenGoes sum own s t n (Err errors.Closed) = s.current.journal ≡ None
 NthOfOpenGoes sum own s t n (Err (errors.Layer e)) = OpenReadFails sum own s t e
 NthOfOpenGoes sum own s t n (Err e) = ⊥
 
--- an offset of a segment as a place
+-- an offset of a segment as a place, if there is one
 abbrev pub placed : (segment : ℕ) → Option ℕ → Option Place
 placed segment None = None
 placed segment (Some offset) = Some (record { segment = segment; offset = offset })

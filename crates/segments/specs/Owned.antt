@@ -54,7 +54,7 @@ abbrev pub records_of : (own : List ℕ → ℕ) → Option WriterState → Life
 records_of own None life = []
 records_of own (Some w) life = records_in own w life
 
--- the records of the journal of such a blob, as its bytes are now; none if there is no journal
+-- the records of a journal, as the bytes of its blob are now; none if there is no journal
 abbrev pub records_now : (own : List ℕ → ℕ) → OwnedState → List (List ℕ)
 records_now own s = records_of own s.journal s.life
 
@@ -63,7 +63,7 @@ abbrev pub content_of : Option WriterState → Life → List ℕ
 content_of None life = []
 content_of (Some w) life = content w life.present.readable
 
--- the content of the journal of such a blob, as its bytes are now; none if there is no journal
+-- the content of a journal, as the bytes of its blob are now; none if there is no journal
 abbrev pub content_now : OwnedState → List ℕ
 content_now s = content_of s.journal s.life
 

@@ -298,7 +298,7 @@ abbrev pub MarksPaged : PagedSegmentState → Result PagedSegmentState Error →
 MarksPaged s (Ok p) = IsPagedOf s.content.page_size s.number s.content.seal p
 MarksPaged s (Err e) = e ≡ errors.Layer layer.OutOfMemory
 
--- the same marks, of which perhaps more was read; or none
+-- a segment has the same marks, of which perhaps more was read; or it has none still
 abbrev pub HasSameMarks : (old new : Option MarksState) → Type 0
 HasSameMarks (Some m) (Some n) = AreSameMarks m n
 HasSameMarks None None = Unit {0}

@@ -15,7 +15,8 @@ use Rattle.segments.specs.Manifest.{closed_at, open_in}
 use Rattle.segments.specs.PagedReads.{HasDamagedFile, HasFailedPass, HasNoMarks, IsDamage}
 use Rattle.segments.specs.PagedReads.{PagedSegmentState, PassesIn}
 
--- what was passed from an offset on
+-- what was passed from an offset on: how many bytes of the segment, and how many frames, if that is
+-- known
 abbrev pub passed_by : (offset : ℕ) → PassedPage → Passed
 passed_by offset p = record { frames = p.frames; bytes = p.to - offset }
 

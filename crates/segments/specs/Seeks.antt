@@ -62,7 +62,7 @@ pub record IsFirstBehind (P : ℕ) (content : List ℕ) (offset : ℕ) (b : Begi
   pub there : let n = begins_before content offset in
       b.offset ≡ min (frame_begin content n) (pages_of_len P (length content) * P)
 
--- a frame begins at this offset
+-- a frame of a content begins at this offset
 abbrev pub IsBegin : (content : List ℕ) → (offset : ℕ) → Type 0
 IsBegin content offset = (n : ℕ) × (frame_begin content n ≡ offset)
 

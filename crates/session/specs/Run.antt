@@ -240,7 +240,7 @@ at_step step s = s
 
 -- ---- steps that are turned away
 
--- the session was given this name
+-- whether the session was given this name
 abbrev pub has_name : RunState → ℕ → Bool
 has_name s name = list_any (λ c. nat_eq c.0 name) s.covers
 
@@ -257,7 +257,7 @@ has_snapshot_at s index = is_some (numbered s.snapshots index)
 abbrev pub snapshot_at : RunState → ℕ → List ℕ
 snapshot_at s index = elim (numbered s.snapshots index) [ None ↦ [] | Some content ↦ content ]
 
--- there is a replay of this number
+-- whether there is a replay of this number
 abbrev pub has_replay_at : RunState → ℕ → Bool
 has_replay_at s index = is_some (numbered s.replays index)
 

@@ -62,12 +62,12 @@ IsDelete bytes = (2 ≤ length bytes) × (mark_of bytes ≡ 65535)
 abbrev pub IsChange : Bytes → Type 0
 IsChange bytes = IsPut bytes ⊎ IsDelete bytes
 
--- each of these records is a change
+-- each of these records is a change: a put or a delete
 abbrev pub AreChanges : List Bytes → Type 0
 AreChanges [] = Unit {0}
 AreChanges (bytes ∷ records) = IsChange bytes × AreChanges records
 
--- one of these records is no change
+-- one of these records is no change: neither a put nor a delete
 abbrev pub HasForeign : List Bytes → Type 0
 HasForeign records =
     (i : ℕ) × (i < length records) × (IsChange (get_or records i []) → ⊥)
@@ -79,7 +79,7 @@ abbrev pub updated : ByteMap → (key : Bytes) → Option Bytes → ByteMap
 updated map key (Some value) = insert map key value
 updated map key None = remove map key
 
--- the map after these changes
+-- the map after these changes, one after another
 abbrev pub after_changes : ByteMap → List Bytes → ByteMap
 after_changes map [] = map
 after_changes map (change ∷ changes) =

@@ -50,7 +50,8 @@ pub record IsPending (name : ℕ) (d : Disk) : Type 0 where
   pub others : (other : ℕ) (c : ℕ × List ℕ) → slice_get (coverings d) other ≡ Some c
       → (c.0 ≤ d.settled) ⊎ (other ≡ name)
 
--- a clean state means that nothing is unsynced; the other states ask nothing of the disk here
+-- what a state says of the disk: a clean one means that nothing is unsynced, and the others ask
+-- nothing
 abbrev pub StateFits : Disk → SyncState → Type 0
 StateFits d Clean = (d.since ≡ []) × (d.base ≡ d.readable)
 StateFits d Dirty = Unit {0}
