@@ -22,14 +22,15 @@ pub record PutsFirst (sum : List ℕ → ℕ) (t : Tail) (pages readable : List 
   pub full : ArePagesFull sum t.page_size (take count pages) readable
   pub puts : PutsPages t.id (logical_bytes t readable) (take count pages) old new
 
--- a read of these pages puts all of them, in this order. Where it fails it puts the first ones.
+-- a read of these pages puts all of them at Ok, in this order, and at an error only the first ones
 abbrev pub PutsInOrder : {A : Type 0} → (List ℕ → ℕ) → Tail → (pages readable : List ℕ)
     → CacheState → CacheState → Result A Error → Type 0
 PutsInOrder sum t pages readable old new (Ok _) =
     PutsPages t.id (logical_bytes t readable) pages old new
 PutsInOrder sum t pages readable old new (Err _) = PutsFirst sum t pages readable old new
 
--- a read of these pages puts them as `PutsInOrder` has it, in some order
+-- a read of these pages puts all of them at Ok, and at an error some, in some order, each as
+-- `PutsInOrder` has it
 pub record PutsSome {A : Type 0} (sum : List ℕ → ℕ) (t : Tail) (pages readable : List ℕ)
     (old new : CacheState) (result : Result A Error) : Type 0 where
   pub order : List ℕ
@@ -43,8 +44,8 @@ PutsPageIfOk t page readable old new (Ok _) =
     PutsPages t.id (logical_bytes t readable) (page ∷ []) old new
 PutsPageIfOk t page readable old new (Err _) = new ≡ old
 
--- a read of these pages one by one: each is asked for once, and put. Where it fails, it put the
--- pages of all its device calls, or of all but the last.
+-- a read of these pages one by one: each is asked for once, and put. If it fails, it has put the
+-- pages of all its device calls, or of all except the last.
 abbrev pub PutsAsked : {A : Type 0} → (List ℕ → ℕ) → Tail → List ℕ → Life → Life → CacheState
     → CacheState → Result A Error → Type 0
 PutsAsked sum t pages old new cache after (Ok _) =
