@@ -1,7 +1,8 @@
 """Compares the pages with the sources: python3 examples/check_pages.py, at the top of the repository.
 
-It prints a line `file:line: what` for each flaw, and ends with status 1 if there is one. It takes some seconds, and needs
-python3 alone. `--only KIND` checks one kind, `--list` prints the kinds, and `--selftest` plants a flaw of each kind in a
+It prints a line `file:line: what` for each flaw, and ends with status 1 if there is one. It takes some seconds, and
+needs python3 alone. `--only KIND` checks one kind, and `--list` prints the kinds. `--mend` takes the comments of the
+sources over into quoted code that differs from them in comments alone. `--selftest` plants a flaw of each kind in a
 copy of the repository, one after another, and shows the line that reports it.
 
 The pages are README.md, CHANGELOG.md, docs/*.md, and the README.md of each crate and of each client. What
@@ -20,9 +21,9 @@ examples/reference.py makes below docs/reference is checked by its age and its l
   definition that these reach. Only definitions that take an error, or an answer that may be one, are followed. So it is
   text that is compared: a clause speaks of this error. "the same" means the row above, an error that is "never of" a
   call isn't looked for there, and "those of" a call isn't followed.
-- **statuses**: a table with the status 141 has just the exit statuses of `pagedd`; one with the status 17 has just those
-  of an answer of the protocol, of the log's if it has 38, and else of the blob's; a table of kinds of requests has the
-  blob's kinds, by their numbers.
+- **statuses**: a table with the status 141 has just the exit statuses of `pagedd`; one with the status 17 has just
+  those of an answer of the protocol, of the log's if it has 38, and else of the blob's; a table of kinds of requests
+  has the blob's kinds, by their numbers.
 - **edits**: an edit that a page lists as one that stays has a file in the crate's must-fail/.
 - **reference**: docs/reference is what examples/reference.py makes.
 - **sentences**: a definition that a public clause reaches has a comment over it.
@@ -60,7 +61,8 @@ SHORT = [
 # The crates in which a call of a table of errors is looked for, by the heading above it, the first that has one.
 CALLS = {"The calls": ["paged", "paged_read"], "Items of one size": ["items"], "Items": ["items"]}
 
-RT = "check verdict lib run test try fmt tidy plant all ci must-fail selftest doc version help lemma seed new names expand"
+RT = ("check verdict lib run test try fmt tidy plant all ci must-fail selftest doc version help lemma seed new names "
+      "expand")
 
 
 @functools.cache
@@ -112,13 +114,50 @@ def stands_in(snippet, source):
     return False
 
 
+QUOTE = re.compile(r"^In `(\S+)`:\n\n```\w*\n(.*?)^```$", re.M | re.S)
+
+
 def check_code():
     for page in pages():
-        for line, match in matches(r"^In `(\S+)`:\n\n```\w*\n(.*?)^```$", page, re.M | re.S):
+        for line, match in matches(QUOTE.pattern, page, re.M | re.S):
             if not there(match[1]):
                 yield page, line, f"no such file: {match[1]}"
             elif not stands_in(match[2], read(match[1])):
                 yield page, line, f"this code doesn't stand in {match[1]}"
+
+
+def is_comment(line):
+    return re.match(r"\s*(?:--|//)", line) is not None
+
+
+def mended(snippet, source):
+    """The lines of a source that have the code of a snippet, with the source's own comments; none if there are none."""
+    want = [line.strip() for line in lines_of(snippet) if not is_comment(line)]
+    have = source.split("\n")
+    code = [number for number, line in enumerate(have) if not is_comment(line)]
+    for start in range(len(code) - len(want) + 1):
+        run = code[start:start + len(want)]
+        if [have[number].strip() for number in run] == want:
+            first = run[0]
+            while is_comment(lines_of(snippet)[0]) and first and is_comment(have[first - 1]):
+                first -= 1
+            return "\n".join(lines_of("\n".join(have[first:run[-1] + 1]))) + "\n"
+    return None
+
+
+def mend():
+    """Takes the comments of the sources over into quoted code that differs from them in comments alone."""
+    for page in pages():
+        def place(match):
+            if not there(match[1]) or stands_in(match[2], read(match[1])):
+                return match[0]
+            code = mended(match[2], read(match[1]))
+            return match[0].replace(match[2], code) if code else match[0]
+        text = QUOTE.sub(place, read(page))
+        if text != read(page):
+            with open(os.path.join(ROOT, page), "w", encoding="utf-8") as file:
+                file.write(text)
+            print(f"mended: {page}")
 
 
 def short(clause):
@@ -513,7 +552,13 @@ def check_names():
             path = f"crates/{match[1]}/specs/{match[2]}" if match else "examples/names.py"
             if not match and (call := re.search(r"(\w+/src/\w+\.rt)", line)):
                 path = f"crates/{call[1]}"
-            yield path, 1, f"{what}: {line}"
+            yield path, defined_at(path, re.match(r"\w+", line)[0]), f"{what}: {line}"
+
+
+def defined_at(path, name):
+    """The line of a file that defines a name; 1 if none does."""
+    match = re.search(rf"^(?:(?:abbrev|opaque|unfoldable|pub|record|data) )+{name}\b", read(path), re.M)
+    return line_of(read(path), match.start()) if match else 1
 
 
 def check_columns():
@@ -536,55 +581,64 @@ def append(more):
     return lambda text: text + more
 
 
+COMMANDS = "\n    python3 examples/nothing.py\n    pagedd chekc FILE\n    pagedd check --nothing FILE\n"
+EDITS = "\n## Wrong bodies that stay edits\n\n| Crate | Edits |\n|---|---|\n| `disk` | `no_such_edit` |\n"
+MUTE = re.compile(r"(?:^--.*\n)+(?=abbrev pub AreCovered )", re.M)
 PLANTED = {
     "code": ("docs/FORMAT.md", append("\nIn `crates/disk/src/blob.rt`:\n\n```rust\nfn other() {}\n```\n")),
     "clauses": ("docs/FORMAT.md", append("\n    ensures goes { NothingOfTheKind }\n")),
     "crates": ("docs/FORMAT.md", append("\n    page: disk nothing\n")),
     "links": ("docs/FORMAT.md", append("\n[there](ERRORS.md#no-such-heading) and [here](NOWHERE.md)\n")),
     "paths": ("docs/FORMAT.md", append("\nSee crates/disk/src/nothing.rt.\n")),
-    "commands": ("docs/FORMAT.md", append("\n    python3 examples/nothing.py\n    pagedd chekc FILE\n    pagedd check --nothing FILE\n")),
+    "commands": ("docs/FORMAT.md", append(COMMANDS)),
     "words": ("docs/DEFINITIONS.md", append("\n`NoSuchWordAnywhere` is a word.\n")),
-    "errors": ("docs/ERRORS.md", put_in("| `next` of a replay | `OutOfMemory`", "| `next` of a replay | `IdsExhausted`")),
+    "errors": ("docs/FORMAT.md", append("\n## Items\n\n| Call | Errors |\n|---|---|\n| `seek_to` | `ReadFailed` |\n")),
     "statuses": ("crates/pagedd/src/status.rt", put_in("Status::NotWhole => 3", "Status::NotWhole => 4")),
-    "edits": ("docs/FORMAT.md", append("\n## Wrong bodies that stay edits\n\n| Crate | Edits |\n|---|---|\n| `disk` | `no_such_edit` |\n")),
+    "edits": ("docs/FORMAT.md", append(EDITS)),
     "reference": ("crates/disk/src/blob.rt", put_in("/// How a read is to be done.", "/// How a read is done.")),
-    "sentences": ("crates/disk/specs/Disk.antt", append("\nabbrev pub IsMute : Disk → Type 0\nIsMute d = d ≡ d\n\n"
-                                                         "-- an operation that is mute\nabbrev pub IsSaid : Disk → Type 0\nIsSaid d = IsMute d\n")),
+    "sentences": ("crates/disk/specs/Disk.antt", lambda text: MUTE.sub("", text)),
     "examples": ("examples/unexampled.txt", lambda text: "\n".join(text.split("\n")[:-3]) + "\n"),
     "names": ("crates/page/specs/Page.antt", append("\n-- another disk\nabbrev pub Disk : Type 0\nDisk = ℕ\n")),
     "columns": ("crates/page/specs/Page.antt", append("\n-- " + "long " * 25 + "\n")),
 }
 
 
+def reported(copy, *words):
+    """The flaws that the script of a copy reports, and its exit status."""
+    script = os.path.join(copy, "examples", "check_pages.py")
+    ended = subprocess.run([sys.executable, script, *words], capture_output=True, text=True, check=False)
+    return [line for line in ended.stdout.split("\n") if re.match(r"[\w./-]+:\d+: ", line)], ended.returncode
+
+
+def planted(copy, kind, before):
+    """The first flaw that a copy has once one of this kind is planted; none if none is reported."""
+    path, change = PLANTED[kind]
+    place = os.path.join(copy, path)
+    with open(place, encoding="utf-8") as file:
+        text = file.read()
+    if change(text) == text:
+        return None
+    with open(place, "w", encoding="utf-8") as file:
+        file.write(change(text))
+    found, status = reported(copy, "--only", kind)
+    with open(place, "w", encoding="utf-8") as file:
+        file.write(text)
+    return next((line for line in found if line not in before), None) if status == 1 else None
+
+
 def selftest():
     """Plants a flaw of each kind in a copy, and shows what reports it."""
-    bad = 0
+    bad = len(set(KINDS) - set(PLANTED))
     with tempfile.TemporaryDirectory() as room:
         copy = os.path.join(room, "copy")
         shutil.copytree(ROOT, copy, ignore=shutil.ignore_patterns("out", ".git", "inc-*", "build", "*.rlib", "target"))
-        for kind, (path, change) in PLANTED.items():
-            place = os.path.join(copy, path)
-            with open(place, encoding="utf-8") as file:
-                text = file.read()
-            with open(place, "w", encoding="utf-8") as file:
-                file.write(plant(change, text))
-            script = os.path.join(copy, "examples", "check_pages.py")
-            ended = subprocess.run([sys.executable, script, "--only", kind], capture_output=True, text=True, check=False)
-            found = [line for line in ended.stdout.split("\n") if re.match(r"[\w./-]+:\d+: ", line)]
-            good = ended.returncode == 1 and found
-            bad += not good
-            print(f"{kind}: " + (found[0] if good else f"NOT FOUND, status {ended.returncode} {ended.stderr[-200:]}"))
-            with open(place, "w", encoding="utf-8") as file:
-                file.write(text)
+        before, _ = reported(copy)
+        for kind in PLANTED:
+            line = planted(copy, kind, before)
+            bad += line is None
+            print(f"{kind}: {line or 'NOT FOUND'}")
     print(f"{len(PLANTED)} flaws were planted, {bad} of them not found")
-    return 1 if bad or set(PLANTED) != set(KINDS) else 0
-
-
-def plant(change, text):
-    changed = change(text)
-    if changed == text:
-        raise SystemExit("the self-test changes nothing")
-    return changed
+    return 1 if bad else 0
 
 
 def main():
@@ -594,8 +648,11 @@ def main():
         sys.exit(0)
     if words == ["--selftest"]:
         sys.exit(selftest())
+    if words == ["--mend"]:
+        mend()
+        return
     if words and (len(words) != 2 or words[0] != "--only" or words[1] not in KINDS):
-        print("usage: python3 examples/check_pages.py [--only KIND | --list | --selftest]", file=sys.stderr)
+        print("usage: python3 examples/check_pages.py [--only KIND | --list | --mend | --selftest]", file=sys.stderr)
         sys.exit(2)
     counts = {}
     for kind in words[1:] or KINDS:

@@ -15,7 +15,8 @@ import usage
 ROOT = os.path.join(os.path.dirname(os.path.abspath(__file__)), "..")
 
 # The crates that a program imports, the lowest first.
-CRATES = ["disk", "page", "crc32c", "digest", "page_digests", "cache", "file", "paged", "items", "journal", "store", "segments", "session", "scripts"]
+CRATES = ["disk", "page", "crc32c", "digest", "page_digests", "cache", "file", "paged", "items", "journal", "store",
+          "segments", "session", "scripts"]
 
 # A doc comment, attributes and comments between it and the item, and the item's first words.
 ITEM = re.compile(r"(?P<doc>(?:^ *///[^\n]*\n)*)(?:^ *(?:#\[|// )[^\n]*\n)*^(?P<indent> *)(?P<pub>pub )?"

@@ -9,6 +9,10 @@ all items and definitions.
 What is public is what public_items.py finds. What a clause reaches, and what is an example or a refutation, is by the
 rules of unexampled.py.
 
+The pages stand in the repository, although they can be made on demand: whoever reads on a forge clicks from a page to a
+clause and from there to each of its words, and links need a place that is there. The gate says when they are old.
+.gitattributes lets forges fold them in a change, and lets no merge stop at them: run the script after a merge.
+
 With --check it writes nothing. It prints the first line in which a page differs from what the sources say, and each
 definition that a public clause reaches and that has no comment over it. It ends with status 1 then.
 """
@@ -25,8 +29,10 @@ import unexampled
 ROOT = public_items.ROOT
 FOLDER = "docs/reference"
 
-# A file of specs/ begins a definition so. What is over it, and what is beside a page's text.
+# How many examples and refutations of a definition are named.
 FIRST_EXAMPLES = 4
+
+# A heading in a file of specs/, what stands before the brace of a clause, and a type of src/ that a file names.
 SECTION = re.compile(r"^-- ---- ?(.*)$")
 CLAUSE = re.compile(r"(?:\b(?:requires|ensures)\*?(?:\s+\w+)?|\bghost\b[^{};]*?)\s*$")
 DECLARED = re.compile(r"\buse Rattle\.(\w+)\.specs\.declared\.\w+\.(\w+)(?:\.TheVariants)?"
@@ -382,10 +388,24 @@ def link(key, name, crate):
     return f"[`{name}`]({place.removeprefix(crate + '.md')})"
 
 
+@functools.cache
+def by_name():
+    """The definitions that have a place here, by name: no two have the same."""
+    return {key[3]: key for key in anchors() if key[0] != "item"}
+
+
 def escaped(line):
     """A line of a comment as Markdown: what stands outside of backticks means itself."""
     parts = re.split(r"(`[^`]*`)", line)
     return "".join(part if part.startswith("`") else re.sub(r"([<*|])", r"\\\1", part) for part in parts)
+
+
+def sentence(one):
+    """The comment over a definition as Markdown, in which the names of others are links."""
+    def place(match):
+        key = by_name().get(match[1])
+        return link(key, match[1], one.crate) if key and key != one.key else match[0]
+    return [re.sub(r"`(\w+)`", place, escaped(line)) for line in one.comment]
 
 
 def linked(lines, crate):
@@ -441,7 +461,7 @@ def places(found, what):
 def put_definition(page, one, known):
     page.heading(4, f"`{one.name}`")
     if one.comment:
-        page.put(*map(escaped, one.comment))
+        page.put(*sentence(one))
     page.put("```antt", *one.text.split("\n"), "```")
     examples, refutations = shown()
     body = one.text[len(one.text.split("\n")[0].split(" : ")[0]):]
@@ -467,6 +487,12 @@ def spec_words(crate, module):
     return known
 
 
+def about_file(crate, module):
+    """The comment with which a file of specs/ begins."""
+    front = re.match(r"(?:--(?! ----)[^\n]*\n)*", read(f"crates/{crate}/specs/{module}.antt"))[0]
+    return [escaped(line[2:].removeprefix(" ")) for line in front.strip("\n").split("\n")] if front else []
+
+
 def crate_page(crate):
     """The page of a crate."""
     page, (own, others) = Page(), items_of(crate)
@@ -488,8 +514,12 @@ def crate_page(crate):
         page.put("None.")
     for module, ones in by_file(words).items():
         page.heading(3, f"{module}.antt")
-        page.put(f"In [crates/{crate}/specs/{module}.antt](../../crates/{crate}/specs/{module}.antt).")
+        page.put(*about_file(crate, module), f"[The file](../../crates/{crate}/specs/{module}.antt).")
+        section = ""
         for one in ones:
+            if one.section not in ("", section):
+                page.put(f"**{one.section[0].upper() + one.section[1:]}**")
+            section = one.section
             put_definition(page, one, spec_words(crate, module))
     return "\n".join(page.lines).rstrip("\n") + "\n"
 

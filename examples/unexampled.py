@@ -37,8 +37,9 @@ COMPLETE = ["store", "segments"]
 
 # Those that lack something, one to a line: the crate, the file of specs/, the name and what is lacking.
 LIST = os.path.join(ROOT, "examples", "unexampled.txt")
-HEAD_OF_LIST = """# The definitions that lack an example, or a refutation, since they are older than the rule that each has both. A line
-# may only go: prove what is lacking, and run 'python3 examples/unexampled.py --shrink'. New definitions don't come here.
+HEAD_OF_LIST = """\
+# The definitions that lack an example or a refutation, since they are older than the rule that each has both. A line
+# may only go: prove what is lacking, and run 'python3 examples/unexampled.py --shrink'. No new one comes here.
 """
 HEAD = re.compile(r"^((?:(?:abbrev|opaque|unfoldable|pub|record|data) )+)([^\s:()]+)", re.M)
 LEMMA = re.compile(
@@ -222,8 +223,8 @@ def measured():
 
 
 def held(found):
-    """The definitions that are held to the rule, by crate: those that a public clause reaches, or the promise, and all of
-    a complete crate."""
+    """The definitions that are held to the rule, by crate: those that a public clause reaches, or the promise, and all
+    of a complete crate."""
     public = reached(found, public_words()) | reached(found, [START])
     crates = sorted({name[0] for name in public} | set(COMPLETE))
     return {crate: {name for name in (found if crate in COMPLETE else public) if name[0] == crate} for crate in crates}
