@@ -22,8 +22,8 @@ examples/reference.py makes below docs/reference is checked by its age and its l
   text that is compared: a clause speaks of this error. "the same" means the row above, an error that is "never of" a
   call isn't looked for there, and "those of" a call isn't followed.
 - **statuses**: a table with the status 141 has just the exit statuses of `pagedd`; one with the status 17 has just
-  those of an answer of the protocol, of the log's if it has 38, and else of the blob's; a table of kinds of requests
-  has the blob's kinds, by their numbers.
+  those of an answer of the protocol: of a blob's if it has 18, of a log's if it has 38; a table of kinds of requests
+  has a blob's kinds, by their numbers.
 - **edits**: an edit that a page lists as one that stays has a file in the crate's must-fail/.
 - **reference**: docs/reference is what examples/reference.py makes.
 - **sentences**: a definition that a public clause reaches has a comment over it.
@@ -58,7 +58,8 @@ SHORT = [
     ("(B.life blob.new)", "new"), ("B.life blob.old", "old"), ("B.life blob.new", "new"), ("H.sum_of", "sum"),
 ]
 
-# The crates in which a call of a table of errors is looked for, by the heading above it, the first that has one.
+# The crates in which a call of a table of errors is looked for, by the heading above it, the first that has one. In the
+# README.md of a crate that crate comes first.
 CALLS = {"The calls": ["paged", "paged_read"], "Items of one size": ["items"], "Items": ["items"]}
 
 RT = ("check verdict lib run test try fmt tidy plant all ci must-fail selftest doc version help lemma seed new names "
@@ -404,8 +405,10 @@ def named_calls(name, crates):
 def check_errors():
     known = re.findall(r"^    (\w+),$", read("crates/disk/src/error.rt"), re.M)
     for page in pages():
+        its = re.findall(r"^crates/(\w+)/", page)
         for start, heading, rows in tables(page):
-            if "Errors" not in rows[0] or heading not in CALLS:
+            crates = its + CALLS.get(heading, [])
+            if "Errors" not in rows[0] or not crates:
                 continue
             listed, never = [], []
             for number, row in enumerate(rows[2:], start + 2):
@@ -414,7 +417,7 @@ def check_errors():
                     listed = [error for error in re.findall(r"`(\w+)`", cell) if error in known]
                     never = re.findall(r"`(\w+)` \(never of `(\w+)`\)", cell)
                 for name in re.findall(r"`([\w:]+)", row[0]):
-                    for what in wrong_errors(name, CALLS[heading], listed, never):
+                    for what in wrong_errors(name, crates, listed, never):
                         yield page, number, what
 
 
@@ -472,7 +475,7 @@ def check_statuses():
             if 141 in has:
                 want = exits
             elif 17 in has:
-                want = log if 38 in has else blob
+                want = (blob if 18 in has or 38 not in has else set()) | (log if 38 in has else set())
             else:
                 continue
             for number in sorted(has - want):
