@@ -70,7 +70,8 @@ TipTryAppendGoes old bytes new (Err OutOfMemory) =
 TipTryAppendGoes old bytes new (Err _) = ⊥
 
 -- the whole pages are handed out, in order and in chunks of whole pages, and the tip keeps the
--- bytes after them. The only error is `OutOfMemory`, which changes nothing.
+-- bytes after them. The only error is `OutOfMemory`, which comes only if there is a whole page, and
+-- changes nothing.
 abbrev pub TipDrainGoes : Tip → Tip → Result (List (List ℕ)) Error → Type 0
 TipDrainGoes old new (Ok chunks) =
     (concat chunks ≡ take (full_len old) old.bytes) × AreWholePages old.page_size chunks
@@ -79,7 +80,8 @@ TipDrainGoes old new (Err OutOfMemory) = (new ≡ old) × (0 < full_len old)
 TipDrainGoes old new (Err _) = ⊥
 
 -- the tip's offset and bytes are replaced by these. `OffsetOverflow` comes exactly if the new size
--- passes 2 ^ 64 - 1; after an error the tip is as it was.
+-- passes 2 ^ 64 - 1, and the only other error is `OutOfMemory`. After an error the tip is as it
+-- was.
 abbrev pub TipReplaceGoes : Tip → ℕ → List ℕ → Tip → Result (Unit {0}) Error → Type 0
 TipReplaceGoes old offset bytes new (Ok _) = new ≡ record old { offset = offset; bytes = bytes }
 TipReplaceGoes old offset bytes new (Err OffsetOverflow) =

@@ -42,7 +42,7 @@ pub record Holds (sum : List ℕ → ℕ) (w : WriterState) (old : Life) (more :
   -- (last, since a field hides a definition of its name from those after it)
   pub content : content now new.present.readable ≡ content w old.present.readable ++ more
 
--- a call was refused: the error has its cause (`CallCause`), and the log, which only grew
+-- a call was refused: the error has its cause (`CallCause`), and the log only grew
 pub record IsRefused (w : WriterState) (old new : Life) (e : Error) : Type 0 where
   pub cause : CallCause w.sync old new e
   pub log : LogGrows old.present new.present

@@ -35,7 +35,7 @@ last_prefix sum P (suc n) bytes =
     else (if value_len sum P page == P then record { full_pages = n + 1; partial = None }
     else record { full_pages = n; partial = value_and_slot (active sum P page) page })
 
--- how many partial pages a prefix has with this value in part of a page: 1, or 0 without one
+-- how many partial pages a prefix has, by its partial value: 1, or 0 without one
 abbrev pub partial_pages : Option (List ℕ × ActiveChecksum) → ℕ
 partial_pages None = 0
 partial_pages (Some p) = 1

@@ -29,8 +29,8 @@ PutsInOrder sum t pages readable old new (Ok _) =
     PutsPages t.id (logical_bytes t readable) pages old new
 PutsInOrder sum t pages readable old new (Err _) = PutsFirst sum t pages readable old new
 
--- a read of these pages puts all of them at Ok, and at an error some, in some order, each as
--- `PutsInOrder` has it
+-- a read of these pages puts them in some order: all of them at Ok, and at an error the first ones
+-- of that order (`PutsInOrder`)
 pub record PutsSome {A : Type 0} (sum : List ℕ → ℕ) (t : Tail) (pages readable : List ℕ)
     (old new : CacheState) (result : Result A Error) : Type 0 where
   pub order : List ℕ

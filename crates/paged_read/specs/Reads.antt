@@ -67,8 +67,8 @@ pub record ReadUpToGoes (sum : List ℕ → ℕ) (t : Tail) (cache : CacheState)
   pub never : NeverBad sum t old.present result
   pub never_if_sound : NeverBadIfSound sum t old.present result
 
--- a read of many ranges into a buffer, by its answer (`ReadsMany`), and what is always refused; if
--- the cache holds all pages it needs no memory
+-- a read of many ranges into a buffer, by its answer (`ReadsMany`); if the cache holds all pages it
+-- needs no memory
 pub record ReadRangesGoes (sum : List ℕ → ℕ) (t : Tail) (cache : CacheState)
     (ranges : List (ℕ × ℕ)) (buf after : List ℕ) (old new : Life) (result : Result ℕ Error)
     : Type 0 where
@@ -78,8 +78,7 @@ pub record ReadRangesGoes (sum : List ℕ → ℕ) (t : Tail) (cache : CacheStat
   pub never_if_sound : NeverBadIfSound sum t old.present result
   pub size : length after ≡ length buf
 
--- a read of ranges of one length from these offsets on, by its answer (`ReadsMany`), and what is
--- always refused; it takes memory for the ranges
+-- a read of ranges of one length, by its answer (`ReadsMany`); it takes memory for the ranges
 pub record ReadManyGoes (sum : List ℕ → ℕ) (t : Tail) (cache : CacheState)
     (ranges : List (ℕ × ℕ)) (buf after : List ℕ) (old new : Life) (result : Result ℕ Error)
     : Type 0 where

@@ -192,8 +192,9 @@ vain_reads (Ok _) = 0
 vain_reads (Err _) = 1
 
 -- what a call that gets so many bytes at hand costs: if it needs no device it asks none; otherwise
--- it makes so many reads at most for each batch that came to hand, and one more if it fails. Each
--- is of one batch, none of which was at hand.
+-- it makes four reads at most for each batch that came to hand, or three fewer in all if the next
+-- batches were read ahead, and one more if it fails. Each is of one batch, none of which was at
+-- hand.
 pub record EnsureCosts (r : ReplayState) (count : ℕ) (now : ReplayState) (old new : Life)
     (result : Result Bool Error) : Type 0 where
   pub idle : IsHad r count → new ≡ old
@@ -241,7 +242,8 @@ abbrev pub CopyToSliceGoes : (r now : ReplayState) (out after : List ℕ) → Re
 CopyToSliceGoes r now out after (Ok _) = Takes r (length out) now after
 CopyToSliceGoes r now out after (Err few) = TakesNone r now out after few
 
--- a replay goes to an offset up to the size; what is queued stays
+-- a replay goes to an offset up to the size: the bytes at hand are let go, and what is queued
+-- stays. A greater offset is refused, and nothing changed.
 abbrev pub Seeks : ReplayState → (offset : ℕ) → ReplayState → Result (Unit {0}) Error → Type 0
 Seeks r offset now (Ok _) =
     (offset ≤ tail_size r.tail) × (now ≡ record r {

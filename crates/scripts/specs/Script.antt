@@ -241,7 +241,7 @@ IsStart start =
     IsPageSize (non_zero_u16_get start.page_size) × IsU64 start.capacity
     × IsCacheSize (non_zero_usize_get start.pages)
 
--- an item's size in bytes, which may be greater than a page's
+-- an item's size in bytes, from 1 to 65,535, which may be more than a page has
 abbrev pub IsItemSize : ℕ → Type 0
 IsItemSize n = (0 < n) × (n ≤ 65535)
 

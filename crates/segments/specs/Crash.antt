@@ -173,7 +173,7 @@ abbrev pub WasRemoved : ℕ → List FolderEvent → Type 0
 WasRemoved segment [] = ⊥
 WasRemoved segment (e ∷ es) = (e.call ≡ calls.Removes segment) ⊎ WasRemoved segment es
 
--- what is listed is something, and only segments from this one on
+-- something is listed, and only segments from this one on
 abbrev pub ListsFrom : ℕ → Option ListingState → Type 0
 ListsFrom segment None = ⊥
 ListsFrom segment (Some l) = segment ≤ l.first

@@ -309,8 +309,8 @@ pub record CrashGoes (sum : List ℕ → ℕ) (was now : SessionState) (cache af
       let s = fresh P (adjusted capacity P) (text sum P left) in
       OnOk result (Represents sum P now s (life_of new).present)
   pub steps : OnOk result (IsSoundSession sum now (life_of new).present)
-  -- what came back begins with the floor (durable prefix) of the moment of the crash; and chance
-  -- aside (no checksum collides) it is a prefix of a content of that moment
+  -- what came back begins with the floor (durable prefix) of the moment of the crash; and if no
+  -- checksum collides it is a prefix of a content of that moment
   pub gives : OnOk result (GivesBackLeft sum cache.page_size (life_of old).present left)
   -- the crash was refused, and nothing changed; or the recovery was, and the session is closed
   pub refused : IfErr result (λ e.
