@@ -221,8 +221,8 @@ pub record ItemsRecoverGoes (sum : List ℕ → ℕ) (s : ℕ) (cache after : Ca
   pub only : let was = old.present in
       IfOk result (λ r. BringsOnlyItems sum cache.page_size s was was.readable (items_of r new))
 
--- a crash of a blob in memory, which kept what the true flags name, and the recovery of the items
--- that it left, by the answer. At `OutOfMemory` nothing changed, or the recovery was refused.
+-- a blob in memory crashed and kept what the true flags name, and its items were recovered. At
+-- OutOfMemory nothing changed, or the recovery of what the flags leave was refused
 abbrev pub CrashesAndRecovers : (List ℕ → ℕ) → (s : ℕ) → (cache after : CacheState)
     → (capacity : ℕ) → List Bool → Life → Life → Result ItemsState Error → Type 0
 CrashesAndRecovers sum s cache after capacity keep old new (Ok now) =

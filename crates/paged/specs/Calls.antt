@@ -51,7 +51,7 @@ CallCause s old new _ = ⊥
 abbrev pub AsksAtMost : ℕ → Life → Life → Type 0
 AsksAtMost n old new = length new.present.log ≤ length old.present.log + n
 
--- how many device calls a wait for the pending sync makes: one, or none if no sync is pending
+-- the device calls that wait for a pending sync
 abbrev pub wait_calls : SyncState → ℕ
 wait_calls Clean = 0
 wait_calls Dirty = 0

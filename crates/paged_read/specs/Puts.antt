@@ -44,8 +44,8 @@ PutsPageIfOk t page readable old new (Ok _) =
     PutsPages t.id (logical_bytes t readable) (page ∷ []) old new
 PutsPageIfOk t page readable old new (Err _) = new ≡ old
 
--- a read of these pages one by one: each is asked for once, and put. If it fails, it has put the
--- pages of all its device calls, or of all except the last.
+-- a read of these pages one by one: each is asked for once, and put. Where it fails, it put the
+-- pages of all its device calls, or of all but the last.
 abbrev pub PutsAsked : {A : Type 0} → (List ℕ → ℕ) → Tail → List ℕ → Life → Life → CacheState
     → CacheState → Result A Error → Type 0
 PutsAsked sum t pages old new cache after (Ok _) =
