@@ -92,7 +92,8 @@ def spec_files():
     for path in sorted(glob.glob(os.path.join(ROOT, "crates", "*", "specs", "Lib.antt"))):
         crate = path.split(os.sep)[-3]
         for module in re.findall(r"^pub mod (\w+)", read(f"crates/{crate}/specs/Lib.antt"), re.M):
-            yield crate, module
+            if os.path.exists(os.path.join(ROOT, "crates", crate, "specs", f"{module}.antt")):
+                yield crate, module
 
 
 @functools.cache
