@@ -35,7 +35,7 @@ START = ("session", "specs", "Promise", "Promises")
 # The crates of whose definitions each has its examples: none may lack one.
 COMPLETE = ["store", "segments"]
 
-# Those that lack something, one to a line: the crate, the file of specs/, the name and what is lacking.
+# Those that lack something, one to a line: the crate, the name and what is lacking.
 LIST = os.path.join(ROOT, "examples", "unexampled.txt")
 HEAD_OF_LIST = """\
 # The definitions that lack an example or a refutation, since they are older than the rule that each has both. A line
@@ -205,7 +205,7 @@ def missing(names, are, shown, refuted):
 
 def row(name):
     """A definition as the list of those that lack something names it."""
-    return f"{name[0]} {name[2]} {name[3]}"
+    return f"{name[0]} {name[3]}"
 
 
 def measured():
