@@ -245,10 +245,10 @@ def check_paths():
 @functools.cache
 def pagedd_words():
     """The commands and the options of pagedd."""
-    text = read("crates/pagedd/src/command.rt")
+    text = "".join(map(read, files("crates/pagedd/src/*.rt")))
     rows = set(re.findall(r'^\s+name: "([a-z-]+)"', text, re.M))
-    table = re.search(r"const COMMANDS.*?^\];", text, re.M | re.S)[0]
-    return set(re.findall(r'\(\s*"([a-z-]+)",', table)), rows | {"help", "version"}
+    tables = re.findall(r"const COMMANDS.*?^\];", text, re.M | re.S)
+    return set(re.findall(r'\(\s*"([a-z-]+)",', "".join(tables))), rows | {"help", "version"}
 
 
 def wrong_script(words, folder):
@@ -435,14 +435,15 @@ def wrong_errors(name, crates, listed, never):
 
 # ---- statuses
 
-def numbers_in(path, pattern):
-    return {int(number) for number in re.findall(pattern, read(path), re.M)}
+def numbers_in(pattern, form):
+    """The numbers of this form in some files."""
+    return {int(number) for path in files(pattern) for number in re.findall(form, read(path), re.M)}
 
 
 @functools.cache
 def sources_of_statuses():
     """The exit statuses of pagedd, and the statuses of the blob's answers and of the log's."""
-    exits = numbers_in("crates/pagedd/src/status.rt", r"^ +Status::[^=]*=> (\d+),")
+    exits = numbers_in("crates/pagedd/src/*.rt", r"^ +Status::[^=]*=> (\d+),")
     errors = numbers_in("crates/disk/specs/Error.antt", r"^number_of \w+ = (\d+)")
     answer = "crates/protocol/specs/Answer.antt"
     flaws = numbers_in(answer, r"^flaw_status [^=]* = (\d+)")
