@@ -141,6 +141,7 @@ class Item:
 
     def __init__(self, path, doc, code, known, level):
         self.path, self.doc, self.code, self.known, self.level = path, doc, code, known, level
+        self.traits = []
 
 
 def doc_lines(doc):
@@ -285,8 +286,17 @@ def own_items(crate, name):
                 if match["kind"] == "trait":
                     found += trait_items(text, match, known)
     if found and re.match(r"pub (?:struct|enum|type) ", found[0].code):
+        found[0].traits = traits_of(crate, name)
         found += type_parts(crate, name)
     return found
+
+
+def traits_of(crate, name):
+    """The traits that a type has by an `impl` of the crate, except `Model`."""
+    found = []
+    for text, _, _ in sources(crate):
+        found += re.findall(rf"^impl\b[^\n{{]*?\b(\w+)(?:<[^\n{{]*>)? for {name}\b", text, re.M)
+    return sorted(set(found) - {"Model"})
 
 
 def type_parts(crate, name):
@@ -448,6 +458,14 @@ def put_item(page, item, crate):
     words = word_links(clauses_in(item.code), item.known, crate)
     if words:
         page.put(f"Words: {words}.")
+    if item.traits:
+        page.put("Traits: " + ", ".join(trait_link(name, crate) for name in item.traits) + ".")
+
+
+def trait_link(name, crate):
+    """A trait as a link, if it is one of these crates."""
+    keys = [("item", its, name) for its in libraries() if ("item", its, name) in anchors()]
+    return link(keys[0], name, crate) if keys else f"`{name}`"
 
 
 def places(found, what):
