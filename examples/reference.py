@@ -114,24 +114,41 @@ def reached():
     return names, {name: found[name][1] for name in names}
 
 
+LEMMA = re.compile(r"^ *(?:(?:abbrev|pub) )*([^\s:()]+) : ")
+
+
+@functools.cache
+def lemma_comments(path):
+    """The comment over each lemma of a file, if it has one."""
+    lines, found = read(path).split("\n"), {}
+    for at, line in enumerate(lines):
+        match, top = LEMMA.match(line), at
+        while match and top and is_comment(lines[top - 1].strip()):
+            top -= 1
+        if match and top < at:
+            found[match[1]] = " ".join(line.strip()[2:].strip() for line in lines[top:at])
+    return found
+
+
 @functools.cache
 def shown():
-    """The examples and the refutations of each definition: those that speak of it alone first."""
-    shorts, examples, refutations = {}, collections.defaultdict(list), collections.defaultdict(list)
+    """The examples and the refutations of each definition: those that speak of it alone first, and of those the ones
+    that a comment explains."""
+    examples, refutations = collections.defaultdict(list), collections.defaultdict(list)
     shorts, stated = unexampled.lemmas()
     for statement, known, place in stated:
-        parts = unexampled.premises(statement)
+        parts, bare = unexampled.premises(statement), place[0] not in lemma_comments(place[1])
         if parts[-1] == "⊥" and len(parts) > 1:
-            refutations[known.get((unexampled.words_in(parts[-2]) or [""])[0])].append(place)
+            refutations[known.get((unexampled.words_in(parts[-2]) or [""])[0])].append((False, bare, place))
             continue
         first = known.get((unexampled.words_in(parts[-1]) or [""])[0])
         for name in unexampled.named(parts[-1], known, shorts):
-            if name in (first, None):
-                examples[name].insert(sum(place[2] for place in examples[name]), (*place, True))
-            else:
-                examples[name].append((*place, False))
-    return ({name: [place[:2] for place in places] for name, places in examples.items()},
-            dict(refutations))
+            examples[name].append((name != first, bare, place))
+    return in_order(examples), in_order(refutations)
+
+
+def in_order(found):
+    return {name: [place for _, _, place in sorted(rows, key=lambda row: row[:2])] for name, rows in found.items()}
 
 
 # ---- the public items
@@ -206,8 +223,8 @@ def call_item(owner, text, match, level, known):
 
 
 def public_part(inside):
-    """The lines of a struct's block that are public, each with its comment."""
-    kept, doc, hidden = [], [], False
+    """The lines of a struct's block that are public, each with its comment, and whether there are others."""
+    kept, doc, hidden, private = [], [], False, False
     for line in inside.strip("\n").split("\n"):
         if re.match(r" *(?:///|#\[)", line):
             doc.append(line)
@@ -215,8 +232,8 @@ def public_part(inside):
             kept += doc + [line]
             doc, hidden = [], False
         elif line.strip():
-            doc, hidden = [], True
-    return kept, hidden
+            doc, hidden, private = [], True, True
+    return kept, private
 
 
 def type_item(text, match, known):
@@ -227,8 +244,8 @@ def type_item(text, match, known):
     if text[opening] == "{" and match["kind"] == "enum":
         code = text[start:skip_braces(text, opening)]
     elif text[opening] == "{" and match["kind"] == "struct":
-        kept, _ = public_part(text[opening + 1:skip_braces(text, opening) - 1])
-        code = "\n".join([head.rstrip() + " {", *kept, "}"]) if kept else code
+        kept, private = public_part(text[opening + 1:skip_braces(text, opening) - 1])
+        code = "\n".join([head.rstrip() + " {", *kept, *["    // .."] * private, "}"]) if kept else code
     elif text[opening] == "(":
         code = re.match(r"[^;]*", text[start:])[0]
     return Item(match["name"], doc_lines(match["doc"]), code, known, 3)
@@ -469,12 +486,17 @@ def trait_link(name, crate):
 
 
 def places(found, what):
-    """A list of lemmas, the first by name, and how many more there are."""
-    if not found:
-        return ""
-    names = [f"[`{name}`](../../{path})" for name, path in found[:FIRST_EXAMPLES]]
-    more = len(found) - FIRST_EXAMPLES
-    return f"{what}: " + ", ".join(names) + (f" and {more} more" if more > 0 else "") + "."
+    """A list of lemmas, the first by name and with the comments over them, and how many more there are."""
+    names = []
+    for name, path in (found or [])[:FIRST_EXAMPLES]:
+        said = lemma_comments(path).get(name)
+        names.append(f"[`{name}`](../../{path})" + (f": {escaped(said)}" if said else ""))
+    more = f"and {len(found) - FIRST_EXAMPLES} more" if found and len(found) > FIRST_EXAMPLES else ""
+    if not names:
+        return []
+    if not any(": " in name for name in names):
+        return [f"{what}: " + ", ".join(names) + (f" {more}" if more else "") + "."]
+    return [f"{what}:", "", *(f"- {name}" for name in names), *([f"- {more}"] if more else [])]
 
 
 def put_definition(page, one, known):
@@ -485,15 +507,11 @@ def put_definition(page, one, known):
     examples, refutations = shown()
     body = one.text[len(one.text.split("\n")[0].split(" : ")[0]):]
     words = word_links(body, known, one.crate, one.key)
-    said = [f"Words: {words}." if words else "", places(examples.get(one.key), "Examples"),
-            places(refutations.get(one.key), "Refutations")]
-    if any(said):
-        page.put(*[line + ("  " if later else "") for line, later in with_later([line for line in said if line])])
-
-
-def with_later(lines):
-    """Lines, each with whether another one follows."""
-    return [(line, place + 1 < len(lines)) for place, line in enumerate(lines)]
+    if words:
+        page.put(f"Words: {words}.")
+    for found, what in ((examples, "Examples"), (refutations, "Refutations")):
+        if found.get(one.key):
+            page.put(*places(found[one.key], what))
 
 
 @functools.cache
