@@ -20,7 +20,8 @@ examples/reference.py makes below docs/reference is checked by its age and its l
 - **errors**: an error that a row of a table of calls lists stands in the clauses of each call of the row, or in a
   definition that these reach. Only definitions that take an error, or an answer that may be one, are followed. So it is
   text that is compared: a clause speaks of this error. "the same" means the row above, an error that is "never of" a
-  call isn't looked for there, and "those of" a call isn't followed.
+  call isn't looked for there, and "those of" a call isn't followed. An error that begins a row of a table of errors is
+  one of some crate, and one with its number has that number.
 - **statuses**: a table with the status 141 has just the exit statuses of `pagedd`; one with the status 17 has just
   those of an answer of the protocol: of a blob's if it has 18, of a log's if it has 38; a table of kinds of requests
   has a blob's kinds, by their numbers.
@@ -419,6 +420,41 @@ def check_errors():
                 for name in re.findall(r"`([\w:]+)", row[0]):
                     for what in wrong_errors(name, crates, listed, never):
                         yield page, number, what
+
+
+    yield from unknown_errors()
+
+
+@functools.cache
+def variants():
+    """The variants of the errors of all crates."""
+    found = set()
+    for path in files("crates/*/src/**/*.rt"):
+        for body in re.findall(r"^pub enum \w*(?:Error|Refusal|Stop|Flaw)\b[^{]*\{(.*?)^\}", read(path), re.M | re.S):
+            found |= set(re.findall(r"^    ([A-Z]\w*)", body, re.M))
+        found |= set(re.findall(r"^pub struct (TooFew)\b", read(path), re.M))
+    return found
+
+
+def unknown_errors():
+    """The rows of tables of errors whose error no crate has."""
+    for page in pages():
+        for start, _, rows in tables(page):
+            if not re.match(r"Error\b", rows[0][0]):
+                continue
+            for number, row in enumerate(rows[2:], start + 2):
+                for name in re.findall(r"`(?:E\d )?([A-Z]\w+)", row[0]):
+                    if name not in variants():
+                        yield page, number, f"no crate has the error {name}"
+        for line, match in matches(r"`(?:fault )?E(\d) ([A-Z]\w+)`", page):
+            if numbered_errors().get(match[2]) != match[1]:
+                yield page, line, f"{match[2]} isn't error {match[1]}"
+
+
+@functools.cache
+def numbered_errors():
+    """The number of each error of the layer."""
+    return dict(re.findall(r"^number_of (\w+) = (\d+)", read("crates/disk/specs/Error.antt"), re.M))
 
 
 def wrong_errors(name, crates, listed, never):
