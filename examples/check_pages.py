@@ -16,6 +16,7 @@ examples/reference.py makes below docs/reference is checked by its age and its l
   has gone.
 - **commands**: a command as a page has it, four blanks in front or in a block, has a script of examples/ that is there
   and knows its options, a folder that is there, a command of `rt`, or a command and options of `pagedd`.
+- **played**: a command as a page has it that needs no program and takes a moment (FREE) ends with status 0.
 - **words**: a name in backticks on the pages that speak of definitions (WORDS) stands in a source.
 - **errors**: an error that a row of a table of calls lists stands in the clauses of each call of the row, or in a
   definition that these reach. Only definitions that take an error, or an answer that may be one, are followed. So it is
@@ -52,6 +53,9 @@ import unexampled
 ROOT = public_items.ROOT
 WORDS = ["docs/DEFINITIONS.md", "docs/CONTRACTS.md"]
 LACKING = "examples/unexampled.txt"
+
+# The commands that need no program and take a moment.
+FREE = ["check.py", "names.py", "stretch.py check", "uncalled.py", "unexampled.py"]
 
 # What pages write shorter than the source does.
 SHORT = [
@@ -320,6 +324,18 @@ def check_commands():
             what, _ = wrong_command(match[1], "")
             if what and page != "CHANGELOG.md":
                 yield page, line, what
+
+
+def check_played():
+    ended = {}
+    for page in pages():
+        for line, match in matches(r"\bpython3 examples/([\w.]+(?: check)?)(?=`|\n|   )", page):
+            if match[1] in FREE and page != "CHANGELOG.md":
+                if match[1] not in ended:
+                    words = [sys.executable, *f"examples/{match[1]}".split()]
+                    ended[match[1]] = subprocess.run(words, capture_output=True, cwd=ROOT, check=False).returncode
+                if ended[match[1]]:
+                    yield page, line, f"ends with status {ended[match[1]]}: python3 examples/{match[1]}"
 
 
 # ---- words and errors
@@ -631,6 +647,7 @@ PLANTED = {
     "links": ("docs/FORMAT.md", append("\n[there](ERRORS.md#no-such-heading) and [here](NOWHERE.md)\n")),
     "paths": ("docs/FORMAT.md", append("\nSee crates/disk/src/nothing.rt.\n")),
     "commands": ("docs/FORMAT.md", append(COMMANDS)),
+    "played": ("examples/unexampled.txt", lambda text: "\n".join(text.split("\n")[:-3]) + "\n"),
     "words": ("docs/DEFINITIONS.md", append("\n`NoSuchWordAnywhere` is a word.\n")),
     "errors": ("docs/FORMAT.md", append("\n## Items\n\n| Call | Errors |\n|---|---|\n| `seek_to` | `ReadFailed` |\n")),
     "statuses": ("crates/pagedd/src/status.rt", put_in("Status::NotWhole => 3", "Status::NotWhole => 4")),

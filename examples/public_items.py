@@ -5,6 +5,7 @@ by `pub use`, and those that it takes from another crate so. Under a type or a t
 variants and its calls. A row has the item's path, its kind, its type or signature without clauses, and the first
 sentence of its doc comment.
 """
+import functools
 import glob
 import os
 import re
@@ -28,6 +29,7 @@ def read(path):
         return file.read()
 
 
+@functools.cache
 def sources(crate):
     """The files of a crate's src/, each as its text."""
     paths = sorted(glob.glob(os.path.join(ROOT, "crates", crate, "src", "**", "*.rt"), recursive=True))
@@ -93,13 +95,19 @@ class Crate:
         return [(f"{self.name}::{path}", kind, code, said) for path, kind, code, said in found]
 
 
+@functools.cache
+def public_matches(crate):
+    """The public items of a crate's files: each as its file's text and the match in it."""
+    return [(text, match) for text in sources(crate) for match in ITEM.finditer(text)
+            if match["pub"] and not match["indent"]]
+
+
 def items(crate, name):
     """The rows of an item of a crate, and of what stands below it."""
     rows = []
-    for text in sources(crate):
-        for match in ITEM.finditer(text):
-            if match["name"] == name and match["pub"] and not match["indent"]:
-                rows += item_rows(text, match)
+    for text, match in public_matches(crate):
+        if match["name"] == name:
+            rows += item_rows(text, match)
     if not rows:
         sys.exit(f"no such item: {crate}::{name}")
     if rows[0][1] in ("struct", "enum", "type"):
