@@ -593,17 +593,22 @@ def index_rows():
     return sorted(rows, key=lambda row: (row[0].lower(), row))
 
 
+def in_a_cell(text):
+    """A text in a table, in which no line ends a cell."""
+    return re.sub(r"(?<!\\)\|", r"\\|", text)
+
+
 def front_page():
     """The page of the whole reference."""
     out = [HEAD, "## The crates\n", "| Crate | Items | Words | What it is |", "|---|---|---|---|"]
     for crate in libraries():
         about = public_items.Crate(crate).about
         own, words = items_of(crate)[0], definitions_in(crate)
-        said = first_sentence(linked([about], "README"))
+        said = in_a_cell(re.sub(r"\[(`[^`]*`)\](?:\([^)]*\))?", r"\1", re.match(r".*?(?:\.(?= [A-Z`])|$)", about)[0]))
         out.append(f"| [{crate}]({crate}.md) | {len(own)} | {len(words)} | {said} |")
     out += ["", "## All items and words", "", "| Name | Crate | What it is |", "|---|---|---|"]
     for name, place, crate, said in index_rows():
-        out.append(f"| [`{name}`]({place}) | {crate} | {said.replace('|', chr(92) + '|') if '`' in said else said} |")
+        out.append(f"| [`{name}`]({place}) | {crate} | {in_a_cell(said)} |")
     return "\n".join(out) + "\n"
 
 
