@@ -365,9 +365,10 @@ def public_calls(crate):
         for part in re.split(r"^(?=impl\b|pub fn )", read(path), flags=re.M)[1:]:
             owner = re.match(r"impl(?:<[^>]*>)? (\w+)|pub fn (\w+)", part)
             if owner and (owner[1] or owner[2]) in exported:
-                for call in re.finditer(r"^ *pub fn (\w+).*?^ *\{$", part, re.M | re.S):
-                    known = unexampled.imports(re.sub(r"^ *ghost use ", "use ", read(path), flags=re.M))
-                    its = " ".join(clause for _, clause in clauses(call[0]))
+                known = unexampled.imports(re.sub(r"^ *ghost use ", "use ", read(path), flags=re.M))
+                for call in re.finditer(r"^ *pub fn (\w+)", part, re.M):
+                    code = public_items.head_of(part, call.start())
+                    its = " ".join(clause for _, clause in clauses(code))
                     calls.append((owner[1] or crate, call[1], its, known))
     return calls
 

@@ -23,6 +23,9 @@ CRATES = ["disk", "page", "crc32c", "digest", "page_digests", "cache", "file", "
 ITEM = re.compile(r"(?P<doc>(?:^ *///[^\n]*\n)*)(?:^ *(?:#\[|// )[^\n]*\n)*^(?P<indent> *)(?P<pub>pub )?"
                   r"(?P<kind>const fn|fn|struct|enum|trait|const|type) (?P<name>\w+)", re.M)
 
+# What stands before the brace of a clause.
+CLAUSE = re.compile(r"(?:\b(?:requires|ensures)\*?(?:\s+\w+)?|\bghost\b[^{};]*?)\s*$")
+
 
 def read(path):
     with open(os.path.join(ROOT, path), encoding="utf-8") as file:
@@ -44,6 +47,36 @@ def block(text, start):
         end += 1
         if not depth:
             return text[start + 1:end - 1]
+
+
+def skip_braces(text, start):
+    """The offset after the brace that ends what begins at an offset. A comment counts for nothing."""
+    depth, at = 0, start
+    while True:
+        if text.startswith("//", at):
+            at = text.index("\n", at)
+        depth += {"{": 1, "}": -1}.get(text[at], 0)
+        at += 1
+        if not depth:
+            return at
+
+
+def head_of(text, start):
+    """The code of a call from an offset up to its body: its signature and its clauses."""
+    depth, at = 0, start
+    while True:
+        if text.startswith("//", at):
+            at = text.index("\n", at)
+        letter = text[at]
+        depth += {"(": 1, "[": 1, ")": -1, "]": -1}.get(letter, 0)
+        if letter == "{" and not depth:
+            if not CLAUSE.search(text[start:at]):
+                return text[start:at].rstrip()
+            at = skip_braces(text, at)
+            continue
+        if letter == ";" and not depth:
+            return text[start:at]
+        at += 1
 
 
 def sentence(doc):

@@ -25,6 +25,7 @@ import sys
 
 import public_items
 import unexampled
+from public_items import head_of, skip_braces
 
 ROOT = public_items.ROOT
 FOLDER = "docs/reference"
@@ -32,9 +33,8 @@ FOLDER = "docs/reference"
 # How many examples and refutations of a definition are named.
 FIRST_EXAMPLES = 4
 
-# A heading in a file of specs/, what stands before the brace of a clause, and a type of src/ that a file names.
+# A heading in a file of specs/, and a type of src/ that a file names.
 SECTION = re.compile(r"^-- ---- ?(.*)$")
-CLAUSE = re.compile(r"(?:\b(?:requires|ensures)\*?(?:\s+\w+)?|\bghost\b[^{};]*?)\s*$")
 DECLARED = re.compile(r"\buse Rattle\.(\w+)\.specs\.declared\.\w+\.(\w+)(?:\.TheVariants)?"
                       r"(?:\.\{([^}]*)\}| as (\w+))")
 
@@ -163,36 +163,6 @@ class Item:
 
 def doc_lines(doc):
     return [re.sub(r"^ */// ?", "", line) for line in doc.strip("\n").split("\n")] if doc.strip() else []
-
-
-def skip_braces(text, start):
-    """The offset after the brace that ends what begins at an offset. A comment counts for nothing."""
-    depth, at = 0, start
-    while True:
-        if text.startswith("//", at):
-            at = text.index("\n", at)
-        depth += {"{": 1, "}": -1}.get(text[at], 0)
-        at += 1
-        if not depth:
-            return at
-
-
-def head_of(text, start):
-    """The code of a call from an offset up to its body: its signature and its clauses."""
-    depth, at = 0, start
-    while True:
-        if text.startswith("//", at):
-            at = text.index("\n", at)
-        letter = text[at]
-        depth += {"(": 1, "[": 1, ")": -1, "]": -1}.get(letter, 0)
-        if letter == "{" and not depth:
-            if not CLAUSE.search(text[start:at]):
-                return text[start:at].rstrip()
-            at = skip_braces(text, at)
-            continue
-        if letter == ";" and not depth:
-            return text[start:at]
-        at += 1
 
 
 def dedented(code, indent):

@@ -109,7 +109,8 @@ def given_out(text, names):
         elif head and head[3] in names:
             yield re.split(r"^\}", part, flags=re.M)[0]
         elif head and (head[1] or head[2]) in names:
-            yield from re.findall(r"^ *pub (?:const )?fn \w+.*?^ *\{$", part, re.M | re.S)
+            for call in re.finditer(r"^ *pub (?:const )?fn \w+", part, re.M):
+                yield public_items.head_of(part, call.start())
 
 
 def public_words():
