@@ -109,6 +109,8 @@ pub record IsNext (own : List ℕ → ℕ) (content : List ℕ) (offset : ℕ) (
   pub goes : records own (drop offset content) ≡ listed bytes ++ records own (drop end content)
   pub ends : bytes ≡ None → records own (drop end content) ≡ []
 
+-- the next record from an offset on is found, by the answer: the record, if there is one, and the
+-- offset after it, and then no device call failed; or an error as `RecordReadRefused` has it
 abbrev pub FindsNext : (own : List ℕ → ℕ) → List ℕ → ℕ → Life → Life → Result Found Error → Type 0
 FindsNext own content offset old new (Ok f) =
     IsNext own content offset f.bytes f.end × NoneFailed old.present new.present

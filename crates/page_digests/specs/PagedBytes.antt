@@ -101,6 +101,8 @@ abbrev pub BytesLoadAnswers : (List ℕ → List ℕ) → (j : ℕ) → (old new
 BytesLoadAnswers d j old new (Ok _) = new.cached ≡ Some j
 BytesLoadAnswers d j old new (Err e) = BytesPageFails d old j old.reads new.reads e
 
+-- page j of some bytes is fetched: the bytes in the file are the same, they were read once at most,
+-- the pages that are held are too, and the answer is as `BytesLoadAnswers` has it
 pub record FetchGoes (d : List ℕ → List ℕ) (j : ℕ) (old new : BytesState)
     (result : Result (Unit {0}) Error) : Type 0 where
   pub same : IsSameBytes old new
@@ -191,6 +193,9 @@ CopyAnswers d at done old new before after (Ok n) = (0 < n) × (done + n ≤ len
 CopyAnswers d at done old new before after (Err e) =
     BytesPageFails d old (at / old.page_size) old.reads new.reads e
 
+-- bytes from `at` on are copied into a buffer behind its first `done`: the bytes in the file are
+-- the same, they were read once at most, and not at all if the page was used last, and the answer
+-- is as `CopyAnswers` has it
 pub record CopyGoes (d : List ℕ → List ℕ) (at done : ℕ) (old new : BytesState)
     (before after : List ℕ) (result : Result ℕ Error) : Type 0 where
   pub same : IsSameBytes old new

@@ -236,6 +236,8 @@ pub record IsShortened (sum : List ℕ → ℕ) (n : ℕ) (w : WriterState) (old
   pub readable : new.present.readable ≡ shortened sum w.page_size n old.present.readable
   pub durable : IsDurable new.present
 
+-- a cut to n bytes of a blob of which all is durable, by its answer: `IsShortened`, or an error
+-- that has its cause
 abbrev pub Shortens : (List ℕ → ℕ) → (n : ℕ) → WriterState → Life → Life
     → Result WriterState Error → Type 0
 Shortens sum n w old new (Ok now) = IsShortened sum n w old new now

@@ -159,6 +159,7 @@ abbrev pub reply_error : Reply → Option Error
 reply_error (Fault error) = Some error
 reply_error reply = None
 
+-- the first error among some replies, if one has any
 abbrev pub fault_in : List Reply → Option Error
 fault_in [] = None
 fault_in (reply ∷ replies) = elim (reply_error reply) [

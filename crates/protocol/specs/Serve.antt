@@ -129,6 +129,7 @@ abbrev pub starts_payload : List ℕ → Reply → List ℕ
 starts_payload lengths (At at) = flat_map number_bytes (record_starts at lengths)
 starts_payload lengths reply = []
 
+-- what starting a sync answered, as bytes; no bytes if there is no answer
 abbrev pub started_of : Option StartedSync → List ℕ
 started_of None = []
 started_of (Some started) = started_bytes started
@@ -456,6 +457,7 @@ IsNotBegun sum setting old new (Refused error) = HasAttempted sum setting old ne
 IsNotBegun sum setting old new (WouldCut cut) = WouldCutMore sum setting old new cut
 IsNotBegun sum setting old new other = ⊥
 
+-- a session is to begin at a recovery, by the answer: `HasBegun`, or `IsNotBegun`
 abbrev pub RecoversSession : (List ℕ → ℕ) → Setting → Life → Life
     → Result (SessionState × CacheState) Stop → Type 0
 RecoversSession sum setting old new (Ok begun) = HasBegun sum setting old new begun.0

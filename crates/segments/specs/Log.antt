@@ -216,6 +216,7 @@ pub record IsClosedAs (sum own : List ℕ → ℕ) (d : List ℕ → List ℕ) (
   pub closed : WasClosed sum own d s last kept
   pub levels : AreSegmentLevels d s.page_size (content_now s.current) l
 
+-- the open segment is closed, by the answer: `IsClosedAs`; or an error of the seal of its journal
 abbrev pub CloseCurrentGoes : (sum own : List ℕ → ℕ) → (d : List ℕ → List ℕ) → LogState → LogState
     → Result (Closed × SegmentLevels) Error → Type 0
 CloseCurrentGoes sum own d s t (Ok r) = IsClosedAs sum own d s t.current.life r.0 r.1
@@ -285,6 +286,7 @@ NextRefused s t errors.NumbersExhausted =
     (open_in s.listing ≡ 18446744073709551615) × (t.asked ≡ s.asked)
 NextRefused s t e = ⊥
 
+-- the next segment is opened, by the answer: `HasNext`; or it is refused (`NextRefused`)
 abbrev pub OpenNextGoes : (sum own : List ℕ → ℕ) → LogState → LogState → Result OwnedState Error
     → Type 0
 OpenNextGoes sum own s t (Ok next) = HasNext sum own s t next
@@ -649,6 +651,8 @@ pub record HasLoaded (sum own : List ℕ → ℕ) (s : LogState) (kept : FileDig
   pub same : l.kept ≡ kept
   pub loaded : IsLoaded sum own s.page_size l
 
+-- a closed segment is to be read into memory, by the answer: `HasLoaded`; or its file is damaged,
+-- or the system refused it, or memory did
 abbrev pub TakeLoadedGoes : (sum own : List ℕ → ℕ) → LogState → ℕ → FileDigest
     → Result LoadedState Error → Type 0
 TakeLoadedGoes sum own s number kept (Ok l) = HasLoaded sum own s kept l

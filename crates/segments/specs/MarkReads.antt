@@ -93,6 +93,8 @@ MarkAnswers d i old new (Ok m) =
     × IsOfMarks d old (λ P content. m ≡ mark_at P content i)
 MarkAnswers d i old new (Err e) = MarkFails d i old new e
 
+-- the mark of page i is read: the marks are the same, only pages that have bytes of it were read,
+-- and the answer is as `MarkAnswers` has it
 pub record MarkGoes (d : List ℕ → List ℕ) (i : ℕ) (old new : MarksState)
     (result : Result Mark Error) : Type 0 where
   pub same : AreSameMarks old new
@@ -116,6 +118,8 @@ FirstAnswers d i old new (Ok b) = (b.number < 2 ^ 48) × (i * old.bytes.page_siz
 FirstAnswers d i old new (Err e) =
     (k : ℕ) × (i ≤ k) × ReadsMarks (k + 1 - i) old new × MarkFails d k old new e
 
+-- the first frame from page i on is searched for: the marks are the same, and the answer is as
+-- `FirstAnswers` has it
 pub record FirstGoes (d : List ℕ → List ℕ) (i : ℕ) (old new : MarksState)
     (result : Result Begin Error) : Type 0 where
   pub same : AreSameMarks old new
@@ -142,6 +146,8 @@ pub record HalvesRead (old new : MarksState) : Type 0 where
   pub few : 2 ^ marks ≤ 2 * pages_of_len old.bytes.page_size old.len
   pub reads : ReadsMarks marks old new
 
+-- the page in which frame n begins is searched for: the marks are the same, no more of them was
+-- read than a search by halves needs, and the answer is as `NthAnswers` has it
 pub record NthGoes (d : List ℕ → List ℕ) (n : ℕ) (old new : MarksState)
     (result : Result ℕ Error) : Type 0 where
   pub same : AreSameMarks old new
@@ -161,6 +167,8 @@ MarkedStartAnswers d n old new (Ok b) =
     (i : ℕ) × IsOfMarks d old (λ P content. IsCountStart P content n i b)
 MarkedStartAnswers d n old new (Err e) = (i : ℕ) × MarkFails d i old new e
 
+-- a begin from which frame n can be counted is searched for: the marks are the same, and the answer
+-- is as `MarkedStartAnswers` has it
 pub record MarkedStartGoes (d : List ℕ → List ℕ) (n : ℕ) (old new : MarksState)
     (result : Result Begin Error) : Type 0 where
   pub positive : 0 < old.bytes.page_size

@@ -75,6 +75,8 @@ PagedFrameAnswers d own offset old new (Ok found) = FrameAsks offset found old n
     × ReadsPagedFrame d own old.page_size old.seal offset found
 PagedFrameAnswers d own offset old new (Err e) = FrameFails d offset old new e
 
+-- a frame of a content is read: the content is the same, and the answer is as `PagedFrameAnswers`
+-- has it
 pub record PagedFrameGoes (d : List ℕ → List ℕ) (own : List ℕ → ℕ) (offset : ℕ)
     (old new : PagedState) (result : Result (Option Found) Error) : Type 0 where
   pub same : IsSameContent old new

@@ -332,6 +332,8 @@ CheckAnswers d offset s t (Ok true) = IsBeginBy d offset s
 CheckAnswers d offset s t (Ok false) = IsMidst d offset s
 CheckAnswers d offset s t (Err e) = HasFailedCheck d offset t e
 
+-- whether a frame begins at an offset of a segment is found: the segment is the same, perhaps more
+-- was read of its content and its marks, and the answer is as `CheckAnswers` has it
 pub record CheckGoes (d : List ℕ → List ℕ) (offset : ℕ) (s t : PagedSegmentState)
     (result : Result Bool pages.Error) : Type 0 where
   pub rest : t ≡ record s { content = t.content; marks = t.marks }
@@ -408,6 +410,8 @@ abbrev pub CountStartAnswers : (d : List ℕ → List ℕ) → (n : ℕ) → (s 
 CountStartAnswers d n s (Ok b) = IsOfSegment d s (λ content. CanCountFrom content n b)
 CountStartAnswers d n s (Err e) = e ≡ causes.OutOfMemory
 
+-- a begin from which frame n of a segment can be counted is found: the segment is the same, perhaps
+-- more was read of its marks, and the answer is as `CountStartAnswers` has it
 pub record CountStartGoes (d : List ℕ → List ℕ) (n : ℕ) (s t : PagedSegmentState)
     (result : Result Begin pages.Error) : Type 0 where
   pub rest : t ≡ record s { marks = t.marks }
@@ -421,6 +425,8 @@ FindAnswers d n s t (Ok found) = IsOfSegment d s (λ content. IsNthOffset conten
 FindAnswers d n s t (Err e) =
     CountFails d 0 s.content t.content e ⊎ (e ≡ causes.OutOfMemory)
 
+-- frame n of a segment is searched for once: the segment is the same, perhaps more was read of its
+-- content and its marks, and the answer is as `FindAnswers` has it
 pub record FindGoes (d : List ℕ → List ℕ) (n : ℕ) (s t : PagedSegmentState)
     (result : Result (Option ℕ) pages.Error) : Type 0 where
   pub rest : t ≡ record s { content = t.content; marks = t.marks }

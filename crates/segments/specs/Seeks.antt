@@ -40,6 +40,8 @@ abbrev pub AsksForOnePage : (first offset : ℕ) → (old new : PagedState) → 
 AsksForOnePage first offset old new = (page : ℕ) → page * old.page_size ≤ first
     → offset < page * old.page_size + old.page_size → length new.reads ≤ length old.reads + 1
 
+-- frames of a content are passed up to an offset: the content is the same, one page is asked for if
+-- they begin in one, and the answer is as `PassAnswers` has it
 pub record PassGoes (d : List ℕ → List ℕ) (first offset : ℕ) (old new : PagedState)
     (result : Result (ℕ × ℕ) Error) : Type 0 where
   pub same : IsSameContent old new
@@ -107,6 +109,8 @@ IsBeginAnswers d offset old new before after (Ok is) =
 IsBeginAnswers d offset old new before after (Err e) =
     BehindFails d offset old new before after e
 
+-- whether a frame begins at an offset is found: the marks and the content are the same, the content
+-- was read once at most, and the answer is as `IsBeginAnswers` has it
 pub record IsBeginGoes (d : List ℕ → List ℕ) (offset : ℕ) (old new : MarksState)
     (before after : PagedState) (result : Result Bool Error) : Type 0 where
   pub same : AreSameMarks old new
@@ -136,6 +140,8 @@ CountAnswers d first count old new (Ok r) = (r.0 ≤ count) × (first ≤ r.1)
     × CountsTo d old.page_size old.seal first (count - r.0) r.1
 CountAnswers d first count old new (Err e) = CountFails d first old new e
 
+-- so many frames of a content are passed: the content is the same, and the answer is as
+-- `CountAnswers` has it
 pub record CountGoes (d : List ℕ → List ℕ) (first count : ℕ) (old new : PagedState)
     (result : Result (ℕ × ℕ) Error) : Type 0 where
   pub same : IsSameContent old new
