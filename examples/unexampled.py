@@ -22,6 +22,7 @@ judge.
 It ends with status 1 if a definition lacks something and examples/unexampled.txt doesn't have it. That list has those
 that lacked something as the rule was made, and may only shrink: `--shrink` takes out what is no longer so.
 """
+import functools
 import glob
 import os
 import re
@@ -77,6 +78,7 @@ def modules(pattern):
         yield path.split(os.sep)[-3], os.path.basename(path)[:-5], text, imports(text)
 
 
+@functools.cache
 def definitions():
     """The definitions of the specs: each with its text, and the definitions that it names."""
     found = {}
@@ -113,6 +115,7 @@ def given_out(text, names):
                 yield public_items.head_of(part, call.start())
 
 
+@functools.cache
 def public_words():
     """The definitions that the public clauses of the crates name."""
     words = set()
@@ -158,6 +161,7 @@ def relations(found):
     return are
 
 
+@functools.cache
 def lemmas():
     """The statements of the files of examples: each with what its words stand for, its name and its file."""
     shorts, found = {}, []
@@ -209,6 +213,7 @@ def row(name):
     return f"{name[0]} {name[3]}"
 
 
+@functools.cache
 def measured():
     """The definitions, which of them are relations, which have an example, and which a refutation."""
     found = definitions()
