@@ -17,7 +17,8 @@ examples/reference.py makes below docs/reference is checked by its age and its l
 - **commands**: a command as a page has it, four blanks in front or in a block, has a script of examples/ that is there
   and knows its options, a folder that is there, a command of `rt`, or a command and options of `pagedd`.
 - **played**: a command as a page has it that needs no program and takes a moment (FREE) ends with status 0.
-- **words**: a name in backticks on the pages that speak of definitions (WORDS) stands in a source.
+- **words**: a name in backticks that has a capital letter or an underscore stands in a source, of a crate, a client or
+  a script, or is that of a crate or an edit; on the pages that speak of definitions (WORDS) each name in backticks.
 - **errors**: an error that a row of a table of calls lists stands in the clauses of each call of the row, or in a
   definition that these reach. Only definitions that take an error, or an answer that may be one, are followed. So it is
   text that is compared: a clause speaks of this error. "the same" means the row above, an error that is "never of" a
@@ -51,7 +52,10 @@ import reference
 import unexampled
 
 ROOT = public_items.ROOT
+# The pages each of whose names in backticks stands in a source, and those that have names of other programs.
 WORDS = ["docs/DEFINITIONS.md", "docs/CONTRACTS.md"]
+STRANGE = ["CHANGELOG.md", "docs/DIFFERENCES.md"]
+
 LACKING = "examples/unexampled.txt"
 
 # The commands that need no program and take a moment.
@@ -342,17 +346,23 @@ def check_played():
 
 @functools.cache
 def source_words():
-    found = set()
-    for path in files("crates/**/*.antt") + files("crates/**/*.rt"):
-        found.update([os.path.basename(path)], re.findall(r"[A-Za-z_]\w*", read(path)))
+    """The names that sources have, of crates, clients and scripts, and those of crates and of edits."""
+    found = {path.split(os.sep)[1] for path in files("crates/*/src")}
+    found |= {os.path.basename(path)[:-5] for path in files("crates/*/must-fail/*.edit")}
+    for pattern in ("crates/**/*.antt", "crates/**/*.rt", "clients/**/*.py", "clients/**/*.[ch]", "clients/**/*.rs",
+                    "examples/*.py", "bench/*"):
+        for path in files(pattern):
+            if os.path.isfile(os.path.join(ROOT, path)):
+                found.update([os.path.basename(path)], re.findall(r"[A-Za-z_]\w*", read(path)))
     return found
 
 
 def check_words():
-    for page in WORDS:
-        for line, match in matches(r"`([A-Za-z_]\w*(?:\.antt)?)`", page):
-            if match[1] not in source_words():
-                yield page, line, f"no source has this word: {match[1]}"
+    for page in pages():
+        form = r"`([A-Za-z_]\w*(?:\.antt)?)`" if page in WORDS else r"`([A-Z]\w*[a-z]\w*|[a-z]\w*_\w+)`"
+        for line, match in matches(form, page):
+            if match[1] not in source_words() and page not in STRANGE:
+                yield page, line, f"no source has this name: {match[1]}"
 
 
 @functools.cache
