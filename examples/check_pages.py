@@ -659,7 +659,7 @@ PLANTED = {
     "paths": ("docs/FORMAT.md", append("\nSee crates/disk/src/nothing.rt.\n")),
     "commands": ("docs/FORMAT.md", append(COMMANDS)),
     "played": ("examples/unexampled.txt", lambda text: "\n".join(text.split("\n")[:-3]) + "\n"),
-    "words": ("docs/DEFINITIONS.md", append("\n`NoSuchWordAnywhere` is a word.\n")),
+    "words": ("docs/DEFINITIONS.md", append("\n`NoSuch" + "WordAnywhere` is a word.\n")),
     "errors": ("docs/FORMAT.md", append("\n## Items\n\n| Call | Errors |\n|---|---|\n| `seek_to` | `ReadFailed` |\n")),
     "statuses": ("crates/pagedd/src/status.rt", put_in("Status::NotWhole => 3", "Status::NotWhole => 4")),
     "edits": ("docs/FORMAT.md", append(EDITS)),
